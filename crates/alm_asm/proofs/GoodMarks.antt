@@ -11,13 +11,12 @@ use Rattle.alm_parse.specs.declared.line.Line36.{Line36}
 use Rattle.obj36_parts.specs.declared.section.Section.{Section}
 use Rattle.obj36_parts.specs.declared.section.Section.TheVariants.{Text, Linkage, Symbol, Static}
 use Rattle.obj36_parts.specs.Fields.{RelocFields}
-use Rattle.obj36_parts.specs.Sections.{place_number}
+use Rattle.obj36_parts.specs.Sections.{place_number, same_section}
 use Rattle.obj36_parts.specs.ObjectSegment.{version_of, last_place, is_place, is_relocation, order_of, are_rising}
 use Rattle.alm_lines.specs.Sums.{kind_of}
 use Rattle.alm_lines.specs.Arguments.{first_arg, second_arg, terms_in}
 use Rattle.alm_lines.specs.Spots.{count_in, place_in, place, grown_in, moved_by, below, end_of}
 use Rattle.alm_lines.specs.Expressions.{sum_of}
-use Rattle.alm_asm.specs.Words.{same_section}
 use Rattle.alm_asm.specs.Marks.{mark, operand_part, operand_kind, operand_mark, marks_by, marks_after, marks_from}
 use Rattle.alm_asm.specs.Laws.{holds_words}
 use Rattle.alm_lines.specs.declared.sum.Sum.{Sum}

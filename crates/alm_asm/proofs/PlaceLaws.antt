@@ -7,7 +7,8 @@ use Rattle.obj36_parts.specs.declared.section.Section.{Section}
 use Rattle.obj36_parts.specs.declared.section.Section.TheVariants.{Text, Linkage, Symbol, Static}
 use Rattle.alm_lines.specs.Arguments.{first_arg, second_arg, symbol_in, number_in, words_of_args, section_in}
 use Rattle.alm_lines.specs.Spots.{start, count_in, place, grown_in, entered, moved_by, below, end_of}
-use Rattle.alm_asm.specs.Words.{instruction_word, halves_word, words_by, same_section, words_of_line, words_from}
+use Rattle.alm_asm.specs.Words.{instruction_word, halves_word, words_by, words_of_line, words_from}
+use Rattle.obj36_parts.specs.Sections.{same_section}
 use Rattle.alm_asm.specs.Laws.{holds_words}
 use Rattle.alm_lines.specs.SpotFields.{Spot}
 use Rattle.alm_asm.specs.declared.tables.Tables.{Tables}

@@ -11,7 +11,8 @@ use Rattle.obj36_parts.specs.declared.section.Section.TheVariants.{Text, Linkage
 use Rattle.obj36_parts.proofs.SizeLaws.{or_assoc, or_none}
 use Rattle.alm_lines.specs.Arguments.{first_arg, symbol_in, section_in}
 use Rattle.alm_lines.specs.Spots.{start, count_in, place, grown_in, entered, size_of, moved_by, below, end_of}
-use Rattle.alm_asm.specs.Words.{words_by, same_section, words_of_line, words_from}
+use Rattle.alm_asm.specs.Words.{words_by, words_of_line, words_from}
+use Rattle.obj36_parts.specs.Sections.{same_section}
 use Rattle.alm_asm.specs.Assembly.{bound_by, bound_from, evened}
 use Rattle.alm_asm.specs.Laws.{holds_words}
 use Rattle.alm_asm.specs.LineRefusals.{is_static}

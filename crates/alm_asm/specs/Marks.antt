@@ -13,7 +13,7 @@ use Rattle.alm_lines.specs.Sums.{kind_of}
 use Rattle.alm_lines.specs.Arguments.{first_arg, second_arg, terms_in}
 use Rattle.alm_lines.specs.Spots.{place, below}
 use Rattle.alm_lines.specs.Expressions.{sum_of}
-use Rattle.alm_asm.specs.Words.{same_section}
+use Rattle.obj36_parts.specs.Sections.{same_section}
 use Rattle.alm_lines.specs.declared.sum.Sum.{Sum}
 use Rattle.alm_lines.specs.declared.sum.Kind.{Kind}
 use Rattle.alm_lines.specs.declared.sum.Kind.TheVariants.{Absolute, Moved, Unsaid}

@@ -1,5 +1,5 @@
 -- The words that lines place.
-use Rattle.std.specs.Prelude.{ℕ, ◌+◌, ◌*◌, ◌%◌, ◌^◌, Bool, true, false, nat_eq, List, [], ◌∷◌, ◌++◌}
+use Rattle.std.specs.Prelude.{ℕ, ◌+◌, ◌*◌, ◌%◌, ◌^◌, Bool, true, false, List, [], ◌∷◌, ◌++◌}
 use Rattle.std.specs.Prelude.{replicate, Option, Some, None, if◌then◌else◌}
 use Rattle.alm_tokens.specs.declared.span.Span.{Span}
 use Rattle.alm_tokens.specs.declared.expression.Term.{Term}
@@ -10,7 +10,7 @@ use Rattle.alm_parse.specs.declared.line.Line36.{Line36}
 use Rattle.m36_inst.specs.Fields.{InstFields}
 use Rattle.m36_inst.specs.Instruction.{inst_word}
 use Rattle.obj36_parts.specs.declared.section.Section.{Section}
-use Rattle.obj36_parts.specs.Sections.{place_number}
+use Rattle.obj36_parts.specs.Sections.{same_section}
 use Rattle.alm_lines.specs.Sums.{half_of, offset_of}
 use Rattle.alm_lines.specs.Arguments.{first_arg, second_arg, terms_in, words_of_args}
 use Rattle.alm_lines.specs.Spots.{place, size_of, below}
@@ -96,10 +96,6 @@ words_by text tables spot arguments deed.Block =
 words_by text tables spot arguments deed.Even =
     replicate (size_of deed.Even arguments (place spot)) 0
 words_by text tables spot arguments deed.Bound = []
-
--- whether two sections are the same
-abbrev pub same_section : Section → Section → Bool
-same_section a b = nat_eq (place_number a) (place_number b)
 
 -- what a line places in a section
 unfoldable pub words_of_line : List ℕ → Tables → Section → Spot → Line36 → List ℕ

@@ -4,7 +4,7 @@ ghost use Rattle.std.specs.Prelude.{ℕ, [], ◌≡◌, ◌^◌, ◌<◌, ◌≤
 ghost use Rattle.std.specs.Prelude.{OnOk};
 ghost use Rattle.alm_lines.specs.Arguments.{first_arg};
 ghost use Rattle.alm_lines.specs.Arguments.{name_at};
-ghost use Rattle.alm_asm.specs.Words.{same_section};
+ghost use Rattle.obj36_parts.specs.Sections.{same_section};
 ghost use Rattle.alm_asm.specs.Links.{link_kind, link_section, link_name, entry_name};
 ghost use Rattle.alm_asm.specs.Links.{link_of, operand_args, link_by, link_in, with_link};
 ghost use Rattle.alm_asm.specs.Links.{links_after, link_place};

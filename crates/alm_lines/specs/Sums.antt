@@ -31,12 +31,15 @@ is_one b = nat_lt b.down b.up && nat_eq (b.up - b.down) 1
 abbrev pub is_within : ℕ → ℕ → Balance → Bool
 is_within low high b = nat_le (b.down - b.up) low && nat_le (b.up - b.down) high
 
--- the number modulo 2^18 and modulo 2^15
+-- the number modulo another, and modulo 2^18 and 2^15
+abbrev pub balance_modulo : ℕ → Balance → ℕ
+balance_modulo m b = (b.up % m + (m - b.down % m)) % m
+
 unfoldable pub half_of : Balance → ℕ
-half_of b = (b.up % 2 ^ 18 + (2 ^ 18 - b.down % 2 ^ 18)) % 2 ^ 18
+half_of b = balance_modulo (2 ^ 18) b
 
 unfoldable pub offset_of : Balance → ℕ
-offset_of b = (b.up % 2 ^ 15 + (2 ^ 15 - b.down % 2 ^ 15)) % 2 ^ 15
+offset_of b = balance_modulo (2 ^ 15) b
 
 -- the same number, of which nothing is added that is taken away again
 abbrev pub settled : Balance → Balance

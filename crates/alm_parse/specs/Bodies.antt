@@ -15,9 +15,10 @@ use Rattle.obj36_parts.specs.Sections.{own_name}
 use Rattle.m36_text.specs.Texts.{is_name_character}
 use Rattle.alm_tokens.specs.Tokens.{span_at, slice_of, is_text, is_symbol, first_in}
 use Rattle.alm_tokens.specs.Pieces.{piece_at}
+use Rattle.alm_tokens.specs.Numerals.{is_negative}
 use Rattle.alm_tokens.specs.Expressions.{expression_pieces}
 use Rattle.alm_tokens.specs.Modifiers.{pr_number}
-use Rattle.alm_tokens.specs.Bytes.{is_minus, is_sign}
+use Rattle.alm_tokens.specs.Bytes.{is_sign}
 
 -- the first place in a span where a byte stands
 unfoldable pub place_of : List ℕ → Span → ℕ → Option ℕ
@@ -89,7 +90,7 @@ tail_pieces text tail =
     if length (slice_of text tail) == 0
     then []
     else expression_pieces text
-    (piece_at (is_minus (slice_index (slice_of text tail) 0)) (tail.from + 1) tail.to)
+    (piece_at (is_negative (slice_of text tail)) (tail.from + 1) tail.to)
 
 abbrev pub body_pieces : List ℕ → Body → List Piece
 body_pieces text (Through pr offset) =

@@ -1,15 +1,14 @@
 -- Expressions: terms joined by + and -. A minus may stand before the first term.
-use Rattle.std.specs.Prelude.{ℕ, ◌+◌, ◌≤◌, ⊤, Bool, not, ◌||◌, List, slice_index, codes}
+use Rattle.std.specs.Prelude.{ℕ, ◌+◌, ◌≤◌, ⊤, Bool, not, ◌||◌, List, codes}
 use Rattle.std.specs.Prelude.{if◌then◌else◌}
 use Rattle.alm_tokens.specs.declared.pieces.Parter.TheVariants.{Sign}
 use Rattle.alm_tokens.specs.declared.pieces.Piece.{Piece}
 use Rattle.alm_tokens.specs.declared.expression.Atom.{Atom}
 use Rattle.alm_tokens.specs.declared.expression.Atom.TheVariants.{Number, Symbol, Here}
 use Rattle.alm_tokens.specs.declared.expression.Term.{Term}
-use Rattle.alm_tokens.specs.Bytes.{is_minus}
 use Rattle.alm_tokens.specs.Tokens.{slice_of, is_text, is_symbol, value_of, small_read}
 use Rattle.alm_tokens.specs.Tokens.{most_number}
-use Rattle.alm_tokens.specs.Numerals.{is_number}
+use Rattle.alm_tokens.specs.Numerals.{is_number, is_negative}
 use Rattle.alm_tokens.specs.Pieces.{pieces_of, piece_at}
 
 -- A term is a number, a symbol, or *, the current place.
@@ -26,7 +25,7 @@ is_term_at text piece = is_term (slice_of text piece.span)
 -- the other sign.
 unfoldable pub signed_start : List ℕ → Piece → Piece
 signed_start text whole =
-    if is_minus (slice_index (slice_of text whole.span) 0)
+    if is_negative (slice_of text whole.span)
     then piece_at (not whole.minus) (whole.span.from + 1) whole.span.to
     else whole
 

@@ -7,11 +7,10 @@ use Rattle.alm_parse.specs.SourceFields.{Source}
 use Rattle.obj36_parts.specs.declared.section.Section.{Section}
 use Rattle.obj36_parts.specs.declared.section.Section.TheVariants.{Text, Linkage, Static}
 use Rattle.obj36_parts.specs.PartsFields.{PartsFields}
-use Rattle.obj36_parts.specs.Sections.{section_name}
+use Rattle.obj36_parts.specs.Sections.{section_name, same_section}
 use Rattle.obj36_parts.specs.ObjectSegment.{inner_statics, outer_statics}
 use Rattle.alm_lines.specs.SpotFields.{Spot}
 use Rattle.alm_lines.specs.Spots.{start, place_in, place, size_of, below}
-use Rattle.alm_asm.specs.Words.{same_section}
 use Rattle.m36_list.specs.Print.{line, print_of}
 
 -- A placed word: the name of its section, its place there, the word, and the line of the source, in

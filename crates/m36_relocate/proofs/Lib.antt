@@ -1,1 +1,2 @@
 pub mod LinkPlaces
+pub mod StaticPlaces

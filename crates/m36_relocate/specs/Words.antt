@@ -1,7 +1,7 @@
 -- The words of components with their relocated parts moved: halves, which count modulo 2^18, and
 -- bits 3 to 17, which count as signed and must fit.
-use Rattle.std.specs.Prelude.{ℕ, ◌+◌, ◌-◌, ◌*◌, ◌/◌, ◌%◌, ◌^◌, Bool, true, false, not, nat_lt}
-use Rattle.std.specs.Prelude.{nat_eq, if◌then◌else◌, List, [], ◌∷◌, length, slice_index}
+use Rattle.std.specs.Prelude.{ℕ, ◌≡◌, ◌+◌, ◌-◌, ◌*◌, ◌/◌, ◌%◌, ◌^◌, ◌<◌, Bool, true, false, not}
+use Rattle.std.specs.Prelude.{nat_lt, nat_eq, if◌then◌else◌, List, [], ◌∷◌, length, slice_index}
 use Rattle.std.specs.Prelude.{slice_set}
 use Rattle.obj36_parts.specs.Fields.{RelocFields}
 use Rattle.obj36_parts.specs.PartsFields.{PartsFields}
@@ -12,7 +12,8 @@ use Rattle.obj36_parts.specs.ObjectSegment.{head_words, left_part, right_part}
 use Rattle.obj36_parts.specs.declared.section.Section.{Section}
 use Rattle.obj36_parts.specs.declared.section.Section.TheVariants.{Text, Linkage, Symbol, Static}
 use Rattle.m36_relocate.specs.Fields.{ShapeFields, BasesFields}
-use Rattle.m36_relocate.specs.Layout.{number_moved}
+use Rattle.m36_relocate.specs.Layout.{number_moved, meant, static_spot}
+use Rattle.m36_relocate.specs.declared.layout.Meant.TheVariants.{StaticWord}
 use Rattle.m36_relocate.specs.declared.layout.Moving.{Moving}
 
 -- ---- parts of a word
@@ -60,6 +61,13 @@ stands_in statics r = if statics then not (is_text_section r.section) else is_te
 -- where the words begin, as relocations count them
 abbrev pub start_of : Bool → ShapeFields → ℕ
 start_of statics s = if statics then (if s.newer then 0 else head_words) else 0
+
+-- In the section that has the static words of an object of a shape, the place so many words behind
+-- that start names the static word of that number.
+abbrev pub StaticsBegin : Type 0
+StaticsBegin =
+    (s : ShapeFields) (w : ℕ) → w < s.statics
+    → meant s (static_spot s w).section (start_of true s + w) ≡ StaticWord w
 
 abbrev pub words_in : Bool → PartsFields → List ℕ
 words_in statics p = if statics then p.statics else p.text

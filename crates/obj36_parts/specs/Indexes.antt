@@ -7,7 +7,7 @@ use Rattle.m36_text.specs.Once.{with_unless}
 use Rattle.obj36_parts.specs.Fields.{DefFields, LinkFields}
 use Rattle.obj36_parts.specs.declared.definition.Named.{Named}
 use Rattle.obj36_parts.specs.Names.{same, with_names, names_in}
-use Rattle.obj36_parts.specs.Sections.{place_number}
+use Rattle.obj36_parts.specs.Sections.{same_section}
 use Rattle.obj36_parts.specs.ObjectSegment.{definition_names, all_link_names}
 use Rattle.obj36_parts.specs.ObjectSegment.{definition_named}
 
@@ -23,7 +23,7 @@ pub record AreFirsts (definitions : List Named) (firsts : List (List ℕ × DefF
 -- whether two links are the same
 unfoldable pub same_link : LinkFields → LinkFields → Bool
 same_link a b =
-    nat_eq a.kind b.kind && nat_eq (place_number a.section) (place_number b.section)
+    nat_eq a.kind b.kind && same_section a.section b.section
     && same a.name b.name && same a.entry b.entry
     && nat_eq a.expr b.expr && nat_eq a.modifier b.modifier
 

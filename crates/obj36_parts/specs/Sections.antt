@@ -1,5 +1,5 @@
 -- The sections of an object: their numbers and names, and the order in which values count in them.
-use Rattle.std.specs.Prelude.{ℕ, Bool, true, false, nat_le, if◌then◌else◌, List, ◌++◌, codes}
+use Rattle.std.specs.Prelude.{ℕ, Bool, true, false, nat_eq, nat_le, if◌then◌else◌, List, ◌++◌, codes}
 use Rattle.obj36_parts.specs.declared.section.Section.{Section}
 use Rattle.obj36_parts.specs.declared.section.Section.TheVariants.{Text, Linkage, Symbol, Static}
 
@@ -20,6 +20,10 @@ place_number Text = 0
 place_number Linkage = 1
 place_number Static = 2
 place_number Symbol = 3
+
+-- whether two sections are the same
+abbrev pub same_section : Section → Section → Bool
+same_section a b = nat_eq (place_number a) (place_number b)
 
 -- the name of a section behind `use`, and before its lines in a listing
 abbrev pub section_name : Section → List ℕ
