@@ -30,6 +30,3 @@ mod writes;
 pub use walk::Walk;
 pub use words::{Pending, Run};
 pub use writes::first_at;
-
-#[cfg(test)]
-mod tests;

@@ -1,4 +1,4 @@
-//! Tests of the step: addresses, the machine, and its lines.
+//! Tests of the step: references, addresses, the machine, and its lines.
 #![tactic(auto)]
 
 #[cfg(test)]
@@ -7,5 +7,9 @@ mod addresses;
 mod lines;
 #[cfg(test)]
 mod machine;
+#[cfg(test)]
+mod memories;
+#[cfg(test)]
+mod references;
 #[cfg(test)]
 mod setting;

@@ -1,8 +1,10 @@
-//! Tests of words, texts, descriptors, instructions and tables.
+//! Tests of words, core, texts, descriptors, instructions and tables.
 #![tactic(auto)]
 
 #[cfg(test)]
 mod descriptors;
+#[cfg(test)]
+mod frames;
 #[cfg(test)]
 mod instructions;
 #[cfg(test)]

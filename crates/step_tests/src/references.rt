@@ -2,17 +2,16 @@
 
 ghost use Rattle.std.specs.Prelude.{◌<◌, ◌^◌};
 
-use crate::walk::Walk;
-use crate::words::Pending;
-use m36_associative::Memories;
+use crate::setting::at;
 use m36_core::Core;
 use m36_desc::{Dbr, Ptw, Sdw};
 use m36_model::{At, Fault, Ppr};
+use m36_walk::{Pending, Walk};
 use m36_word::{NoMemory, Pair, Word};
 use std::alloc::Global;
 
 /// The descriptor segment is unpaged at core word 0 and has eight descriptors.
-const DBR: Dbr = Dbr {
+pub const DBR: Dbr = Dbr {
     addr: 0,
     bnd: 0,
     stack: 1,
@@ -43,9 +42,9 @@ fn segment(addr: u32, brackets: (u8, u8, u8), unpaged: bool) -> Sdw
     }
 }
 
-/// A walk over two frames. Segment 0 is of ring 0, 1 a gate of ring 0, 2 of rings 2 and 3, and 3 of ring 4, each at core
+/// Two frames of core. Segment 0 is of ring 0, 1 a gate of ring 0, 2 of rings 2 and 3, and 3 of ring 4, each at core
 /// word octal 2000; segments 4 and 5 are of ring 4 and have page tables at octal 100 and 120, whose pages are frame 1.
-fn walk(alloc: Global) -> Result<Walk, NoMemory> {
+pub fn core_of_segments(alloc: Global) -> Result<Core, NoMemory> {
     let segments = [
         segment(0o2000, (0, 0, 0), true),
         segment(0o2000, (0, 0, 5), true),
@@ -71,6 +70,11 @@ fn walk(alloc: Global) -> Result<Walk, NoMemory> {
     }
     put(&mut core, 0o100, frame.to_words());
     put(&mut core, 0o120, frame.to_words());
+    Ok(core)
+}
+
+fn walk(alloc: Global) -> Result<Walk, NoMemory> {
+    let core = core_of_segments(alloc)?;
     match Walk::new(alloc, core, DBR) {
         Ok(walk) => Ok(walk),
         Err(_core) => Err(NoMemory),
@@ -91,14 +95,6 @@ fn marks(walk: &Walk) -> (bool, bool) {
     }
     let ptw = Ptw::of_words(core.peek(0o100));
     (ptw.used, ptw.modified)
-}
-
-fn at(seg: u16, word: u32, ring: u8) -> At
-    requires seg { seg < 2 ^ 15 }
-    requires word { word < 2 ^ 18 }
-    requires ring { ring < 2 ^ 3 }
-{
-    At { word, seg, ring }
 }
 
 fn pair(even: u64, odd: u64) -> Pair {
@@ -159,56 +155,6 @@ fn words_and_marks(rt: HostRuntime) -> Result<(), NoMemory> {
     assert!(rt; walk.write_block(at(3, 0o27, 4), [pair(3, 4); 8]) == Ok(()));
     assert!(rt; walk.read_block(at(3, 0o20, 4), 0) == Ok([pair(3, 4); 8]));
     assert!(rt; walk.operand_pair(at(3, 0o77, 5), 0, &None) == Err(violation(3, at(3, 0o76, 5))));
-    Ok(())
-}
-
-/// How many descriptors are kept, the segment of the one that was used last, and of the one that was used first.
-fn segments(memories: &Memories) -> (usize, u16, u16) {
-    let kept = memories.descriptors();
-    let last = match kept.peek_mru() {
-        Some((seg, _)) => *seg,
-        None => 0,
-    };
-    let first = match kept.peek_lru() {
-        Some((seg, _)) => *seg,
-        None => 0,
-    };
-    (kept.len(), last, first)
-}
-
-/// The same of page table words, by their addresses.
-fn table_words(memories: &Memories) -> (usize, u32, u32) {
-    let kept = memories.table_words();
-    let last = match kept.peek_mru() {
-        Some((a, _)) => *a,
-        None => 0,
-    };
-    let first = match kept.peek_lru() {
-        Some((a, _)) => *a,
-        None => 0,
-    };
-    (kept.len(), last, first)
-}
-
-#[test]
-fn keeps_what_was_used_last_in_front(rt: HostRuntime) -> Result<(), NoMemory> {
-    let mut walk = walk(rt.alloc())?;
-    for seg in [4, 5, 4] {
-        assert!(rt; walk.read(at(seg, 1, 4), 0) == Ok(Word::ZERO));
-    }
-    walk.memories.settle();
-    assert!(rt; segments(&walk.memories) == (2, 4, 5));
-    assert!(rt; table_words(&walk.memories) == (2, 0o100, 0o120));
-    let _ = walk.core_mut();
-    assert!(rt; segments(&walk.memories) == (0, 0, 0) && table_words(&walk.memories) == (0, 0, 0));
-    // A write of another word leaves all that is kept, and one of a page table word empties all.
-    assert!(rt; walk.write(at(5, 1, 4), Word::low(3)) == Ok(()));
-    assert!(rt; walk.fetch(at(4, 1, 4)) == Ok((Word::low(3), false)));
-    assert!(rt; segments(&walk.memories) == (2, 4, 5));
-    if walk.core().len() > 0o100 {
-        walk.store(0o100, Word::ZERO);
-    }
-    assert!(rt; segments(&walk.memories) == (0, 0, 0));
     Ok(())
 }
 
