@@ -1,12 +1,13 @@
 -- What is read is the object of the list.
-use Rattle.std.proofs.Common.{ℕ, ◌≡◌, Bool, true, false, cond, ◌&&◌, List, Option, Some, None, Ok, Err, refl, sym, ap, ◌∙◌}
+use Rattle.std.proofs.Common.{ℕ, ◌≡◌, Bool, true, false, cond, ◌&&◌, List, Option, Some, None, Ok, Err, refl, sym, ap, subst, ◌∙◌}
 use Rattle.std.proofs.lemmas.Bool.{cond-true, cond-false, and_parts, and_from, and_left, and_right}
 use Rattle.obj36_parts.specs.Names.{same}
 use Rattle.obj36_parts.specs.PartsFields.{PartsFields}
 use Rattle.obj36_parts.specs.ObjectSegment.{words_of, is_well_formed, Stands}
 use Rattle.obj36_read.specs.Reading.{parts_of}
-use Rattle.obj36_parts.proofs.SizeLaws.{same_is}
-use Rattle.obj36.specs.Faults.{outline_fault, first_fault}
+use Rattle.obj36_parts.proofs.SizeLaws.{same_is, same_self}
+use Rattle.obj36.specs.Faults.{outline_fault, first_fault, IsFound}
+use Rattle.obj36.proofs.ReadingBack.{stands_back}
 use Rattle.obj36.proofs.ReaderLaws.{outline_stands}
 use Rattle.obj36.specs.ObjectOf.{value_of, or_fault, object_of, IsObjectOf}
 use Rattle.obj36.specs.declared.fault.ObjectFault.{ObjectFault}
@@ -42,6 +43,28 @@ own_value words written parts b e t f alike =
     ∙ sym (cond-true (is_well_formed (parts_of words) && same (words_of (parts_of words)) words) (Some (parts_of words)) None
     (and_from (is_well_formed (parts_of words)) (same (words_of (parts_of words)) words) (ap is_well_formed (sym e) ∙ t.formed)
     (ap (λ (p : PartsFields). same (words_of p) words) (sym e) ∙ ap (λ (ws : List ℕ). same ws words) (sym t.spelled) ∙ sym f ∙ alike)))
+
+-- the value of a list that stands for one
+stands_value : (words : List ℕ) (p : PartsFields) → Stands p words → Some p ≡ value_of words
+stands_value words p s =
+    own_value words (words_of p) p true (sym (stands_back p words s)) (record { formed = s.formed; spelled = refl })
+    (sym (ap (λ (ws : List ℕ). same (words_of p) ws) s.spelled ∙ same_self (words_of p))) refl
+
+pub found_by_value : (words : List ℕ) (found : Option PartsFields) → found ≡ value_of words → IsFound words found
+unfolding value_of
+found_by_value words found e = by (is_well_formed (parts_of words) && same (words_of (parts_of words)) words) refl found e
+  where
+    no_value : (words : List ℕ) → (is_well_formed (parts_of words) && same (words_of (parts_of words)) words) ≡ false → (p : PartsFields) → Some p ≡ value_of words → ⊥
+    no_value words g p e =
+        let none : Some p ≡ None = e ∙ ap (λ (b : Bool). cond b (Some (parts_of words)) None) g in
+        absurd cc
+
+    by : (b : Bool) → (is_well_formed (parts_of words) && same (words_of (parts_of words)) words) ≡ b → (found : Option PartsFields) → found ≡ cond b (Some (parts_of words)) None → IsFound words found
+    by true g found e =
+        let both = and_parts (is_well_formed (parts_of words)) (same (words_of (parts_of words)) words) g in
+        subst (IsFound words) (sym e) (record { formed = both.0; spelled = sym (same_is (words_of (parts_of words)) words both.1) })
+    by false g found e =
+        subst (IsFound words) (sym e) (λ p s. absurd (no_value words g p (stands_value words p s)))
 
 pub object_there : (words : List ℕ) (parts : PartsFields) → Some parts ≡ value_of words → IsObjectOf words (Ok parts)
 unfolding object_of

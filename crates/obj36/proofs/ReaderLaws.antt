@@ -4,14 +4,12 @@ use Rattle.std.proofs.lemmas.List.{length-take, length-drop}
 use Rattle.obj36_parts.specs.PartsFields.{PartsFields}
 use Rattle.obj36.specs.declared.fault.ObjectFault.{ObjectFault}
 use Rattle.obj36.specs.declared.fault.ObjectFault.TheVariants.{O1, O2, O3, O4, O5, O6, O7, O8, NoMemory}
-use Rattle.obj36_parts.specs.Names.{same}
-use Rattle.obj36_parts.specs.ObjectSegment.{words_of, is_well_formed, Stands}
+use Rattle.obj36_parts.specs.ObjectSegment.{Stands}
 use Rattle.obj36_parts.specs.Sizes.{HasShortLists}
 use Rattle.obj36_read.specs.Reading.{version_in, told_length, told_count, told_first, from_definition, from_linkage, from_statics, from_symbol, statics_in, definitions_in, links_in, relocations_in, parts_of}
 use Rattle.obj36.specs.Faults.{from_outline, outline_fault, fault_behind_map, first_fault, ReadSays, IsReadAs, IsFound}
 use Rattle.obj36_parts.proofs.Formed.{is_formed}
-use Rattle.obj36_parts.proofs.SizeLaws.{same_is, same_self}
-use Rattle.obj36.proofs.ReadingBack.{outline_back, stands_back, values_apart}
+use Rattle.obj36.proofs.ReadingBack.{outline_back, values_apart}
 
 -- ---- the parts that are read have short lists
 
@@ -69,24 +67,6 @@ short_parts words lt = record {
       );
   relocations = omega (arith, relocations_few (from_symbol words) 1 (told_count words (from_symbol words) 0), count_few words (from_symbol words) 0);
 }
-
--- ---- for which lists there is a value
-
-pub not_formed : (words : List ℕ) (parts : PartsFields) (b : Bool) → parts ≡ parts_of words → b ≡ is_well_formed parts → b ≡ false → (p : PartsFields) → Stands p words → ⊥
-not_formed words parts b e f bad p s =
-    let formed : is_well_formed parts ≡ true = ap is_well_formed (e ∙ stands_back p words s) ∙ s.formed in
-    let wrong : true ≡ false = sym formed ∙ sym f ∙ bad in
-    absurd cc
-
-pub other_words : (words written : List ℕ) (parts : PartsFields) (b : Bool) → parts ≡ parts_of words → Stands parts written → b ≡ same written words → b ≡ false → (p : PartsFields) → Stands p words → ⊥
-other_words words written parts b e t f other p s =
-    let equal : written ≡ words = t.spelled ∙ ap words_of (e ∙ stands_back p words s) ∙ sym s.spelled in
-    let alike : same written words ≡ true = ap (same written) (sym equal) ∙ same_self written in
-    let wrong : true ≡ false = sym alike ∙ sym f ∙ other in
-    absurd cc
-
-pub same_words : (words written : List ℕ) (parts : PartsFields) (b : Bool) → Stands parts written → b ≡ same written words → b ≡ true → Stands parts words
-same_words words written parts b t f alike = record { formed = t.formed; spelled = sym (same_is written words (sym f ∙ alike)) ∙ t.spelled }
 
 -- ---- what is told before anything is read
 

@@ -1,7 +1,7 @@
 //! Objects.
 
 ghost use Rattle.std.specs.Prelude.{ℕ, List, [], ◌∷◌, ◌++◌, ◌≡◌, ◌+◌, ◌*◌, ◌<◌, ◌≤◌, ◌^◌, Bool};
-ghost use Rattle.std.specs.Prelude.{true, length, nat_eq, if◌then◌else◌, None, IfOk, OnOk};
+ghost use Rattle.std.specs.Prelude.{true, length, nat_eq, if◌then◌else◌, None, option_map, IfOk, IfSome, OnOk};
 ghost use Rattle.obj36_parts.specs.ObjectSegment.{is_newer, inner_statics, outer_statics};
 ghost use Rattle.obj36_parts.specs.ObjectSegment.{definition_section, linkage_section};
 ghost use Rattle.obj36_parts.specs.ObjectSegment.{symbol_section, section_words, map_part};
@@ -13,6 +13,7 @@ ghost use Rattle.obj36.specs.Lengths.{AreSmall};
 ghost use Rattle.obj36_parts.specs.PartsFields.{PartsFields};
 ghost use Rattle.obj36.specs.Faults.{outline_fault, ReadSays, IsReadAs, IsFound};
 ghost use Rattle.obj36.specs.ObjectOf.{value_of, IsObjectOf};
+ghost use Rattle.obj36_read.specs.Reading.{parts_of};
 ghost use Rattle.std.specs.Cmp.Lexicographic.{pointwise};
 
 use crate::fault::ObjectFault;
@@ -174,23 +175,53 @@ fn are_same_words(words: &[Word], others: &[Word]) -> bool
     words == others
 }
 
+// The sections of the parts that a list of words would spell, or none where it does not spell them.
+fn sections_found(alloc: Global, parts: &Parts, w: &[Word]) -> Result<Option<Sections>, NoMemory>
+    requires few { HasShortLists parts.now }
+    requires spelled { parts.now ≡ parts_of w.now }
+    ensures sections { IfOk result (λ found. IfSome found
+        (λ s. IsObject parts.now s.definition s.linkage s.symbol)) }
+    ensures value { IfOk result (λ found. option_map (λ s. parts.now) found ≡ value_of w.now) }
+{
+    if !parts.is_well_formed() {
+        return Ok(None);
+    }
+    let sections = sections_of(alloc, parts)?;
+    let definition = sections.definition.slice();
+    let linkage = sections.linkage.slice();
+    let symbol = sections.symbol.slice();
+    let words = joined_sections(alloc, parts, definition, linkage, symbol)?;
+    if are_same_words(words.slice(), w) {
+        Ok(Some(sections))
+    } else {
+        Ok(None)
+    }
+}
+
+// The object of parts with their sections, where there are any.
+fn object_with(parts: Parts, sections: Option<Sections>) -> Option<Object>
+    requires { IfSome sections (λ s. IsObject parts s.definition s.linkage s.symbol) }
+    ensures { result ≡ option_map (λ s. parts) sections }
+{
+    let sections = sections?;
+    Some(Object {
+        parts,
+        definition: sections.definition,
+        linkage: sections.linkage,
+        symbol: sections.symbol,
+    })
+}
+
 // The object that a list of words is, or none where it stands for no value.
+#[tactic(auto, using(crate::proofs::ObjectLaws::found_by_value))]
 fn object_in(alloc: Global, w: &[Word]) -> Result<Option<Object>, NoMemory>
     requires { length w.now < 2 ^ 32 }
     ensures value { IfOk result (λ found. found ≡ value_of w.now) }
     ensures found { IfOk result (λ found. IsFound w.now found) }
 {
     let parts = parts_in(alloc, w)?;
-    if !parts.is_well_formed() {
-        return Ok(None);
-    }
-    let object = Object::new(alloc, parts)?;
-    let words = object.write(alloc)?;
-    if are_same_words(words.slice(), w) {
-        Ok(Some(object))
-    } else {
-        Ok(None)
-    }
+    let sections = sections_found(alloc, &parts, w)?;
+    Ok(object_with(parts, sections))
 }
 
 // The object that a list of words with a map is.
