@@ -1,10 +1,12 @@
 -- What is written to words is read back: each field alone, and then the record of them.
-use Rattle.std.proofs.Common.{◌≡◌, ℕ, ◌≤◌, ◌==◌, Bool, true, false, refl, arith}
+use Rattle.std.proofs.Common.{◌≡◌, ℕ, ◌-◌, ◌^◌, ◌<◌, ◌≤◌, ◌==◌, Bool, true, false, refl, arith, ap, ◌∙◌}
+use Rattle.std.proofs.lemmas.Bool.{cond-false, ne_eqb}
+use Rattle.m36_word.specs.Field.{field}
 use Rattle.m36_word.specs.Bits.{of_bit}
 use Rattle.m36_desc.specs.Fields.{SdwFields}
 use Rattle.m36_desc.specs.Widths.{IsSdw}
-use Rattle.m36_desc.specs.Descriptors.{sdw_of, sdw_even, sdw_odd, ptw_of, ptw_word, dbr_of, dbr_even, dbr_odd, ptr_of, ptr_even, ptr_odd, its_of, its_even, its_odd, itp_of, itp_even, itp_odd}
-use Rattle.m36_desc.specs.RoundTrips.{SdwComesBack, PtwComesBack, DbrComesBack, PtrComesBack, ItsComesBack, ItpComesBack}
+use Rattle.m36_desc.specs.Descriptors.{sdw_of, sdw_even, sdw_odd, ptw_of, ptw_word, dbr_of, dbr_even, dbr_odd, ptr_of, ptr_even, ptr_odd, its_of, its_even, its_odd, itp_of, itp_even, itp_odd, packed_of, packed_word, unpacked_segment}
+use Rattle.m36_desc.specs.RoundTrips.{SdwComesBack, PtwComesBack, DbrComesBack, PtrComesBack, ItsComesBack, ItpComesBack, EvenTags, PackedComesBack}
 
 pub bit_small : (b : Bool) → of_bit b ≤ 1
 bit_small true = omega arith
@@ -93,7 +95,22 @@ itp_back p h =
     let tag_back : r.tag ≡ p.tag = omega arith in
     λ i. record { pr = pr_back i; word = word_back i; bit = bit_back i; tag = tag_back i }
 
-pub ruleset comes_back = (sdw_back, ptw_back, dbr_back, ptr_back, its_back, itp_back)
+pub even_tags : EvenTags
+even_tags = record { its = λ p. omega arith; itp = λ p. omega arith }
+
+own_segment : (s : ℕ) → s < 2 ^ 12 - 1 → unpacked_segment s ≡ s
+own_segment s h = cond-false (s == 2 ^ 12 - 1) (2 ^ 15 - 1) s (ne_eqb s (2 ^ 12 - 1) (λ e. absurd (omega (arith, e, h))))
+
+pub packed_back : PackedComesBack
+packed_back seg word ring in_seg in_word =
+    let r = packed_of (packed_word seg word) ring in
+    let field_back : field (packed_word seg word) 6 12 ≡ seg = omega (arith, in_seg, in_word) in
+    let seg_back : r.seg ≡ seg = ap unpacked_segment field_back ∙ own_segment seg in_seg in
+    let word_back : r.word ≡ word = omega (arith, in_word) in
+    let bit_back : r.bit ≡ 0 = omega (arith, in_seg, in_word) in
+    λ i. record { seg = seg_back i; ring = ring; word = word_back i; bit = bit_back i }
+
+pub ruleset comes_back = (sdw_back, ptw_back, dbr_back, ptr_back, its_back, itp_back, even_tags, packed_back)
 
 -- the same for words that are known to be the descriptor's
 pub sdw_read : (even odd : ℕ) (s : SdwFields) → IsSdw s → even ≡ sdw_even s → odd ≡ sdw_odd s → sdw_of even odd ≡ s

@@ -78,8 +78,9 @@ wordno_of odd = field odd 0 18
 abbrev pub bitno_of : ℕ → ℕ
 bitno_of odd = field odd 21 6
 
+-- the tag of an indirect word: of a plain one, and of the even and the odd one of a pair
 abbrev pub tag_of : ℕ → ℕ
-tag_of odd = field odd 30 6
+tag_of w = field w 30 6
 
 abbrev pub odd_of : ℕ → ℕ → ℕ → ℕ
 odd_of number bit tag = number * 2 ^ 18 + bit * 2 ^ 9 + tag

@@ -1,10 +1,11 @@
 -- What is written to words is read back.
-use Rattle.std.specs.Prelude.{◌≡◌}
+use Rattle.std.specs.Prelude.{◌≡◌, ℕ, ◌-◌, ◌^◌, ◌<◌}
 use Rattle.m36_desc.specs.Fields.{SdwFields, PtwFields, DbrFields, PtrFields, ItsFields, ItpFields}
 use Rattle.m36_desc.specs.Widths.{IsSdw, IsPtw, IsDbr, IsPtr, IsIts, IsItp}
 use Rattle.m36_desc.specs.Descriptors.{sdw_of, sdw_even, sdw_odd, ptw_of, ptw_word, dbr_of}
 use Rattle.m36_desc.specs.Descriptors.{dbr_even, dbr_odd, ptr_of, ptr_even, ptr_odd, its_of}
-use Rattle.m36_desc.specs.Descriptors.{its_even, its_odd, itp_of, itp_even, itp_odd}
+use Rattle.m36_desc.specs.Descriptors.{its_even, its_odd, its_tag, itp_of, itp_even, itp_odd, itp_tag}
+use Rattle.m36_desc.specs.Descriptors.{tag_of, packed_of, packed_word}
 
 abbrev pub SdwComesBack : Type 0
 SdwComesBack = (s : SdwFields) → IsSdw s → sdw_of (sdw_even s) (sdw_odd s) ≡ s
@@ -23,3 +24,15 @@ ItsComesBack = (p : ItsFields) → IsIts p → its_of (its_even p) (its_odd p) �
 
 abbrev pub ItpComesBack : Type 0
 ItpComesBack = (p : ItpFields) → IsItp p → itp_of (itp_even p) (itp_odd p) ≡ p
+
+-- The even word of a pair has the tag by which an address chain knows the pair.
+pub record EvenTags : Type 0 where
+  pub its : (p : ItsFields) → tag_of (its_even p) ≡ its_tag
+  pub itp : (p : ItpFields) → tag_of (itp_even p) ≡ itp_tag
+
+-- A packed pointer that is written is read back, in the ring that it is given.
+abbrev pub PackedComesBack : Type 0
+PackedComesBack =
+    (seg word ring : ℕ) → seg < 2 ^ 12 - 1 → word < 2 ^ 18
+    → packed_of (packed_word seg word) ring
+    ≡ record { seg = seg; ring = ring; word = word; bit = 0 }

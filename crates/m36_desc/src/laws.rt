@@ -1,12 +1,13 @@
 //! What holds of all descriptors, as the contracts of functions that do nothing.
 
 ghost use Rattle.m36_desc.specs.RoundTrips.{SdwComesBack, PtwComesBack, DbrComesBack, PtrComesBack};
-ghost use Rattle.m36_desc.specs.RoundTrips.{ItsComesBack, ItpComesBack};
+ghost use Rattle.m36_desc.specs.RoundTrips.{ItsComesBack, ItpComesBack, EvenTags, PackedComesBack};
 ghost use Rattle.m36_desc.specs.Widths.{SdwFits, PtwFits, DbrFits, PtrFits, ItsFits, ItpFits};
 ghost use Rattle.m36_desc.specs.Widths.{PackedFits, SdwWords, PtwWords, DbrWords, PtrWords};
 ghost use Rattle.m36_desc.specs.Widths.{ItsWords, ItpWords};
 
-/// Each descriptor that is written to words is read back as it was, whatever its fields within their widths.
+/// Each descriptor that is written to words is read back as it was, whatever its fields within their widths, and so is
+/// a packed pointer to bit 0 of a word. The even word of a pair has the tag by which the pair is known.
 #[tactic(auto, using(crate::proofs::RoundTrips::comes_back))]
 pub fn descriptor_laws()
     ensures sdw { SdwComesBack }
@@ -15,6 +16,8 @@ pub fn descriptor_laws()
     ensures ptr { PtrComesBack }
     ensures its { ItsComesBack }
     ensures itp { ItpComesBack }
+    ensures tags { EvenTags }
+    ensures packed { PackedComesBack }
 {}
 
 /// Whatever words are read as a descriptor, each of its fields is within its width.

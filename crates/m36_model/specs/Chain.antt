@@ -5,7 +5,7 @@ use Rattle.std.specs.Prelude.{ℕ, zero, suc, ◌+◌, ◌%◌, ◌^◌, max, Bo
 use Rattle.std.specs.Prelude.{if◌then◌else◌, List, [], ◌∷◌, Option, Some, None, Result, Ok, Err}
 use Rattle.std.specs.Prelude.{slice_index}
 use Rattle.m36_word.specs.Field.{field}
-use Rattle.m36_desc.specs.Descriptors.{its_of, itp_of, its_tag, itp_tag}
+use Rattle.m36_desc.specs.Descriptors.{its_of, itp_of, its_tag, itp_tag, tag_of}
 use Rattle.m36_model.specs.Faults.{lockup_fault}
 use Rattle.m36_model.specs.Fields.{FinalFields}
 use Rattle.m36_model.specs.Registers.{RegsFields}
@@ -53,7 +53,7 @@ found_by_tag tag = if tag == its_tag then Its else if tag == itp_tag then Itp el
 
 -- the tag of an indirect word, plain or even
 abbrev pub indirect_tag : ℕ → ℕ
-indirect_tag w = field w 30 6
+indirect_tag w = tag_of w
 
 unfoldable pub found : ℕ → ℕ → Found
 found word w = if word % 2 == 0 then found_by_tag (indirect_tag w) else Plain
