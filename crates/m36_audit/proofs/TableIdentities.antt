@@ -8,7 +8,8 @@ use Rattle.m36_model.specs.Audit.{IsPageWord, IsOf, Table, Sdws, Directory, Page
 use Rattle.m36_model.specs.declared.outcome.Refusal.{Refusal}
 use Rattle.m36_audit.specs.TableMarks.{SoFar}
 use Rattle.m36_audit.specs.Told.{several, joined_at, AreTold}
-use Rattle.m36_audit.specs.Shares.{identity, descriptor_told, directory_told, pages_told, page_table_told, live_told, segment_told, segments_told, Identified, Below, IsSegmentCount}
+use Rattle.m36_audit.specs.Shares.{identity, descriptor_told, directory_told, pages_told, page_table_told, live_told, segment_told, segments_told, Identified, Below}
+use Rattle.m36_tables.specs.Tables.{IsSegmentCount}
 use Rattle.m36_audit.proofs.Bounds.{live_fits}
 use Rattle.m36_audit.proofs.Tellings.{all_same, all_more}
 use Rattle.m36_audit.proofs.TableWords.{sdw_before, no_sdw_back, With_even, half_old, half_new, odd_here, directory_before, no_directory_back, directory_new, directory_here, pages_past, no_pages_back, whole_has_none, none_past, page_new, page_here, sofar_is, is_sofar, nothing_so_far}

@@ -1,12 +1,10 @@
 -- Which processes have a table word or a segment word at each core word, and which tables of which
 -- segments these are.
-use Rattle.std.specs.Prelude.{◌≡◌, ℕ, zero, suc, ◌+◌, ◌*◌, ◌/◌, ◌%◌, ◌^◌, ◌<◌, ◌≤◌, Bool, true}
-use Rattle.std.specs.Prelude.{false, nat_lt}
+use Rattle.std.specs.Prelude.{◌≡◌, ℕ, zero, suc, ◌+◌, ◌*◌, ◌/◌, ◌%◌, ◌^◌, ◌<◌, ◌≤◌, Bool, true, false}
 use Rattle.std.specs.Prelude.{◌-◌, if◌then◌else◌, ◌==◌, ◌&&◌, ◌||◌, not, List, length, slice_get}
 use Rattle.std.specs.Prelude.{slice_index, Option, Some, None, Result, Ok, Err}
 use Rattle.m36_desc.specs.Fields.{SdwFields, DbrFields}
 use Rattle.m36_model.specs.Place.{wrapped, directory_at, page_at, page_count, sdw_place, core_sdw}
-use Rattle.m36_model.specs.Place.{in_bounds}
 use Rattle.m36_model.specs.Audit.{Table, Sdws, Directory, Pages, IsOf, IsSegmentWord}
 use Rattle.m36_model.specs.declared.outcome.Refusal.{Refusal}
 use Rattle.m36_audit.specs.declared.run.Run.{Run}
@@ -112,11 +110,6 @@ unfoldable pub joint_run : List ℕ → List DbrFields → List ℕ → ℕ → 
 joint_run core dbrs firsts n =
     first_run (slice_index firsts (n / runs_of_segment) == n / runs_of_segment)
     (run_of_process core (slice_get dbrs (n / runs_of_process)) (n % runs_of_process))
-
--- the descriptor segment has descriptors for so many segments
-pub record IsSegmentCount (dbr : DbrFields) (n : ℕ) : Type 0 where
-  pub most : n ≤ 2 ^ 15
-  pub is : (seg : ℕ) → in_bounds dbr seg ≡ nat_lt seg n
 
 -- how many runs a segment may have
 abbrev pub piece_count : SdwFields → ℕ

@@ -6,7 +6,8 @@ ghost use Rattle.m36_model.specs.JointAudit.{most_processes};
 ghost use Rattle.m36_model.specs.Place.{directory_at, sdw_place, core_sdw};
 ghost use Rattle.m36_audit.specs.Runs.{pages_of_segment};
 ghost use Rattle.m36_audit.specs.Classes.{descriptors_of_process, most_descriptors};
-ghost use Rattle.m36_audit.specs.Shares.{descriptor_told, directory_told, pages_told, page_table_told, live_told, segment_told, segments_told, IsSegmentCount};
+ghost use Rattle.m36_audit.specs.Shares.{descriptor_told, directory_told, pages_told, page_table_told, live_told, segment_told, segments_told};
+ghost use Rattle.m36_tables.specs.Tables.{IsSegmentCount};
 
 use crate::told::Told;
 use m36_core::Core;

@@ -1,8 +1,9 @@
 //! Addresses of table words, and how far tables and segments reach.
 
-ghost use Rattle.std.specs.Prelude.{ℕ, ◌≡◌, ◌<◌, ◌≤◌, ◌^◌, nat_lt};
-ghost use Rattle.m36_model.specs.Place.{wrapped, directory_at, page_at, in_bounds};
+ghost use Rattle.std.specs.Prelude.{◌≡◌, ◌<◌, ◌^◌};
+ghost use Rattle.m36_model.specs.Place.{wrapped, directory_at, page_at};
 ghost use Rattle.m36_model.specs.Store.{within};
+ghost use Rattle.m36_tables.specs.Tables.{IsSegmentCount};
 
 use m36_desc::{Dbr, Sdw};
 
@@ -20,8 +21,7 @@ pub fn wrapped(a: u32) -> u32
 
 /// How many segments the descriptor segment has a descriptor for.
 pub fn segment_count(dbr: Dbr) -> u16
-    ensures bound { result ≤ 2 ^ 15 }
-    ensures value { (seg : ℕ) → in_bounds dbr seg ≡ nat_lt seg result }
+    ensures { IsSegmentCount dbr result }
 {
     let descriptors = 8 * (dbr.bnd as u32 + 1);
     if descriptors < SEGMENTS as u32 {

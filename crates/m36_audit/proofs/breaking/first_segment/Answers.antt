@@ -9,7 +9,7 @@ returns-then-breaks c =
 
 pub returns : goal.returns
 returns c =
-    found_none (Breaks c.args.condition c.args.core.now c.args.dbr) c.args.dbr c.segment_count-seg-end.result c.loop-seg.seg (broken_inside c.args.condition c.args.core.now c.args.dbr) c.segment_count-seg-end.ensures.value c.loop-seg-test.false c.loop-seg.invariant
+    found_none (Breaks c.args.condition c.args.core.now c.args.dbr) c.args.dbr c.segment_count-seg-end.result c.loop-seg.seg (broken_inside c.args.condition c.args.core.now c.args.dbr) c.segment_count-seg-end.ensures.is c.loop-seg-test.false c.loop-seg.invariant
 
 pub loop-seg-preserved : goal.loop-seg-preserved
 loop-seg-preserved c =
