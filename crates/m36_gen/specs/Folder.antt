@@ -2,7 +2,7 @@
 -- order.
 use Rattle.std.specs.Prelude.{ℕ, ◌+◌, List, [], ◌∷◌, ◌++◌, map, replicate}
 use Rattle.std.specs.List.{range_with_len}
-use Rattle.m36_text.specs.FileNames.{source_suffix, boot_name}
+use Rattle.m36_text.specs.FileNames.{source_of_object, boot_name}
 use Rattle.m36_text.specs.Packing.{packed}
 use Rattle.m36_gen.specs.declared.files.File.{File}
 use Rattle.m36_gen.specs.Draws.{offset_bound, draws_from, state_at}
@@ -29,7 +29,7 @@ zeros count = replicate count 0
 
 unfoldable pub sources_of : ℕ → List File
 sources_of seed =
-    source_files seed program_count ++ file (gate_name ++ source_suffix) stop_text ∷ []
+    source_files seed program_count ++ file (source_of_object gate_name) stop_text ∷ []
 
 -- the files beside the sources, which are the same for each seed
 unfoldable pub other_files : List File

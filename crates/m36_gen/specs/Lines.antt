@@ -1,7 +1,7 @@
 -- Lines, and the names of the segments whose programs follow one another.
 use Rattle.std.specs.Prelude.{ℕ, List, ◌++◌, codes}
 use Rattle.m36_text.specs.Digits.{decimal_text}
-use Rattle.m36_text.specs.FileNames.{source_suffix}
+use Rattle.m36_text.specs.FileNames.{source_of_object}
 use Rattle.m36_text.specs.Lines.{as_line}
 
 -- a text as a line, by a word that stays closed where many lines stand in a row
@@ -27,4 +27,4 @@ unfoldable pub segment_name : ℕ → List ℕ
 segment_name i = codes "g" ++ decimal_text i
 
 unfoldable pub source_name : ℕ → List ℕ
-source_name i = segment_name i ++ source_suffix
+source_name i = source_of_object (segment_name i)

@@ -1,9 +1,9 @@
 -- The files that are made from a seed: the sources, the object of each of them, the data and the
 -- boot text, in this order.
-use Rattle.std.specs.Prelude.{ℕ, ◌-◌, List, [], ◌∷◌, ◌++◌, length, map, take}
+use Rattle.std.specs.Prelude.{ℕ, List, [], ◌∷◌, ◌++◌, map}
 use Rattle.std.specs.Prelude.{Some, None, unwrap_or, Result, Ok, Err}
 use Rattle.m36_outside.specs.Files.{Files}
-use Rattle.m36_text.specs.FileNames.{source_suffix}
+use Rattle.m36_text.specs.FileNames.{object_of_source}
 use Rattle.m36_text.specs.Results.{and_then}
 use Rattle.alm_parse.specs.declared.fault.AlmFault.{AlmFault}
 use Rattle.m36_gen.specs.declared.files.File.{File}
@@ -22,7 +22,7 @@ set_of file = record { name = file.name; content = file.content }
 
 -- An object has the name of its source without the end.
 unfoldable pub object_name : List ℕ → List ℕ
-object_name source = take (length source - length source_suffix) source
+object_name source = object_of_source source
 
 abbrev pub object_by : List ℕ → Result Assembly AlmFault → Early Set
 object_by source (Ok a) = Ok (object_set (object_name source) a.parts)

@@ -1,5 +1,6 @@
 pub mod DigitLaws
 pub mod DigitNumbers
+pub mod NameLaws
 pub mod NumeralLaws
 pub mod PackingInverse
 pub mod PackingLaws

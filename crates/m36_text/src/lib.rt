@@ -24,7 +24,7 @@ pub mod reading;
 pub mod texts;
 
 pub use lines::{first_line, first_open_line, first_word, only_word, place_of};
-pub use naming::{Name, Names};
+pub use naming::{Name, Names, name_laws};
 pub use numbers::{decimal_in, has_no_leading_zero, octal_in, plain_decimal_in, short_decimal_in};
 pub use numerals::{decimal, octal};
 pub use packing::{PackFault, pack, packing_laws, unpack};

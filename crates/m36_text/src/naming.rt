@@ -2,6 +2,7 @@
 
 ghost use Rattle.std.specs.Prelude.{ℕ, List, [], ◌∷◌, ◌++◌, ◌≡◌, ◌≤◌, length, OnOk, OnErr};
 ghost use Rattle.std.specs.Option.{SomeIff};
+ghost use Rattle.m36_text.specs.FileNames.{SourceNames};
 ghost use Rattle.m36_text.specs.Texts.{name_limit};
 
 use arrayvec::ArrayVec;
@@ -96,3 +97,9 @@ impl Names {
         self.items.as_slice()
     }
 }
+
+/// The law of the names of sources: a source whose name is that of an object's source is the source of that object.
+#[tactic(auto, using(crate::proofs::NameLaws::source_names))]
+pub fn name_laws()
+    ensures { SourceNames }
+{}

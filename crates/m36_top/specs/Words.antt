@@ -24,11 +24,11 @@
 --     N            1 to 8 decimal digits, at most 10,000,000; without `--steps` 100,000
 --     SEED         1 to 18 decimal digits
 --     USER         Person.Project.tag: two times 1 to 32 of `A-Z a-z 0-9 _`, and one of `a-z`
-use Rattle.std.specs.Prelude.{ℕ, ◌-◌, Bool, true, false, not, ◌&&◌, nat_le, List, [], ◌∷◌, ◌++◌}
+use Rattle.std.specs.Prelude.{ℕ, ◌-◌, Bool, true, false, not, ◌&&◌, nat_le, List, [], ◌∷◌}
 use Rattle.std.specs.Prelude.{length, take, drop, codes, Option, Some, None, unwrap_or}
 use Rattle.std.specs.Prelude.{if◌then◌else◌}
 use Rattle.std.specs.Option.{is_none, option_map, option_and_then}
-use Rattle.m36_text.specs.FileNames.{source_suffix, bindfile_suffix}
+use Rattle.m36_text.specs.FileNames.{bindfile_suffix, source_of_object, bindfile_of_object}
 use Rattle.m36_text.specs.Texts.{name_limit, is_text}
 use Rattle.m36_text.specs.Numbers.{short_decimal_in}
 use Rattle.m36_booted.specs.declared.command.FolderRun.{FolderRun}
@@ -215,7 +215,7 @@ may_be_longer name = nat_le (length name) made_name_limit
 abbrev pub alm_of : List ℕ → Option Command
 alm_of name =
     if may_be_longer name
-    then Some (Alm (record { source = name ++ source_suffix; object = name })) else None
+    then Some (Alm (record { source = source_of_object name; object = name })) else None
 
 abbrev pub alm : Given → Option Command
 alm g = if has_no_option g then option_and_then alm_of (file_given g) else None
@@ -223,7 +223,7 @@ alm g = if has_no_option g then option_and_then alm_of (file_given g) else None
 abbrev pub bind_of : List ℕ → Option Command
 bind_of name =
     if may_be_longer name
-    then Some (Bind (record { bindfile = name ++ bindfile_suffix; object = name })) else None
+    then Some (Bind (record { bindfile = bindfile_of_object name; object = name })) else None
 
 abbrev pub bind : Given → Option Command
 bind g = if has_no_option g then option_and_then bind_of (file_given g) else None

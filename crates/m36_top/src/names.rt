@@ -1,7 +1,7 @@
 //! Operands, and names of files.
 
 ghost use Rattle.std.specs.Prelude.{◌≡◌, ◌≤◌, ◌++◌, length, Some};
-ghost use Rattle.m36_text.specs.FileNames.{source_suffix, bindfile_suffix};
+ghost use Rattle.m36_text.specs.FileNames.{source_of_object, bindfile_of_object};
 ghost use Rattle.m36_top.specs.Words.{operand_by, operand_of, made_name_limit};
 
 use arrayvec::ArrayVec;
@@ -35,7 +35,7 @@ pub fn operand_of(word: &[u8]) -> Option<Operand>
 /// The name of the source of an object: NAME.alm.
 pub fn source_of(object: &[u8]) -> Option<Name>
     requires { length object.now ≤ made_name_limit }
-    ensures { result ≡ Some (object.now ++ source_suffix) }
+    ensures { result ≡ Some (source_of_object object.now) }
 {
     let mut name: ArrayVec<u8, 32> = ArrayVec::new();
     let _ = name.try_extend_from_slice(object);
@@ -46,7 +46,7 @@ pub fn source_of(object: &[u8]) -> Option<Name>
 /// The name of the bind file of an object: NAME.bind.
 pub fn bindfile_of(object: &[u8]) -> Option<Name>
     requires { length object.now ≤ made_name_limit }
-    ensures { result ≡ Some (object.now ++ bindfile_suffix) }
+    ensures { result ≡ Some (bindfile_of_object object.now) }
 {
     let mut name: ArrayVec<u8, 32> = ArrayVec::new();
     let _ = name.try_extend_from_slice(object);
