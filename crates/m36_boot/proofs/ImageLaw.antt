@@ -1,7 +1,7 @@
 -- The numbers of a booted image, and the segments that may be started.
 use Rattle.std.proofs.Common.{ℕ, ◌≡◌, ◌+◌, ◌*◌, ◌<◌, Bool, true, false, cond, [], ◌∷◌, Some, None, refl, sym, ap, inl, inr, ◌∙◌, arith}
-use Rattle.std.specs.Prelude.{not, ◌&&◌, nat_le, nat_lt, is_some}
-use Rattle.std.proofs.lemmas.Bool.{cases_lt, lt-ltb, le-ltb, le-leb, leb-true}
+use Rattle.std.specs.Prelude.{not, ◌&&◌, ◌==◌, nat_le, nat_lt, is_some}
+use Rattle.std.proofs.lemmas.Bool.{eq-eqb, cases_lt, lt-ltb, le-ltb, le-leb, leb-true}
 use Rattle.m36_desc.specs.Access.{first_of}
 use Rattle.m36_desc.specs.Violations.{illegal_ring_order, out_of_execute_bracket, no_execute_right}
 use Rattle.m36_boot.specs.Segments.{limited_segment}
@@ -11,8 +11,11 @@ use Rattle.m36_boot.proofs.Orders.{in_order_by}
 stacks_by : (ring : ℕ) → 8 + ring ≡ 8 * 1 + ring
 stacks_by ring = omega arith
 
+own_stack : (seg ring pages : ℕ) → ((ring == ring) && (ring == ring)) ≡ true
+own_stack seg ring pages = ap (λ (b : Bool). b && b) (eq-eqb ring ring refl)
+
 pub image_numbers : ImageNumbersLaw
-image_numbers = record { stacks = stacks_by; segments = refl }
+image_numbers = record { stacks = stacks_by; descriptors = own_stack; segments = refl }
 
 -- ---- one test is the other
 

@@ -11,7 +11,7 @@ use Rattle.obj36.specs.ObjectOf.{value_of}
 use Rattle.m36_boot.specs.declared.fault.BootFault.{BootFault}
 use Rattle.m36_boot.specs.declared.fault.BootFault.TheVariants as fault
 use Rattle.m36_link.specs.Fields.{SnapFields}
-use Rattle.m36_link.specs.Known.{first_segment, segment_of, object_in}
+use Rattle.m36_link.specs.Known.{catalog_number, segment_of, object_in}
 use Rattle.m36_link.specs.Landing.{is_plain}
 use Rattle.m36_link.specs.Snap.{RefusedFields}
 use Rattle.m36_boot.specs.Segments.{file_at, is_gate, entry_bound_of, limit_of}
@@ -55,7 +55,7 @@ gate_fault_of seg (Some s) words = gate_fault seg s words
 unfoldable pub first_gate_fault : CatalogFields → List (List ℕ) → ℕ → ℕ → Option BootFault
 first_gate_fault catalog files i zero = None
 first_gate_fault catalog files i (suc n) =
-    option_or (gate_fault_of (first_segment + i) (slice_get catalog.segments i) (file_at files i))
+    option_or (gate_fault_of (catalog_number i) (slice_get catalog.segments i) (file_at files i))
     (first_gate_fault catalog files (i + 1) n)
 
 -- ---- the start: where it is not found, where it is no object, and what else forbids it

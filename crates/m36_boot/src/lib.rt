@@ -29,8 +29,9 @@ pub use fault::BootFault;
 pub use image::{Image, lay};
 
 /// The numbers of a booted image are those of its parts: the stack of a ring is the one that its descriptor segment base
-/// register gives to the ring, and there are page tables for as many segments as a catalog has at most. A segment may be
-/// started in a ring exactly where the ring may execute it.
+/// register gives to the ring, and its descriptor is such as the audit conditions ask of a stack; there are page tables
+/// for as many segments as a catalog has at most. A segment may be started in a ring exactly where the ring may execute
+/// it.
 pub fn law_image()
     ensures numbers { ImageNumbersLaw }
     ensures start { MayStartLaw }

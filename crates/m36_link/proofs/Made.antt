@@ -1,7 +1,7 @@
 -- An answer may be accepted, and what services make they keep.
 use Rattle.std.proofs.Common.{ℕ, ◌≡◌, ◌<◌, ◌≤◌, ◌+◌, ◌-◌, ◌^◌, Bool, true, false, cond, leb, List, [], ◌∷◌, ◌++◌, length, slice_get, option_and_then, is_some, All, Option, Some, None, Result, Ok, Err, refl, sym, ap, ◌∙◌, subst, arith}
 use Rattle.std.specs.Result.{result_ok}
-use Rattle.std.proofs.lemmas.Bool.{leb-true}
+use Rattle.std.proofs.lemmas.Bool.{cond-true, le-leb, leb-true}
 use Rattle.std.proofs.lemmas.Option.{slice_get_within}
 use Rattle.std.proofs.lemmas.List.Elements.{All-push}
 use Rattle.m36_model.specs.Fields.{AtFields}
@@ -21,7 +21,7 @@ use Rattle.m36_link.specs.Links.{link_in, section_at}
 use Rattle.m36_link.specs.Landing.{point_of, pair_to, new_home, home_by, home_of, own_by, own_landing, may_not_use, is_plain, plain_landing, landing_in, landing_at, object_landing, landing_by, target_landing}
 use Rattle.m36_link.specs.Snap.{found_landing, candidate_landing, outer_landing, directory_of, landing_of, words_laid, lay_of, snap_by, snap_for, snap_in, snap_of, outer_snap}
 use Rattle.m36_link.specs.Accepted.{with_laid, with_initiated, accepted, MayBeLaid}
-use Rattle.m36_link.specs.Laws.{IsOfCatalog, IsWhole, IsMade, MayBeAccepted, MayBeAcceptedFrom, KeepsMade, KeepsMadeFrom}
+use Rattle.m36_link.specs.Laws.{NumbersStand, IsOfCatalog, IsWhole, IsMade, MayBeAccepted, MayBeAcceptedFrom, KeepsMade, KeepsMadeFrom}
 use Rattle.m36_link.specs.declared.points.Point.{Point}
 
 -- A section that has to be laid: none is yet, it goes behind the others, and it is whole.
@@ -115,6 +115,13 @@ abbrev Good : List LaidFields → CatalogFields → List (List ℕ) → Bool →
 Good laid catalog files outer (Err code) = Unit {0}
 Good laid catalog files outer (Ok landing) =
     FreshIn laid catalog files landing.lay × (outer ≡ true → IsOfCatalog catalog landing.target)
+
+pub numbers_stand : NumbersStand
+unfolding place_of
+numbers_stand i =
+    let same : first_segment + i - first_segment ≡ i = omega arith in
+    cond-true (leb first_segment (first_segment + i)) (Some (first_segment + i - first_segment)) None (le-leb first_segment (first_segment + i) (omega arith))
+    ∙ ap (λ n. Some n) same
 
 of_place : (catalog : CatalogFields) (seg : ℕ) (s : SegmentFields) → segment_of catalog seg ≡ Some s → IsOfCatalog catalog seg
 unfolding segment_of place_of
@@ -290,4 +297,4 @@ keeps_made known catalog files at s made e = made_by known catalog files s made 
 pub keeps_made_from : KeepsMadeFrom
 keeps_made_from known catalog files ring link from s made e = made_by known catalog files s made (given_from known catalog files ring link from s e)
 
-pub ruleset laws = (may_be_accepted, may_be_accepted_from, keeps_made, keeps_made_from)
+pub ruleset laws = (numbers_stand, may_be_accepted, may_be_accepted_from, keeps_made, keeps_made_from)

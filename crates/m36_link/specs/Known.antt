@@ -36,7 +36,11 @@ linkage_segment ring = first_linkage + ring
 abbrev pub lot_words : ℕ
 lot_words = 1024
 
--- the place in the catalog, counted from 0, that goes with a number from 64 on
+-- the number of a segment of the catalog, by its place there, counted from 0
+abbrev pub catalog_number : ℕ → ℕ
+catalog_number i = first_segment + i
+
+-- the place in the catalog that goes with a number from 64 on
 abbrev pub catalog_index : ℕ → ℕ
 catalog_index seg = seg - first_segment
 

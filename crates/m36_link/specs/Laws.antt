@@ -11,7 +11,7 @@ use Rattle.obj36_parts.specs.Fields.{LinkFields}
 use Rattle.obj36_parts.specs.ObjectSegment.{link_head, segment_limit}
 use Rattle.obj36_parts.specs.PartsFields.{PartsFields}
 use Rattle.m36_link.specs.Fields.{LaidFields, KnownFields, SnapFields}
-use Rattle.m36_link.specs.Known.{first_segment, object_in, laid_words}
+use Rattle.m36_link.specs.Known.{first_segment, catalog_number, place_of, object_in, laid_words}
 use Rattle.m36_link.specs.Snap.{snap_of, outer_snap}
 use Rattle.m36_link.specs.Accepted.{accepted, MayBeLaid}
 
@@ -21,6 +21,10 @@ abbrev pub LinksFault : Type 0
 LinksFault =
     (g : RegsFields) (p : Point) (at : ℕ) → p.tag ≡ indirect_tag (link_head at)
     → move_of_point g p ≡ Fails (fault_at fault_tag_2 p.carrier)
+
+-- The place that goes with the number of a place in the catalog is that place.
+abbrev pub NumbersStand : Type 0
+NumbersStand = (i : ℕ) → place_of (catalog_number i) ≡ Some i
 
 -- a number of a catalog segment
 pub record IsOfCatalog (catalog : CatalogFields) (seg : ℕ) : Type 0 where

@@ -1,9 +1,9 @@
 -- The search for a segment by a reference name.
-use Rattle.std.specs.Prelude.{ℕ, ◌+◌, List, ◌∷◌, ◌++◌, Option, option_map}
+use Rattle.std.specs.Prelude.{ℕ, List, ◌∷◌, ◌++◌, Option, option_map}
 use Rattle.std.specs.Prelude.{filter_map, option_to_list, slice_get}
 use Rattle.m36_dir.specs.Catalog.{CatalogFields, found}
 use Rattle.m36_link.specs.Fields.{KnownFields}
-use Rattle.m36_link.specs.Known.{initiated, first_segment}
+use Rattle.m36_link.specs.Known.{catalog_number, initiated}
 
 -- The directories that are looked at, in order: that of the segment that refers, the working
 -- directory, and the libraries.
@@ -11,7 +11,7 @@ abbrev pub directories_searched : CatalogFields → ℕ → List ℕ
 directories_searched catalog from = from ∷ catalog.work ∷ catalog.libraries
 
 unfoldable pub found_in : CatalogFields → List ℕ → ℕ → Option ℕ
-found_in catalog name dir = option_map (λ i. first_segment + i) (found catalog dir name)
+found_in catalog name dir = option_map catalog_number (found catalog dir name)
 
 -- The candidates in their order: what the name is initiated as in the ring, and the segment of that
 -- name in each directory.

@@ -1,13 +1,15 @@
 //! Laws of links, of search and of laying.
 
-ghost use Rattle.m36_link.specs.Laws.{LinksFault, MayBeAccepted, MayBeAcceptedFrom, KeepsMade, KeepsMadeFrom};
+ghost use Rattle.m36_link.specs.Laws.{LinksFault, NumbersStand, MayBeAccepted, MayBeAcceptedFrom, KeepsMade, KeepsMadeFrom};
 
 /// An answer may be accepted. And where each name is that of a catalog segment, and each laid section that of an object
 /// of the catalog, whole and within its linkage segment, this holds again once an answer is accepted.
-/// And a link that is not snapped ends an address with fault tag 2, by which it is served.
+/// And a link that is not snapped ends an address with fault tag 2, by which it is served; and the number that a place of
+/// the catalog gives a segment is the one by which this segment is found.
 #[tactic(auto, using(crate::proofs::Made::laws, crate::proofs::LinkTags::links_fault))]
 pub fn link_laws()
     ensures fault { LinksFault }
+    ensures numbers { NumbersStand }
     ensures accepted { MayBeAccepted }
     ensures accepted_from { MayBeAcceptedFrom }
     ensures made { KeepsMade }

@@ -231,8 +231,9 @@ impl Known {
 
     /// The answer to the link that a place names, where the ring of the place is that of the link. The first of these that
     /// holds is told, and else the pair, with the section that has to be laid: L1, the place is not the even word of a
-    /// link in a section that is laid in the ring; L2, no segment is found; L4, the ring may not use it; L5, it is no
-    /// object; L3, it does not define the entry; L6, its section finds no room. Nothing changes.
+    /// link in a section that is laid in the ring; L2, no segment is found; L4, the ring may not use it; L5, it is an
+    /// object or a gate by its kind, and its file is none; L3, it does not define the entry, as plain words never do; L6,
+    /// its section finds no room. Nothing changes.
     #[tactic(auto, unfolding(crate::specs::Snap::snap_of))]
     pub fn resolve(
         &self,

@@ -13,7 +13,7 @@ pub enum LinkCode {
     L3,
     /// The ring is above those from which the candidate may be used.
     L4,
-    /// The candidate is no object segment; the number of its refusal.
+    /// The candidate is said to be an object or a gate, and its file is none; the number of its refusal.
     L5(u8),
     /// No room for the linkage section; its place and its length.
     L6(u32, u32),
