@@ -8,13 +8,13 @@ use Rattle.std.specs.Prelude.{ℕ, ◌≡◌, Bool, true, false, List, [], ◌�
 use Rattle.std.specs.Prelude.{Option, Some, None}
 use Rattle.m36_text.specs.Lines.{as_line}
 use Rattle.m36_dir.specs.Fields.{SegmentFields}
-use Rattle.m36_dir.specs.Catalog.{CatalogFields}
+use Rattle.m36_dir.specs.Catalog.{CatalogFields, directory_in}
 use Rattle.m36_dir.specs.BootLine.{mode_of as mode_read}
 use Rattle.m36_acl.specs.declared.policy.Decision.{Decision}
 use Rattle.m36_acl.specs.Fields.{TermFields}
 use Rattle.m36_acl.specs.AccessLists.{Lists}
 use Rattle.m36_acl.specs.Policy.{terms_of, decided}
-use Rattle.m36_acl.specs.Granted.{directory_of, name_of, decision_on}
+use Rattle.m36_acl.specs.Granted.{name_of, decision_on}
 
 -- the letters of the rights to read, execute and write
 abbrev pub mode_text : Bool → Bool → Bool → List ℕ
@@ -57,7 +57,7 @@ deciding_in terms user = term_at terms (decided terms user).term
 
 abbrev pub deciding : Lists → List ℕ → List (List ℕ) → SegmentFields → List ℕ
 deciding lists user directories s =
-    deciding_in (terms_of lists (directory_of directories s) (name_of s)) user
+    deciding_in (terms_of lists (directory_in directories s) (name_of s)) user
 
 -- ---- lines
 
@@ -68,14 +68,14 @@ and_then text word = (text ++ codes " ") ++ word
 unfoldable pub access_line : Lists → List ℕ → List (List ℕ) → SegmentFields → List ℕ
 access_line lists user directories s =
     as_line
-    (and_then (and_then (and_then (directory_of directories s) (name_of s))
+    (and_then (and_then (and_then (directory_in directories s) (name_of s))
     (mode_of (decision_on lists user directories s)))
     (deciding lists user directories s))
 
 unfoldable pub denied_line : Lists → List ℕ → List (List ℕ) → SegmentFields → List ℕ
 denied_line lists user directories s =
     as_line
-    (and_then (and_then (and_then (codes "denied") (directory_of directories s)) (name_of s))
+    (and_then (and_then (and_then (codes "denied") (directory_in directories s)) (name_of s))
     (deciding lists user directories s))
 
 -- ---- of all segments, in their order

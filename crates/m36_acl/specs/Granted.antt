@@ -4,16 +4,13 @@ use Rattle.std.specs.Prelude.{unwrap_or, option_map, IfSome}
 use Rattle.std.specs.List.{list_any}
 use Rattle.m36_dir.specs.Fields.{SegmentFields}
 use Rattle.m36_dir.specs.BootOrder.{entry, is_entry}
-use Rattle.m36_dir.specs.Catalog.{CatalogFields, with_rights}
+use Rattle.m36_dir.specs.Catalog.{CatalogFields, directory_in, with_rights}
 use Rattle.m36_acl.specs.declared.policy.Decision.{Decision}
 use Rattle.m36_acl.specs.Fields.{AclSegmentFields}
 use Rattle.m36_acl.specs.AccessLists.{Lists}
 use Rattle.m36_acl.specs.Policy.{policy}
 
 -- ---- the segments of a catalog, as the lines of its boot text name them
-
-abbrev pub directory_of : List (List ℕ) → SegmentFields → List ℕ
-directory_of directories s = unwrap_or (slice_get directories s.dir) []
 
 -- not one of its further names
 abbrev pub name_of : SegmentFields → List ℕ
@@ -23,7 +20,7 @@ name_of s = unwrap_or (slice_get s.names 0) []
 
 abbrev pub names : CatalogFields → AclSegmentFields → SegmentFields → Bool
 names catalog given s =
-    is_entry (entry given.dir given.name) (entry (directory_of catalog.directories s) (name_of s))
+    is_entry (entry given.dir given.name) (entry (directory_in catalog.directories s) (name_of s))
 
 abbrev pub is_known : CatalogFields → AclSegmentFields → Bool
 is_known catalog given = list_any (names catalog given) catalog.segments
@@ -37,7 +34,7 @@ first_unknown catalog lists =
 
 -- what a user may do with a segment of a catalog
 unfoldable pub decision_on : Lists → List ℕ → List (List ℕ) → SegmentFields → Decision
-decision_on lists user directories s = policy lists (directory_of directories s) (name_of s) user
+decision_on lists user directories s = policy lists (directory_in directories s) (name_of s) user
 
 abbrev pub by_decision : SegmentFields → Decision → SegmentFields
 by_decision s d = with_rights s d.readable d.executable d.writable

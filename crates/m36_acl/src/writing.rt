@@ -1,8 +1,9 @@
 //! What is written of access lists.
 
 ghost use Rattle.std.specs.Prelude.{◌≡◌, ◌++◌, ◌∷◌, [], length, IfOk, OnOk};
+ghost use Rattle.m36_dir.specs.Catalog.{directory_in};
 ghost use Rattle.m36_dir.specs.IsCatalog.{IsSegment};
-ghost use Rattle.m36_acl.specs.Granted.{directory_of, name_of};
+ghost use Rattle.m36_acl.specs.Granted.{name_of};
 ghost use Rattle.m36_acl.specs.AccessText.{mode_text, deciding_in, deciding, and_then, access_line, denied_line, access_text, denied_lines};
 
 use crate::acl::Acl;
@@ -46,7 +47,7 @@ fn deciding_in<'a>(terms: &'a [Term], user: &User) -> &'a [u8]
 // The directory of a segment of a catalog.
 fn directory_of<'a>(catalog: &'a Catalog, segment: &Segment) -> &'a [u8]
     requires { IsSegment (length catalog.now.directories) segment.now }
-    ensures { result.now ≡ directory_of catalog.now.directories segment.now }
+    ensures { result.now ≡ directory_in catalog.now.directories segment.now }
 {
     catalog.directory(segment.dir)
 }

@@ -65,15 +65,15 @@ dirs_have : (dirs : List (List ℕ)) (dir : List ℕ) → list_any (is_text dir)
 dirs_have dirs dir = dirs_have_if (list_any (is_text dir) dirs) dirs dir refl
 
 -- the directory of a segment line is among them
-abbrev InDirectories : List (List ℕ) → BootLine → Type 0
+abbrev pub InDirectories : List (List ℕ) → BootLine → Type 0
 InDirectories dirs (line.Segment given) = list_any (is_text given.dir) dirs ≡ true
 InDirectories dirs _ = Unit {0}
 
-abbrev EachInDirectories : List (List ℕ) → List BootLine → Type 0
+abbrev pub EachInDirectories : List (List ℕ) → List BootLine → Type 0
 EachInDirectories dirs [] = Unit {0}
 EachInDirectories dirs (l ∷ lines) = InDirectories dirs l × EachInDirectories dirs lines
 
-each_in : (dirs : List (List ℕ)) (lines : List BootLine) → EachInDirectories (directories_from dirs lines) lines
+pub each_in : (dirs : List (List ℕ)) (lines : List BootLine) → EachInDirectories (directories_from dirs lines) lines
 unfolding directories_from
 each_in dirs [] = tt
 each_in dirs (line.Segment given ∷ lines) =
@@ -109,7 +109,7 @@ place_if : (b : Bool) (rest count : ℕ) → (b ≡ false → rest < count) → 
 place_if true rest count later = omega arith
 place_if false rest count later = let h = later refl in omega arith
 
-or_second : (a b : Bool) → (a || b) ≡ true → a ≡ false → b ≡ true
+pub or_second : (a b : Bool) → (a || b) ≡ true → a ≡ false → b ≡ true
 or_second true b e f = absurd (cc)
 or_second false b e f = e
 
@@ -119,13 +119,14 @@ place_inside p (x ∷ xs) e =
     let here = place_if (p x) (position_or_len p xs) (length xs) (λ no. place_inside p xs (or_second (p x) (list_any p xs) e no)) in
     omega (arith, here)
 
-number_inside : (dirs : List (List ℕ)) (dir : List ℕ) → list_any (is_text dir) dirs ≡ true → number_in dirs dir < length dirs
+pub number_is : (dirs : List (List ℕ)) (dir : List ℕ) → list_any (is_text dir) dirs ≡ true → number_in dirs dir ≡ position_or_len (is_text dir) dirs
 unfolding number_in
-number_inside dirs dir has =
-    let inside : position_or_len (is_text dir) dirs < length dirs = place_inside (is_text dir) dirs has in
-    let is : number_in dirs dir ≡ position_or_len (is_text dir) dirs =
-    ap (λ b. unwrap_or (cond b (Some (position_or_len (is_text dir) dirs)) None) 0) (lt-ltb (position_or_len (is_text dir) dirs) (length dirs) inside) in
-    omega (arith, is, inside)
+number_is dirs dir has =
+    ap (λ b. unwrap_or (cond b (Some (position_or_len (is_text dir) dirs)) None) 0)
+    (lt-ltb (position_or_len (is_text dir) dirs) (length dirs) (place_inside (is_text dir) dirs has))
+
+number_inside : (dirs : List (List ℕ)) (dir : List ℕ) → list_any (is_text dir) dirs ≡ true → number_in dirs dir < length dirs
+number_inside dirs dir has = omega (arith, number_is dirs dir has, place_inside (is_text dir) dirs has)
 
 directory_inside : (lines : List BootLine) (dir : List ℕ) → has_directory lines dir ≡ true
     → number_in (directories_from [] lines) dir < length (directories_from [] lines)
@@ -317,7 +318,7 @@ kept_as text lines all none =
     let P : List BootLine → Type 0 = λ ls. IsCatalog (catalog_in ls) in
     subst P (sym all) (kept text none)
 
-read_by : (told : Option (ℕ × BootCode)) (made c : CatalogFields) → catalog_by told made ≡ Ok c → (told ≡ None) × (made ≡ c)
+pub read_by : (told : Option (ℕ × BootCode)) (made c : CatalogFields) → catalog_by told made ≡ Ok c → (told ≡ None) × (made ≡ c)
 read_by None made c e = (refl, cc)
 read_by (Some first) made c e = absurd (cc)
 

@@ -1,5 +1,6 @@
 pub mod LineForms
 pub mod LineLoops
+pub mod NamesStand
 pub mod TextLoops
 pub mod CleanLines
 pub mod LineBounds

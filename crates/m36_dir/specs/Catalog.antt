@@ -42,6 +42,10 @@ directories_from dirs (next ∷ lines) = directories_from (with_directory_of dir
 unfoldable pub number_in : List (List ℕ) → List ℕ → ℕ
 number_in dirs dir = unwrap_or (position (is_text dir) dirs) 0
 
+-- the directory of a segment, by its number
+abbrev pub directory_in : List (List ℕ) → SegmentFields → List ℕ
+directory_in dirs segment = unwrap_or (slice_get dirs segment.dir) []
+
 -- ---- segments
 
 -- the further names that the lines right behind a segment line give

@@ -1,9 +1,11 @@
 -- What holds of every catalog, whatever rights are set.
-use Rattle.std.specs.Prelude.{ℕ, ◌≡◌, ◌<◌, ◌≤◌, List, Ok, length, All}
+use Rattle.std.specs.Prelude.{ℕ, ◌≡◌, ◌<◌, ◌≤◌, List, [], Ok, length, map, All}
+use Rattle.std.specs.List.{flat_map}
 use Rattle.m36_dir.specs.Fields.{SegmentFields}
 use Rattle.m36_dir.specs.BootLine.{most_frames}
+use Rattle.m36_dir.specs.BootOrder.{Entry, entry, entries_from, all_lines}
 use Rattle.m36_dir.specs.BootOrder.{most_segments, most_names, most_libraries}
-use Rattle.m36_dir.specs.Catalog.{CatalogFields, catalog_of}
+use Rattle.m36_dir.specs.Catalog.{CatalogFields, directory_in, catalog_of}
 
 -- a segment where there are so many directories
 pub record IsSegment (directories : ℕ) (s : SegmentFields) : Type 0 where
@@ -27,3 +29,14 @@ pub record IsCatalog (c : CatalogFields) : Type 0 where
 -- A text that is read gives such a catalog.
 abbrev pub ReadsIntoCatalogs : Type 0
 ReadsIntoCatalogs = (text : List ℕ) (c : CatalogFields) → catalog_of text ≡ Ok c → IsCatalog c
+
+-- the names of segments, each in the directory of its segment
+abbrev pub entries_in : List (List ℕ) → List SegmentFields → List Entry
+entries_in dirs segments =
+    flat_map (λ (s : SegmentFields). map (entry (directory_in dirs s)) s.names) segments
+
+-- The names of the catalog that is read are those that the lines of the text put into directories.
+abbrev pub NamesStand : Type 0
+NamesStand =
+    (text : List ℕ) (c : CatalogFields) → catalog_of text ≡ Ok c
+    → entries_in c.directories c.segments ≡ entries_from [] (all_lines text)

@@ -1,5 +1,9 @@
 use Rattle.m36_dir.proofs.Kept.{reads_into_catalogs}
+use Rattle.m36_dir.proofs.NamesStand.{names_stand}
 use Rattle.m36_dir.proofs.laws.catalog_laws.Goals as goal
 
-pub returns : goal.returns
-returns c = reads_into_catalogs
+pub returns-clause-catalogs : goal.returns-clause-catalogs
+returns-clause-catalogs c = reads_into_catalogs
+
+pub returns-clause-names : goal.returns-clause-names
+returns-clause-names c = names_stand
