@@ -59,6 +59,7 @@ fn push_named(
     }
 }
 
+/// Whether a line gives definitions, and whether they are entries.
 pub fn gives_entries(deed: Deed) -> Option<bool>
     ensures { result ≡ gives_entries deed }
 {
@@ -103,6 +104,7 @@ fn is_label(is_entry: bool, sum: Sum) -> bool
     has_room(Room::Half, sum.value) && is_label_kind(is_entry, sum.kind())
 }
 
+/// What refuses a name of `entry` or `segdef`, by what its symbol comes to.
 pub fn sum_refusal(line: &Line36, at: u64, is_entry: bool, sum: Option<Sum>) -> Option<Refusal>
     ensures { result ≡ sum_refusal line.now at is_entry sum }
 {

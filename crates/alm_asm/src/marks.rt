@@ -45,6 +45,7 @@ fn operand_part(pr: Option<u8>, segment: Option<Span>) -> u8
     }
 }
 
+/// What an operand is in its word: the place of a link, or what its expression comes to.
 pub fn operand_kind(segment: Option<Span>, sum: Sum) -> Kind
     ensures { result ≡ operand_kind segment sum }
 {

@@ -31,5 +31,5 @@ abbrev pub IsInside : ℕ → Refusal → Type 0
 IsInside count refusal = refusal.place < count
 
 abbrev pub HaltsInside : ℕ → Halt → Type 0
-HaltsInside count (Refused refusal) = refusal.place < count
+HaltsInside count (Refused refusal) = IsInside count refusal
 HaltsInside count NoMemory = ⊤

@@ -4,6 +4,7 @@ ghost use Rattle.std.specs.Prelude.{◌≡◌, ◌-◌, ◌/◌, ◌^◌, ◌<�
 ghost use Rattle.m36_model.specs.Shifts.{left_shift, left_shift_carry, copying_right_shift};
 ghost use Rattle.m36_model.specs.Shifts.{plain_right_shift, rotation};
 
+/// Shifted to the left, where zeros follow.
 #[tactic(auto, unfolding(m36_model::specs::Shifts::left_shift))]
 pub fn left(v: u128, n: u32) -> u128
     requires number { v < 2 ^ 72 }
@@ -43,6 +44,7 @@ pub fn left_carries(v: u128, n: u32) -> bool
     }
 }
 
+/// Shifted to the right, where zeros come before.
 #[tactic(auto, unfolding(m36_model::specs::Shifts::plain_right_shift))]
 pub fn right_zero(v: u128, n: u32) -> u128
     requires number { v < 2 ^ 72 }
@@ -69,6 +71,7 @@ pub fn right(v: u128, n: u32) -> u128
     }
 }
 
+/// Rotated to the left: what leaves on the left comes in on the right.
 #[tactic(auto, unfolding(m36_model::specs::Shifts::rotation), using(crate::proofs::ShiftRules::rotated_below_wide))]
 pub fn rotated(v: u128, n: u32) -> u128
     requires number { v < 2 ^ 72 }

@@ -4,6 +4,7 @@ ghost use Rattle.std.specs.Prelude.{◌≡◌, ◌-◌, ◌/◌, ◌^◌, ◌<�
 ghost use Rattle.m36_model.specs.Shifts.{left_shift, left_shift_carry, copying_right_shift};
 ghost use Rattle.m36_model.specs.Shifts.{plain_right_shift, rotation};
 
+/// Shifted to the left, where zeros follow.
 #[tactic(auto, unfolding(m36_model::specs::Shifts::left_shift), using(crate::proofs::ShiftRules::shifted_out))]
 pub fn left(v: u64, n: u32) -> u64
     requires number { v < 2 ^ 36 }
@@ -53,6 +54,7 @@ fn shifted_right(v: u64, n: u32) -> u64
     if n < 36 { v >> n } else { 0 }
 }
 
+/// Shifted to the right, where zeros come before.
 #[tactic(auto, unfolding(m36_model::specs::Shifts::plain_right_shift))]
 pub fn right_zero(v: u64, n: u32) -> u64
     requires number { v < 2 ^ 36 }
@@ -79,6 +81,7 @@ pub fn right(v: u64, n: u32) -> u64
     }
 }
 
+/// Rotated to the left: what leaves on the left comes in on the right.
 #[tactic(auto, unfolding(m36_model::specs::Shifts::rotation), using(crate::proofs::ShiftRules::rotated_below))]
 pub fn rotated(v: u64, n: u32) -> u64
     requires number { v < 2 ^ 36 }

@@ -9,8 +9,8 @@
 --     back, back N
 --     quit
 --
--- Words are parted by single spaces, and a number has no leading zero. A line has at most 256
--- bytes. An empty line is taken, and any other line is unknown.
+-- Words are parted by single spaces, and N has no leading zero. A line has at most 256 bytes. An
+-- empty line is taken, and any other line is unknown.
 use Rattle.std.specs.Prelude.{ℕ, ◌≢◌, ◌<◌, ◌≤◌, ◌^◌, nat_le, if◌then◌else◌, List, [], ◌∷◌, codes}
 use Rattle.std.specs.Prelude.{length, Option, Some}
 use Rattle.std.specs.Prelude.{None, option_map, unwrap_or}

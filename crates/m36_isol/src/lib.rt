@@ -54,10 +54,10 @@ pub fn law_gates()
 {}
 
 /// Core as a store owes what the laws want, where table words and words of segments are apart, as three of the audit
-/// conditions say: descriptors and places are by the tables
-/// but for marks; a word at the place of a segment word is its content; marks and words written at segment words change
-/// neither tables nor other words. A mark changes no other bit of its page table word, and the bits that it puts on are
-/// those that the fields of the word tell as used and modified. A used mark that is put off changes that field alone.
+/// conditions say: descriptors and places are by the tables but for marks; a word at the place of a segment word is its
+/// content; marks and words written at segment words change neither tables nor other words. A mark changes no other bit
+/// of its page table word, and the bits that it puts on are those that the fields of the word tell as used and modified.
+/// A used mark that is put off changes that field alone.
 pub fn law_store()
     ensures marks { MarksKeepBits }
     ensures fields { MarksAreFields }

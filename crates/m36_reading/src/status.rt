@@ -133,7 +133,7 @@ pub enum Status {
     BadFile(Bad),
     /// The audit fails, and the machine was not to be run all the same. What it finds is written whole.
     AuditNo,
-    /// The machine ended with a fault, or stopped otherwise than by DIS.
+    /// The machine ended with a fault, or stopped otherwise than by DIS, or a link or console service was refused.
     MachineStop(End),
     /// All steps that are allowed were taken, and none ended the run.
     Steps,

@@ -3,14 +3,11 @@ use Rattle.std.specs.Prelude.{ℕ, List, [], ◌∷◌, codes}
 use Rattle.m36_text.specs.Digits.{decimal_text}
 use Rattle.m36_text.specs.Lines.{joined_by_spaces}
 use Rattle.m36_model.specs.declared.outcome.Outcome.{Outcome}
-use Rattle.m36_model.specs.declared.outcome.Outcome.TheVariants.{Next, Faulted, Stopped}
-use Rattle.m36_trace.specs.TraceLine.{fault_text, stop_text}
+use Rattle.m36_trace.specs.TraceLine.{outcome_with}
 
 -- a run whose last step could be followed by another has met its limit
 abbrev pub ending_text : Outcome → List ℕ
-ending_text Next = codes "limit"
-ending_text (Faulted fault) = fault_text fault
-ending_text (Stopped stop) = stop_text stop
+ending_text outcome = outcome_with (codes "limit") outcome
 
 -- the line by how the run ended, without its line feed
 abbrev pub end_line_with : List ℕ → ℕ → List ℕ

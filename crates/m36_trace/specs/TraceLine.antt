@@ -58,10 +58,14 @@ stop_text Dis = codes "dis"
 stop_text Operation = codes "stop operation"
 stop_text Tag = codes "stop tag"
 
+-- an outcome, with the text of the one that another step may follow
+abbrev pub outcome_with : List ℕ → Outcome → List ℕ
+outcome_with next Next = next
+outcome_with next (Faulted f) = fault_text f
+outcome_with next (Stopped s) = stop_text s
+
 abbrev pub outcome_text : Outcome → List ℕ
-outcome_text Next = codes "next"
-outcome_text (Faulted f) = fault_text f
-outcome_text (Stopped s) = stop_text s
+outcome_text outcome = outcome_with (codes "next") outcome
 
 -- the fields of step n; A, Q and the indicators are those after the step
 abbrev pub fields : ℕ → StepRecord → List (List ℕ)

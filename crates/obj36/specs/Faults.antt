@@ -75,10 +75,13 @@ outline_fault words =
 unfoldable pub first_fault : List ℕ → ObjectFault
 first_fault words = from_outline (outline_fault words) (fault_behind_map words)
 
+abbrev pub StandsForNone : List ℕ → Type 0
+StandsForNone words = (p : PartsFields) → Stands p words → ⊥
+
 -- The list stands for no value, and this is its first fault.
 pub record IsRefused (words : List ℕ) (fault : ObjectFault) : Type 0 where
   pub first : first_fault words ≡ fault
-  pub stands_for_none : (p : PartsFields) → Stands p words → ⊥
+  pub stands_for_none : StandsForNone words
 
 -- What reading a list says: the value for which it stands, or its first fault, where want of memory
 -- may come at any time.
@@ -110,4 +113,4 @@ IsReadAs p (Err (O8 place)) = ⊥
 -- The value for which a list stands, or none.
 abbrev pub IsFound : List ℕ → Option PartsFields → Type 0
 IsFound words (Some p) = Stands p words
-IsFound words None = (p : PartsFields) → Stands p words → ⊥
+IsFound words None = StandsForNone words

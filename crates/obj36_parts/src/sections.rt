@@ -112,6 +112,7 @@ fn class_with_entry(def: &Def) -> u64
     class(def.section) + if def.is_entry { ENTRY_MARK } else { 0 }
 }
 
+/// Adds words at the end.
 pub fn push_all(out: &mut Words, words: &[Word]) -> Result<(), NoMemory>
     ensures { OnOk result (out.new ≡ out.old ++ words.now) }
 {
