@@ -1,7 +1,8 @@
 -- The names of a catalog are those that the lines of its text put into directories.
-use Rattle.std.proofs.Common.{ℕ, ◌≡◌, ◌+◌, ◌-◌, Bool, true, false, cond, List, [], ◌∷◌, ◌++◌, length, map, Some, None, Ok, refl, sym, ap, subst, ◌∙◌, arith, length-append}
-use Rattle.std.specs.Prelude.{not, slice_get, unwrap_or}
-use Rattle.std.specs.List.{list_any, position_or_len}
+use Rattle.std.proofs.Common.{ℕ, ◌≡◌, ◌-◌, Bool, true, false, cond, List, [], ◌∷◌, ◌++◌, length, map, Option, Some, None, refl, sym, ap, subst, ◌∙◌, arith, length-append}
+use Rattle.std.specs.Prelude.{find, slice_get, unwrap_or}
+use Rattle.std.specs.List.{list_any}
+use Rattle.std.proofs.lemmas.List.Folds.{find_at}
 use Rattle.m36_text.specs.Texts.{is_text}
 use Rattle.m36_text.specs.Lines.{last_of}
 use Rattle.m36_dir.specs.declared.boot_line.BootLine.{BootLine}
@@ -14,20 +15,23 @@ use Rattle.m36_dir.proofs.Kept.{same_text, EachInDirectories, each_in, or_second
 
 -- ---- the directory of a number
 
-first_place : (dirs : List (List ℕ)) (dir : List ℕ) → list_any (is_text dir) dirs ≡ true
-    → unwrap_or (slice_get dirs (position_or_len (is_text dir) dirs)) [] ≡ dir
-first_place [] dir e = absurd (cc)
-first_place (d ∷ dirs) dir e = by (is_text dir d) refl
-  where
-    by : (b : Bool) → is_text dir d ≡ b
-        → unwrap_or (slice_get (d ∷ dirs) (cond (not b) (1 + position_or_len (is_text dir) dirs) 0)) [] ≡ dir
-    by true same = sym (same_text dir d same)
-    by false no = first_place dirs dir (or_second (is_text dir d) (list_any (is_text dir) dirs) e no)
+first_if : (b : Bool) (d dir : List ℕ) (o : Option (List ℕ)) → is_text dir d ≡ b → (b ≡ false → unwrap_or o [] ≡ dir)
+    → unwrap_or (cond b (Some d) o) [] ≡ dir
+first_if true d dir o same later = sym (same_text dir d same)
+first_if false d dir o other later = later refl
+
+first_same : (dirs : List (List ℕ)) (dir : List ℕ) → list_any (is_text dir) dirs ≡ true → unwrap_or (find (is_text dir) dirs) [] ≡ dir
+first_same [] dir e = absurd (cc)
+first_same (d ∷ dirs) dir e =
+    first_if (is_text dir d) d dir (find (is_text dir) dirs) refl
+    (λ other. first_same dirs dir (or_second (is_text dir d) (list_any (is_text dir) dirs) e other))
 
 own_directory : (dirs : List (List ℕ)) (dir : List ℕ) → list_any (is_text dir) dirs ≡ true
     → unwrap_or (slice_get dirs (number_in dirs dir)) [] ≡ dir
 own_directory dirs dir has =
-    ap (λ n. unwrap_or (slice_get dirs n) []) (number_is dirs dir has) ∙ first_place dirs dir has
+    ap (λ (n : ℕ). unwrap_or (slice_get dirs n) []) (number_is dirs dir has)
+    ∙ ap (λ (o : Option (List ℕ)). unwrap_or o []) (sym (find_at (is_text dir) dirs))
+    ∙ first_same dirs dir has
 
 -- ---- names stand right behind a segment line or a name
 
@@ -43,17 +47,18 @@ last_is above l =
 none_behind : (all above : List BootLine) (l : BootLine) (lines : List BootLine) → is_segment_or_name l ≡ false → Clean all (above ++ l ∷ []) lines
     → names_behind lines ≡ []
 unfolding names_behind
-none_behind all above l [] no clean = refl
-none_behind all above l (line.Name name ∷ lines) no clean =
+none_behind all above l [] neither clean = refl
+none_behind all above l (line.Name name ∷ lines) neither clean =
     let order = (passed all (above ++ l ∷ []) (line.Name name) clean.0).order in
-    let last = ap (λ before. is_in_order_behind before (line.Name name)) (last_is above l) in
-    let h : true ≡ false = sym order ∙ last ∙ no in
+    let last : is_in_order_behind (last_of (above ++ l ∷ [])) (line.Name name) ≡ is_segment_or_name l =
+    ap (λ (before : Option BootLine). is_in_order_behind before (line.Name name)) (last_is above l) in
+    let h : true ≡ false = sym order ∙ last ∙ neither in
     absurd (cc)
-none_behind all above l (line.Frames n ∷ lines) no clean = refl
-none_behind all above l (line.Work dir ∷ lines) no clean = refl
-none_behind all above l (line.Library dir ∷ lines) no clean = refl
-none_behind all above l (line.Segment given ∷ lines) no clean = refl
-none_behind all above l (line.Start start ∷ lines) no clean = refl
+none_behind all above l (line.Frames n ∷ lines) neither clean = refl
+none_behind all above l (line.Work dir ∷ lines) neither clean = refl
+none_behind all above l (line.Library dir ∷ lines) neither clean = refl
+none_behind all above l (line.Segment given ∷ lines) neither clean = refl
+none_behind all above l (line.Start start ∷ lines) neither clean = refl
 
 -- ---- the names
 
@@ -66,8 +71,8 @@ AreNames dirs dir lines =
 past : (all above : List BootLine) (l : BootLine) (lines : List BootLine) (dirs : List (List ℕ)) (dir : List ℕ)
     → is_segment_or_name l ≡ false → Clean all (above ++ l ∷ []) lines → AreNames dirs dir lines
     → entries_in dirs (segments_in dirs lines) ≡ entries_from dir lines
-past all above l lines dirs dir no clean are =
-    sym (ap (λ (names : List (List ℕ)). map (entry dir) names ++ entries_in dirs (segments_in dirs lines)) (none_behind all above l lines no clean)) ∙ are
+past all above l lines dirs dir neither clean are =
+    sym (ap (λ (names : List (List ℕ)). map (entry dir) names ++ entries_in dirs (segments_in dirs lines)) (none_behind all above l lines neither clean)) ∙ are
 
 each_name : (all above lines : List BootLine) (dirs : List (List ℕ)) (dir : List ℕ) → Clean all above lines → EachInDirectories dirs lines
     → AreNames dirs dir lines
