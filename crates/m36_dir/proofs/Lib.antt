@@ -1,6 +1,8 @@
 pub mod LineForms
 pub mod LineLoops
 pub mod NamesStand
+pub mod NamesOnce
+pub mod Distinct
 pub mod TextLoops
 pub mod CleanLines
 pub mod LineBounds

@@ -1,9 +1,10 @@
 -- What holds of every catalog, whatever rights are set.
-use Rattle.std.specs.Prelude.{ℕ, ◌≡◌, ◌<◌, ◌≤◌, List, [], Ok, length, map, All}
+use Rattle.std.specs.Prelude.{ℕ, ◌≡◌, ◌<◌, ◌≤◌, true, List, [], Ok, length, map, All}
 use Rattle.std.specs.List.{flat_map}
+use Rattle.m36_text.specs.Once.{are_distinct_by}
 use Rattle.m36_dir.specs.Fields.{SegmentFields}
 use Rattle.m36_dir.specs.BootLine.{most_frames}
-use Rattle.m36_dir.specs.BootOrder.{Entry, entry, entries_from, all_lines}
+use Rattle.m36_dir.specs.BootOrder.{Entry, entry, is_entry, entries_from, all_lines}
 use Rattle.m36_dir.specs.BootOrder.{most_segments, most_names, most_libraries}
 use Rattle.m36_dir.specs.Catalog.{CatalogFields, directory_in, catalog_of}
 
@@ -40,3 +41,9 @@ abbrev pub NamesStand : Type 0
 NamesStand =
     (text : List ℕ) (c : CatalogFields) → catalog_of text ≡ Ok c
     → entries_in c.directories c.segments ≡ entries_from [] (all_lines text)
+
+-- No name of the catalog that is read stands twice in a directory.
+abbrev pub NamesOnce : Type 0
+NamesOnce =
+    (text : List ℕ) (c : CatalogFields) → catalog_of text ≡ Ok c
+    → are_distinct_by is_entry (entries_in c.directories c.segments) ≡ true

@@ -2,9 +2,9 @@
 //!
 //! What is promised: `Catalog::read` gives the one catalog that a text writes out, or the code of the first line of the
 //! text that has one, the least of that line; want of memory alone may stand in the place of either. A catalog that was
-//! read keeps what `Catalog` says of itself. `find` gives the segment of a directory that has a name, and none exactly
-//! where there is none. `is_directory`, `name_of` and `mode_of` read words that other texts than
-//! boot texts have too.
+//! read keeps what `Catalog` says of itself, and no name stands twice in a directory of it. `find` gives the segment of a
+//! directory that has a name, and none exactly where there is none. `is_directory`, `name_of` and `mode_of` read words that
+//! other texts than boot texts have too.
 //!
 //! Source: the boot text is this project's own; directories, names and search are those of the Multics Programmers'
 //! Manual AG91 (storage system), ring brackets those of AL39.
