@@ -2,3 +2,4 @@ pub mod BitByBit
 pub mod ShiftRules
 pub mod SignedOrder
 pub mod SignRules
+pub mod Refusals

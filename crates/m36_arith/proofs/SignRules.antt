@@ -10,11 +10,11 @@ use Rattle.m36_model.specs.Booleans.{xor_bit}
 use Rattle.m36_arith.specs.Signs.{with_sign}
 
 -- a number of a width has the sign of its first bit
-positive : (half v m : ℕ) → v < half → m ≡ v → signed half v ≡ pos m
+pub positive : (half v m : ℕ) → v < half → m ≡ v → signed half v ≡ pos m
 unfolding signed
 positive half v m low e = grind (arith, ints)
 
-negative : (half v m : ℕ) → half ≤ v → m + v ≡ 2 * half → signed half v ≡ neg_ℤ (pos m)
+pub negative : (half v m : ℕ) → half ≤ v → m + v ≡ 2 * half → signed half v ≡ neg_ℤ (pos m)
 unfolding signed
 negative half v m high e = grind (arith, ints)
 
@@ -40,7 +40,7 @@ products true true zero (suc b) = sym (no_sign (0 * suc b) (zero-mul (suc b)))
 products true true (suc a) zero = sym (no_sign (suc a * 0) (mul-zero (suc a)))
 products true true (suc a) (suc b) = refl
 
-quotients : (s t : Bool) (a b : ℕ) → int_div (with_sign s a) (with_sign t (suc b)) ≡ with_sign (xor_bit s t) (a / suc b)
+pub quotients : (s t : Bool) (a b : ℕ) → int_div (with_sign s a) (with_sign t (suc b)) ≡ with_sign (xor_bit s t) (a / suc b)
 quotients false false a b = refl
 quotients false true a b = refl
 quotients true false zero b = no_sign (0 / suc b) (zero-div (suc b))

@@ -18,7 +18,7 @@ at_least half n z e = grind (arith, ints)
 below : (half n : ℕ) (z : ℤ) → z +ℤ pos (2 * half) ≡ pos n → int_lt z (pos half) ≡ nat_lt n (3 * half)
 below half n z e = grind (arith, ints)
 
-fits_is : (half n : ℕ) (z : ℤ) → z +ℤ pos (2 * half) ≡ pos n → in_range half z ≡ (nat_le half n && nat_lt n (3 * half))
+pub fits_is : (half n : ℕ) (z : ℤ) → z +ℤ pos (2 * half) ≡ pos n → in_range half z ≡ (nat_le half n && nat_lt n (3 * half))
 fits_is half n z e = rw (at_least half n z e, below half n z e)
 
 sum_is : (half x y c : ℕ) (u v : ℤ) → u +ℤ pos half ≡ pos x → v +ℤ pos half ≡ pos y → u +ℤ v +ℤ pos c +ℤ pos (2 * half) ≡ pos (x + y + c)

@@ -1,7 +1,8 @@
 -- A division of words: it is refused, or it has a quotient and a remainder.
 -- Multics Processor Manual AL39, "Fixed-point division instructions".
-use Rattle.std.specs.Prelude.{◌≡◌, ℕ, true, false, Result, Ok, Err}
-use Rattle.m36_model.specs.Arithmetic.{quotient, remainder, is_divide_check}
+use Rattle.std.specs.Prelude.{◌≡◌, ℕ, ◌^◌, ◌<◌, true, false, not, ◌||◌, ◌==◌, int_div, Result, Ok, Err}
+use Rattle.m36_word.specs.Signed.{signed}
+use Rattle.m36_model.specs.Arithmetic.{in_range, quotient, remainder, is_divide_check}
 use Rattle.m36_arith.specs.declared.divisions.DivideCheck.{DivideCheck}
 
 -- what an answer says of the division of a first word by a second
@@ -9,3 +10,10 @@ abbrev pub DivisionSays : Result (ℕ × ℕ) DivideCheck → ℕ → ℕ → Ty
 DivisionSays (Ok r) x y =
     (is_divide_check x y ≡ false) × (r.0 ≡ quotient x y) × (r.1 ≡ remainder x y)
 DivisionSays (Err _) x y = is_divide_check x y ≡ true
+
+-- A division of words is refused exactly where the divisor is 0 or the quotient is no word.
+abbrev pub RefusedWhereNoWord : Type 0
+RefusedWhereNoWord =
+    (x y : ℕ) → x < 2 ^ 36 → y < 2 ^ 36
+    → is_divide_check x y
+    ≡ ((y == 0) || not (in_range (2 ^ 35) (int_div (signed (2 ^ 35) x) (signed (2 ^ 35) y))))

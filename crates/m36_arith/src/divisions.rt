@@ -2,7 +2,7 @@
 
 ghost use Rattle.std.specs.Prelude.{◌≡◌, ◌<◌, false};
 ghost use Rattle.m36_model.specs.Arithmetic.{is_divide_check};
-ghost use Rattle.m36_arith.specs.Division.{DivisionSays};
+ghost use Rattle.m36_arith.specs.Division.{DivisionSays, RefusedWhereNoWord};
 
 use crate::signs::{differ, is_negative, magnitude, signed_word};
 use m36_word::Word;
@@ -33,3 +33,8 @@ pub fn div(q: Word, y: Word) -> Result<(Word, Word), DivideCheck>
     let remainder = signed_word(is_negative(q), dividend % divisor);
     Ok((quotient, remainder))
 }
+
+/// A division is refused exactly where the divisor is 0 or the quotient of the two signed words is no word.
+pub fn division_law()
+    ensures { RefusedWhereNoWord }
+{}
