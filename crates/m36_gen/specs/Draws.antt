@@ -13,12 +13,16 @@ drawn x = x / 2 ^ 33
 abbrev pub offset_bound : ℕ
 offset_bound = 65536
 
+-- a source goes round at most so often, and leaves a word each time
+abbrev pub most_words : ℕ
+most_words = 200
+
 -- Three draws make a source: what its loop adds, how often it goes round, and where in the data its
 -- words stand.
 unfoldable pub draws_from : ℕ → Draws
 draws_from x = record {
   add = drawn (next x) % 1000;
-  count = 1 + drawn (next (next x)) % 200;
+  count = 1 + drawn (next (next x)) % most_words;
   offset = drawn (next (next (next x))) % offset_bound;
 }
 

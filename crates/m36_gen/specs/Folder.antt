@@ -1,6 +1,6 @@
 -- The files of the folder that a seed makes: the sources, the data and the boot text, in this
 -- order.
-use Rattle.std.specs.Prelude.{ℕ, ◌+◌, List, [], ◌∷◌, ◌++◌, map, replicate}
+use Rattle.std.specs.Prelude.{ℕ, ◌+◌, ◌<◌, List, [], ◌∷◌, ◌++◌, map, replicate}
 use Rattle.std.specs.List.{range_with_len}
 use Rattle.m36_text.specs.FileNames.{source_of_object, boot_name}
 use Rattle.m36_text.specs.Packing.{packed}
@@ -20,9 +20,13 @@ source_file seed i = file (source_name i) (source_text i (draws_from (state_at s
 unfoldable pub source_files : ℕ → ℕ → List File
 source_files seed count = map (source_file seed) (range_with_len 0 count)
 
--- Each program leaves at most 200 words, from one behind its offset on.
+-- Each program leaves its words from one behind its offset on.
 unfoldable pub data_words : ℕ
 data_words = offset_bound + 256
+
+-- The words that a program leaves lie in the data.
+abbrev pub DataHoldsAll : Type 0
+DataHoldsAll = (x : ℕ) → (draws_from x).offset + (draws_from x).count < data_words
 
 unfoldable pub zeros : ℕ → List ℕ
 zeros count = replicate count 0

@@ -5,7 +5,7 @@
 //! text. The seed draws what each program adds, how often, and where its words stand. The same seed makes the same files.
 //!
 //! What is proved: the files are exactly those that `specs/Folder.antt` defines, with each byte a function of the seed, and the
-//! only error is want of memory.
+//! only error is want of memory. The words that a program leaves lie in the data.
 //!
 //! Source: the generator of draws is the linear congruential one of Knuth's MMIX (The Art of Computer Programming, volume 2,
 //! section 3.3.4), of which the upper 31 bits are taken; the programs are this project's own.
@@ -14,9 +14,11 @@
 mod catalog;
 pub mod draws;
 pub mod files;
+pub mod laws;
 mod lines;
 pub mod making;
 mod programs;
 
 pub use files::{File, Files};
+pub use laws::data_law;
 pub use making::{add_others, make, sources};
