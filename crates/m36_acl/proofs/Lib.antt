@@ -7,3 +7,4 @@ pub mod Rights
 pub mod AccessLoops
 pub mod PlaceLaws
 pub mod Modes
+pub mod ListsRead

@@ -5,12 +5,13 @@
 --     C2   the segment stands already, or the term below the same segment
 --
 -- The least line that has a code is told, and C1 where a line has both.
-use Rattle.std.specs.Prelude.{ℕ, ◌≡◌, ◌+◌, ◌-◌, Bool, nat_le, if◌then◌else◌, List, [], ◌∷◌, ◌++◌}
-use Rattle.std.specs.Prelude.{length, map, slice_set}
+use Rattle.std.specs.Prelude.{ℕ, ◌≡◌, ◌+◌, ◌-◌, ◌≤◌, Bool, true, nat_le, if◌then◌else◌, List, []}
+use Rattle.std.specs.Prelude.{◌∷◌, ◌++◌, length, map, slice_set, All}
 use Rattle.std.specs.Prelude.{Option, Some, None, Result, Ok, Err}
 use Rattle.std.specs.List.{list_any}
 use Rattle.m36_text.specs.Texts.{is_text}
 use Rattle.m36_text.specs.Lines.{lines_of, last_of}
+use Rattle.m36_text.specs.Once.{are_distinct_by}
 use Rattle.m36_text.specs.Results.{and_then}
 use Rattle.m36_dir.specs.BootOrder.{Entry, entry, is_entry}
 use Rattle.m36_acl.specs.declared.fault.AclFault.{AclFault}
@@ -46,6 +47,10 @@ segment_behind line above given =
 
 -- ---- a `term` line, which belongs to the last segment
 
+-- at most so many stand below a segment
+abbrev pub most_terms : ℕ
+most_terms = 16
+
 abbrev pub has_term : List TermFields → List ℕ → Bool
 has_term terms text = list_any (λ t. is_text text t.text) terms
 
@@ -55,7 +60,7 @@ with_term segment term = record segment { terms = segment.terms ++ term ∷ [] }
 abbrev pub term_behind : ℕ → Lists → Option AclSegmentFields → TermFields → Read
 term_behind line above None term = Err (fault.C1 line)
 term_behind line above (Some last) term =
-    if nat_le 16 (length last.terms) then Err (fault.C1 line)
+    if nat_le most_terms (length last.terms) then Err (fault.C1 line)
     else if has_term last.terms term.text then Err (fault.C2 line)
     else Ok (slice_set above (length above - 1) (with_term last term))
 
@@ -93,3 +98,22 @@ ReadSays (Err told) definition = Told told definition
 abbrev pub Takes : {A : Type 0} → Lists → Result A AclFault → Read → Type 0
 Takes new (Ok done) definition = definition ≡ Ok new
 Takes new (Err told) definition = Told told definition
+
+-- ---- a law
+
+abbrev pub same_term : TermFields → TermFields → Bool
+same_term a b = is_text a.text b.text
+
+-- The terms of a segment stand once each, and are no more than may stand below it.
+pub record HasTermsOnce (s : AclSegmentFields) : Type 0 where
+  pub once : are_distinct_by same_term s.terms ≡ true
+  pub few : length s.terms ≤ most_terms
+
+-- The segments stand once each, and so do the terms of each of them.
+pub record AreListsOnce (lists : Lists) : Type 0 where
+  pub segments : are_distinct_by is_entry (places_of lists) ≡ true
+  pub terms : All HasTermsOnce lists
+
+-- Lists that are read have each segment once, and each term once below it.
+abbrev pub ListsOnce : Type 0
+ListsOnce = (text : List ℕ) (lists : Lists) → lists_of text ≡ Ok lists → AreListsOnce lists

@@ -9,11 +9,12 @@
 //! component is `*` or that of the user.
 //!
 //! What is promised: `Acl::read` gives the lists that a text writes out, or C1 or C2 at the first line that has a code,
-//! the least of that line; want of memory alone may stand in the place of either. `mode_for` gives a user the mode of the
-//! first matching term in the list of a segment, and tells which term that is; where none matches, or the segment has no
-//! list, it gives no right and no term. A mode that is written is the one that is read of a line. `grant` gives the
-//! segments of a catalog these rights and changes nothing else, and `first_unknown` tells the first line whose segment the
-//! catalog does not have. `User::read` takes a text exactly where it is of the form of a user.
+//! the least of that line; want of memory alone may stand in the place of either. Lists that are read have each segment
+//! once, and each term once below it. `mode_for` gives a user the mode of the first matching term in the list of a
+//! segment, and tells which term that is; where none matches, or the segment has no list, it gives no right and no
+//! term. A mode that is written is the one that is read of a line. `grant` gives the segments of a catalog these rights
+//! and changes nothing else, and `first_unknown` tells the first line whose segment the catalog does not have.
+//! `User::read` takes a text exactly where it is of the form of a user.
 //!
 //! Not promised: that a user is who he says.
 //!
