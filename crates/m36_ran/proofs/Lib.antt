@@ -1,6 +1,7 @@
 pub mod RunLaws
 pub mod RunPieces
 pub mod RunStates
+pub mod RunLengths
 pub mod PiecesJoined
 pub mod AuditTexts
 pub mod AuditAnswers

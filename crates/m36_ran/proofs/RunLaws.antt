@@ -29,7 +29,7 @@ told_only_if :
 told_only_if true steps = refl
 told_only_if false steps = refl
 
-run_more :
+pub run_more :
     (left : ℕ) (s : State (List ℕ)) → run (suc left) s ≡ told s ∷ only_if (is_next (told s).outcome) (run left (after s))
 unfolding run visits
 run_more left s =

@@ -6,5 +6,6 @@ pub mod AuditText
 pub mod Putting
 pub mod Ran
 pub mod DueLaw
+pub mod Laws
 pub use Rattle.m36_trace.specs.EndLine
 pub use Rattle.m36_trace.specs.TraceLine
