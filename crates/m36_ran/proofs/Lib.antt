@@ -2,6 +2,7 @@ pub mod RunLaws
 pub mod RunPieces
 pub mod RunStates
 pub mod RunLengths
+pub mod RunTurns
 pub mod PiecesJoined
 pub mod AuditTexts
 pub mod AuditAnswers

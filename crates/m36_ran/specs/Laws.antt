@@ -1,7 +1,12 @@
--- A law of runs.
-use Rattle.std.specs.Prelude.{◌≡◌, ℕ, List, length}
+-- Laws of runs.
+use Rattle.std.specs.Prelude.{◌≡◌, ℕ, zero, suc, List, [], ◌∷◌, ◌++◌, None, length}
 use Rattle.m36_model.specs.Store.{State}
 use Rattle.m36_model.specs.declared.outcome.Outcome.TheVariants.{Next}
+use Rattle.m36_model.specs.declared.record.StepRecord.{StepRecord}
+use Rattle.m36_step.specs.MachineFields.{MachineFields}
+use Rattle.m36_step.specs.MachineTurn.{machine_turn, machine_after}
+use Rattle.m36_step.specs.declared.turns.Turn.{Turn}
+use Rattle.m36_step.specs.declared.turns.Turn.TheVariants.{Stepped}
 use Rattle.m36_ran.specs.Run.{run, last_outcome}
 
 -- A run whose last outcome is Next has taken all its steps.
@@ -9,3 +14,20 @@ abbrev pub LimitIsMet : Type 0
 LimitIsMet =
     (steps : ℕ) (state : State (List ℕ))
     → last_outcome (run steps state) ≡ Next → length (run steps state) ≡ steps
+
+-- the record of a turn, where it is a step
+abbrev pub step_in : Turn → List StepRecord
+step_in (Stepped told) = told ∷ []
+step_in _ = []
+
+-- the records of the steps among so many turns of a machine
+unfoldable pub steps_made : ℕ → MachineFields → List StepRecord
+steps_made zero m = []
+steps_made (suc n) m = step_in (machine_turn m) ++ steps_made n (machine_after m)
+
+-- The steps of a run are those among as many turns of a machine from the same state on, which takes
+-- no step once one has ended its run.
+abbrev pub RunsAreTurns : Type 0
+RunsAreTurns =
+    (steps : ℕ) (state : State (List ℕ))
+    → steps_made steps (record { state = state; ended = None }) ≡ run steps state

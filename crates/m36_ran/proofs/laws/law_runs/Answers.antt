@@ -1,5 +1,9 @@
 use Rattle.m36_ran.proofs.RunLengths.{limit_is_met}
+use Rattle.m36_ran.proofs.RunTurns.{runs_are_turns}
 use Rattle.m36_ran.proofs.laws.law_runs.Goals as goal
 
-pub returns : goal.returns
-returns c = limit_is_met
+pub returns-clause-limit : goal.returns-clause-limit
+returns-clause-limit c = limit_is_met
+
+pub returns-clause-turns : goal.returns-clause-turns
+returns-clause-turns c = runs_are_turns
