@@ -5,6 +5,7 @@ pub mod RunLengths
 pub mod RunTurns
 pub mod PiecesJoined
 pub mod AuditTexts
+pub mod FindingPlaces
 pub mod AuditAnswers
 pub mod StateLaws
 pub mod YesAnswers

@@ -1,6 +1,8 @@
--- Laws of runs.
-use Rattle.std.specs.Prelude.{◌≡◌, ℕ, zero, suc, List, [], ◌∷◌, ◌++◌, None, length}
+-- Laws of runs, and of the findings of an audit.
+use Rattle.std.specs.Prelude.{◌≡◌, ℕ, zero, suc, ◌^◌, ◌<◌, List, [], ◌∷◌, ◌++◌, All, None, length}
+use Rattle.m36_desc.specs.Fields.{DbrFields}
 use Rattle.m36_model.specs.Store.{State}
+use Rattle.m36_model.specs.Audit.{AreFindings}
 use Rattle.m36_model.specs.declared.outcome.Outcome.TheVariants.{Next}
 use Rattle.m36_model.specs.declared.record.StepRecord.{StepRecord}
 use Rattle.m36_step.specs.MachineFields.{MachineFields}
@@ -8,6 +10,9 @@ use Rattle.m36_step.specs.MachineTurn.{machine_turn, machine_after}
 use Rattle.m36_step.specs.declared.turns.Turn.{Turn}
 use Rattle.m36_step.specs.declared.turns.Turn.TheVariants.{Stepped}
 use Rattle.m36_ran.specs.Run.{run, last_outcome}
+use Rattle.m36_ran.specs.AuditText.{place_digits}
+
+-- ---- runs
 
 -- A run whose last outcome is Next has taken all its steps.
 abbrev pub LimitIsMet : Type 0
@@ -31,3 +36,15 @@ abbrev pub RunsAreTurns : Type 0
 RunsAreTurns =
     (steps : ℕ) (state : State (List ℕ))
     → steps_made steps (record { state = state; ended = None }) ≡ run steps state
+
+-- ---- findings
+
+-- the place of a finding has no more digits than are written of it
+abbrev pub IsWrittenWhole : ℕ × ℕ → Type 0
+IsWrittenWhole f = f.1 < 8 ^ place_digits f.0
+
+-- The place of each finding of an audit is written whole.
+abbrev pub PlacesAreWhole : Type 0
+PlacesAreWhole =
+    (core : List ℕ) (dbr : DbrFields) (findings : List (ℕ × ℕ))
+    → AreFindings core dbr findings → All IsWrittenWhole findings

@@ -1,5 +1,6 @@
 use Rattle.m36_ran.proofs.RunLengths.{limit_is_met}
 use Rattle.m36_ran.proofs.RunTurns.{runs_are_turns}
+use Rattle.m36_ran.proofs.FindingPlaces.{places_are_whole}
 use Rattle.m36_ran.proofs.laws.law_runs.Goals as goal
 
 pub returns-clause-limit : goal.returns-clause-limit
@@ -7,3 +8,6 @@ returns-clause-limit c = limit_is_met
 
 pub returns-clause-turns : goal.returns-clause-turns
 returns-clause-turns c = runs_are_turns
+
+pub returns-clause-places : goal.returns-clause-places
+returns-clause-places c = places_are_whole
