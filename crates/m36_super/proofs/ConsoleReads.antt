@@ -203,7 +203,7 @@ reading_by g f count k n text word a h e is four =
       rest = behind_more text word (console_words g f (k + 1) n) (console_words g f 0 count) a is next;
     }
 
-four_characters : (w : ℕ) → length (characters_of w) ≡ 4
+pub four_characters : (w : ℕ) → length (characters_of w) ≡ 4
 unfolding characters_of
 four_characters w = refl
 

@@ -7,6 +7,7 @@ pub mod PageTurns
 pub mod StepTurns
 pub mod PagedContents
 pub mod ConsoleReads
+pub mod ConsoleLengths
 pub mod LinkPlaces
 pub mod LinkTurns
 pub mod LaidSections

@@ -2,6 +2,7 @@ pub mod Library
 pub mod Laying
 pub mod LayingLaw
 pub mod Services
+pub mod ConsoleLaw
 pub mod Coming
 pub mod FlatRun
 pub mod BootedRun

@@ -10,7 +10,7 @@
 //! belong together. Until an LDBR is executed each turn that executes no ABSA and wants no memory is the turn of the
 //! flat run, one that executes ABSA stands where the flat run executes one too, the core stays that of the booted image,
 //! and the audit conditions are kept, services included. The first section of a ring that a link service lays stands, among
-//! zeros, as the section that the image of a start has.
+//! zeros, as the section that the image of a start has. What the console writes has as many characters as A says.
 //!
 //! `specs/` says what the next turn of a run may be (`BootedRun`), what a service does (`Services`), and what the flat
 //! run is (`FlatRun`); the booted image is that of `m36_boot`.
@@ -31,6 +31,7 @@ mod stepping;
 ghost use Rattle.m36_super.specs.TurnLaws.{LoadsLaw, TurnLaw, TurnAuditLaw, FunctionLaw};
 ghost use Rattle.m36_super.specs.SuperFields.{PagingLaw, StepManagedLaw};
 ghost use Rattle.m36_super.specs.LayingLaw.{LayingLaw};
+ghost use Rattle.m36_super.specs.ConsoleLaw.{ConsoleCounts};
 
 pub use booted::Super;
 pub use booting::{are_short, files_of};
@@ -58,4 +59,9 @@ pub fn law_paging()
 /// has it there, with its word of the linkage offset table, and no word of another segment changes.
 pub fn law_laying()
     ensures { LayingLaw }
+{}
+
+/// What a console service writes has as many characters as A says.
+pub fn law_console()
+    ensures { ConsoleCounts }
 {}
