@@ -1,4 +1,4 @@
--- What the definitions say of places and symbols, without going over the lines.
+-- What the definitions say of places, symbols and offsets, without going over the lines.
 use Rattle.std.specs.Prelude.{ℕ, ◌≡◌, Bool, true, false, ◌&&◌, ◌||◌, nat_le, List, [], ◌∷◌}
 use Rattle.std.specs.Prelude.{◌++◌, length, Option, Some, None, is_some, Ok}
 use Rattle.alm_tokens.specs.Tokens.{slice_of}
@@ -9,16 +9,21 @@ use Rattle.alm_parse.specs.declared.args.Arg.{Arg}
 use Rattle.alm_parse.specs.declared.args.Arg.TheVariants as arg
 use Rattle.alm_parse.specs.declared.line.Line36.{Line36}
 use Rattle.alm_parse.specs.Bodies.{own_section}
+use Rattle.m36_inst.specs.Instruction.{pr_offset}
 use Rattle.obj36_parts.specs.declared.section.Section.{Section}
 use Rattle.obj36_parts.specs.declared.section.Section.TheVariants.{Text, Linkage, Symbol, Static}
 use Rattle.obj36_parts.specs.Names.{is_name}
 use Rattle.obj36_parts.specs.ObjectSegment.{words_of, is_well_formed, segment_limit}
 use Rattle.alm_lines.specs.Arguments.{name_at}
 use Rattle.alm_asm.specs.Assembly.{parts_of, refusal_of}
+use Rattle.alm_lines.specs.Sums.{half_of, offset_of}
 use Rattle.alm_lines.specs.Symbols.{sum_named}
 use Rattle.alm_lines.specs.Spots.{start, count_in, end_of}
-use Rattle.alm_asm.specs.Words.{words_from}
+use Rattle.alm_asm.specs.Words.{pointed_inst, words_from}
 use Rattle.alm_lines.specs.Layout.{symbols_from}
+use Rattle.alm_lines.specs.Refusals.{has_room}
+use Rattle.alm_lines.specs.declared.refusal.Room.TheVariants.{Offset}
+use Rattle.alm_lines.specs.declared.sum.Balance.{Balance}
 use Rattle.alm_lines.specs.declared.sum.Sum.{Sum}
 use Rattle.alm_asm.specs.declared.tables.Tables.{Tables}
 
@@ -52,6 +57,13 @@ SymbolsStay =
     (text : List ℕ) (above lines : List Line36) (name : List ℕ) (sum : Sum)
     → sum_named name (symbols_from text [] start above) ≡ Some sum
     → sum_named name (symbols_from text [] start (above ++ lines)) ≡ Some sum
+
+-- The machine reads the offset behind a pointer register as the number that was written, modulo
+-- 2^18.
+abbrev pub OffsetsAreRead : Type 0
+OffsetsAreRead =
+    (code : ℕ) (bit27 : Bool) (pr tag : ℕ) (b : Balance) → has_room Offset b ≡ true
+    → pr_offset (pointed_inst code bit27 pr (offset_of b) tag) ≡ half_of b
 
 -- ---- which objects are too long
 

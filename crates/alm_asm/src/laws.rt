@@ -1,13 +1,15 @@
 //! Laws of what lines mean.
 
-ghost use Rattle.alm_asm.specs.Laws.{PlacesCount, WordsFollow, SymbolsStay, OnlyTooLong};
+ghost use Rattle.alm_asm.specs.Laws.{PlacesCount, WordsFollow, SymbolsStay, OffsetsAreRead, OnlyTooLong};
 
 /// A line's place is the count of words that the lines above it place in its section, the words of lines follow those of
-/// the lines above them, and a symbol is what the first line that defines it says. Where no line of a source that
-/// has been read is refused, the whole is refused exactly where it has more than 2^18 words.
+/// the lines above them, and a symbol is what the first line that defines it says. The offset behind a pointer register is
+/// read as the number that was written. Where no line of a source that has been read is refused, the whole is refused
+/// exactly where it has more than 2^18 words.
 pub fn assembly_laws()
     ensures places { PlacesCount }
     ensures words { WordsFollow }
     ensures symbols { SymbolsStay }
+    ensures offsets { OffsetsAreRead }
     ensures length { OnlyTooLong }
 {}
