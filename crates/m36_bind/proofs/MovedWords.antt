@@ -6,9 +6,9 @@ use Rattle.std.proofs.lemmas.List.{length-set, get_or-set_same, get_or-set_other
 use Rattle.std.proofs.lemmas.Bool.{and_parts, eqb-true, eq-eqb, ne_eqb, lt-ltb, leb-true}
 use Rattle.obj36_parts.specs.Fields.{RelocFields}
 use Rattle.obj36_parts.specs.Sections.{place_number}
-use Rattle.obj36_parts.specs.ObjectSegment.{order_of, are_rising}
+use Rattle.obj36_parts.specs.ObjectSegment.{part_of, order_of, are_rising}
 use Rattle.m36_relocate.specs.Words.{stands_in, place_in, moved_at, one_moved, words_moved, word_moved}
-use Rattle.m36_bind.specs.Meaning.{part_of, overlap}
+use Rattle.m36_bind.specs.Meaning.{overlap}
 use Rattle.m36_relocate.specs.declared.layout.Moving.{Moving}
 use Rattle.m36_bind.proofs.WordParts.{put_in, cut_to, number_put, put_below, put_got, put_kept, word_puts}
 

@@ -6,15 +6,16 @@ use Rattle.std.proofs.lemmas.Bool.{and_parts, eqb-true, ltb-true, leb-true, eq-e
 use Rattle.obj36_parts.specs.Fields.{RelocFields}
 use Rattle.obj36_parts.specs.PartsFields.{PartsFields}
 use Rattle.obj36_parts.specs.Sections.{is_text_section, place_number}
-use Rattle.obj36_parts.specs.ObjectSegment.{is_newer, inner_statics, outer_statics, last_place, is_place, is_relocation, order_of, is_well_formed}
+use Rattle.obj36_parts.specs.Halves.{offset_in}
+use Rattle.obj36_parts.specs.ObjectSegment.{is_newer, inner_statics, outer_statics, part_of, last_place, is_place, is_relocation, order_of, is_well_formed}
 use Rattle.obj36_parts.specs.declared.section.Section.{Section}
 use Rattle.obj36_parts.specs.declared.section.Section.TheVariants.{Text, Linkage, Symbol, Static}
 use Rattle.obj36_parts.proofs.Formed.{is_formed}
 use Rattle.m36_relocate.specs.Fields.{ShapeFields}
 use Rattle.m36_relocate.specs.Layout.{shape_of, meant, number_moved}
-use Rattle.m36_relocate.specs.Words.{stands_in, place_in, words_in, offset_in, offset_raised, below_zero, part_fits, one_fits, all_fit}
+use Rattle.m36_relocate.specs.Words.{stands_in, place_in, words_in, offset_raised, below_zero, part_fits, one_fits, all_fit}
 use Rattle.m36_bind.specs.Components.{PlacedFields, moving}
-use Rattle.m36_bind.specs.Meaning.{part_of, overlap, Moves, IsMovedWord}
+use Rattle.m36_bind.specs.Meaning.{overlap, Moves, IsMovedWord}
 use Rattle.m36_relocate.specs.declared.layout.Moving.{Moving}
 use Rattle.m36_bind.proofs.WordParts.{cut_to, number_put}
 use Rattle.m36_bind.proofs.MovedWords.{at, word_by, word_kept, word_part, AreApart, AreOf, rising_apart}

@@ -2,11 +2,12 @@
 use Rattle.std.proofs.Common.{ℕ, zero, suc, ◌≡◌, ◌+◌, ◌*◌, ◌/◌, ◌%◌, ◌^◌, ◌<◌, ◌≤◌, Bool, true, false, cond, eqb, refl, sym, ap, ◌∙◌, arith, true≢false}
 use Rattle.std.proofs.lemmas.Bool.{ne_eqb, cond-false}
 use Rattle.obj36_parts.specs.Fields.{RelocFields}
-use Rattle.obj36_parts.specs.Halves.{left, right, joined}
+use Rattle.obj36_parts.specs.Halves.{left, right, offset_in, joined}
+use Rattle.obj36_parts.specs.ObjectSegment.{part_of}
 use Rattle.obj36_parts.specs.declared.section.Section.{Section}
 use Rattle.m36_relocate.specs.Layout.{number_moved}
-use Rattle.m36_relocate.specs.Words.{offset_in, with_offset, offset_raised, word_moved}
-use Rattle.m36_bind.specs.Meaning.{part_of, overlap}
+use Rattle.m36_relocate.specs.Words.{with_offset, offset_raised, word_moved}
+use Rattle.m36_bind.specs.Meaning.{overlap}
 use Rattle.m36_relocate.specs.declared.layout.Moving.{Moving}
 
 left_is : (l r : ℕ) → left (joined l r) ≡ l % 2 ^ 18

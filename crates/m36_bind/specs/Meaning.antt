@@ -12,12 +12,11 @@ use Rattle.obj36_parts.specs.Fields.{DefFields, RelocFields, LinkFields}
 use Rattle.obj36_parts.specs.PartsFields.{PartsFields}
 use Rattle.obj36_parts.specs.Sections.{later_section}
 use Rattle.obj36_parts.specs.ObjectSegment.{is_well_formed, definition_names}
-use Rattle.obj36_parts.specs.ObjectSegment.{version_of, head_words, left_part, right_part}
+use Rattle.obj36_parts.specs.ObjectSegment.{version_of, head_words, left_part}
 use Rattle.obj36_parts.specs.ObjectSegment.{to_section, to_segment, to_entry, to_own_entry}
-use Rattle.obj36_parts.specs.ObjectSegment.{offset_part}
+use Rattle.obj36_parts.specs.ObjectSegment.{offset_part, part_of}
 use Rattle.obj36_parts.specs.declared.definition.Named.{Named}
 use Rattle.m36_word.specs.Field.{offset_limit}
-use Rattle.obj36_parts.specs.Halves.{left, right}
 use Rattle.obj36_parts.specs.declared.section.Section.{Section}
 use Rattle.obj36_parts.specs.declared.section.Section.TheVariants.{Text}
 use Rattle.m36_bindfile.specs.declared.line.BindLine.{BindLine}
@@ -27,7 +26,7 @@ use Rattle.m36_relocate.specs.Layout.{shape_of, first_bases, bases_behind, meant
 use Rattle.m36_relocate.specs.declared.layout.Meant.{Meant}
 use Rattle.m36_relocate.specs.declared.layout.Meant.TheVariants.{TextWord, StaticWord, LinkWord}
 use Rattle.m36_relocate.specs.declared.layout.Meant.TheVariants.{HeadWord}
-use Rattle.m36_relocate.specs.Words.{offset_in, below_zero, stands_in, start_of, words_in}
+use Rattle.m36_relocate.specs.Words.{below_zero, stands_in, start_of, words_in}
 use Rattle.m36_relocate.specs.Exports.{export_named, is_symbol}
 use Rattle.m36_bind.specs.Components.{PlacedFields, component_named, picked_of}
 use Rattle.m36_bind.specs.Links.{own_link, farther}
@@ -60,14 +59,8 @@ NamesImage bound p section old target new =
 
 -- ---- words
 
--- the parts of a word that relocations name, by their numbers
-unfoldable pub part_of : ℕ → ℕ → ℕ
-part_of part w =
-    if nat_eq part left_part then left w
-    else if nat_eq part right_part then right w
-    else offset_in w
-
--- whether two of these parts have bits in common: bits 3 to 17 are in the left half
+-- whether two parts of a word that relocations name have bits in common: bits 3 to 17 are in the
+-- left half
 abbrev pub overlap : ℕ → ℕ → Bool
 overlap j k =
     nat_eq j k || (nat_eq j left_part && nat_eq k offset_part)

@@ -6,7 +6,7 @@ use Rattle.std.specs.Prelude.{slice_set}
 use Rattle.obj36_parts.specs.Fields.{RelocFields}
 use Rattle.obj36_parts.specs.PartsFields.{PartsFields}
 use Rattle.m36_word.specs.Field.{offset_limit}
-use Rattle.obj36_parts.specs.Halves.{left, right, joined}
+use Rattle.obj36_parts.specs.Halves.{left, right, offset_in, joined}
 use Rattle.obj36_parts.specs.Sections.{is_text_section}
 use Rattle.obj36_parts.specs.ObjectSegment.{head_words, left_part, right_part}
 use Rattle.obj36_parts.specs.declared.section.Section.{Section}
@@ -18,10 +18,7 @@ use Rattle.m36_relocate.specs.declared.layout.Moving.{Moving}
 
 -- ---- parts of a word
 
--- bits 3 to 17 of a word, and the word with others there
-unfoldable pub offset_in : ℕ → ℕ
-offset_in w = left w % 2 ^ 15
-
+-- a word with other bits 3 to 17
 unfoldable pub with_offset : ℕ → ℕ → ℕ
 with_offset w v = joined (left w / 2 ^ 15 * 2 ^ 15 + v % 2 ^ 15) (right w)
 

@@ -1,7 +1,8 @@
 //! Parts of words that move: halves, and bits 3 to 17.
 
 ghost use Rattle.std.specs.Prelude.{ℕ, ◌≡◌, ◌+◌, ◌-◌, ◌*◌, ◌/◌, ◌%◌, ◌^◌, ◌<◌, slice_index};
-ghost use Rattle.m36_relocate.specs.Words.{offset_in, with_offset, below_zero, offset_raised, word_moved, part_fits, stands_in, start_of, place_in, moved_at, one_moved, words_moved, one_fits, all_fit};
+ghost use Rattle.obj36_parts.specs.Halves.{offset_in};
+ghost use Rattle.m36_relocate.specs.Words.{with_offset, below_zero, offset_raised, word_moved, part_fits, stands_in, start_of, place_in, moved_at, one_moved, words_moved, one_fits, all_fit};
 
 use crate::layout::{Bases, Moving, Shape, number_moved};
 use m36_word::Word;
@@ -10,7 +11,7 @@ use obj36_parts::sections::{HEAD_WORDS, is_text_section};
 use obj36_parts::{Reloc, Section};
 
 // Bits 3 to 17 of a word.
-#[tactic(auto, unfolding(crate::specs::Words::offset_in))]
+#[tactic(auto, unfolding(obj36_parts::specs::Halves::offset_in))]
 fn offset_in(w: Word) -> u64
     ensures value { result ≡ offset_in w }
     ensures bound { result < 2 ^ 15 }

@@ -1,4 +1,4 @@
--- Words by their halves of 18 bits, and by their quarters of nine.
+-- Words by their halves of 18 bits, by bits 3 to 17, and by their quarters of nine.
 use Rattle.std.specs.Prelude.{ℕ, zero, suc, ◌+◌, ◌*◌, ◌/◌, ◌%◌, ◌^◌}
 
 -- bits 0 to 17 of a word
@@ -8,6 +8,10 @@ left w = w / 2 ^ 18
 -- bits 18 to 35
 unfoldable pub right : ℕ → ℕ
 right w = w % 2 ^ 18
+
+-- bits 3 to 17
+unfoldable pub offset_in : ℕ → ℕ
+offset_in w = left w % 2 ^ 15
 
 -- the word of two halves; a number that does not fit its half is cut to its low bits
 unfoldable pub joined : ℕ → ℕ → ℕ

@@ -7,7 +7,7 @@ use Rattle.std.specs.List.{list_any, list_all}
 use Rattle.m36_text.specs.Once.{are_distinct_by}
 use Rattle.obj36_parts.specs.Fields.{DefFields, LinkFields, RelocFields}
 use Rattle.obj36_parts.specs.PartsFields.{PartsFields}
-use Rattle.obj36_parts.specs.Halves.{joined}
+use Rattle.obj36_parts.specs.Halves.{left, right, offset_in, joined}
 use Rattle.obj36_parts.specs.Names.{same, is_name, with_names, place_of, all_name_words}
 use Rattle.obj36_parts.specs.Sections.{class_number, entry_mark, place_number}
 use Rattle.obj36_parts.specs.declared.section.Section.{Section}
@@ -197,6 +197,13 @@ right_part = 1
 
 abbrev pub offset_part : ℕ
 offset_part = 2
+
+-- what a word has in the part of a number
+unfoldable pub part_of : ℕ → ℕ → ℕ
+part_of part w =
+    if nat_eq part left_part then left w
+    else if nat_eq part right_part then right w
+    else offset_in w
 
 -- In its right half a relocation has its section, its part and its target, of three bits each: what
 -- they count in.
