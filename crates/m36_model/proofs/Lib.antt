@@ -8,3 +8,5 @@ pub mod OperationLaw
 pub mod StepLaw
 pub mod OneStepLaw
 pub mod Indicators
+pub mod Eight
+pub mod StoredBack

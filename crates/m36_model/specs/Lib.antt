@@ -54,6 +54,7 @@ pub mod CoreLaw
 pub mod Run
 pub mod Isolation
 pub mod Laws
+pub mod StoredBack
 pub mod Completed
 pub mod OperandWords
 pub mod StepCases

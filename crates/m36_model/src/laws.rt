@@ -4,6 +4,7 @@ ghost use Rattle.m36_model.specs.ChainList.{OneChain};
 ghost use Rattle.m36_model.specs.Completed.{MarksOfCompletedReferences};
 ghost use Rattle.m36_model.specs.OperandWords.{ReadsWordsInOrder, WritesWordsInOrder};
 ghost use Rattle.m36_model.specs.StepCases.{StepHasACase, CaseIsTheStep};
+ghost use Rattle.m36_model.specs.StoredBack.{StoredIsLoaded};
 ghost use Rattle.m36_model.specs.Stores.{IndicatorsComeBack};
 
 /// From each point there is exactly one address chain, of at most 17 points, and the definition of address formation
@@ -27,4 +28,10 @@ pub fn step_cases()
 /// Indicators that are stored are loaded back.
 pub fn indicator_law()
     ensures { IndicatorsComeBack }
+{}
+
+/// What is stored is loaded: a half of a word, a number of 72 bits, the parts of a tally word; and what SDBR, STCD and
+/// SPRI store, LDBR, RTCD and LPRI load.
+pub fn stored_law()
+    ensures { StoredIsLoaded }
 {}

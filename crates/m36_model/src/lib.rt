@@ -2,7 +2,8 @@
 //!
 //! `src/` has the records that the definitions and the code share. `specs/` has the rules, one a module, in the
 //! order and the words of the manual. A step is a program over a store: it depends on the registers alone and asks
-//! the store for each reference; the list of core words is one such store.
+//! the store for each reference; the list of core words is one such store. What is proved of the definitions stands
+//! in `laws`: each step has exactly one meaning, and what an instruction stores is loaded back.
 //!
 //! `docs/MANUAL.md` goes through the rules in plain words and names the module of each.
 //!
