@@ -1,6 +1,7 @@
 -- The numbers of words.
-use Rattle.std.specs.Prelude.{ℕ, ◌-◌, ◌%◌, ◌^◌, Bool, true, false, ◌&&◌, List, [], ◌∷◌}
-use Rattle.std.specs.Prelude.{slice_index, Result, if◌then◌else◌}
+use Rattle.std.specs.Prelude.{ℕ, ◌≡◌, ◌≤◌, ◌-◌, ◌%◌, ◌^◌, Bool, true, false, ◌&&◌, List, [], ◌∷◌}
+use Rattle.std.specs.Prelude.{pos, neg_ℤ, slice_index, Result, if◌then◌else◌}
+use Rattle.m36_word.specs.Signed.{signed}
 use Rattle.m36_text.specs.Reading.{number_read}
 use Rattle.m36_text.specs.declared.reading.NumberFault.{NumberFault}
 use Rattle.alm_tokens.specs.declared.numerals.Numeral.{Numeral}
@@ -49,3 +50,7 @@ abbrev pub word_as : Numeral → List ℕ → ℕ
 word_as Decimal bytes = signed_word (is_negative bytes) (value_of (read_as Decimal bytes))
 word_as Octal bytes = signed_word false (value_of (read_as Octal bytes))
 word_as Small bytes = signed_word false (value_of (read_as Small bytes))
+
+-- The word of a negative number of the range of a word is that number, in two's complement.
+abbrev pub NegativesMean : Type 0
+NegativesMean = (m : ℕ) → m ≤ 2 ^ 35 → signed (2 ^ 35) (signed_word true m) ≡ neg_ℤ (pos m)

@@ -9,7 +9,8 @@
 //! What is promised, for every text of fewer than 2^32 bytes: each call gives exactly what `specs/` has under its name. A
 //! text is parted into exactly its lines, a line into its labels, its operation and its operand, and an operand into its
 //! members or its terms, each told by its place; and what is a symbol, a number, a register or a modifier is decided as
-//! defined. Each place that is told of what lies in the text lies in it, and each number has its width. Errors are want of memory alone.
+//! defined. Each place that is told of what lies in the text lies in it, each number has its width, and the word of a negative
+//! number is that number in two's complement. Errors are want of memory alone.
 //!
 //! Source: Multics Processor Manual AL39, "Address modification" for the names of registers and modifiers. The rest is this
 //! project's own profile of the assembler of Multics.
@@ -18,6 +19,7 @@
 pub mod bytes;
 pub mod expression;
 pub mod head;
+pub mod laws;
 pub mod lists;
 pub mod modifiers;
 pub mod numerals;
@@ -28,6 +30,7 @@ pub mod tokens;
 
 pub use expression::{Atom, Expr, Term};
 pub use head::Head;
+pub use laws::numeral_law;
 pub use numerals::Numeral;
 pub use pieces::{Parter, Piece, Pieces};
 pub use rows::{Row, Rows};
