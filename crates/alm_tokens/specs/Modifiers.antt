@@ -70,6 +70,10 @@ pr_number bytes = option_or (pr_digit bytes) (pr_name bytes)
 abbrev pub star_tag : ℕ
 star_tag = 0x10
 
+-- the tag of * before a register, without the register
+abbrev pub first_tag : ℕ
+first_tag = 0x30
+
 -- * and the tally modifiers
 abbrev pub single_tags : List NumberedName
 single_tags =
@@ -87,7 +91,8 @@ single_tag bytes = number_beside single_tags bytes
 -- * before a register, and * behind one
 abbrev pub indirect_first : List ℕ → Option ℕ
 indirect_first [] = None
-indirect_first (b ∷ rest) = if b == 42 then option_map (λ n. 0x30 + n) (register_of rest) else None
+indirect_first (b ∷ rest) =
+    if b == 42 then option_map (λ n. first_tag + n) (register_of rest) else None
 
 abbrev pub indirect_last : List ℕ → Option ℕ
 indirect_last bytes =

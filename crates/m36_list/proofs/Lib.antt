@@ -4,6 +4,7 @@ pub mod Characters
 pub mod Spans
 pub mod Terms
 pub mod TagsBack
+pub mod TagMoves
 pub mod NumberSums
 pub mod NamedDeeds
 pub mod WordAlone

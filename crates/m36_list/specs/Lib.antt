@@ -4,3 +4,4 @@ pub mod Disassembly
 pub mod Listing
 pub mod Modifiers
 pub mod Print
+pub mod Tags

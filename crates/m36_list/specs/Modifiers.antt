@@ -33,9 +33,12 @@ of_registers first before behind =
     ++ written (first + 14) (before ++ codes "x6" ++ behind)
     ++ written (first + 15) (before ++ codes "x7" ++ behind)
 
--- one of IT, by its Td
+-- the tag of one of IT, by its Td
+abbrev pub tally_tag : ℕ → ℕ
+tally_tag td = 0o40 + td
+
 abbrev pub of_tally : ℕ → List ℕ → List Modifier
-of_tally td text = written (0o40 + td) text
+of_tally td text = written (tally_tag td) text
 
 -- R with no register is not written, RI with none is the asterisk alone, and IR with none names it;
 -- of IT five are written

@@ -9,7 +9,8 @@
 //! What is proved: the texts are exactly those that `specs/` defines, in `Disassembly`, `Print` and `Listing`, and the only
 //! error is want of memory. The text of each word is assembled to that word, by the very definitions that the contracts of
 //! the parser and the assembler cite: as a line anywhere in a source it is read, and places that word and no other; alone as
-//! a source it is not refused, and its object has that word as its text and nothing else: [`disassembly_laws`].
+//! a source it is not refused, and its object has that word as its text and nothing else: [`disassembly_laws`]. A tag that the
+//! assembler writes for a modifier is to the machine the modification of that name: [`tag_laws`].
 //!
 //! Source: Multics Processor Manual AL39, "Machine instruction format", "Address modification" and "Operation code map"; the
 //! texts are this project's own.
@@ -29,6 +30,6 @@ mod sections;
 mod words;
 
 pub use disassembly::disassemble;
-pub use laws::disassembly_laws;
+pub use laws::{disassembly_laws, tag_laws};
 pub use listed::listing;
 pub use printing::print;
