@@ -7,6 +7,7 @@ use Rattle.m36_desc.specs.Violations.{illegal_ring_order, out_of_execute_bracket
 use Rattle.m36_boot.specs.Segments.{limited_segment}
 use Rattle.m36_boot.specs.ImageLaw.{ImageNumbersLaw, MayStartLaw}
 use Rattle.m36_boot.proofs.Orders.{in_order_by}
+use Rattle.m36_boot.proofs.SegmentNumbers.{stack_sdw, linkage_sdw, file_sdw, stack_has, linkage_has, file_has}
 
 stacks_by : (ring : ℕ) → 8 + ring ≡ 8 * 1 + ring
 stacks_by ring = omega arith
@@ -15,7 +16,18 @@ own_stack : (seg ring pages : ℕ) → ((ring == ring) && (ring == ring)) ≡ tr
 own_stack seg ring pages = ap (λ (b : Bool). b && b) (eq-eqb ring ring refl)
 
 pub image_numbers : ImageNumbersLaw
-image_numbers = record { stacks = stacks_by; descriptors = own_stack; segments = refl }
+image_numbers =
+    record {
+      stacks = stacks_by;
+      descriptors = own_stack;
+      segments = refl;
+      stack = stack_sdw;
+      stack_has = stack_has;
+      linkage = linkage_sdw;
+      linkage_has = linkage_has;
+      file = file_sdw;
+      file_has = file_has;
+    }
 
 -- ---- one test is the other
 

@@ -4,6 +4,7 @@ pub mod Files
 pub mod ReadObjects
 pub mod LimitLoops
 pub mod Sizes
+pub mod SegmentNumbers
 pub mod ImageTables
 pub mod LaidCore
 pub mod Contents

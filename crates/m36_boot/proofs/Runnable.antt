@@ -1,8 +1,8 @@
 -- An image may be run: its core is laid, and its pager has the pages of its segments.
-use Rattle.std.proofs.Common.{ℕ, ◌≡◌, ◌+◌, ◌-◌, ◌*◌, ◌<◌, ◌≤◌, Bool, true, false, cond, List, [], ◌∷◌, length, map, replicate, Option, Some, None, refl, sym, ap, subst, ◌∙◌, arith, length-append}
+use Rattle.std.proofs.Common.{ℕ, ◌≡◌, ◌+◌, ◌-◌, ◌*◌, ◌<◌, ◌≤◌, true, false, List, [], ◌∷◌, length, map, replicate, Option, Some, None, refl, sym, ap, subst, ◌∙◌, arith, length-append}
 use Rattle.std.specs.Prelude.{nat_lt, nat_le, ◌&&◌, All}
 use Rattle.std.specs.List.{list_all}
-use Rattle.std.proofs.lemmas.Bool.{lt-ltb, le-ltb, ltb-true, and_parts, leb-true}
+use Rattle.std.proofs.lemmas.Bool.{lt-ltb, ltb-true, and_parts, leb-true}
 use Rattle.std.proofs.lemmas.List.{length-replicate}
 use Rattle.std.proofs.lemmas.List.Elements.{All-nil, All-cons}
 use Rattle.m36_desc.specs.Fields.{SdwFields}
@@ -21,6 +21,7 @@ use Rattle.m36_boot.specs.Start.{start_regs}
 use Rattle.m36_model.specs.Place.{page_count}
 use Rattle.m36_boot.specs.Image.{booted_tables, IsRunnable}
 use Rattle.m36_boot.proofs.Sizes.{AreFiles, IsFirst, live}
+use Rattle.m36_boot.proofs.SegmentNumbers.{linkage_sdw}
 use Rattle.m36_boot.proofs.ImageTables.{tables_placed}
 use Rattle.m36_boot.proofs.LaidCore.{IsMade}
 use Rattle.m36_boot.proofs.LaidImage.{live_sdw, sdw_live, laid_image}
@@ -120,22 +121,6 @@ module _ (catalog : CatalogFields) (files : List (List ℕ)) (lay : Option LayFi
         apart = spots_apart;
         held = λ k seg page holds. absurd (empty k seg page holds);
       }
-
--- ---- the linkage segment of a ring
-
-third : {A : Type 0} (a b c : Bool) (w x y z : A) → a ≡ false → b ≡ false → c ≡ true → cond a w (cond b x (cond c y z)) ≡ y
-third false false true w x y z e f g = refl
-third true b c w x y z e f g = absurd (cc)
-third false true c w x y z e f g = absurd (cc)
-third false false false w x y z e f g = absurd (cc)
-
-linkage_sdw : (catalog : CatalogFields) (files : List (List ℕ)) (ring : ℕ) → ring < 8
-    → booted_sdw catalog files (linkage_segment ring) ≡ Some (ring_segment (linkage_segment ring) ring linkage_pages)
-unfolding booted_sdw
-linkage_sdw catalog files ring lt =
-    third (nat_lt (16 + ring) 8) (nat_lt (16 + ring) 16) (nat_lt (16 + ring) 24) None _ (Some (ring_segment (16 + ring) (16 + ring - 16) linkage_pages)) _
-    (le-ltb (16 + ring) 8 (omega arith)) (le-ltb (16 + ring) 16 (omega arith)) (lt-ltb (16 + ring) 24 (omega (arith, lt)))
-    ∙ ap (λ r. Some (ring_segment (16 + ring) r linkage_pages)) (let same : 16 + ring - 16 ≡ ring = omega arith in same)
 
 -- ---- all
 

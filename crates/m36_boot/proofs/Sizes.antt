@@ -146,17 +146,17 @@ chosen_false : {A : Type 0} (b : Bool) (x y : A) → b ≡ false → cond b x y 
 chosen_false true x y e = absurd (cc)
 chosen_false false x y e = refl
 
-stack_here : (files : List (List ℕ)) (lay : Option LayFields) (seg : ℕ) → nat_lt seg 16 ≡ true
+pub stack_here : (files : List (List ℕ)) (lay : Option LayFields) (seg : ℕ) → nat_lt seg 16 ≡ true
     → booted_words files lay seg ≡ stack_words (seg - 8)
 unfolding booted_words
 stack_here files lay seg e = chosen_true (nat_lt seg 16) _ _ e
 
-linkage_here : (files : List (List ℕ)) (lay : Option LayFields) (seg : ℕ) → nat_lt seg 16 ≡ false → nat_lt seg 24 ≡ true
+pub linkage_here : (files : List (List ℕ)) (lay : Option LayFields) (seg : ℕ) → nat_lt seg 16 ≡ false → nat_lt seg 24 ≡ true
     → booted_words files lay seg ≡ linkage_words lay (seg - 16)
 unfolding booted_words
 linkage_here files lay seg e f = chosen_false (nat_lt seg 16) _ _ e ∙ chosen_true (nat_lt seg 24) _ _ f
 
-file_here : (files : List (List ℕ)) (lay : Option LayFields) (seg : ℕ) → nat_lt seg 16 ≡ false → nat_lt seg 24 ≡ false
+pub file_here : (files : List (List ℕ)) (lay : Option LayFields) (seg : ℕ) → nat_lt seg 16 ≡ false → nat_lt seg 24 ≡ false
     → booted_words files lay seg ≡ file_at files (seg - 64)
 unfolding booted_words
 file_here files lay seg e f = chosen_false (nat_lt seg 16) _ _ e ∙ chosen_false (nat_lt seg 24) _ _ f

@@ -1,23 +1,51 @@
 -- What holds of the numbers of a booted image, and of the segments that may be started.
-use Rattle.std.specs.Prelude.{◌≡◌, ℕ, ◌+◌, ◌≤◌, true, not, List, Some, is_some, Ok}
+use Rattle.std.specs.Prelude.{◌≡◌, ℕ, ◌+◌, ◌<◌, ◌≤◌, true, not, List, slice_get, Option, Some}
+use Rattle.std.specs.Prelude.{is_some, Ok}
 use Rattle.m36_desc.specs.Access.{first_of, fetch_rows}
 use Rattle.m36_model.specs.Place.{ring_stack}
 use Rattle.m36_model.specs.Audit.{is_stack_of}
 use Rattle.m36_model.specs.BootedCore.{booted_dbr, booted_segments}
 use Rattle.m36_dir.specs.Fields.{SegmentFields}
 use Rattle.m36_dir.specs.BootOrder.{most_segments}
-use Rattle.m36_link.specs.Known.{first_segment}
-use Rattle.m36_boot.specs.Segments.{stack_segment, ring_segment, limited_segment}
+use Rattle.m36_dir.specs.Catalog.{CatalogFields}
+use Rattle.m36_link.specs.Fields.{LayFields}
+use Rattle.m36_link.specs.Known.{first_segment, linkage_segment, catalog_number}
+use Rattle.m36_boot.specs.Segments.{stack_segment, stack_pages, linkage_pages, file_at}
+use Rattle.m36_boot.specs.Segments.{ring_segment, limited_segment, catalog_segment, booted_sdw}
+use Rattle.m36_boot.specs.Segments.{stack_words, linkage_words, booted_words}
 use Rattle.m36_boot.specs.Start.{may_start}
 
 -- The stack of a ring is the segment that the descriptor segment base register of the image gives
 -- to the ring, and its descriptor is such as the audit conditions ask of a stack. There are page
 -- tables for the numbers below those of the catalog, and for as many as a catalog has segments at
--- most.
+-- most. Under the number of a ring's stack the image has the descriptor and the words of the stack
+-- of that ring, and so it is with linkage segments; under the number of a place of the catalog it
+-- has the segment and the file of that place.
 pub record ImageNumbersLaw : Type 0 where
   pub stacks : (ring : ℕ) → stack_segment ring ≡ ring_stack booted_dbr ring
   pub descriptors : (seg ring pages : ℕ) → is_stack_of ring (Ok (ring_segment seg ring pages)) ≡ true
   pub segments : booted_segments ≡ first_segment + most_segments
+  pub stack :
+      (catalog : CatalogFields) (files : List (List ℕ)) (ring : ℕ) → ring < 8
+      → booted_sdw catalog files (stack_segment ring)
+      ≡ Some (ring_segment (stack_segment ring) ring stack_pages)
+  pub stack_has :
+      (files : List (List ℕ)) (lay : Option LayFields) (ring : ℕ) → ring < 8
+      → booted_words files lay (stack_segment ring) ≡ stack_words ring
+  pub linkage :
+      (catalog : CatalogFields) (files : List (List ℕ)) (ring : ℕ) → ring < 8
+      → booted_sdw catalog files (linkage_segment ring)
+      ≡ Some (ring_segment (linkage_segment ring) ring linkage_pages)
+  pub linkage_has :
+      (files : List (List ℕ)) (lay : Option LayFields) (ring : ℕ) → ring < 8
+      → booted_words files lay (linkage_segment ring) ≡ linkage_words lay ring
+  pub file :
+      (catalog : CatalogFields) (files : List (List ℕ)) (i : ℕ)
+      → booted_sdw catalog files (catalog_number i)
+      ≡ catalog_segment (catalog_number i) (slice_get catalog.segments i) (file_at files i)
+  pub file_has :
+      (files : List (List ℕ)) (lay : Option LayFields) (i : ℕ)
+      → booted_words files lay (catalog_number i) ≡ file_at files i
 
 -- A segment with its ring brackets in order may be started in a ring exactly where its descriptor
 -- lets an instruction in that ring be fetched from it.
