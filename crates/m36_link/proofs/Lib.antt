@@ -2,3 +2,4 @@ mod Sizes
 mod KnownNames
 mod Made
 mod LinkTags
+mod LinkPlaces

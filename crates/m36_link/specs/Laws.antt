@@ -1,6 +1,6 @@
 -- Laws of links, of search and of laying.
-use Rattle.std.specs.Prelude.{ℕ, ◌≡◌, ◌<◌, ◌≤◌, ◌+◌, List, length, All, Some}
-use Rattle.std.specs.Prelude.{Ok}
+use Rattle.std.specs.Prelude.{ℕ, ◌≡◌, ◌<◌, ◌≤◌, ◌+◌, List, length, slice_get, slice_index, All}
+use Rattle.std.specs.Prelude.{Some, Ok}
 use Rattle.m36_model.specs.Fields.{AtFields}
 use Rattle.m36_model.specs.Chain.{indirect_tag}
 use Rattle.m36_model.specs.Faults.{fault_tag_2}
@@ -8,10 +8,12 @@ use Rattle.m36_model.specs.Modification.{Point, Fails, fault_at, move_of_point}
 use Rattle.m36_model.specs.Registers.{RegsFields}
 use Rattle.m36_dir.specs.Catalog.{CatalogFields}
 use Rattle.obj36_parts.specs.Fields.{LinkFields}
-use Rattle.obj36_parts.specs.ObjectSegment.{link_head, segment_limit}
+use Rattle.obj36_parts.specs.ObjectSegment.{link_head, linkage_section, first_link, word_of_link}
+use Rattle.obj36_parts.specs.ObjectSegment.{segment_limit}
 use Rattle.obj36_parts.specs.PartsFields.{PartsFields}
 use Rattle.m36_link.specs.Fields.{LaidFields, KnownFields, SnapFields}
 use Rattle.m36_link.specs.Known.{first_segment, catalog_number, place_of, object_in, laid_words}
+use Rattle.m36_link.specs.Links.{link_in}
 use Rattle.m36_link.specs.Snap.{snap_of, outer_snap}
 use Rattle.m36_link.specs.Accepted.{accepted, MayBeLaid}
 
@@ -21,6 +23,18 @@ abbrev pub LinksFault : Type 0
 LinksFault =
     (g : RegsFields) (p : Point) (at : ℕ) → p.tag ≡ indirect_tag (link_head at)
     → move_of_point g p ≡ Fails (fault_at fault_tag_2 p.carrier)
+
+-- At the word at which an object has a link a service finds this link, wherever the section of the
+-- object is laid; and there stands, until it is snapped, the first word of a link.
+pub record LinksFound : Type 0 where
+  pub link :
+      (files : List (List ℕ)) (l : LaidFields) (o : PartsFields) (i : ℕ)
+      → object_in files l.seg ≡ Some o
+      → link_in files (l.base + word_of_link (first_link o) i) l ≡ slice_get o.links i
+  pub head :
+      (o : PartsFields) (i : ℕ) → i < length o.links
+      → slice_index (linkage_section o) (word_of_link (first_link o) i)
+      ≡ link_head (word_of_link (first_link o) i)
 
 -- The place that goes with the number of a place in the catalog is that place.
 abbrev pub NumbersStand : Type 0

@@ -168,6 +168,10 @@ links_behind statics = head_words + statics
 abbrev pub first_link_by : Bool → ℕ → ℕ
 first_link_by newer statics = if newer then head_words else links_behind statics
 
+-- the word of a link by its number, counted from 0, where the first one stands at a place
+abbrev pub word_of_link : ℕ → ℕ → ℕ
+word_of_link first i = first + 2 * i
+
 -- how many words the section has with so many static words and links
 abbrev pub linkage_length : ℕ → ℕ → ℕ
 linkage_length statics links = links_behind statics + 2 * links
