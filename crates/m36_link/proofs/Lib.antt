@@ -3,3 +3,4 @@ mod KnownNames
 mod Made
 mod LinkTags
 mod LinkPlaces
+mod PairPlaces

@@ -1,5 +1,5 @@
 -- An answer may be accepted, and what services make they keep.
-use Rattle.std.proofs.Common.{ℕ, ◌≡◌, ◌<◌, ◌≤◌, ◌+◌, ◌-◌, ◌^◌, Bool, true, false, cond, leb, List, [], ◌∷◌, ◌++◌, length, slice_get, option_and_then, is_some, All, Option, Some, None, Result, Ok, Err, refl, sym, ap, ◌∙◌, subst, arith}
+use Rattle.std.proofs.Common.{ℕ, ◌≡◌, ◌<◌, ◌≤◌, ◌+◌, ◌-◌, ◌%◌, ◌^◌, Bool, true, false, cond, eqb, leb, List, [], ◌∷◌, ◌++◌, length, slice_get, option_and_then, is_some, All, Option, Some, None, Result, Ok, Err, refl, sym, ap, ◌∙◌, subst, arith}
 use Rattle.std.specs.Result.{result_ok}
 use Rattle.std.proofs.lemmas.Bool.{cond-true, le-leb, leb-true}
 use Rattle.std.proofs.lemmas.Option.{slice_get_within}
@@ -11,11 +11,11 @@ use Rattle.m36_dir.specs.Fields.{SegmentFields}
 use Rattle.m36_dir.specs.Catalog.{CatalogFields}
 use Rattle.obj36_parts.specs.Fields.{LinkFields}
 use Rattle.obj36_parts.specs.PartsFields.{PartsFields}
-use Rattle.obj36_parts.specs.ObjectSegment.{has_name, has_entry}
+use Rattle.obj36_parts.specs.ObjectSegment.{evened, has_name, has_entry}
 use Rattle.obj36.specs.ObjectOf.{object_of}
 use Rattle.obj36.specs.declared.fault.ObjectFault.{ObjectFault}
 use Rattle.m36_link.specs.Fields.{RingNameFields, LaidFields, LandingFields, LayFields, KnownFields, SnapFields}
-use Rattle.m36_link.specs.Known.{first_segment, place_of, segment_of, file_of, object_in, initiated, section_ring, laid_in, base_of, laid_words}
+use Rattle.m36_link.specs.Known.{first_segment, lot_words, place_of, segment_of, file_of, object_in, initiated, section_ring, laid_in, behind, base_behind, next_base, base_of, laid_words}
 use Rattle.m36_link.specs.Search.{searched}
 use Rattle.m36_link.specs.Links.{link_in, section_at}
 use Rattle.m36_link.specs.Landing.{point_of, pair_to, new_home, home_by, home_of, own_by, own_landing, may_not_use, is_plain, plain_landing, landing_in, landing_at, object_landing, landing_by, target_landing}
@@ -250,6 +250,23 @@ accepted_by known catalog files s g =
     let P : Option LayFields → Type 0 = λ lay. MayBeLaid known lay in
     subst P (sym g.laid) (may_be known catalog files g.lay g.fresh)
 
+-- a section begins at an even word, as the first of a ring does
+even_evened : (n : ℕ) → evened n % 2 ≡ 0
+even_evened n = omega arith
+
+even_behind : (l : LaidFields) → behind l % 2 ≡ 0
+unfolding behind
+even_behind l = even_evened (l.base + l.size)
+
+even_step : (b : Bool) (at : ℕ) (l : LaidFields) → at % 2 ≡ 0 → cond b (behind l) at % 2 ≡ 0
+even_step true at l even = even_behind l
+even_step false at l even = even
+
+even_next : (ring at : ℕ) (laid : List LaidFields) → at % 2 ≡ 0 → next_base ring at laid % 2 ≡ 0
+unfolding next_base
+even_next ring at [] even = even
+even_next ring at (l ∷ laid) even = even_next ring (base_behind ring at l) laid (even_step (eqb l.ring ring) at l even)
+
 laid_kept : (known : KnownFields) (catalog : CatalogFields) (files : List (List ℕ)) (lay : Option LaidFields) → FreshIn known.laid catalog files lay
     → All (IsWhole catalog files) known.laid → All (IsWhole catalog files) (with_laid known.laid (lay_of files lay))
 unfolding with_laid
@@ -259,7 +276,14 @@ laid_kept known catalog files (Some l) fresh all =
     let long : length (words_laid (object_in files l.seg)) ≡ l.size = ap length (words_are files l.seg f.object f.read) ∙ sym f.size in
     let end = f.end in
     All-push (IsWhole catalog files) known.laid (record { ring = l.ring; seg = l.seg; base = l.base; size = length (words_laid (object_in files l.seg)) }) all
-    (record { segment = fresh.1; object = f.object; read = f.read; size = long ∙ f.size; end = omega (arith, long, end) })
+    (record {
+      segment = fresh.1;
+      object = f.object;
+      read = f.read;
+      even = ap (λ n. n % 2) f.base ∙ even_next l.ring lot_words known.laid refl;
+      size = long ∙ f.size;
+      end = omega (arith, long, end);
+    })
 
 names_kept : (catalog : CatalogFields) (names : List (RingNameFields × ℕ)) (ring : ℕ) (link : LinkFields) (target : ℕ)
     → (has_name link.kind ≡ true → IsOfCatalog catalog target) → All (λ e. IsOfCatalog catalog e.1) names

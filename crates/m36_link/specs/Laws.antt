@@ -1,8 +1,8 @@
 -- Laws of links, of search and of laying.
-use Rattle.std.specs.Prelude.{ℕ, ◌≡◌, ◌<◌, ◌≤◌, ◌+◌, List, length, slice_get, slice_index, All}
-use Rattle.std.specs.Prelude.{Some, Ok}
+use Rattle.std.specs.Prelude.{ℕ, ◌≡◌, ◌<◌, ◌≤◌, ◌+◌, ◌%◌, List, length, slice_get, slice_index}
+use Rattle.std.specs.Prelude.{All, Some, Ok}
 use Rattle.m36_model.specs.Fields.{AtFields}
-use Rattle.m36_model.specs.Chain.{indirect_tag}
+use Rattle.m36_model.specs.Chain.{Its, found, indirect_tag}
 use Rattle.m36_model.specs.Faults.{fault_tag_2}
 use Rattle.m36_model.specs.Modification.{Point, Fails, fault_at, move_of_point}
 use Rattle.m36_model.specs.Registers.{RegsFields}
@@ -45,11 +45,13 @@ pub record IsOfCatalog (catalog : CatalogFields) (seg : ℕ) : Type 0 where
   pub from : first_segment ≤ seg
   pub below : seg < first_segment + length catalog.segments
 
--- A laid section is that of an object of the catalog, whole, within the linkage segment.
+-- A laid section is that of an object of the catalog, whole, from an even word on, within the
+-- linkage segment.
 pub record IsWhole (catalog : CatalogFields) (files : List (List ℕ)) (l : LaidFields) : Type 0 where
   pub segment : IsOfCatalog catalog l.seg
   pub object : PartsFields
   pub read : object_in files l.seg ≡ Some object
+  pub even : l.base % 2 ≡ 0
   pub size : l.size ≡ length (laid_words object)
   pub end : l.base + l.size ≤ segment_limit
 
@@ -58,6 +60,14 @@ pub record IsMade (catalog : CatalogFields) (files : List (List ℕ))
     (known : KnownFields) : Type 0 where
   pub names : All (λ e. IsOfCatalog catalog e.1) known.names
   pub laid : All (IsWhole catalog files) known.laid
+
+-- The pair that takes the place of a link stands at an even word and has the tag of its kind: an
+-- address that comes to it reads it as an ITS pair.
+abbrev pub PairsStand : Type 0
+PairsStand =
+    (known : KnownFields) (catalog : CatalogFields) (files : List (List ℕ)) (at : AtFields)
+    (s : SnapFields) → IsMade catalog files known → snap_of known catalog files at ≡ Ok s
+    → found at.word s.pair.even ≡ Its
 
 -- An answer may be accepted: to a place, and to a link that is searched from a directory.
 abbrev pub MayBeAccepted : Type 0

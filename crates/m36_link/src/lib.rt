@@ -4,8 +4,8 @@
 //! What is promised: `Known::search` gives the first candidate of a name in the order of the search rules, and never one
 //! behind it. `Known::resolve` gives exactly the snapped pair of the link that a place names, with the section that has
 //! to be laid for it, or the first reason why there is none; it changes nothing. What it looks at are the objects as they
-//! were booted, never words of memory, and the link at a word is the one that the object has there. `Known::accept` adds
-//! the name and the section of an answer, and nothing else.
+//! were booted, never words of memory, and the link at a word is the one that the object has there; the pair that takes
+//! its place is met there as an ITS pair. `Known::accept` adds the name and the section of an answer, and nothing else.
 //!
 //! Source: dynamic linking is that of the Multics Programmers' Manual AG91 and of Organick, "The Multics System" (1972),
 //! chapter 2; the pair is that of the Multics Processor Manual AL39, "Indirect to segment".
