@@ -3,3 +3,4 @@ pub mod Packed
 pub mod SourceLaws
 pub mod SpanLines
 pub mod SpanParts
+pub mod TextsBack

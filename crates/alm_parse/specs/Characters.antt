@@ -1,9 +1,9 @@
 -- Texts that are placed: characters between two delimiters, four in a word.
-use Rattle.std.specs.Prelude.{ℕ, ◌+◌, Bool, true, false, not, List, [], ◌∷◌}
-use Rattle.std.specs.Prelude.{slice_index, Option, Some, None, Result, Ok, Err}
+use Rattle.std.specs.Prelude.{ℕ, ◌≡◌, ◌+◌, ◌^◌, ◌<◌, Bool, true, false, not, List, [], ◌∷◌, length}
+use Rattle.std.specs.Prelude.{take, slice_index, All, Option, Some, None, Result, Ok, Err}
 use Rattle.std.specs.Prelude.{if◌then◌else◌}
-use Rattle.std.specs.List.{find}
-use Rattle.obj36_parts.specs.Halves.{of_quarters}
+use Rattle.std.specs.List.{find, flat_map}
+use Rattle.obj36_parts.specs.Halves.{of_quarters, quarters_of, quarter_words}
 use Rattle.alm_tokens.specs.declared.span.Span.{Span}
 use Rattle.alm_parse.specs.declared.args.Arg.{Arg}
 use Rattle.alm_parse.specs.declared.args.Arg.TheVariants.{Chars}
@@ -20,6 +20,12 @@ packed (a ∷ []) = of_quarters a 0 0 0 ∷ []
 packed (a ∷ b ∷ []) = of_quarters a b 0 0 ∷ []
 packed (a ∷ b ∷ c ∷ []) = of_quarters a b c 0 ∷ []
 packed (a ∷ b ∷ c ∷ d ∷ rest) = of_quarters a b c d ∷ packed rest
+
+-- The characters that are placed are the quarters of their words, in order.
+pub record TextsComeBack : Type 0 where
+  pub count : (bytes : List ℕ) → length (packed bytes) ≡ quarter_words (length bytes)
+  pub text : (bytes : List ℕ) → All (λ c. c < 2 ^ 9) bytes
+      → take (length bytes) (flat_map quarters_of (packed bytes)) ≡ bytes
 
 -- the word of the first four, or of those that there are
 unfoldable pub first_word : List ℕ → ℕ

@@ -11,8 +11,8 @@
 //! What [`parse`] promises, for every text of fewer than 2^32 bytes: it gives exactly the lines that the text is, by the
 //! definition in `specs/Sources.antt`, which goes down from lines to the tokens of `alm_tokens` in one word for each rule;
 //! or, where the text is not of the language, exactly its first refusal in the order of the text, and the least code where
-//! two are at one place. Want of memory alone may stand in the place of an answer. Each span of a line that is given lies in the text, and
-//! each number has its width.
+//! two are at one place. Want of memory alone may stand in the place of an answer. Each span of a line that is given lies
+//! in the text, each number has its width, and characters that are placed are the quarters of their words, in order.
 //!
 //! | Code | Exactly where |
 //! |---|---|
@@ -34,6 +34,7 @@ mod characters;
 pub mod deed;
 pub mod directives;
 pub mod fault;
+pub mod laws;
 pub mod line;
 mod line_reading;
 mod members;
@@ -49,6 +50,7 @@ pub use body::own_section;
 pub use deed::Deed;
 pub use directives::operation_of;
 pub use fault::AlmFault;
+pub use laws::packing_law;
 pub use line::Line36;
 pub use operation::Operation;
 pub use pairs::used_section;

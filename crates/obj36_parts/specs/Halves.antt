@@ -1,5 +1,5 @@
 -- Words by their halves of 18 bits, by bits 3 to 17, and by their quarters of nine.
-use Rattle.std.specs.Prelude.{ℕ, zero, suc, ◌+◌, ◌*◌, ◌/◌, ◌%◌, ◌^◌}
+use Rattle.std.specs.Prelude.{ℕ, zero, suc, ◌+◌, ◌*◌, ◌/◌, ◌%◌, ◌^◌, List, [], ◌∷◌}
 
 -- bits 0 to 17 of a word
 unfoldable pub left : ℕ → ℕ
@@ -27,3 +27,11 @@ quarter w (suc (suc (suc n))) = w % 2 ^ 9
 -- the word of four quarters, each below 2^9
 abbrev pub of_quarters : ℕ → ℕ → ℕ → ℕ → ℕ
 of_quarters a b c d = a * 2 ^ 27 + b * 2 ^ 18 + c * 2 ^ 9 + d
+
+-- the four quarters of a word, in order
+abbrev pub quarters_of : ℕ → List ℕ
+quarters_of w = quarter w 0 ∷ quarter w 1 ∷ quarter w 2 ∷ quarter w 3 ∷ []
+
+-- in how many words so many quarters stand, four in each
+abbrev pub quarter_words : ℕ → ℕ
+quarter_words count = (count + 3) / 4
