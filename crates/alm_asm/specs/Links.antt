@@ -1,6 +1,6 @@
 -- Links: the external operands of instructions, each once, in the order of their first use.
-use Rattle.std.specs.Prelude.{ℕ, ◌+◌, ◌*◌, ◌%◌, ◌^◌, List, [], ◌∷◌, Option}
-use Rattle.std.specs.Prelude.{Some, None, unwrap_or, if◌then◌else◌}
+use Rattle.std.specs.Prelude.{ℕ, ◌%◌, ◌^◌, List, [], ◌∷◌, Option, Some, None, unwrap_or}
+use Rattle.std.specs.Prelude.{if◌then◌else◌}
 use Rattle.std.specs.List.{position}
 use Rattle.m36_text.specs.Once.{with_unless}
 use Rattle.alm_tokens.specs.Tokens.{slice_of}
@@ -14,6 +14,7 @@ use Rattle.obj36_parts.specs.declared.section.Section.{Section}
 use Rattle.obj36_parts.specs.declared.section.Section.TheVariants.{Text}
 use Rattle.obj36_parts.specs.Fields.{LinkFields}
 use Rattle.obj36_parts.specs.ObjectSegment.{to_section, to_segment, to_entry, to_own_entry}
+use Rattle.obj36_parts.specs.ObjectSegment.{word_of_link}
 use Rattle.obj36_parts.specs.Indexes.{same_link, has_link}
 use Rattle.alm_lines.specs.Sums.{half_of}
 use Rattle.alm_lines.specs.Arguments.{name_at, first_arg}
@@ -112,4 +113,5 @@ links_from text symbols links spot (line ∷ lines) =
 
 -- the offset of a link in the linkage section, whose links begin at a place
 unfoldable pub link_place : List LinkFields → ℕ → LinkFields → ℕ
-link_place links first link = first + 2 * unwrap_or (position (same_link link) links) 0
+link_place links first link =
+    word_of_link first (unwrap_or (position (same_link link) links) 0)
