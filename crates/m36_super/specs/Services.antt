@@ -1,7 +1,7 @@
 -- The services that a booted run calls for: links and the console. Both see and change the content
 -- of segments, wherever the pages are.
-use Rattle.std.specs.Prelude.{ℕ, zero, suc, ◌+◌, ◌/◌, ◌%◌, ◌^◌, nat_lt, if◌then◌else◌, codes}
-use Rattle.std.specs.Prelude.{Bool, List, [], ◌∷◌, ◌++◌, take, slice_index, Option, None, Some}
+use Rattle.std.specs.Prelude.{ℕ, zero, suc, ◌+◌, ◌%◌, ◌^◌, nat_lt, if◌then◌else◌, codes, Bool}
+use Rattle.std.specs.Prelude.{List, [], ◌++◌, map, take, slice_index, Option, None, Some}
 use Rattle.std.specs.Prelude.{Result, Ok, Err}
 use Rattle.m36_word.specs.declared.pair.Pair.{Pair}
 use Rattle.m36_word.specs.Pairs.{pair_words}
@@ -14,7 +14,7 @@ use Rattle.m36_model.specs.Flat.{Flat, flat_store}
 use Rattle.m36_model.specs.declared.endings.LinkCode.{LinkCode}
 use Rattle.m36_model.specs.declared.outcome.Fault.{Fault}
 use Rattle.obj36_parts.specs.Fields.{LinkFields}
-use Rattle.obj36_parts.specs.Halves.{quarter}
+use Rattle.obj36_parts.specs.Halves.{quarters_of, quarter_words}
 use Rattle.obj36.specs.References.{reference_text}
 use Rattle.m36_link.specs.Fields.{SnapFields}
 use Rattle.m36_link.specs.Snap.{RefusedFields}
@@ -53,9 +53,9 @@ console_limit = 256
 abbrev pub asks_too_much : RegsFields → Bool
 asks_too_much g = nat_lt console_limit g.a
 
--- in how many words so many characters stand, four in each, and the most of them
+-- in how many words so many characters stand, and the most of them
 abbrev pub console_word_count : ℕ → ℕ
-console_word_count count = (count + 3) / 4
+console_word_count count = quarter_words count
 
 abbrev pub console_word_limit : ℕ
 console_word_limit = console_word_count console_limit
@@ -66,9 +66,7 @@ written_character c = if nat_lt c 128 then c else 63
 
 -- what is written of the four characters of nine bits in a word
 unfoldable pub characters_of : ℕ → List ℕ
-characters_of w =
-    written_character (quarter w 0) ∷ written_character (quarter w 1)
-    ∷ written_character (quarter w 2) ∷ written_character (quarter w 3) ∷ []
+characters_of w = map written_character (quarters_of w)
 
 -- The words of the text stand from the word on that PR2 names. They are read in its ring by the
 -- rules of access, and no mark is set.
