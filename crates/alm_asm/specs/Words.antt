@@ -10,6 +10,7 @@ use Rattle.alm_parse.specs.declared.line.Line36.{Line36}
 use Rattle.m36_inst.specs.Fields.{InstFields}
 use Rattle.m36_inst.specs.Instruction.{inst_word}
 use Rattle.obj36_parts.specs.declared.section.Section.{Section}
+use Rattle.obj36_parts.specs.ObjectSegment.{linkage_register}
 use Rattle.obj36_parts.specs.Sections.{same_section}
 use Rattle.alm_lines.specs.Sums.{half_of, offset_of}
 use Rattle.alm_lines.specs.Arguments.{first_arg, second_arg, terms_in, words_of_args}
@@ -54,7 +55,7 @@ own_inst code bit27 None y offset tag = plain_inst code bit27 y tag
 abbrev pub inst_by : List ℕ → Tables → Spot → ℕ → Bool → Option ℕ → Option Span → Option Span
     → List Term → ℕ → InstFields
 inst_by text tables spot code bit27 pr (Some segment) entry terms tag =
-    pointed_inst code bit27 4
+    pointed_inst code bit27 linkage_register
     (link_place tables.links tables.first_link
     (link_of text tables.symbols spot segment entry terms tag) % 2 ^ 15) star_tag
 inst_by text tables spot code bit27 pr None entry terms tag =

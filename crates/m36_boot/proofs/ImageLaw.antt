@@ -4,7 +4,13 @@ use Rattle.std.specs.Prelude.{not, ◌&&◌, ◌==◌, nat_le, nat_lt, is_some}
 use Rattle.std.proofs.lemmas.Bool.{eq-eqb, cases_lt, lt-ltb, le-ltb, le-leb, leb-true}
 use Rattle.m36_desc.specs.Access.{first_of}
 use Rattle.m36_desc.specs.Violations.{illegal_ring_order, out_of_execute_bracket, no_execute_right}
+use Rattle.m36_model.specs.Modification.{ptr}
+use Rattle.m36_model.specs.Pointers.{pointer}
+use Rattle.obj36_parts.specs.ObjectSegment.{linkage_register}
+use Rattle.m36_link.specs.Fields.{SnapFields}
+use Rattle.m36_link.specs.Known.{linkage_segment}
 use Rattle.m36_boot.specs.Segments.{limited_segment}
+use Rattle.m36_boot.specs.Start.{section_base, start_regs}
 use Rattle.m36_boot.specs.ImageLaw.{ImageNumbersLaw, MayStartLaw}
 use Rattle.m36_boot.proofs.Orders.{in_order_by}
 use Rattle.m36_boot.proofs.SegmentNumbers.{stack_sdw, linkage_sdw, file_sdw, stack_has, linkage_has, file_has}
@@ -14,6 +20,10 @@ stacks_by ring = omega arith
 
 own_stack : (seg ring pages : ℕ) → ((ring == ring) && (ring == ring)) ≡ true
 own_stack seg ring pages = ap (λ (b : Bool). b && b) (eq-eqb ring ring refl)
+
+start_register : (ring : ℕ) (s : SnapFields) → ptr (start_regs ring s) linkage_register ≡ pointer (linkage_segment ring) ring (section_base s.lay)
+unfolding start_regs
+start_register ring s = refl
 
 pub image_numbers : ImageNumbersLaw
 image_numbers =
@@ -27,6 +37,7 @@ image_numbers =
       linkage_has = linkage_has;
       file = file_sdw;
       file_has = file_has;
+      register = start_register;
     }
 
 -- ---- one test is the other

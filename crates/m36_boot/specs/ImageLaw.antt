@@ -3,24 +3,28 @@ use Rattle.std.specs.Prelude.{◌≡◌, ℕ, ◌+◌, ◌<◌, ◌≤◌, true,
 use Rattle.std.specs.Prelude.{is_some, Ok}
 use Rattle.m36_desc.specs.Access.{first_of, fetch_rows}
 use Rattle.m36_model.specs.Place.{ring_stack}
+use Rattle.m36_model.specs.Modification.{ptr}
+use Rattle.m36_model.specs.Pointers.{pointer}
 use Rattle.m36_model.specs.Audit.{is_stack_of}
 use Rattle.m36_model.specs.BootedCore.{booted_dbr, booted_segments}
 use Rattle.m36_dir.specs.Fields.{SegmentFields}
 use Rattle.m36_dir.specs.BootOrder.{most_segments}
 use Rattle.m36_dir.specs.Catalog.{CatalogFields}
-use Rattle.m36_link.specs.Fields.{LayFields}
+use Rattle.obj36_parts.specs.ObjectSegment.{linkage_register}
+use Rattle.m36_link.specs.Fields.{LayFields, SnapFields}
 use Rattle.m36_link.specs.Known.{first_segment, linkage_segment, catalog_number}
 use Rattle.m36_boot.specs.Segments.{stack_segment, stack_pages, linkage_pages, file_at}
 use Rattle.m36_boot.specs.Segments.{ring_segment, limited_segment, catalog_segment, booted_sdw}
 use Rattle.m36_boot.specs.Segments.{stack_words, linkage_words, booted_words}
-use Rattle.m36_boot.specs.Start.{may_start}
+use Rattle.m36_boot.specs.Start.{may_start, section_base, start_regs}
 
 -- The stack of a ring is the segment that the descriptor segment base register of the image gives
 -- to the ring, and its descriptor is such as the audit conditions ask of a stack. There are page
 -- tables for the numbers below those of the catalog, and for as many as a catalog has segments at
 -- most. Under the number of a ring's stack the image has the descriptor and the words of the stack
 -- of that ring, and so it is with linkage segments; under the number of a place of the catalog it
--- has the segment and the file of that place.
+-- has the segment and the file of that place. In the registers of the start the one through which
+-- links are referred to points to the section that is laid.
 pub record ImageNumbersLaw : Type 0 where
   pub stacks : (ring : ℕ) → stack_segment ring ≡ ring_stack booted_dbr ring
   pub descriptors : (seg ring pages : ℕ) → is_stack_of ring (Ok (ring_segment seg ring pages)) ≡ true
@@ -46,6 +50,10 @@ pub record ImageNumbersLaw : Type 0 where
   pub file_has :
       (files : List (List ℕ)) (lay : Option LayFields) (i : ℕ)
       → booted_words files lay (catalog_number i) ≡ file_at files i
+  pub register :
+      (ring : ℕ) (s : SnapFields)
+      → ptr (start_regs ring s) linkage_register
+      ≡ pointer (linkage_segment ring) ring (section_base s.lay)
 
 -- A segment with its ring brackets in order may be started in a ring exactly where its descriptor
 -- lets an instruction in that ring be fetched from it.

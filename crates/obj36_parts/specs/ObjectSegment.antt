@@ -154,6 +154,11 @@ definition_section p = definition_part p.definitions p.links
 abbrev pub link_head : ℕ → ℕ
 link_head at = joined (2 ^ 18 - at) 0o46
 
+-- the pointer register through which links are referred to: it points to the linkage section of the
+-- segment that executes
+abbrev pub linkage_register : ℕ
+linkage_register = 4
+
 -- a link: its first word, and the place of its expression with its modifier
 unfoldable pub link_words : List LinkFields → ℕ → ℕ → List ℕ
 link_words [] at expression = []
