@@ -2,6 +2,7 @@ pub mod AssemblyLaws
 pub mod PlaceLaws
 pub mod SymbolsStand
 pub mod OffsetsRead
+pub mod MarkedParts
 pub mod Unrefused
 pub mod GrowthLaws
 pub mod Distinct

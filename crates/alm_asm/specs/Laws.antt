@@ -1,25 +1,31 @@
--- What the definitions say of places, symbols and offsets, without going over the lines.
-use Rattle.std.specs.Prelude.{ℕ, ◌≡◌, Bool, true, false, ◌&&◌, ◌||◌, nat_le, List, [], ◌∷◌}
+-- What the definitions say of places, symbols and parts of words, without going over the lines.
+use Rattle.std.specs.Prelude.{ℕ, ◌≡◌, ◌%◌, ◌^◌, Bool, true, false, ◌&&◌, ◌||◌, nat_le, List, [], ◌∷◌}
 use Rattle.std.specs.Prelude.{◌++◌, length, Option, Some, None, is_some, Ok}
 use Rattle.alm_tokens.specs.Tokens.{slice_of}
 use Rattle.alm_parse.specs.SourceFields.{Source}
 use Rattle.alm_parse.specs.Sources.{parsed}
 use Rattle.alm_tokens.specs.declared.span.Span.{Span}
+use Rattle.alm_tokens.specs.declared.expression.Term.{Term}
 use Rattle.alm_parse.specs.declared.args.Arg.{Arg}
 use Rattle.alm_parse.specs.declared.args.Arg.TheVariants as arg
 use Rattle.alm_parse.specs.declared.line.Line36.{Line36}
 use Rattle.alm_parse.specs.Bodies.{own_section}
-use Rattle.m36_inst.specs.Instruction.{pr_offset}
+use Rattle.m36_inst.specs.Instruction.{inst_word, pr_offset}
 use Rattle.obj36_parts.specs.declared.section.Section.{Section}
 use Rattle.obj36_parts.specs.declared.section.Section.TheVariants.{Text, Linkage, Symbol, Static}
 use Rattle.obj36_parts.specs.Names.{is_name}
 use Rattle.obj36_parts.specs.ObjectSegment.{words_of, is_well_formed, segment_limit}
-use Rattle.alm_lines.specs.Arguments.{name_at}
+use Rattle.obj36_parts.specs.ObjectSegment.{left_part, right_part, part_of}
+use Rattle.alm_lines.specs.Arguments.{name_at, first_arg, second_arg, terms_in}
+use Rattle.alm_lines.specs.Expressions.{sum_of}
 use Rattle.alm_asm.specs.Assembly.{parts_of, refusal_of}
 use Rattle.alm_lines.specs.Sums.{half_of, offset_of}
 use Rattle.alm_lines.specs.Symbols.{sum_named}
 use Rattle.alm_lines.specs.Spots.{start, count_in, end_of}
-use Rattle.alm_asm.specs.Words.{pointed_inst, words_from}
+use Rattle.alm_lines.specs.SpotFields.{Spot}
+use Rattle.alm_asm.specs.Links.{link_of, link_place}
+use Rattle.alm_asm.specs.Marks.{operand_part}
+use Rattle.alm_asm.specs.Words.{pointed_inst, inst_by, halves_word, words_from}
 use Rattle.alm_lines.specs.Layout.{symbols_from}
 use Rattle.alm_lines.specs.Refusals.{has_room}
 use Rattle.alm_lines.specs.declared.refusal.Room.TheVariants.{Offset}
@@ -64,6 +70,33 @@ abbrev pub OffsetsAreRead : Type 0
 OffsetsAreRead =
     (code : ℕ) (bit27 : Bool) (pr tag : ℕ) (b : Balance) → has_room Offset b ≡ true
     → pr_offset (pointed_inst code bit27 pr (offset_of b) tag) ≡ half_of b
+
+-- The part of a word that a relocation of it names has what its expression comes to: an address, an
+-- offset behind a pointer register, and each half. Of an external operand it has the place of the
+-- link.
+pub record PartsAreMarked : Type 0 where
+  pub plain : (text : List ℕ) (tables : Tables) (spot : Spot) (code : ℕ) (bit27 : Bool)
+      (entry : Option Span) (terms : List Term) (tag : ℕ)
+      → part_of (operand_part None None)
+      (inst_word (inst_by text tables spot code bit27 None None entry terms tag))
+      ≡ half_of (sum_of text tables.symbols spot terms).value
+  pub through : (text : List ℕ) (tables : Tables) (spot : Spot) (code : ℕ) (bit27 : Bool) (pr : ℕ)
+      (entry : Option Span) (terms : List Term) (tag : ℕ)
+      → part_of (operand_part (Some pr) None)
+      (inst_word (inst_by text tables spot code bit27 (Some pr) None entry terms tag))
+      ≡ offset_of (sum_of text tables.symbols spot terms).value
+  pub linked : (text : List ℕ) (tables : Tables) (spot : Spot) (code : ℕ) (bit27 : Bool)
+      (pr : Option ℕ) (segment : Span) (entry : Option Span) (terms : List Term) (tag : ℕ)
+      → part_of (operand_part pr (Some segment))
+      (inst_word (inst_by text tables spot code bit27 pr (Some segment) entry terms tag))
+      ≡ link_place tables.links tables.first_link
+      (link_of text tables.symbols spot segment entry terms tag) % 2 ^ 15
+  pub first : (text : List ℕ) (tables : Tables) (spot : Spot) (arguments : List Arg)
+      → part_of left_part (halves_word text tables spot arguments)
+      ≡ half_of (sum_of text tables.symbols spot (terms_in (first_arg arguments))).value
+  pub second : (text : List ℕ) (tables : Tables) (spot : Spot) (arguments : List Arg)
+      → part_of right_part (halves_word text tables spot arguments)
+      ≡ half_of (sum_of text tables.symbols spot (terms_in (second_arg arguments))).value
 
 -- ---- which objects are too long
 

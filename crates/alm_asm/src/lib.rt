@@ -8,7 +8,8 @@
 //! What is promised: `assemble` gives the object that the lines mean, or the first refusal in the order of the text, and the
 //! least code of those at one place; want of memory may come at any time. `specs/Assembles` says what stands where in the
 //! object of lines, `specs/Assembly` what each part of it is, and which refusal comes first. The offset behind a pointer
-//! register is read as the number that was written ([`assembly_laws`]).
+//! register is read as the number that was written, and the part of a word that a relocation names has what its expression
+//! comes to ([`assembly_laws`]).
 //!
 //! Source: the language is this project's own; its instructions are those of the Multics Processor Manual AL39.
 #![tactic(auto)]

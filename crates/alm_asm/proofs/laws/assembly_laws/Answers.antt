@@ -3,6 +3,7 @@ use Rattle.alm_asm.proofs.ReadNames.{names_read}
 use Rattle.alm_asm.proofs.PlaceLaws.{places_count, words_follow}
 use Rattle.alm_asm.proofs.SymbolsStand.{symbols_stay}
 use Rattle.alm_asm.proofs.OffsetsRead.{offsets_are_read}
+use Rattle.alm_asm.proofs.MarkedParts.{parts_are_marked}
 use Rattle.alm_asm.proofs.laws.assembly_laws.Goals as goal
 
 pub returns-clause-places : goal.returns-clause-places
@@ -16,6 +17,9 @@ returns-clause-symbols c = symbols_stay
 
 pub returns-clause-offsets : goal.returns-clause-offsets
 returns-clause-offsets c = offsets_are_read
+
+pub returns-clause-parts : goal.returns-clause-parts
+returns-clause-parts c = parts_are_marked
 
 pub returns-clause-length : goal.returns-clause-length
 returns-clause-length c text source read = only_too_long source (names_read text source read)
