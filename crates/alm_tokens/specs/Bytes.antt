@@ -30,6 +30,6 @@ abbrev pub is_mark : ℕ → Bool
 is_mark b =
     (b == 124) || (b == 58) || (b == 42) || (b == 36) || (b == 44) || begins_comment b
 
--- what a source may have outside comments and texts that are placed
+-- what a source may have outside comments and texts that are placed, up to its operation `end`
 unfoldable pub is_legal : ℕ → Bool
 is_legal b = is_blank b || is_name_character b || (b == 10) || is_sign b || is_mark b

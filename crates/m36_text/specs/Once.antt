@@ -1,4 +1,4 @@
--- Lists in which each stands once.
+-- Lists in which nothing stands twice.
 use Rattle.std.specs.Prelude.{Bool, true, not, ◌&&◌, if◌then◌else◌, List, [], ◌∷◌, ◌++◌}
 use Rattle.std.specs.List.{list_any}
 

@@ -9,7 +9,7 @@
 //!
 //! `specs/Lines.antt`, `specs/Numbers.antt` and `specs/Texts.antt` say what a line, a word, a number of a form and a name
 //! are, for every kind of file. `specs/FileNames.antt` has the names of files that several crates know, and
-//! `specs/Once.antt` lists in which each stands once.
+//! `specs/Once.antt` has lists in which nothing stands twice.
 //!
 //! Source: Multics Processor Manual AL39, "Number representation" (octal words of twelve digits); the packing of 36-bit
 //! words into bytes, most significant bit first, is this project's own.
