@@ -2,7 +2,7 @@
 
 ghost use Rattle.std.specs.Prelude.{ℕ, ◌≡◌, ◌+◌, ◌/◌, ◌%◌, ◌<◌, ◌^◌, List, Some, Ok, true, false, IfOk, IfSome, OnOk, OnSome, IsTrue, length};
 ghost use Rattle.m36_desc.specs.Fields.{DbrFields};
-ghost use Rattle.m36_model.specs.Place.{wrapped, in_frame, ptw_at, directory_at, page_at, sdw_place, core_sdw, word_place_by, marks_by, with_marks};
+ghost use Rattle.m36_model.specs.Place.{wrapped, in_frame, ptw_at, directory_at, page_at, sdw_place, core_sdw, word_place, marks_by, with_marks};
 ghost use Rattle.m36_tables.specs.Tables.{TableIn};
 ghost use Rattle.m36_associative.specs.Right.{AreRight, IsWatched, IsPage, IsMarked, page_key};
 ghost use Rattle.m36_associative.specs.Watched.{watched};
@@ -150,9 +150,7 @@ pub fn word_place(
 ) -> Result<u32, Refusal>
     requires word { word < 2 ^ 18 }
     requires right { AreRight core.now dbr memories.old }
-    ensures value { result
-        ≡ word_place_by sdw.now.unpaged sdw.now word
-        (ptw_at core.now (page_at sdw.now (word / 1024))) }
+    ensures value { result ≡ word_place core.now sdw.now word }
     ensures page { OnOk result (TableIn (length core.now) sdw.now.unpaged
         (page_at sdw.now (word / 1024))) }
     ensures bound { IfOk result (λ a. a < 2 ^ 24) }
@@ -193,8 +191,7 @@ pub fn page(
     requires right { AreRight _core.now _dbr memories.old }
     ensures found { IfSome result (λ p. core_sdw _core.now _dbr seg ≡ Ok p.sdw) }
     ensures low { IfSome result (λ p. p.base < 2 ^ 24) }
-    ensures place { IfSome result (λ p. word_place_by p.sdw.unpaged p.sdw word
-        (ptw_at _core.now (page_at p.sdw (word / 1024)))
+    ensures place { IfSome result (λ p. word_place _core.now p.sdw word
         ≡ Ok (wrapped (p.base + word % 1024))) }
     ensures marked { IfSome result (λ p. with_marks _core.now
         (marks_by _dbr seg write word (Ok p.sdw)) ≡ _core.now) }

@@ -7,7 +7,7 @@ use Rattle.std.specs.Result.{result_ok}
 use Rattle.m36_word.specs.Bits.{of_bit}
 use Rattle.m36_desc.specs.Fields.{SdwFields, DbrFields}
 use Rattle.m36_desc.specs.Access.{in_order}
-use Rattle.m36_model.specs.Place.{ptw_at, page_at, last_page, in_frame, core_sdw}
+use Rattle.m36_model.specs.Place.{page_frame, last_page, core_sdw}
 use Rattle.m36_model.specs.declared.outcome.Refusal.{Refusal}
 use Rattle.m36_audit.specs.declared.run.Run.{Run}
 
@@ -29,8 +29,8 @@ frame_run (Some frame) count = Some (record { first = frame; end = frame + min 1
 -- a page of a paged segment
 abbrev pub page_run_by : Bool → List ℕ → SdwFields → ℕ → Option Run
 page_run_by false core d page = None
-page_run_by true core d page = frame_run (result_ok (in_frame (ptw_at core (page_at d page)) 0))
-    (words d - 1024 * page)
+page_run_by true core d page =
+    frame_run (result_ok (page_frame core d page)) (words d - 1024 * page)
 
 abbrev pub page_run : List ℕ → SdwFields → ℕ → Option Run
 page_run core d page = page_run_by (nat_le page (last_page d)) core d page

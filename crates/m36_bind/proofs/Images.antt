@@ -11,6 +11,7 @@ use Rattle.m36_relocate.specs.declared.layout.Meant.TheVariants.{TextWord, Stati
 use Rattle.m36_relocate.specs.declared.layout.Spot.{Spot}
 use Rattle.m36_bind.specs.Components.{PlacedFields, moving}
 use Rattle.m36_bind.specs.Meaning.{image, is_there, NamesImage}
+use Rattle.m36_relocate.proofs.LinkPlaces.{in_linkage, past_head, link_named}
 
 -- The words of a component are among those of the bound object, whose numbers have 18 bits.
 pub record IsWithin (bound : PartsFields) (p : PlacedFields) : Type 0 where
@@ -22,16 +23,9 @@ pub record IsWithin (bound : PartsFields) (p : PlacedFields) : Type 0 where
 
 -- ---- the linkage section
 
-in_linkage : Bool → ℕ → ℕ → ℕ → Meant
-in_linkage newer statics links v = cond (ltb v 8) (HeadWord v) (cond newer (meant_newer links v) (meant_older statics v))
-
 head_named : (newer : Bool) (statics links v : ℕ) → v < 8 → in_linkage newer statics links v ≡ HeadWord v
 unfolding in_linkage
 head_named newer statics links v lt = cond-true (ltb v 8) (HeadWord v) (cond newer (meant_newer links v) (meant_older statics v)) (lt-ltb v 8 lt)
-
-past_head : (newer : Bool) (statics links v : ℕ) → 8 ≤ v → in_linkage newer statics links v ≡ cond newer (meant_newer links v) (meant_older statics v)
-unfolding in_linkage
-past_head newer statics links v le = cond-false (ltb v 8) (HeadWord v) (cond newer (meant_newer links v) (meant_older statics v)) (le-ltb v 8 le)
 
 static_named : (newer : Bool) (statics links x : ℕ) → x < statics → in_linkage newer statics links (cond newer (8 + 2 * links) 8 + x) ≡ StaticWord x
 static_named true statics links x lt =
@@ -44,18 +38,6 @@ static_named false statics links x lt =
     past_head false statics links v (omega arith)
     ∙ cond-true (ltb v (8 + statics)) (StaticWord (v - 8)) (LinkWord (v - (8 + statics))) (lt-ltb v (8 + statics) (omega (arith, lt)))
     ∙ ap (λ n. StaticWord n) (let k : v - 8 ≡ x = omega arith in k)
-
-link_named : (newer : Bool) (statics links y : ℕ) → y < 2 * links → in_linkage newer statics links (cond newer 8 (8 + statics) + y) ≡ LinkWord y
-link_named true statics links y lt =
-    let v : ℕ = 8 + y in
-    past_head true statics links v (omega arith)
-    ∙ cond-true (ltb v (8 + 2 * links)) (LinkWord (v - 8)) (StaticWord (v - (8 + 2 * links))) (lt-ltb v (8 + 2 * links) (omega (arith, lt)))
-    ∙ ap (λ n. LinkWord n) (let k : v - 8 ≡ y = omega arith in k)
-link_named false statics links y lt =
-    let v : ℕ = 8 + statics + y in
-    past_head false statics links v (omega arith)
-    ∙ cond-false (ltb v (8 + statics)) (StaticWord (v - 8)) (LinkWord (v - (8 + statics))) (le-ltb v (8 + statics) (omega arith))
-    ∙ ap (λ n. LinkWord n) (let k : v - (8 + statics) ≡ y = omega arith in k)
 
 small_is : (n : ℕ) → n < 2 ^ 18 → n % 2 ^ 18 ≡ n
 small_is n lt = omega (arith, lt)

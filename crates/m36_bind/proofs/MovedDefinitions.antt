@@ -5,13 +5,12 @@ use Rattle.std.proofs.lemmas.List.Elements.{Contains-push_cases}
 use Rattle.std.specs.List.{list_any, Contains}
 use Rattle.std.specs.Map.{lookup}
 use Rattle.std.proofs.lemmas.List.{append-nil, append_assoc}
-use Rattle.indexmap.specs.IndexMap.{insert_entry}
 use Rattle.obj36_parts.specs.Fields.{DefFields}
 use Rattle.obj36_parts.specs.PartsFields.{PartsFields}
 use Rattle.obj36_parts.specs.Names.{same}
 use Rattle.obj36_parts.specs.ObjectSegment.{definition_names}
 use Rattle.obj36_parts.specs.declared.definition.Named.{Named}
-use Rattle.obj36_parts.proofs.SizeLaws.{same_is, same_self, definition_names-append}
+use Rattle.obj36_parts.proofs.SizeLaws.{same_is, definition_names-append}
 use Rattle.m36_bindfile.specs.declared.fault.BindFault.{BindFault}
 use Rattle.m36_bindfile.specs.declared.fault.BindFault.TheVariants as fault
 use Rattle.m36_bindfile.specs.declared.line.BindLine.{BindLine}
@@ -25,36 +24,8 @@ use Rattle.m36_bind.specs.Components.{PlacedFields, moving}
 use Rattle.m36_bind.specs.Kept.{exports_from, kept_one, kept_from}
 use Rattle.m36_bind.specs.Meaning.{DefinitionSource}
 use Rattle.m36_relocate.specs.declared.exports.Export.{Export}
+use Rattle.m36_relocate.proofs.Entries.{found_then}
 use Rattle.m36_bind.proofs.Images.{IsWithin, spot_names}
-
--- ---- tables
-
-found_then : (name other : List ℕ) (table : List (List ℕ × Export)) (x : Export)
-    → lookup (same name) (insert_entry same table other x) ≡ cond (same name other) (Some x) (lookup (same name) table)
-found_then name other [] x = refl
-found_then name other (e ∷ table) x = by (same other e.0) refl (found_then name other table x)
-  where
-    by : (s : Bool) → same other e.0 ≡ s → lookup (same name) (insert_entry same table other x) ≡ cond (same name other) (Some x) (lookup (same name) table)
-        → lookup (same name) (cond s ((e.0, x) ∷ table) (e ∷ insert_entry same table other x)) ≡ cond (same name other) (Some x) (cond (same name e.0) (Some e.1) (lookup (same name) table))
-    by true is later =
-        let key : other ≡ e.0 = same_is other e.0 is in
-        again (same name e.0) ∙ ap (λ (n : List ℕ). cond (same name n) (Some x) (cond (same name e.0) (Some e.1) (lookup (same name) table))) (sym key)
-      where
-        again : (b : Bool) → cond b (Some x) (lookup (same name) table) ≡ cond b (Some x) (cond b (Some e.1) (lookup (same name) table))
-        again true = refl
-        again false = refl
-    by false is later =
-        ap (λ (o : Option Export). cond (same name e.0) (Some e.1) o) later
-        ∙ apart (same name e.0) (same name other) refl refl
-      where
-        apart : (a b : Bool) → same name e.0 ≡ a → same name other ≡ b
-            → cond a (Some e.1) (cond b (Some x) (lookup (same name) table)) ≡ cond b (Some x) (cond a (Some e.1) (lookup (same name) table))
-        apart true true here there =
-            let both : other ≡ e.0 = sym (same_is name other there) ∙ same_is name e.0 here in
-            absurd (true≢false (sym (ap (λ (n : List ℕ). same other n) (sym both) ∙ same_self other) ∙ is))
-        apart true false here there = refl
-        apart false true here there = refl
-        apart false false here there = refl
 
 -- what a definition of the bound object is made of
 pub record IsDefined (frame : ShapeFields) (all : List PlacedFields) (name : List ℕ) (def : DefFields) : Type 0 where

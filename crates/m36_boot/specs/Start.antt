@@ -13,7 +13,7 @@ use Rattle.m36_dir.specs.Catalog.{CatalogFields}
 use Rattle.obj36_parts.specs.Fields.{LinkFields}
 use Rattle.obj36_parts.specs.ObjectSegment.{to_entry}
 use Rattle.obj36_parts.specs.declared.section.Section.TheVariants.{Text}
-use Rattle.m36_link.specs.Fields.{LayFields, SnapFields}
+use Rattle.m36_link.specs.Fields.{KnownFields, LayFields, SnapFields}
 use Rattle.m36_link.specs.Known.{nothing_known, linkage_segment}
 use Rattle.m36_link.specs.Search.{searched}
 use Rattle.m36_link.specs.Snap.{RefusedFields, outer_snap}
@@ -21,8 +21,7 @@ use Rattle.m36_boot.specs.Segments.{stack_segment}
 
 -- ---- the start is linked to
 
--- The start is a link of its ring to a name and an entry. It is searched from the working
--- directory, where nothing is known yet.
+-- The start is a link to a name and an entry.
 abbrev pub start_link : StartFields → LinkFields
 start_link s =
     record {
@@ -34,15 +33,19 @@ start_link s =
       modifier = 0;
     }
 
+-- It is searched in its ring from the working directory, where nothing is known yet. This is what
+-- such a search gives.
+abbrev pub by_start : {A : Type 0} → (KnownFields → ℕ → LinkFields → ℕ → A) → CatalogFields → A
+by_start search catalog =
+    search nothing_known catalog.start.ring (start_link catalog.start) catalog.work
+
 unfoldable pub start_answer : CatalogFields → List (List ℕ) → Result SnapFields RefusedFields
-start_answer catalog files =
-    outer_snap nothing_known catalog files catalog.start.ring (start_link catalog.start)
-    catalog.work
+start_answer catalog files = by_start (λ known. outer_snap known catalog files) catalog
 
 -- the number of the segment that is found
 unfoldable pub start_segment : CatalogFields → Option ℕ
 start_segment catalog =
-    searched nothing_known catalog catalog.start.ring catalog.start.name catalog.work
+    by_start (λ known ring link from. searched known catalog ring link.name from) catalog
 
 -- the segment may be executed in the ring of the start
 abbrev pub may_start : ℕ → Option SegmentFields → Bool

@@ -40,7 +40,7 @@ fn put_pair(core: &mut Core, seg: u16, pair: Pair)
     core.poke(2 * seg as u32 + 1, pair.odd);
 }
 
-/// Writes the descriptors of all segments into core that is zero.
+/// Writes the descriptors of all segments.
 pub(crate) fn put_descriptors(core: &mut Core, catalog: &Catalog, files: &[File], limits: &[u16])
     requires files { length files.now ≡ length catalog.now.segments }
     requires short { AreShort files.now }

@@ -74,8 +74,8 @@ abbrev pub Telling : Type 0
 Telling = List Turn → Booted → Option Finish → Answer
 
 -- The system is run, and what is told is due. Which page gives way where one is brought in is free,
--- so several runs may be due where a program has looked at the addresses of frames, by ABSA; until
--- then one is.
+-- so several runs may be due behind an ABSA, by which a program may look at the addresses of frames,
+-- or behind an LDBR; until then one is.
 pub record IsRunTold
     (extent : Extent) (lib : Library) (limit : ℕ) (first : Booted) (told : Telling) (due : Answer)
     : Type 0 where

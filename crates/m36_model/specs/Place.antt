@@ -110,9 +110,16 @@ abbrev pub word_place_by : Bool → SdwFields → ℕ → Option PtwFields → R
 word_place_by true d w p = Ok (wrapped (d.addr + w))
 word_place_by false d w p = in_frame p (w % 1024)
 
+-- the same by the tables in core; it may be past the end of core
+abbrev pub word_place : List ℕ → SdwFields → ℕ → Result ℕ Refusal
+word_place core d w = word_place_by d.unpaged d w (ptw_at core (page_at d (w / 1024)))
+
 unfoldable pub core_spot : List ℕ → DbrFields → SdwFields → ℕ → ℕ → Result Spot Refusal
-core_spot core dbr d seg w =
-    inside_core (length core) (word_place_by d.unpaged d w (ptw_at core (page_at d (w / 1024))))
+core_spot core dbr d seg w = inside_core (length core) (word_place core d w)
+
+-- where a page of a paged segment begins, which may be past the end of core
+abbrev pub page_frame : List ℕ → SdwFields → ℕ → Result ℕ Refusal
+page_frame core d page = in_frame (ptw_at core (page_at d page)) 0
 
 -- a mark to be set in the PTW at an address: the used bit, and with it the modified bit where
 -- modified is on

@@ -3,7 +3,7 @@
 ghost use Rattle.std.specs.Prelude.{ℕ, ◌≡◌, ◌≢◌, ◌+◌, ◌-◌, ◌^◌, ◌*◌, ◌/◌, ◌<◌, ◌≤◌, ◌⊎◌, Bool, true, false, ◌&&◌, nat_eq, if◌then◌else◌, length, slice_index_or, replicate, IfOk, Some, None, IsSome, IfSome, IfNone, OnOk, OnErr};
 ghost use Rattle.m36_model.specs.Core.{unmarked};
 ghost use Rattle.m36_page.specs.Residence.{has_page, spot_of, kept_word, frame_of, content_of, Holds, IsPager, Reads, EndBelow, HasFrames, IsSettled};
-ghost use Rattle.m36_page.specs.Changes.{IsBrought, IsKept, IsSet, IsFreeSpot, OthersStay, AllPinned, AllEmpty, AreAbsent};
+ghost use Rattle.m36_page.specs.Changes.{IsBrought, IsSet, IsFreeSpot, AllPinned, AllEmpty, AreAbsent};
 ghost use Rattle.m36_page.specs.Choice.{IsFree, IsMarked, AreInCore};
 ghost use Rattle.m36_page.specs.Given.{are_placed, pager_given};
 ghost use Rattle.m36_page.specs.Moved.{IsAway, IsTaken, IsEmptied, IsKeptWord};
@@ -228,10 +228,7 @@ impl Pager {
         requires reads { Reads self.old core.old }
         requires first { self.old.first ≤ frame }
         requires last { frame < self.old.first + length self.old.holders }
-        ensures kept { IsKept self.old core.old self.new core.new }
-        ensures empty { slice_index_or self.new.holders (frame - self.old.first) None ≡ None }
-        ensures same { slice_index_or self.old.holders (frame - self.old.first) None ≡ None → (self.new ≡ self.old) × (core.new ≡ core.old) }
-        ensures others { OthersStay self.old core.old self.new core.new (frame - self.old.first) }
+        ensures emptied { IsEmptied self.old core.old self.new core.new (frame - self.old.first) }
         ensures reads { Reads self.new core.new }
         ensures frames { HasFrames self.new core.new }
     {

@@ -59,7 +59,7 @@ pub fn read_bytes<F: Folder>(alloc: Global, name: &[u8], folder: &mut F) -> Resu
     }
 }
 
-// F3: more words than an object has.
+// F3: more words than a segment has.
 #[tactic(auto, using(crate::proofs::FileLaws::sizes))]
 fn sized(alloc: Global, name: &[u8], words: Words) -> Result<Words, Refusal>
     ensures gives { Gives result (sized name.now words) }

@@ -1,2 +1,3 @@
+pub mod Entries
 pub mod LinkPlaces
 pub mod StaticPlaces

@@ -1,10 +1,9 @@
 -- Where static words begin, by relocations and by the layout map.
-use Rattle.std.proofs.Common.{ℕ, ◌≡◌, ◌+◌, ◌-◌, ◌*◌, ◌<◌, Bool, true, false, cond, ltb, refl, ap, ◌∙◌, arith}
+use Rattle.std.proofs.Common.{ℕ, ◌≡◌, ◌+◌, ◌-◌, ◌<◌, Bool, true, false, ltb, ap, ◌∙◌, arith}
 use Rattle.std.proofs.lemmas.Bool.{lt-ltb, le-ltb, cond-true, cond-false}
 use Rattle.m36_relocate.specs.Fields.{ShapeFields}
 use Rattle.m36_relocate.specs.Layout.{meant, meant_older, static_spot}
 use Rattle.m36_relocate.specs.Words.{start_of, StaticsBegin}
-use Rattle.m36_relocate.specs.declared.layout.Meant.{Meant}
 use Rattle.m36_relocate.specs.declared.layout.Meant.TheVariants.{StaticWord, LinkWord, HeadWord}
 
 of_shape : Bool → ℕ → ℕ → ShapeFields

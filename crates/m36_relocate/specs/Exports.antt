@@ -1,11 +1,13 @@
 -- Tables of definitions by name: the first definition of each name, and whether another follows. A
 -- definition of class symbol counts as none.
-use Rattle.std.specs.Prelude.{ℕ, Bool, true, false, if◌then◌else◌, List, [], ◌∷◌, Option, Some}
-use Rattle.std.specs.Prelude.{None}
+use Rattle.std.specs.Prelude.{ℕ, ◌≡◌, Bool, true, false, not, if◌then◌else◌, List, [], ◌∷◌}
+use Rattle.std.specs.Prelude.{Option, Some, None, option_map}
+use Rattle.std.specs.List.{filter}
 use Rattle.std.specs.Map.{lookup}
 use Rattle.indexmap.specs.IndexMap.{insert_entry}
 use Rattle.obj36_parts.specs.Fields.{DefFields}
 use Rattle.obj36_parts.specs.Names.{same}
+use Rattle.obj36_parts.specs.ObjectSegment.{definition_named}
 use Rattle.obj36_parts.specs.declared.definition.Named.{Named}
 use Rattle.obj36_parts.specs.declared.section.Section.{Section}
 use Rattle.obj36_parts.specs.declared.section.Section.TheVariants.{Text, Linkage, Symbol, Static}
@@ -44,6 +46,14 @@ with_own table d = with_counted table d d.def
 unfoldable pub own_from : List (List ℕ × Export) → List Named → List (List ℕ × Export)
 own_from table [] = table
 own_from table (d ∷ ds) = own_from (with_own table d) ds
+
+-- Under each name the table has the first definition of that name in the object, those of class
+-- symbol left out.
+abbrev pub EntriesStand : Type 0
+EntriesStand =
+    (name : List ℕ) (ds : List Named)
+    → option_map (λ (e : Export). e.def) (export_named name (own_from [] ds))
+    ≡ definition_named name (filter (λ d. not (is_symbol d.def.section)) ds)
 
 -- ---- the same, where they go
 

@@ -4,10 +4,10 @@
 -- follow in the order of the components. A place that a component names is a word of its text, one
 -- of its static words, a word of its links, or one of the words at the head of its linkage
 -- section; the layout map sends each to a place of the bound object.
-use Rattle.std.specs.Prelude.{ℕ, ◌≡◌, ◌+◌, ◌-◌, ◌*◌, ◌%◌, ◌^◌, ◌<◌, nat_lt, if◌then◌else◌, length}
+use Rattle.std.specs.Prelude.{ℕ, ◌≡◌, ◌+◌, ◌-◌, ◌%◌, ◌^◌, ◌<◌, nat_lt, if◌then◌else◌, length}
 use Rattle.obj36_parts.specs.PartsFields.{PartsFields}
 use Rattle.obj36_parts.specs.ObjectSegment.{is_newer, evened, head_words, links_behind}
-use Rattle.obj36_parts.specs.ObjectSegment.{first_link_by, linkage_length}
+use Rattle.obj36_parts.specs.ObjectSegment.{first_link_by, linkage_length, word_of_link}
 use Rattle.obj36_parts.specs.ObjectSegment.{first_link as first_link_of}
 use Rattle.obj36_parts.specs.declared.section.Section.{Section}
 use Rattle.obj36_parts.specs.declared.section.Section.TheVariants.{Text, Linkage, Symbol, Static}
@@ -91,7 +91,7 @@ static_spot f w = if f.newer then spot Static w else spot Linkage (head_words + 
 abbrev pub image_spot : ShapeFields → BasesFields → Meant → Spot
 image_spot f b (TextWord v) = spot Text (b.text + v)
 image_spot f b (StaticWord w) = static_spot f (b.statics + w)
-image_spot f b (LinkWord k) = spot Linkage (first_link f + 2 * b.links + k)
+image_spot f b (LinkWord k) = spot Linkage (word_of_link (first_link f) b.links + k)
 image_spot f b (HeadWord v) = spot Linkage v
 
 -- where a place of a component goes
@@ -109,7 +109,7 @@ static_number f Symbol w = first_static f + w
 abbrev pub image_number : ShapeFields → BasesFields → Section → Meant → ℕ
 image_number f b target (TextWord v) = b.text + v
 image_number f b target (StaticWord w) = static_number f target (b.statics + w)
-image_number f b target (LinkWord k) = first_link f + 2 * b.links + k
+image_number f b target (LinkWord k) = word_of_link (first_link f) b.links + k
 image_number f b target (HeadWord v) = v
 
 -- the number of the image of what a number of a component names
@@ -119,3 +119,11 @@ number_moved m target v = image_number m.frame m.bases target (meant m.shape tar
 -- In an object of a shape the first link stands where the parts of the object have it.
 abbrev pub FirstLinkStands : Type 0
 FirstLinkStands = (p : PartsFields) → first_link (shape_of p) ≡ first_link_of p
+
+-- A component's link goes to the word of the link that stands for it, which has behind the links of
+-- the components before it the place that it had.
+abbrev pub LinksMove : Type 0
+LinksMove =
+    (m : Moving) (i : ℕ) → i < m.shape.links
+    → number_moved m Linkage (word_of_link (first_link m.shape) i)
+    ≡ word_of_link (first_link m.frame) (m.bases.links + i)

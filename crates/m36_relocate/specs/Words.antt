@@ -23,8 +23,8 @@ unfoldable pub with_offset : ℕ → ℕ → ℕ
 with_offset w v = joined (left w / 2 ^ 15 * 2 ^ 15 + v % 2 ^ 15) (right w)
 
 -- Bits 3 to 17 are counted from -2^15 here, so that no number is below zero. A number below zero
--- counts back from where the component's words begin; in the linkage section it names a head word,
--- and stays.
+-- counts back from where the component's words begin; in the linkage section it counts back from the
+-- head, which stays, and so it stays too.
 abbrev pub below_zero : BasesFields → Section → ℕ → ℕ
 below_zero b Text v = b.text + v
 below_zero b Static v = b.statics + v

@@ -61,7 +61,8 @@ super_turning =
     turning (λ s. s.regs) super_content (λ before turn later. SuperTurns before turn later)
     (λ before n answer later. SuperWent before n answer later)
 
--- Which page gives way is free, and so is which of the systems that may be booted stands.
+-- Over the system to which the folder boots, of which there is one at most. Which page gives way is
+-- free.
 pub record HoldsFolder (talk : Talk) (lib : Library) (ended : Result (Unit {0}) SessionFault)
     (lines : List (List ℕ)) : Type 0 where
   pub system : SuperFields

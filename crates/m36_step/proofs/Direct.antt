@@ -16,8 +16,8 @@ use Rattle.m36_model.specs.declared.effects.Formed.{Formed}
 use Rattle.m36_model.specs.declared.effects.Operand36.{Operand36}
 use Rattle.m36_model.specs.declared.outcome.Fault.{Fault}
 use Rattle.m36_model.specs.declared.place.Reference.{Reference}
-use Rattle.m36_step.specs.Operated.{part_of}
-use Rattle.m36_step.specs.Reached.{ran_from, refused_end, unwritten_end, reached_end, fields_reached, DirectOperand}
+use Rattle.m36_step.specs.Operated.{part_of, ran_from}
+use Rattle.m36_step.specs.Reached.{refused_end, unwritten_end, reached_end, fields_reached, DirectOperand}
 use Rattle.m36_step.specs.declared.operated.Part as code
 use Rattle.m36_step.specs.declared.operated.Part.TheVariants as part
 use Rattle.m36_step.specs.declared.operated.Reached.{Reached}

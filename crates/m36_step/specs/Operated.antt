@@ -7,7 +7,7 @@ use Rattle.m36_model.specs.Chain.{chain_end_fields, pending_of, claimed_by}
 use Rattle.m36_model.specs.Core.{core_store}
 use Rattle.m36_model.specs.Registers.{RegsFields}
 use Rattle.m36_model.specs.Results.{words_of_held}
-use Rattle.m36_model.specs.Step.{Performed, puts_with, operate}
+use Rattle.m36_model.specs.Step.{Performed, Operation, puts_with, operate}
 use Rattle.m36_model.specs.Store.{Spot, Ran, run}
 use Rattle.m36_model.specs.WordsPut.{IsHalf, FitsHalf}
 use Rattle.m36_model.specs.declared.effects.Formed.{Formed}
@@ -28,9 +28,13 @@ part_of part.Whole = Whole
 part_of part.Left = Left
 part_of part.Right = Right
 
+-- the places of so many words to be written, behind that of the tally word
+abbrev pub claims_with : Formed → ℕ → ℕ → List Spot
+claims_with f place count = claimed_by f.tally f.place ++ run_from place count
+
 -- where words are written: the tally word first, and then those that the effect gives
 abbrev pub claims_of : Formed → Held → Operated → List Spot
-claims_of f put o = claimed_by f.tally f.place ++ run_from o.place (length (words_of_held put))
+claims_of f put o = claims_with f o.place (length (words_of_held put))
 
 -- what is written there
 abbrev pub puts_of : Formed → Held → Operated → List Put
@@ -42,12 +46,15 @@ puts_of f put o =
 abbrev pub performed_by : Formed → RegsFields → Held → Operated → Performed
 performed_by f g put o = record { regs = g; puts = puts_of f put o; overflow = o.overflow }
 
--- the program of an operation over core, once the address is formed
+-- the program of an operation over core, from where the address is formed
+abbrev pub ran_from :
+    RegsFields → Operation → Formed → List ℕ → List Reference → Ran (Result Performed Halt) (List ℕ)
+ran_from g program f core refs = run core_store g program (formed_mid core f refs)
+
 abbrev pub operation_from :
     Effect → ℕ → RegsFields → Formed → List ℕ → List Reference
     → Ran (Result Performed Halt) (List ℕ)
-operation_from e n g f core refs =
-    run core_store g (operate e n g (chain_end_fields f)) (formed_mid core f refs)
+operation_from e n g f core refs = ran_from g (operate e n g (chain_end_fields f)) f core refs
 
 -- How an answer of the code ends it, with the registers as they then stand and the words that are
 -- to be written. Where it is refused, nothing more is claimed.

@@ -1,5 +1,5 @@
 -- An operand that is there, and how the program of an operation goes on from it.
-use Rattle.std.specs.Prelude.{ℕ, ◌≡◌, List, ◌++◌, length, Result, Ok, Err}
+use Rattle.std.specs.Prelude.{ℕ, ◌≡◌, List, length, Result, Ok, Err}
 use Rattle.m36_inst.specs.Operands.{takes_direct}
 use Rattle.m36_inst.specs.declared.effect.Effect.{Effect}
 use Rattle.m36_inst.specs.declared.operand.Operand.{Operand}
@@ -18,18 +18,12 @@ use Rattle.m36_model.specs.declared.outcome.Fault.{Fault}
 use Rattle.m36_model.specs.declared.outcome.Halt.{Halt}
 use Rattle.m36_model.specs.declared.outcome.Halt.TheVariants as halt
 use Rattle.m36_model.specs.declared.place.Reference.{Reference}
-use Rattle.m36_walk.specs.Runs.{run_from}
 use Rattle.m36_walk.specs.Served.{standing}
 use Rattle.m36_ea.specs.Formed.{formed_mid}
-use Rattle.m36_step.specs.Operated.{part_of}
+use Rattle.m36_step.specs.Operated.{part_of, ran_from, claims_with}
 use Rattle.m36_step.specs.declared.operated.Part as code
 use Rattle.m36_step.specs.declared.operated.Part.TheVariants as part
 use Rattle.m36_step.specs.declared.operated.Reached.{Reached}
-
--- the program of an operation over core, from where the address is formed
-abbrev pub ran_from :
-    RegsFields → Operation → Formed → List ℕ → List Reference → Ran (Result Performed Halt) (List ℕ)
-ran_from g program f core refs = run core_store g program (formed_mid core f refs)
 
 -- where the operand is refused, the program ends
 abbrev pub refused_end :
@@ -54,7 +48,7 @@ written_end e n g f count core refs o (Ok u) =
     run core_store g
     (perform e n g (chain_end_fields f) (part_of u.part) (length (claimed_by f.tally f.place))
     (operand_fields o))
-    (standing core (claimed_by f.tally f.place ++ run_from u.place count) refs)
+    (standing core (claims_with f u.place count) refs)
 written_end e n g f count core refs o (Err fault) = refused_end f core refs fault
 
 -- by operand kind

@@ -1,6 +1,6 @@
 -- How core serves the references of an operand, at the end of an address chain that has claimed its
 -- tally word alone.
-use Rattle.std.specs.Prelude.{ℕ, ◌≡◌, List, [], ◌++◌, Some, Result, Ok, Err}
+use Rattle.std.specs.Prelude.{ℕ, ◌≡◌, List, [], Some, Result, Ok, Err}
 use Rattle.m36_desc.specs.Fields.{SdwFields}
 use Rattle.m36_model.specs.Act.{Read, Write}
 use Rattle.m36_model.specs.Chain.{chain_end_fields, claimed_by}
@@ -12,12 +12,12 @@ use Rattle.m36_model.specs.declared.effects.Formed.{Formed}
 use Rattle.m36_model.specs.declared.outcome.Fault.{Fault}
 use Rattle.m36_model.specs.declared.place.Reference.{Reference}
 use Rattle.m36_walk.specs.Memory.{Memory}
-use Rattle.m36_walk.specs.Runs.{run_from}
 use Rattle.m36_walk.specs.Served.{standing, sdw_in, answer_of_words}
 use Rattle.m36_model.specs.declared.outcome.Halt.TheVariants as halt
 use Rattle.m36_model.specs.Fields.{FinalFields}
 use Rattle.m36_ea.specs.Formed.{formed_mid, plain}
 use Rattle.m36_step.specs.Ended.{halted_end}
+use Rattle.m36_step.specs.Operated.{claims_with}
 use Rattle.m36_step.specs.declared.ended.Ended.{Ended}
 
 -- words that are read, or the refusal
@@ -43,7 +43,7 @@ abbrev pub write_served :
 write_served d core f count refs (Ok place) =
     record {
       reply = Ok (answer_of_words d (claimed_by f.tally f.place) []);
-      mid = standing core (claimed_by f.tally f.place ++ run_from place count) refs;
+      mid = standing core (claims_with f place count) refs;
     }
 write_served d core f count refs (Err fault) =
     record { reply = Err fault; mid = formed_mid core f refs }

@@ -8,9 +8,9 @@ ghost use Rattle.m36_model.specs.WordsPut.{words_written};
 ghost use Rattle.m36_model.specs.OperandHeld.{HoldsFor};
 ghost use Rattle.m36_model.specs.Step.{by_kind};
 ghost use Rattle.m36_walk.specs.Runs.{LiesIn};
-ghost use Rattle.m36_step.specs.Operated.{operation_from};
+ghost use Rattle.m36_step.specs.Operated.{ran_from, operation_from};
 ghost use Rattle.m36_step.specs.declared.operated.Part.TheVariants as part;
-ghost use Rattle.m36_step.specs.Reached.{ran_from, reached_end, part_for, DirectOperand};
+ghost use Rattle.m36_step.specs.Reached.{reached_end, part_for, DirectOperand};
 
 use crate::effects::taken;
 use crate::ended::fault_here;

@@ -1,5 +1,6 @@
 -- The booted run: what the next turn may be, and to which state it leads. Page services are silent,
--- and free in which page gives way; all else is determined.
+-- and free in which page gives way; in a link service memory may be wanted; all else that a turn
+-- tells is determined.
 use Rattle.std.specs.Prelude.{◌≡◌, ℕ, ◌≤◌, Bool, true, false, List, [], ◌∷◌}
 use Rattle.std.specs.Prelude.{Result, Ok, Err}
 use Rattle.m36_model.specs.Fields.{AtFields}

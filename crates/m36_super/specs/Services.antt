@@ -1,5 +1,5 @@
--- The services that a booted run calls for: links and the console. Both see and change the content
--- of segments, wherever the pages are.
+-- The services that a booted run calls for: links and the console. Both see the content of
+-- segments, wherever the pages are, and a link service changes it.
 use Rattle.std.specs.Prelude.{ℕ, zero, suc, ◌+◌, ◌%◌, ◌^◌, nat_lt, if◌then◌else◌, codes, Bool}
 use Rattle.std.specs.Prelude.{List, [], ◌++◌, map, take, slice_index, Option, None, Some}
 use Rattle.std.specs.Prelude.{Result, Ok, Err}

@@ -22,8 +22,8 @@ use Rattle.m36_super.specs.Library.{Library}
 use Rattle.m36_super.specs.Coming.{Coming, Step, Link, Print, Over}
 use Rattle.m36_super.specs.BootedRun.{Booted}
 
--- its core, the pager with the words kept, the registers, what is known, what the next turn is, and
--- whether an LDBR has been executed
+-- its library, the registers, its core, the pager with the words kept, what is known, what the next
+-- turn is, and whether an LDBR has been executed
 pub record SuperFields : Type 0 where
   pub lib : Library
   pub regs : RegsFields

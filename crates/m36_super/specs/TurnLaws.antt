@@ -1,5 +1,5 @@
 -- What holds of every booted run: the core stays that of the image until an LDBR is executed, and
--- until then each turn that is no ABSA is the turn of the flat run.
+-- until then each turn that is no ABSA and wants no memory is the turn of the flat run.
 use Rattle.std.specs.Prelude.{◌≡◌, ◌⊎◌, ◌↔◌, true, false, List, length}
 use Rattle.m36_model.specs.StoreLaw.{Each}
 use Rattle.m36_model.specs.Audit.{IsAudited}

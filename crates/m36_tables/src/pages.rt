@@ -1,7 +1,7 @@
 //! Page table words, and where pages lie.
 
 ghost use Rattle.std.specs.Prelude.{◌≡◌, ◌<◌, ◌^◌, IfOk, OnOk, OnSome, IsSome, length};
-ghost use Rattle.m36_model.specs.Place.{ptw_at, in_frame, page_at};
+ghost use Rattle.m36_model.specs.Place.{ptw_at, in_frame, page_at, page_frame};
 
 use crate::addresses::page_at;
 use crate::refusals::{directed, store_fault};
@@ -45,7 +45,7 @@ pub fn in_frame(ptw: Option<Ptw>, offset: u32) -> Result<u32, Refusal>
 /// Where a page of a paged segment begins, which may be past the end of core.
 pub fn page_frame(core: &Core, sdw: &Sdw, page: u32) -> Result<u32, Refusal>
     requires { page < 256 }
-    ensures value { result ≡ in_frame (ptw_at core.now (page_at sdw.now page)) 0 }
+    ensures value { result ≡ page_frame core.now sdw.now page }
     ensures table { OnOk result (page_at sdw.now page < length core.now) }
     ensures bound { IfOk result (λ a. a < 2 ^ 24) }
 {

@@ -4,7 +4,7 @@ ghost use Rattle.std.specs.Prelude.{ℕ, ◌≡◌, ◌/◌, ◌<◌, ◌^◌, I
 ghost use Rattle.m36_desc.specs.Access.{in_order};
 ghost use Rattle.m36_desc.specs.Fields.{DbrFields};
 ghost use Rattle.m36_model.specs.Core.{core_store};
-ghost use Rattle.m36_model.specs.Place.{ptw_at, page_at, word_place_by, core_spot};
+ghost use Rattle.m36_model.specs.Place.{page_at, word_place, core_spot};
 ghost use Rattle.m36_model.specs.Sight.{content_in};
 ghost use Rattle.m36_model.specs.Store.{place};
 ghost use Rattle.m36_tables.specs.Tables.{TableIn, spot_of};
@@ -29,9 +29,7 @@ pub fn in_order(sdw: &Sdw) -> bool
 #[inline(always)]
 pub fn word_place(core: &Core, sdw: &Sdw, word: u32) -> Result<u32, Refusal>
     requires { word < 2 ^ 18 }
-    ensures value { result
-        ≡ word_place_by sdw.now.unpaged sdw.now word
-        (ptw_at core.now (page_at sdw.now (word / 1024))) }
+    ensures value { result ≡ word_place core.now sdw.now word }
     ensures page { OnOk result (TableIn (length core.now) sdw.now.unpaged
         (page_at sdw.now (word / 1024))) }
     ensures bound { IfOk result (λ a. a < 2 ^ 24) }

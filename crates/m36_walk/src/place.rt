@@ -4,7 +4,7 @@ ghost use Rattle.std.specs.Prelude.{ℕ, ◌≡◌, ◌+◌, ◌/◌, ◌%◌, �
 ghost use Rattle.m36_desc.specs.Fields.{DbrFields};
 ghost use Rattle.m36_model.specs.Core.{core_store};
 ghost use Rattle.m36_associative.specs.Right.{AreRight};
-ghost use Rattle.m36_model.specs.Place.{page_at, ptw_at, word_place_by, store_fault};
+ghost use Rattle.m36_model.specs.Place.{page_at, word_place, store_fault};
 ghost use Rattle.m36_model.specs.Store.{spots_of};
 ghost use Rattle.m36_walk.specs.Runs.{run_from, examined, LiesIn, run_by};
 ghost use Rattle.m36_tables.specs.Tables.{TableIn};
@@ -119,8 +119,7 @@ pub(crate) fn places_from(
     requires some { 1 ≤ count }
     requires block { word % 16 + count ≤ 16 }
     requires low { first < 2 ^ 24 }
-    requires first { word_place_by sdw.now.unpaged sdw.now word
-        (ptw_at core.now (page_at sdw.now (word / 1024))) ≡ Ok first }
+    requires first { word_place core.now sdw.now word ≡ Ok first }
     ensures value { (dbr : DbrFields) (seg : ℕ)
         → spots_of core_store core.now dbr sdw.now seg word count ≡ run_by word count result }
     ensures inside { IfOk result (λ a. LiesIn (length core.now) a count) }

@@ -10,7 +10,7 @@ ghost use Rattle.std.specs.Prelude.{ℕ, ◌≡◌, ◌+◌, ◌/◌, ◌%◌, �
 ghost use Rattle.m36_desc.specs.Access.{allowed, first_of, read_rows, write_rows, fetch_rows};
 ghost use Rattle.m36_associative.specs.Right.{AreRight};
 ghost use Rattle.m36_model.specs.Core.{core_store};
-ghost use Rattle.m36_model.specs.Place.{wrapped, core_sdw, directory_at, page_at, ptw_at, word_place_by, marks_by, with_marks};
+ghost use Rattle.m36_model.specs.Place.{wrapped, core_sdw, directory_at, word_place, marks_by, with_marks};
 ghost use Rattle.m36_model.specs.Store.{spots_of};
 ghost use Rattle.m36_walk.specs.Reached.{told, told_acv, reached, found_run, Marked};
 ghost use Rattle.m36_walk.specs.Runs.{LiesIn};
@@ -100,8 +100,7 @@ fn read_in_page(
     requires block { at.word % 16 + count ≤ 16 }
     requires found { core_sdw core.now dbr at.seg ≡ Ok page.now.sdw }
     requires low { page.now.base < 2 ^ 24 }
-    requires place { word_place_by page.now.sdw.unpaged page.now.sdw at.word
-        (ptw_at core.now (page_at page.now.sdw (at.word / 1024)))
+    requires place { word_place core.now page.now.sdw at.word
         ≡ Ok (wrapped (page.now.base + at.word % 1024)) }
     requires marked { with_marks core.now
         (marks_by dbr at.seg false at.word (Ok page.now.sdw)) ≡ core.now }
@@ -197,8 +196,7 @@ fn write_in_page(core: &Core, dbr: Dbr, page: &Page, at: At, count: u32) -> Resu
     requires block { at.word % 16 + count ≤ 16 }
     requires found { core_sdw core.now dbr at.seg ≡ Ok page.now.sdw }
     requires low { page.now.base < 2 ^ 24 }
-    requires place { word_place_by page.now.sdw.unpaged page.now.sdw at.word
-        (ptw_at core.now (page_at page.now.sdw (at.word / 1024)))
+    requires place { word_place core.now page.now.sdw at.word
         ≡ Ok (wrapped (page.now.base + at.word % 1024)) }
     requires marked { with_marks core.now
         (marks_by dbr at.seg true at.word (Ok page.now.sdw)) ≡ core.now }
@@ -290,8 +288,7 @@ pub(crate) fn find_write(
 fn fetch_in_page(core: &Core, dbr: Dbr, page: &Page, at: At) -> Result<Found, Fault>
     requires found { core_sdw core.now dbr at.seg ≡ Ok page.now.sdw }
     requires low { page.now.base < 2 ^ 24 }
-    requires place { word_place_by page.now.sdw.unpaged page.now.sdw at.word
-        (ptw_at core.now (page_at page.now.sdw (at.word / 1024)))
+    requires place { word_place core.now page.now.sdw at.word
         ≡ Ok (wrapped (page.now.base + at.word % 1024)) }
     requires marked { with_marks core.now
         (marks_by dbr at.seg false at.word (Ok page.now.sdw)) ≡ core.now }
