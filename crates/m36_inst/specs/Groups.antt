@@ -8,7 +8,8 @@ use Rattle.m36_inst.specs.Operands.{operand_of, forms_address}
 use Rattle.m36_inst.specs.declared.effect.Effect.{Effect}
 use Rattle.m36_inst.specs.declared.effect.Effect.TheVariants as effect
 
--- loads and stores of pointer registers, and the store of the control double word
+-- loads and stores of pointer registers, the effective address to A and Q, and the store of the
+-- control double word
 abbrev pub is_pointer : Effect → Bool
 is_pointer effect.EppN = true
 is_pointer effect.EpbpN = true

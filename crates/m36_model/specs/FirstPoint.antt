@@ -1,5 +1,5 @@
 -- The first point of an address chain: where the instruction itself points.
--- Multics Processor Manual AL39, "Instruction word format" and "Address appending", on bit 29 and
+-- Multics Processor Manual AL39, "Machine instruction format" and "Address appending", on bit 29 and
 -- pointer registers.
 use Rattle.std.specs.Prelude.{◌+◌, ◌%◌, ◌^◌, max, Bool, true, false, None}
 use Rattle.m36_inst.specs.Fields.{InstFields}

@@ -23,7 +23,7 @@ use crate::section::Section;
 use m36_word::{NoMemory, Word, Words};
 use std::alloc::Global;
 
-/// The tag of a link that is not snapped: fault 24.
+/// The tag of a link that is not snapped: fault tag 2.
 pub const LINK_TAG: u64 = 0o46;
 
 /// What is added to the class of an entry.
