@@ -21,7 +21,8 @@ pub enum Code {
     E5,
     /// A symbol that is not defined.
     E6,
-    /// A value that does not fit its field, or that cannot be said in an object.
+    /// A value that does not fit its field, or what no object can say: an expression, a link out of reach, words in a
+    /// section that may not have them, or a name of a definition that is no such label.
     E7,
     /// A section, or an object, that grows too long.
     E8,

@@ -16,7 +16,8 @@ pub enum AlmFault {
     /// A byte that no source may have there.
     #[error("E1 {0} {1}")]
     E1(u32, u32),
-    /// A label or an operand that is not of its form.
+    /// A label or an operand that is not of its form; or an operation that lacks its operand, or has one that it may not
+    /// have.
     #[error("E2 {0} {1}")]
     E2(u32, u32),
     /// An operation that there is not.
@@ -31,7 +32,8 @@ pub enum AlmFault {
     /// A symbol that is not defined.
     #[error("E6 {0} {1}")]
     E6(u32, u32),
-    /// A value that does not fit its field, or an expression that cannot be said in an object.
+    /// A value that does not fit its field, or what no object can say: an expression, a link out of reach, words in a
+    /// section that may not have them, or a name of a definition that is no such label.
     #[error("E7 {0} {1}")]
     E7(u32, u32),
     /// A section, or an object, that grows too long.

@@ -12,7 +12,8 @@ use m36_word::NoMemory;
 pub enum Code {
     /// A byte that no source may have there.
     E1,
-    /// A label or an operand that is not of its form.
+    /// A label or an operand that is not of its form; or an operation that lacks its operand, or has one that it may not
+    /// have.
     E2,
     /// An operation that there is not.
     E3,

@@ -17,7 +17,7 @@ use Rattle.m36_bind.proofs.WordParts.{put_in, cut_to, number_put, put_below, put
 module _ (m : Moving) (statics : Bool) (i : ℕ) where
   -- whether a relocation names a part of the word
   unfoldable pub at : RelocFields → Bool
-  at r = stands_in statics r && eqb (place_in m statics r) i
+  at r = stands_in statics r && eqb (place_in m.shape statics r) i
 
   pub one_by : RelocFields → ℕ → ℕ
   one_by r w = cond (at r) (word_moved m r w) w
@@ -41,15 +41,15 @@ module _ (m : Moving) (statics : Bool) (i : ℕ) where
 
   one_at : (r : RelocFields) (words : List ℕ) → i < length words → slice_index (one_moved m statics r words) i ≡ one_by r (slice_index words i)
   unfolding one_moved one_by at
-  one_at r words lt = placed_one r (place_in m statics r) words (stands_in statics r) (eqb (place_in m statics r) i) lt refl
+  one_at r words lt = placed_one r (place_in m.shape statics r) words (stands_in statics r) (eqb (place_in m.shape statics r) i) lt refl
 
 pub one_long : (m : Moving) (statics : Bool) (r : RelocFields) (words : List ℕ) → length (one_moved m statics r words) ≡ length words
 unfolding one_moved
-one_long m statics r words = by (stands_in statics r) (ltb (place_in m statics r) (length words))
+one_long m statics r words = by (stands_in statics r) (ltb (place_in m.shape statics r) (length words))
   where
     by : (b c : Bool)
-        → length (cond b (cond c (slice_set words (place_in m statics r) (word_moved m r (slice_index words (place_in m statics r)))) words) words) ≡ length words
-    by true true = length-set words (place_in m statics r) (word_moved m r (slice_index words (place_in m statics r)))
+        → length (cond b (cond c (slice_set words (place_in m.shape statics r) (word_moved m r (slice_index words (place_in m.shape statics r)))) words) words) ≡ length words
+    by true true = length-set words (place_in m.shape statics r) (word_moved m r (slice_index words (place_in m.shape statics r)))
     by true false = refl
     by false c = refl
 

@@ -74,11 +74,11 @@ module _ (frame : ShapeFields) (p : PlacedFields) (formed : is_well_formed p.par
       let a = and_parts (is_place (length parts.text) inner outer r.section r.offset) (ltb r.offset (2 ^ 18)) b.0 in (
         leb-true r.part 2 b.1,
         λ here.
-            let h = and_parts (stands_in statics r) (eqb (place_in (moving frame p) statics r) i) here in
+            let h = and_parts (stands_in statics r) (eqb (place_in p.shape statics r) i) here in
             let newer : p.shape.newer ≡ is_newer parts = ap (λ (s : ShapeFields). s.newer) shaped in
             let number : place_number r.section * 2 ^ 18 + r.offset ≡ word_number statics p.shape.newer i =
             word_numbered statics p.shape.newer r.section r.offset i (length parts.text) inner outer a.0 (λ e. inner_none parts (sym newer ∙ e)) (λ e. outer_none parts (sym newer ∙ e))
-            h.0 (eqb-true (place_in (moving frame p) statics r) i h.1)
+            h.0 (eqb-true (place_in p.shape statics r) i h.1)
             in
             omega (arith, number),
       )
@@ -101,8 +101,8 @@ module _ (frame : ShapeFields) (p : PlacedFields) (formed : is_well_formed p.par
   part_kept w k small part none =
       word_kept (moving frame p) statics i p.parts.relocations k w small part apart
       (λ r among here.
-      let h = and_parts (stands_in statics r) (eqb (place_in (moving frame p) statics r) i) here in
-      none r (record { among = among; stands = h.0; place = eqb-true (place_in (moving frame p) statics r) i h.1 }))
+      let h = and_parts (stands_in statics r) (eqb (place_in p.shape statics r) i) here in
+      none r (record { among = among; stands = h.0; place = eqb-true (place_in p.shape statics r) i h.1 }))
 
 -- ---- the parts that fit
 
@@ -121,11 +121,11 @@ fits_at m statics words (x ∷ rs) r e (suc k, lt, same) = fits_at m statics wor
     later false e = absurd (true≢false (sym e))
 
 pub fits_of : (m : Moving) (statics : Bool) (words : List ℕ) (rs : List RelocFields) (r : RelocFields) (i : ℕ) → all_fit m statics words rs ≡ true → Contains rs r
-    → stands_in statics r ≡ true → place_in m statics r ≡ i → part_fits m r (slice_index words i) ≡ true
+    → stands_in statics r ≡ true → place_in m.shape statics r ≡ i → part_fits m r (slice_index words i) ≡ true
 unfolding one_fits
 fits_of m statics words rs r i e among stands place =
     ap (λ j. part_fits m r (slice_index words j)) (sym place)
-    ∙ sym (ap (λ b. cond b (part_fits m r (slice_index words (place_in m statics r))) true) stands)
+    ∙ sym (ap (λ b. cond b (part_fits m r (slice_index words (place_in m.shape statics r))) true) stands)
     ∙ fits_at m statics words rs r e among
 
 low_fits : (n v raised number : ℕ) → n ≡ 2 → cond (eqb n 0) true (cond (eqb n 1) true (ltb raised (2 ^ 15 + 2 ^ 14))) ≡ true → raised ≡ 2 ^ 15 + number → number < 2 ^ 14

@@ -4,7 +4,7 @@
 -- A part of a word that a relocation names, a link to a place and a definition name in the bound
 -- object the image of what they named in their component. All else is as it was, and nothing else
 -- stands there but the zero words that even.
-use Rattle.std.specs.Prelude.{ℕ, ◌≡◌, ◌+◌, ◌-◌, ◌*◌, ◌%◌, ◌^◌, ◌<◌, ◌≤◌, ◌⊎◌, Bool}
+use Rattle.std.specs.Prelude.{ℕ, ◌≡◌, ◌+◌, ◌*◌, ◌%◌, ◌^◌, ◌<◌, ◌≤◌, ◌⊎◌, Bool}
 use Rattle.std.specs.Prelude.{true, false, ◌&&◌, ◌||◌, nat_lt, nat_eq, if◌then◌else◌, List, []}
 use Rattle.std.specs.Prelude.{◌∷◌, length, slice_index, slice_get, Some, None, Ok}
 use Rattle.std.specs.List.{Contains}
@@ -26,7 +26,7 @@ use Rattle.m36_relocate.specs.Layout.{shape_of, first_bases, bases_behind, meant
 use Rattle.m36_relocate.specs.declared.layout.Meant.{Meant}
 use Rattle.m36_relocate.specs.declared.layout.Meant.TheVariants.{TextWord, StaticWord, LinkWord}
 use Rattle.m36_relocate.specs.declared.layout.Meant.TheVariants.{HeadWord}
-use Rattle.m36_relocate.specs.Words.{below_zero, stands_in, start_of, words_in}
+use Rattle.m36_relocate.specs.Words.{below_zero, stands_in, place_in, words_in}
 use Rattle.m36_relocate.specs.Exports.{export_named, is_symbol}
 use Rattle.m36_bind.specs.Components.{PlacedFields, component_named, picked_of}
 use Rattle.m36_bind.specs.Links.{own_link, farther}
@@ -71,7 +71,7 @@ overlap j k =
 pub record Moves (p : PlacedFields) (statics : Bool) (i : ℕ) (r : RelocFields) : Type 0 where
   pub among : Contains p.parts.relocations r
   pub stands : stands_in statics r ≡ true
-  pub place : r.offset - start_of statics p.shape ≡ i
+  pub place : place_in p.shape statics r ≡ i
 
 -- What stands for a word of a component: each relocated part names the image of what it named, but
 -- that bits 3 to 17 which are below zero count from where the component's words begin; each other

@@ -5,7 +5,7 @@ use Rattle.std.specs.Prelude.{ℕ, ◌+◌, Bool, true, false, List, [], ◌∷�
 use Rattle.m36_inst.specs.declared.effect.Effect.{Effect}
 use Rattle.m36_inst.specs.declared.effect.Effect.TheVariants as effect
 
--- one instruction; the register is 0 where its mnemonic has no digit
+-- one instruction; the register is 0 where no digit of its mnemonic names one
 pub record Entry : Type 0 where
   pub code : ℕ
   pub bit27 : Bool

@@ -90,8 +90,8 @@ PairTakesTheBracketOfItsSegment =
     × (outcome_of_step at_pair ≡ violates out_of_read_bracket (at_word 0o123 0 4))
     × (references_of_step at_pair ≡ referred Fetch 1 0 1 1 ∷ referred Indirect 2 0 1 2 ∷ [])
 
--- Words 1 to 16 of segment 1 point each to the next one, indirectly; word 17 is `5`. `lda 1,*`
--- meets 17 indirect words, and `lda 2,*` meets 16.
+-- Words 1 to 16 of segment 1 point each to the next one, indirectly, and word 17 to word 18, which
+-- is `5`. `lda 1,*` meets 17 indirect words, and `lda 2,*` meets 16.
 abbrev pub long_chain_core : ℕ → List ℕ
 long_chain_core instruction =
     core_of 0o100

@@ -144,8 +144,8 @@ BooleansGoBitByBit =
     × (and_not_of 36 0o14 0o12 ≡ 0o4)
     × (and_of 72 0o200000000000000000000000 (2 ^ 72 - 1) ≡ 0o200000000000000000000000)
 
--- shifts of 72 bits by more than a word: the one bit of Q goes into A, and back; nothing is left
--- after 72 or more
+-- shifts of 72 bits by a word and more: the one bit of Q goes into A, and back; after 72 or more a
+-- left shift leaves nothing, a right one copies of the sign, and a rotation has come round
 abbrev pub LongShiftsCrossTheWords : Type 0
 LongShiftsCrossTheWords =
     (left_shift 72 1 36 ≡ 2 ^ 36) × (plain_right_shift (2 ^ 36) 36 ≡ 1) × (left_shift 72 1 127 ≡ 0)

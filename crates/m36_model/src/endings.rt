@@ -9,7 +9,8 @@ pub enum LinkCode {
     L1,
     /// The name has no candidate.
     L2,
-    /// An entry is named, and the candidate is plain data, or its object does not define it.
+    /// An entry is named, and the candidate is plain data, or its object, or the own one of a link of type 5, does not
+    /// define it.
     L3,
     /// The ring is above those from which the candidate may be used.
     L4,

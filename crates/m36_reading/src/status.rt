@@ -75,7 +75,8 @@ pub enum Code {
     O8,
     /// A byte that no source may have there.
     E1,
-    /// A label or an operand that is not of its form.
+    /// A label or an operand that is not of its form; or an operation that lacks its operand, or has one that it may not
+    /// have.
     E2,
     /// An operation that there is not.
     E3,
@@ -85,7 +86,8 @@ pub enum Code {
     E5,
     /// A symbol that is not defined.
     E6,
-    /// A value that does not fit its field, or an expression that cannot be said in an object.
+    /// A value that does not fit its field, or what no object can say: an expression, a link out of reach, words in a
+    /// section that may not have them, or a name of a definition that is no such label.
     E7,
     /// A section, or an object, that grows too long.
     E8,

@@ -69,8 +69,9 @@ StaticsBegin =
 abbrev pub words_in : Bool → PartsFields → List ℕ
 words_in statics p = if statics then p.statics else p.text
 
-abbrev pub place_in : Moving → Bool → RelocFields → ℕ
-place_in m statics r = r.offset - start_of statics m.shape
+-- which of these words a relocation's place is, in an object of a shape
+abbrev pub place_in : ShapeFields → Bool → RelocFields → ℕ
+place_in s statics r = r.offset - start_of statics s
 
 abbrev pub moved_at : Moving → RelocFields → ℕ → List ℕ → List ℕ
 moved_at m r i words = if nat_lt i (length words)
@@ -78,7 +79,7 @@ moved_at m r i words = if nat_lt i (length words)
 
 unfoldable pub one_moved : Moving → Bool → RelocFields → List ℕ → List ℕ
 one_moved m statics r words =
-    if stands_in statics r then moved_at m r (place_in m statics r) words else words
+    if stands_in statics r then moved_at m r (place_in m.shape statics r) words else words
 
 unfoldable pub words_moved : Moving → Bool → List RelocFields → List ℕ → List ℕ
 words_moved m statics [] words = words
@@ -86,7 +87,7 @@ words_moved m statics (r ∷ rs) words = words_moved m statics rs (one_moved m s
 
 unfoldable pub one_fits : Moving → Bool → List ℕ → RelocFields → Bool
 one_fits m statics words r =
-    if stands_in statics r then part_fits m r (slice_index words (place_in m statics r)) else true
+    if stands_in statics r then part_fits m r (slice_index words (place_in m.shape statics r)) else true
 
 unfoldable pub all_fit : Moving → Bool → List ℕ → List RelocFields → Bool
 all_fit m statics words [] = true

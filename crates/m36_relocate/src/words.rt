@@ -106,7 +106,7 @@ fn start_of(statics: bool, s: &Shape) -> usize
 }
 
 fn place_in(m: &Moving, statics: bool, r: &Reloc) -> usize
-    ensures { result ≡ place_in m.now statics r.now }
+    ensures { result ≡ place_in m.now.shape statics r.now }
 {
     (r.offset as usize).saturating_sub(start_of(statics, &m.shape))
 }

@@ -18,7 +18,7 @@ pub trait Stepper {
     /// What a turn may answer, and the state that it leaves.
     ghost next: { Self → Turn → Self → Type 0 };
 
-    /// What going back so many turns may answer, and the state that it leaves.
+    /// What going back so many steps may answer, and the state that it leaves.
     ghost went: { Self → ℕ → BackAnswer → Self → Type 0 };
 
     /// The registers.
@@ -41,7 +41,7 @@ pub trait Stepper {
         turn
     }
 
-    /// Goes back so many turns.
+    /// Goes back so many steps.
     fn back(&mut self, n: u32) -> BackAnswer
         ensures { went self.old n result self.new };
 

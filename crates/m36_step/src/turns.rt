@@ -54,7 +54,7 @@ pub enum Turn {
     Console(ConsoleNote),
     /// The run has ended. Nothing has changed from the second such answer on.
     Ended(End),
-    /// No more turns are counted. Nothing has changed.
+    /// No more steps can be counted. Nothing has changed.
     Full,
     /// A service found no memory. Nothing has changed.
     NoMemory,
@@ -63,9 +63,9 @@ pub enum Turn {
 /// What going back answers.
 #[derive(Clone, Copy, PartialEq, Eq, Debug)]
 pub enum BackAnswer {
-    /// The machine stands so many turns earlier.
+    /// The machine stands so many steps earlier.
     Done,
-    /// Only so many turns were taken. Nothing has changed.
+    /// Only so many steps were taken. Nothing has changed.
     Before(u64),
     /// This machine does not go back. Nothing has changed.
     Unable,

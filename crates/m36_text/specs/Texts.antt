@@ -27,7 +27,7 @@ is_word_character c = is_letter c || is_digit 10 c || (c == 95)
 abbrev pub is_name_character : ℕ → Bool
 is_name_character c = is_word_character c || (c == 46)
 
--- so many such characters, one at least
+-- such characters, one at least and at most so many
 abbrev pub is_run_of : (ℕ → Bool) → ℕ → List ℕ → Bool
 is_run_of may most text = nat_le 1 (length text) && nat_le (length text) most && list_all may text
 

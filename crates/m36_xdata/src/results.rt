@@ -1,7 +1,7 @@
 //! What most effects come to: a register takes a number, indicators are set, or words are written.
 
 ghost use Rattle.std.specs.Prelude.{◌≡◌, ◌*◌, ◌<◌, [], length};
-ghost use Rattle.m36_model.specs.Results.{half, words, takes, with_indicators, with_value, zn};
+ghost use Rattle.m36_model.specs.Results.{half, words, takes, with_indicators, with_value, becomes};
 ghost use Rattle.m36_model.specs.Results.{completes, completes_or_overflows};
 ghost use Rattle.m36_xdata.specs.Registers.{working, IsRegister, PutsNumber};
 ghost use Rattle.m36_xdata.specs.Changes.{Gives, stored, taken};
@@ -48,8 +48,7 @@ pub fn takes(r: Register, v: u128, ind: Ind, overflow: bool, regs: &Regs) -> Cha
 pub fn takes_tested(r: Register, v: u128, regs: &Regs) -> Change
     requires register { IsRegister r }
     requires number { v < 2 * half (working r) }
-    ensures value { Gives result regs.now
-        (completes (takes (working r) v (zn (half (working r)) v regs.now.ind) regs.now)) }
+    ensures value { Gives result regs.now (becomes (working r) v regs.now) }
     ensures put { length (stored result.put) ≡ 0 }
 {
     takes(r, v, zn(r, v, indicators(regs)), false, regs)
