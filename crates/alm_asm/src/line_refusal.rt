@@ -292,9 +292,43 @@ fn take_line(
     Ok(sooner(names, own))
 }
 
+// The refusal of the first of the lines that is refused, behind these definitions, and the links of the lines where none is.
+#[tactic(auto, using(alm_lines::proofs::Rooms::rooms, crate::proofs::LinksSoFar::later_same), unfolding(crate::specs::LineRefusals::lines_refusal, crate::specs::Links::links_from))]
+fn take_lines(
+    alloc: Global,
+    text: &[u8],
+    tables: &mut Tables,
+    lines: &[Line36],
+    done: &mut Defs,
+) -> Result<Option<Refusal>, NoMemory>
+    requires { length lines.now < 2 ^ 32 }
+    ensures symbols { IfOk result (λ r. tables.new.symbols ≡ tables.old.symbols) }
+    ensures refused { IfOk result (λ r.
+        r
+        ≡ lines_refusal text.now
+        (with_links tables.old
+        (links_from text.now tables.old.symbols tables.old.links start lines.now))
+        done.old start lines.now) }
+    ensures links { IfOk result (λ r.
+        r ≡ None
+        → tables.new
+        ≡ with_links tables.old
+        (links_from text.now tables.old.symbols tables.old.links start lines.now)) }
+{
+    let mut spot = Spot::start();
+    let mut rest = lines;
+    while let [line, more @ ..] = rest {
+        if let Some(refusal) = take_line(text, tables, spot, line, done)? {
+            return Ok(Some(refusal));
+        }
+        spot = below(alloc, text, spot, line)?;
+        rest = more;
+    }
+    Ok(None)
+}
+
 /// The refusal of the first of the lines that is refused, and the links of the lines where none is. The error is want of
 /// memory alone.
-#[tactic(auto, using(alm_lines::proofs::Rooms::rooms, crate::proofs::LinksSoFar::later_same), unfolding(crate::specs::LineRefusals::lines_refusal, crate::specs::Links::links_from))]
 pub fn lines_refusal(
     alloc: Global,
     text: &[u8],
@@ -316,14 +350,5 @@ pub fn lines_refusal(
         (links_from text.now tables.old.symbols tables.old.links start lines.now)) }
 {
     let mut done = Defs::new(alloc);
-    let mut spot = Spot::start();
-    let mut rest = lines;
-    while let [line, more @ ..] = rest {
-        if let Some(refusal) = take_line(text, tables, spot, line, &mut done)? {
-            return Ok(Some(refusal));
-        }
-        spot = below(alloc, text, spot, line)?;
-        rest = more;
-    }
-    Ok(None)
+    take_lines(alloc, text, tables, lines, &mut done)
 }

@@ -1,4 +1,4 @@
-use Rattle.std.proofs.Common.{rules, arith, List, [], ◌∷◌, ◌≡◌, ◌+◌, ◌-◌, length, take, drop, Some, None, sym, ap, ◌∙◌}
+use Rattle.std.proofs.Common.{rules, arith, List, ◌∷◌, ◌≡◌, ◌+◌, ◌-◌, length, take, drop, Some, None, sym, ap, ◌∙◌}
 use Rattle.std.proofs.lemmas.Grind.{common_steps}
 use Rattle.alm_parse.specs.declared.line.Line36.{Line36}
 use Rattle.alm_lines.specs.Spots.{start, below}
@@ -8,7 +8,7 @@ use Rattle.alm_asm.specs.Links.{links_from}
 use Rattle.alm_asm.proofs.LinksSoFar.{later_same, later_links, told_line, first_told, rest_told}
 use Rattle.std.proofs.lemmas.List.{length-take, length-drop}
 use Rattle.alm_lines.proofs.Rooms.{room_below}
-use Rattle.alm_asm.proofs.line_refusal.lines_refusal.Goals as goal
+use Rattle.alm_asm.proofs.line_refusal.take_lines.Goals as goal
 
 -- the first line that is refused is told
 pub returns-in-Some-clause-refused : goal.returns-in-Some-clause-refused
@@ -48,7 +48,7 @@ loop-rest-preserved c =
     ap (λ (lines : List Line36). links_from text before.symbols now.links spot lines) (sym split) ∙ c.loop-rest.invariant.links in
     let said : None ≡ line_refusal text later done spot line = first_of (search rules, cc) in
     let told = told_line text before now later all done spot line more None same c.in_ok-refusal.ensures.links given said in
-    let left : lines_refusal text (with_links before all) (definitions_after text before.symbols done line) (below text spot line) more ≡ lines_refusal text (with_links before all) [] start c.args.lines.now =
+    let left : lines_refusal text (with_links before all) (definitions_after text before.symbols done line) (below text spot line) more ≡ lines_refusal text (with_links before all) c.args.done.now start c.args.lines.now =
     rest_told text (with_links before all) done spot line more told
     ∙ ap (λ (lines : List Line36). lines_refusal text (with_links before all) done spot lines) (sym split)
     ∙ c.loop-rest.invariant.whole in

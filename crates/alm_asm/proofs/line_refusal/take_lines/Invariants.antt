@@ -1,8 +1,8 @@
-use Rattle.std.proofs.Common.{◌≡◌, [], length}
+use Rattle.std.proofs.Common.{◌≡◌, length}
 use Rattle.alm_lines.specs.Spots.{start, HasRoom}
 use Rattle.alm_asm.specs.Links.{links_from}
 use Rattle.alm_asm.specs.LineRefusals.{lines_refusal, with_links}
-use Rattle.alm_asm.proofs.line_refusal.lines_refusal.Given as goal
+use Rattle.alm_asm.proofs.line_refusal.take_lines.Given as goal
 
 -- no line so far is refused: the first refusal of the rest is the first of all, and the rest completes the links
 abbrev pub invariant-loop-rest : goal.invariant-loop-rest
@@ -13,7 +13,7 @@ invariant-loop-rest l =
       room : HasRoom (length l.rest) l.spot;
       same : l.tables ≡ with_links before l.tables.links;
       links : links_from l.text before.symbols l.tables.links l.spot l.rest ≡ all;
-      whole : lines_refusal l.text (with_links before all) l.done l.spot l.rest ≡ lines_refusal l.text (with_links before all) [] start l.lines;
+      whole : lines_refusal l.text (with_links before all) l.done l.spot l.rest ≡ lines_refusal l.text (with_links before all) l.fn.done start l.lines;
     }
 
 abbrev pub decreases-loop-rest : goal.decreases-loop-rest
