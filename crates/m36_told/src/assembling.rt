@@ -63,7 +63,12 @@ pub fn made_with(alloc: Global, name: &Name, lines: &Lines36) -> Result<Told, Al
     ensures { MadeSays name.now result (with_parts lines.now (assembled lines.now)) }
 {
     match assemble(alloc, lines) {
-        Ok(object) => listed(alloc, name, lines, &object),
+        Ok(object) => {
+            let told = listed(alloc, name, lines, &object);
+            // Dropped by a call: so the drop is proved once for its type.
+            drop(object);
+            told
+        }
         Err(fault) => Err(fault),
     }
 }

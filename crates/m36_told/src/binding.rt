@@ -178,7 +178,12 @@ fn bound_in(
     ensures { Gives result (bind_told files.now (bound_of text.now names.now objects.now)) }
 {
     match bound_by(alloc, text, names, objects) {
-        Ok(object) => told_of(alloc, &files.object, &object),
+        Ok(object) => {
+            let told = told_of(alloc, &files.object, &object);
+            // Dropped by a call: so the drop is proved once for its type.
+            drop(object);
+            told
+        }
         Err(fault) => Err(refuse_bind(alloc, files.bindfile.bytes(), fault)),
     }
 }

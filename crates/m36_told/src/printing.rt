@@ -31,7 +31,10 @@ pub fn read_print<F: Folder>(alloc: Global, name: &[u8], folder: &mut F) -> Resu
         (F.asked folder.old) (F.asked folder.new) }
 {
     let object = read_object(alloc, name, folder)?;
-    printed(alloc, name, &object)
+    let told = printed(alloc, name, &object);
+    // Dropped by a call: so the drop is proved once for its type.
+    drop(object);
+    told
 }
 
 /// `print NAME`: reads an object, and puts its print.

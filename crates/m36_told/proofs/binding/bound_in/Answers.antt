@@ -5,8 +5,8 @@ use Rattle.m36_told.proofs.binding.bound_in.Goals as goal
 
 pub returns-in-Ok : goal.returns-in-Ok
 returns-in-Ok c =
-    bound_given c.args.files.now (bound_of c.args.text.now c.args.names.now c.args.objects.now) c.in-Ok.object c.told_of.result
-    c.in-Ok.ensures c.told_of.ensures
+    bound_given c.args.files.now (bound_of c.args.text.now c.args.names.now c.args.objects.now) c.in-Ok.object c.told_of-told.result
+    c.in-Ok.ensures c.told_of-told.ensures
 
 pub returns-in-Err : goal.returns-in-Err
 returns-in-Err c =

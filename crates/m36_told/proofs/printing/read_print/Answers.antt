@@ -13,7 +13,7 @@ pub returns : goal.returns
 unfolding print_reads
 returns g c =
     let name = c.args.name.now in
-    reads_on (file_object name) (λ parts. Ok (printed name parts)) c.in_ok-object.object c.printed.result _ _ _ _ c.in_ok-object.ensures c.printed.ensures
+    reads_on (file_object name) (λ parts. Ok (printed name parts)) c.in_ok-object.object c.printed-told.result _ _ _ _ c.in_ok-object.ensures c.printed-told.ensures
 
 pub returns-in_err-object : goal.returns-in_err-object
 unfolding print_reads
