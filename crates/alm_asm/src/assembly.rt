@@ -108,8 +108,15 @@ fn tables_in(alloc: Global, text: &[u8], lines: &[Line36]) -> Result<Tables, Alm
     } = found_in(alloc, text, lines)?;
     match first_refusal(alloc, text, refused, &mut tables, lines) {
         Ok(None) => Ok(tables),
-        Ok(Some(refusal)) => Err(fault_of(refusal)),
-        Err(_) => Err(AlmFault::NoMemory),
+        Ok(Some(refusal)) => {
+            // Dropped by a call: so the drop is proved once for its type.
+            drop(tables);
+            Err(fault_of(refusal))
+        }
+        Err(_) => {
+            drop(tables);
+            Err(AlmFault::NoMemory)
+        }
     }
 }
 
@@ -141,6 +148,8 @@ fn object_of(alloc: Global, parts: Parts, number: u32) -> Result<Object, AlmFaul
     if parts.is_object() {
         object_made(alloc, parts)
     } else {
+        // Dropped by a call: so the drop is proved once for its type.
+        drop(parts);
         Err(AlmFault::E8(number, 1))
     }
 }

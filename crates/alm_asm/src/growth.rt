@@ -409,5 +409,8 @@ pub fn growth_refusal(
     ensures { IfOk result (λ r. r ≡ growth_refusal text.now symbols.now at_first start lines.now) }
 {
     let mut growth = Growth::start(alloc);
-    take_lines(alloc, text, symbols, lines, &mut growth)
+    let refused = take_lines(alloc, text, symbols, lines, &mut growth);
+    // Dropped by a call: so the drop is proved once for its type.
+    drop(growth);
+    refused
 }

@@ -239,6 +239,10 @@ pub(crate) fn parts_with(
 {
     match contents_of(alloc, text, &tables, lines) {
         Ok(contents) => Ok(parts_of(tables, contents)),
-        Err(fault) => Err(fault),
+        Err(fault) => {
+            // Dropped by a call: so the drop is proved once for its type.
+            drop(tables);
+            Err(fault)
+        }
     }
 }
