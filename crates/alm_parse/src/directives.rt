@@ -2,6 +2,7 @@
 
 ghost use Rattle.std.specs.Prelude.{◌≡◌, Option};
 ghost use Rattle.m36_inst.specs.Lookup.{code_named};
+ghost use Rattle.alm_tokens.specs.Tokens.{is_text};
 ghost use Rattle.alm_parse.specs.Operations.{directive, operation_of};
 ghost use Rattle.alm_parse.specs.Deeds.{instruction_of, deed_named, deed_of};
 
@@ -10,45 +11,52 @@ use crate::operation::Operation;
 use alm_tokens::span::{Span, bytes_of};
 use m36_inst::by_name;
 
+// Whether a name is this one.
+fn is_named(bytes: &[u8], name: &[u8]) -> bool
+    ensures { result ≡ is_text name.now bytes.now }
+{
+    bytes == name
+}
+
 // A name that directs the assembler.
 #[tactic(auto, unfolding(crate::specs::Operations::directive))]
 fn directive(bytes: &[u8]) -> Option<(Operation, Deed)>
     ensures { result ≡ directive bytes.now }
 {
-    if bytes == b"entry".as_slice() {
+    if is_named(bytes, b"entry") {
         return Some((Operation::Names, Deed::Entry));
     }
-    if bytes == b"segdef".as_slice() {
+    if is_named(bytes, b"segdef") {
         return Some((Operation::Names, Deed::Segdef));
     }
-    if bytes == b"equ".as_slice() {
+    if is_named(bytes, b"equ") {
         return Some((Operation::Value, Deed::Equ));
     }
-    if bytes == b"use".as_slice() {
+    if is_named(bytes, b"use") {
         return Some((Operation::Section, Deed::Use));
     }
-    if bytes == b"dec".as_slice() {
+    if is_named(bytes, b"dec") {
         return Some((Operation::Decimal, Deed::Words));
     }
-    if bytes == b"oct".as_slice() {
+    if is_named(bytes, b"oct") {
         return Some((Operation::Octal, Deed::Words));
     }
-    if bytes == b"aci".as_slice() {
+    if is_named(bytes, b"aci") {
         return Some((Operation::Characters, Deed::Words));
     }
-    if bytes == b"zero".as_slice() {
+    if is_named(bytes, b"zero") {
         return Some((Operation::Halves, Deed::Zero));
     }
-    if bytes == b"bss".as_slice() {
+    if is_named(bytes, b"bss") {
         return Some((Operation::Block, Deed::Block));
     }
-    if bytes == b"even".as_slice() {
+    if is_named(bytes, b"even") {
         return Some((Operation::Bare, Deed::Even));
     }
-    if bytes == b"entrybound".as_slice() {
+    if is_named(bytes, b"entrybound") {
         return Some((Operation::Bare, Deed::Bound));
     }
-    if bytes == b"end".as_slice() {
+    if is_named(bytes, b"end") {
         return Some((Operation::End, Deed::Nothing));
     }
     None
