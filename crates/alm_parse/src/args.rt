@@ -85,8 +85,7 @@ pub fn one(alloc: Global, arg: Arg) -> Result<Args, NoMemory>
 pub fn two(alloc: Global, first: Arg, second: Arg) -> Result<Args, NoMemory>
     ensures { IfOk result (λ args. args ≡ first ∷ second ∷ []) }
 {
-    let mut args = Args::new(alloc);
-    args.push(first)?;
+    let mut args = one(alloc, first)?;
     args.push(second)?;
     Ok(args)
 }
