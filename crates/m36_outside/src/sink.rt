@@ -42,7 +42,6 @@ pub trait Sink {
 
     /// Writes the pieces of a block behind all that is written, each as a piece of its own: all of them, or where that
     /// failed some of them and a first part of the next. A block of no pieces never fails.
-    #[tactic(auto, using(crate::proofs::Blocks::putting))]
     fn put_block(&mut self, block: &Block) -> Put
         ensures says { PutSays result (written self.old) (written self.new) (joined block.now) }
         ensures took { TakesLines result (taken self.old) (taken self.new) block.now }
