@@ -2,9 +2,11 @@
 use Rattle.std.proofs.Common.{◌≡◌, ℕ, ◌<◌, ◌≤◌, List, [], ◌++◌, length, take, Option, Some, None, IfSome, refl, sym, ap, ◌∙◌, arith, length-append}
 use Rattle.std.proofs.lemmas.List.{append-nil, append_assoc}
 use Rattle.std.specs.Io.KnownBytes.{Consumes, Keeps, IsAtEnd}
-use Rattle.m36_outside.specs.Chunk.{Moves}
+use Rattle.m36_outside.specs.Chunk.{Moves, AddSays, ChunkSays}
 use Rattle.m36_outside.specs.Piece.{Moved}
 use Rattle.m36_outside.specs.ReadAnswer.{file_limit}
+use Rattle.m36_outside.specs.declared.reading.Chunk.{Chunk}
+use Rattle.m36_outside.specs.declared.reading.Chunk.TheVariants.{More, End, TooLarge, Failed, NoMemory}
 
 -- nothing was read yet
 pub consumes_none : (now : Option (List ℕ)) → Consumes now now []
@@ -38,6 +40,16 @@ consumes_too_much None now text first more = tt
 consumes_too_much (Some all) None text first more = absurd first
 consumes_too_much (Some all) (Some left) text first more =
     (all, refl, omega (arith, ap length first, length-append text left))
+
+-- what was read was added
+pub chunk_says :
+    (answer : Chunk) (old new : Option (List ℕ)) (before after got : List ℕ)
+    → AddSays answer before after got → Consumes old new got → ChunkSays answer old new before after
+chunk_says More old new before after got added taken = (record { got = got; taken = taken; added = added.0 }, added.1)
+chunk_says End old new before after got added taken = absurd added
+chunk_says TooLarge old new before after got added taken = (record { got = got; taken = taken; added = added.0 }, added.1)
+chunk_says Failed old new before after got added taken = tt
+chunk_says NoMemory old new before after got added taken = tt
 
 pub ruleset consumed = (consumes_none, consumes_more, consumes_all, consumes_too_much)
 

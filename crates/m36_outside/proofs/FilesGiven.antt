@@ -3,12 +3,14 @@ use Rattle.std.proofs.Common.{◌≡◌, ℕ, ◌<◌, List, [], ◌∷◌, ◌+
 use Rattle.std.proofs.lemmas.List.{append-nil, append_assoc}
 use Rattle.std.specs.declared.io.ErrorKind.{ErrorKind}
 use Rattle.std.specs.declared.io.ErrorKind.TheVariants.{NotFound}
-use Rattle.m36_outside.specs.Chunk.{GivesPiece}
+use Rattle.m36_outside.specs.Chunk.{AddSays, ChunkGives, GivesPiece}
 use Rattle.m36_outside.specs.Given.{Gives, GivesAll, GivesTooMuch, GivesSome, ReadGives}
 use Rattle.m36_outside.specs.ReadAnswer.{file_limit}
 use Rattle.m36_outside.specs.System.{refusal_of}
 use Rattle.m36_outside.specs.declared.folder.ReadAnswer.{ReadAnswer}
 use Rattle.m36_outside.specs.declared.folder.ReadAnswer.TheVariants.{Read, Absent, TooLarge, Failed, NoMemory}
+use Rattle.m36_outside.specs.declared.reading.Chunk.{Chunk}
+use Rattle.m36_outside.specs.declared.reading.Chunk.TheVariants as chunk
 use Rattle.m36_outside.proofs.Takes.{joined_more}
 
 -- nothing was given yet
@@ -60,6 +62,16 @@ gives_some_more start now next before first more = record {
   pieces = first.pieces ++ more.pieces;
   gave = more.gave ∙ ap (λ l. l ++ more.pieces) first.gave ∙ append_assoc start first.pieces more.pieces;
 }
+
+-- what was read was added
+pub chunk_gives :
+    (answer : Chunk) (old new : List (List ℕ)) (before after got : List ℕ)
+    → AddSays answer before after got → new ≡ old ++ got ∷ [] → ChunkGives answer old new before after
+chunk_gives chunk.More old new before after got added gave = record { got = got; gave = gave; added = added.0 }
+chunk_gives chunk.End old new before after got added gave = absurd added
+chunk_gives chunk.TooLarge old new before after got added gave = record { got = got; gave = gave; added = added.0 }
+chunk_gives chunk.Failed old new before after got added gave = absurd added
+chunk_gives chunk.NoMemory old new before after got added gave = record { pieces = got ∷ []; gave = gave }
 
 pub ruleset giving = (gives_none, gives_more, gives_all, gives_too_much, gives_some, gives_some_more)
 
