@@ -4,8 +4,11 @@ use Rattle.std.proofs.Common.{◌≡◌, ℕ, zero, suc, ◌+◌, ◌-◌, ◌<�
 use Rattle.std.proofs.lemmas.List.{append_assoc, take_at, drop_at, take_all, take-append-drop, take-append-le, drop-append-le, take_more, drop_more}
 use Rattle.std.proofs.lemmas.Bool.{cases_Bool, leb-true, leb-false}
 use Rattle.m36_outside.specs.Block.{marks_of, parts}
-use Rattle.m36_outside.specs.Passing.{TakesPart, TakesSome, joined}
+use Rattle.m36_outside.specs.Passing.{TakesPart, TakesSome, TakesLines, joined}
+use Rattle.m36_outside.specs.Put.{PutSays}
 use Rattle.m36_outside.specs.Written.{Grew, GrewWithin}
+use Rattle.m36_outside.specs.declared.sink.Put.{Put}
+use Rattle.m36_outside.specs.declared.sink.Put.TheVariants.{Done, Failed}
 pub use Rattle.std.proofs.lemmas.List.Folds.{concat-append as joined_both}
 use Rattle.m36_outside.proofs.Grown.{grew_on, grew_more, grew_longer}
 use Rattle.m36_outside.proofs.LinesTaken.{takes_lines_on, takes_lines_more, takes_some_of_lines, takes_line_more}
@@ -342,5 +345,20 @@ pub begun_written :
     → new ≡ old ++ parts taken pieces → GrewWithin (Some (joined old)) (Some (joined new)) (joined pieces)
 begun_written old new pieces before taken within none some took =
     some_written old new pieces (begun_taken old new pieces before taken within none some took)
+
+-- by the answer of a put
+pub block_says :
+    (answer : Put) (old new pieces : List (List ℕ)) (before taken : List ℕ)
+    → PutSays answer (Some before) (Some taken) (joined pieces) → before ≡ [] → 0 < length pieces
+    → new ≡ old ++ parts taken pieces → PutSays answer (Some (joined old)) (Some (joined new)) (joined pieces)
+block_says Done old new pieces before taken grown none some took = block_all_written old new pieces before taken grown none took
+block_says Failed old new pieces before taken within none some took = begun_written old new pieces before taken within none some took
+
+pub block_takes :
+    (answer : Put) (old new pieces : List (List ℕ)) (before taken : List ℕ)
+    → PutSays answer (Some before) (Some taken) (joined pieces) → before ≡ [] → 0 < length pieces
+    → new ≡ old ++ parts taken pieces → TakesLines answer old new pieces
+block_takes Done old new pieces before taken grown none some took = block_taken old new pieces before taken grown none took
+block_takes Failed old new pieces before taken within none some took = begun_taken old new pieces before taken within none some took
 
 pub ruleset written_at_once = (block_taken, block_written, block_all_written, begun_taken, begun_written)

@@ -15,3 +15,4 @@ pub mod Risen
 mod Signalled
 mod Taken
 mod Takes
+mod WriteAnswers

@@ -138,8 +138,6 @@ gives_up_behind old new before after fault none noted = record {
   last = last_behind old new before fault.between after noted fault.last;
 }
 
-pub ruleset behind = (signals_none, signals_behind, gives_up_behind)
-
 -- ---- by the answers
 
 -- what was read was added
@@ -152,19 +150,29 @@ chunk_has_error chunk.TooLarge before after got old new added signals = signals
 chunk_has_error chunk.Failed before after got old new added signals = absurd added
 chunk_has_error chunk.NoMemory before after got old new added signals = signals
 
+-- it was read
+pub open_error_behind :
+    (answer : ReadAnswer) (old new before after : List ErrorKind)
+    → OpenHasError answer before after → before ≡ [] → new ≡ old ++ after → OpenHasError answer old new
+open_error_behind (read.Read bytes) old new before after signals none noted =
+    signals_behind old new before after signals none noted
+open_error_behind read.Absent old new before after error none noted = absurd error
+open_error_behind read.TooLarge old new before after signals none noted =
+    signals_behind old new before after signals none noted
+open_error_behind read.Failed old new before after fault none noted =
+    gives_up_behind old new before after fault none noted
+open_error_behind read.NoMemory old new before after signals none noted =
+    signals_behind old new before after signals none noted
+
 -- a file was opened, and read
 pub read_has_error :
-    (answer : ReadAnswer) (name : List ℕ) (old new before after : List ErrorKind)
-    → OpenHasError answer before after → before ≡ [] → new ≡ old ++ after → ReadHasError answer name old new
-read_has_error (read.Read bytes) name old new before after error none noted =
-    signals_behind old new before after error none noted
-read_has_error read.Absent name old new before after error none noted = absurd error
-read_has_error read.TooLarge name old new before after error none noted =
-    signals_behind old new before after error none noted
-read_has_error read.Failed name old new before after error none noted =
-    record { why = inl (gives_up_behind old new before after error none noted) }
-read_has_error read.NoMemory name old new before after error none noted =
-    signals_behind old new before after error none noted
+    (answer : ReadAnswer) (name : List ℕ) (old new : List ErrorKind)
+    → OpenHasError answer old new → ReadHasError answer name old new
+read_has_error (read.Read bytes) name old new signals = signals
+read_has_error read.Absent name old new error = absurd error
+read_has_error read.TooLarge name old new signals = signals
+read_has_error read.Failed name old new fault = record { why = inl fault }
+read_has_error read.NoMemory name old new signals = signals
 
 -- it could not be opened
 refusal_has_error :
@@ -181,14 +189,21 @@ refused_has_error answer kind name old new is noted =
 
 pub ruleset reads = (read_has_error, refused_has_error)
 
+-- it was written
+pub put_error_behind :
+    (answer : Put) (old new before after : List ErrorKind)
+    → PutHasError answer before after → before ≡ [] → new ≡ old ++ after → PutHasError answer old new
+put_error_behind put.Done old new before after signals none noted =
+    signals_behind old new before after signals none noted
+put_error_behind put.Failed old new before after fault none noted =
+    gives_up_behind old new before after fault none noted
+
 -- a file was made, and written
 pub file_has_error :
-    (answer : Put) (name : List ℕ) (old new before after : List ErrorKind)
-    → PutHasError answer before after → before ≡ [] → new ≡ old ++ after → FileHasError answer name old new
-file_has_error put.Done name old new before after error none noted =
-    signals_behind old new before after error none noted
-file_has_error put.Failed name old new before after error none noted =
-    record { why = inr (inl (gives_up_behind old new before after error none noted)) }
+    (answer : Put) (name : List ℕ) (old new : List ErrorKind)
+    → PutHasError answer old new → FileHasError answer name old new
+file_has_error put.Done name old new signals = signals
+file_has_error put.Failed name old new fault = record { why = inr (inl fault) }
 
 -- it could not be made
 pub made_not :

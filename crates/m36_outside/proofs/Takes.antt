@@ -1,8 +1,12 @@
 -- A put took a first part of its piece.
 use Rattle.std.proofs.Common.{◌≡◌, ℕ, List, [], ◌∷◌, ◌++◌, Option, Some, take, drop, refl, sym, ap, ◌∙◌}
 use Rattle.std.proofs.lemmas.List.{append-nil, append_assoc, take-append-drop}
-use Rattle.m36_outside.specs.Passing.{TakesPart, joined}
+use Rattle.m36_outside.specs.Passing.{TakesPart, PutTakes, joined}
+use Rattle.m36_outside.specs.Put.{PutSays}
+use Rattle.m36_outside.specs.System.{NotesDone}
 use Rattle.m36_outside.specs.Written.{Grew, GrewWithin}
+use Rattle.m36_outside.specs.declared.sink.Put.{Put}
+use Rattle.m36_outside.specs.declared.sink.Put.TheVariants.{Done, Failed}
 use Rattle.m36_outside.proofs.Grown.{grew_by_nothing}
 
 -- nothing of it
@@ -80,5 +84,44 @@ pub writes_all :
     → Grew (Some (joined old)) (Some (joined new)) whole
 writes_all old new whole before after grown none took =
     writes_whole old new whole (takes_whole old new whole before after grown none took)
+
+-- ---- by the answer of a put
+
+-- of a writer of which nothing was noted before, behind what was noted of others
+pub put_says_behind :
+    (answer : Put) (old new before after whole : List ℕ)
+    → PutSays answer (Some before) (Some after) whole → before ≡ [] → new ≡ old ++ after
+    → PutSays answer (Some old) (Some new) whole
+put_says_behind Done old new before after whole grown none noted =
+    ap (λ w. Some w) (noted ∙ ap (λ w. old ++ w) (taken_is before after whole grown none))
+put_says_behind Failed old new before after whole within none noted = record {
+  part = within.part;
+  rest = within.rest;
+  whole = within.whole;
+  grew = ap (λ w. Some w) (noted ∙ ap (λ w. old ++ w) (taken_is before after within.part within.grew none));
+}
+
+-- what it took is noted as one piece
+pub put_says :
+    (answer : Put) (old new : List (List ℕ)) (whole before after : List ℕ)
+    → PutSays answer (Some before) (Some after) whole → before ≡ [] → new ≡ old ++ after ∷ []
+    → PutSays answer (Some (joined old)) (Some (joined new)) whole
+put_says Done old new whole before after grown none took = writes_all old new whole before after grown none took
+put_says Failed old new whole before after within none took = writes_part old new whole before after within none took
+
+pub put_takes :
+    (answer : Put) (old new : List (List ℕ)) (whole before after : List ℕ)
+    → PutSays answer (Some before) (Some after) whole → before ≡ [] → new ≡ old ++ after ∷ []
+    → PutTakes answer (Some (joined old)) (Some (joined new)) old new whole
+put_takes Done old new whole before after grown none took = takes_whole old new whole before after grown none took
+put_takes Failed old new whole before after within none took = takes_written old new whole before after within none took
+
+-- what a file took, all of it, is noted so
+pub notes_done :
+    (answer : Put) (old new : List (List ℕ)) (whole before after : List ℕ)
+    → PutSays answer (Some before) (Some after) whole → before ≡ [] → new ≡ old ++ after ∷ []
+    → NotesDone answer old new whole
+notes_done Done old new whole before after grown none took = takes_whole old new whole before after grown none took
+notes_done Failed old new whole before after within none took = tt
 
 pub ruleset takes = (takes_nothing, takes_front, takes_written, takes_whole, writes_whole, writes_part, writes_all)

@@ -71,6 +71,11 @@ ReadHasError read.TooLarge name old new = OpenHasError read.TooLarge old new
 ReadHasError read.Failed name old new = ReadsNot old new
 ReadHasError read.NoMemory name old new = OpenHasError read.NoMemory old new
 
+-- the answer to a write by that of the file
+abbrev pub write_answer_of : Put → WriteAnswer
+write_answer_of Done = write.Written
+write_answer_of Failed = write.Failed
+
 -- No file was written: it has the name of none, or a write gave up, or one error came by which no
 -- file was made.
 pub record WritesNot (name : List ℕ) (old new : List ErrorKind) : Type 0 where

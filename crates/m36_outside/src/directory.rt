@@ -3,18 +3,17 @@
 ghost use Rattle.std.specs.Prelude.{[], ◌∷◌, ◌++◌, ◌≡◌, ◌≤◌, ◌<◌, ◌^◌, None, MatchOption};
 ghost use Rattle.m36_outside.specs.Given.{ReadGives};
 ghost use Rattle.m36_outside.specs.ReadAnswer.{IsWithinLimit, ReadHasCause};
-ghost use Rattle.m36_outside.specs.System.{ReadHasError, WriteHasError, WriteTakes, FileHasError, NotesDone, NamesFile, NamesNoFile, refusal_of};
+ghost use Rattle.m36_outside.specs.System.{ReadHasError, WriteHasError, WriteTakes, FileHasError, NotesDone, NamesFile, NamesNoFile, refusal_of, write_answer_of};
 ghost use Rattle.m36_outside.specs.WriteAnswer.{WriteSays, WriteHasCause};
 
-use crate::faults::raise;
+use crate::faults::{after_put, after_read};
 use crate::folder::{Folder, ReadAnswer, WriteAnswer};
 use crate::folder_calls::FolderCalls;
-use crate::noted::{NotedReader, NotedWriter};
 use crate::passed::Passed;
-use crate::reading::read_whole;
+use crate::reading::read_alone;
 use crate::sink::Put;
 use crate::text::Text;
-use crate::writing::write_whole;
+use crate::writing::write_alone;
 use std::alloc::Global;
 use std::fs::File;
 use std::io::ErrorKind;
@@ -106,7 +105,6 @@ impl<R: Files + Drop> Folder for DirFolder<R> {
 
     ghost write_faults = { λ f. f.writes };
 
-    #[tactic(auto, using(crate::proofs::Causes::read_without_fault))]
     fn read(&mut self, alloc: Global, name: &[u8]) -> ReadAnswer
         ensures limit { IsWithinLimit result }
         ensures asked { self.new.asked ≡ self.old.asked ++ (name.now, result) ∷ [] }
@@ -123,15 +121,11 @@ impl<R: Files + Drop> Folder for DirFolder<R> {
     {
         let answer = read_file(&self.rt, alloc, name, &mut self.notes);
         self.calls.note_read(name, &answer);
-        match answer {
-            ReadAnswer::Failed => {
-                self.read_faults = raise(self.read_faults);
-                ReadAnswer::Failed
-            }
-            answer => answer,
-        }
+        self.read_faults = after_read(self.read_faults, &answer);
+        answer
     }
 
+    #[tactic(auto, using(crate::proofs::WriteAnswers::by_put))]
     fn write(&mut self, _alloc: Global, name: &[u8], content: &[u8]) -> WriteAnswer
         ensures says { WriteSays result None None name.now content.now }
         ensures wrote { self.new.wrote ≡ self.old.wrote ++ (name.now, content.now, result) ∷ [] }
@@ -147,17 +141,11 @@ impl<R: Files + Drop> Folder for DirFolder<R> {
         ensures given { self.new.given ≡ self.old.given }
         ensures error { WriteHasError result name.now self.old.errors self.new.errors }
     {
-        match write_file(&self.rt, name, content, &mut self.notes) {
-            Put::Done => {
-                self.calls.note_write(name, content, WriteAnswer::Written);
-                WriteAnswer::Written
-            }
-            Put::Failed => {
-                self.calls.note_write(name, content, WriteAnswer::Failed);
-                self.write_faults = raise(self.write_faults);
-                WriteAnswer::Failed
-            }
-        }
+        let put = write_file(&self.rt, name, content, &mut self.notes);
+        let answer = write_answer(put);
+        self.calls.note_write(name, content, answer);
+        self.write_faults = after_put(self.write_faults, put);
+        answer
     }
 }
 
@@ -174,13 +162,7 @@ fn read_file<R: Files>(rt: &R, alloc: Global, name: &[u8], notes: &mut FileNotes
         return ReadAnswer::Absent;
     };
     match File::open(rt, name) {
-        Ok(file) => {
-            let mut from = NotedReader::new(file);
-            let answer = read_whole(&mut from, alloc);
-            notes.given.note(&from.given);
-            notes.errors.note(&from.errors);
-            answer
-        }
+        Ok(file) => read_alone(file, alloc, &mut notes.given, &mut notes.errors),
         Err(e) => {
             let kind = e.kind();
             notes.errors.note(&kind);
@@ -200,7 +182,7 @@ fn refusal(kind: ErrorKind) -> ReadAnswer
 }
 
 /// Makes a file of the current directory anew.
-#[tactic(auto, using(crate::proofs::Names::names, crate::proofs::Takes::takes, crate::proofs::Signalled::writes))]
+#[tactic(auto, using(crate::proofs::Names::names, crate::proofs::Takes::notes_done, crate::proofs::Signalled::writes))]
 fn write_file<R: Files>(rt: &R, name: &[u8], content: &[u8], notes: &mut FileNotes) -> Put
     ensures outside { NamesNoFile name.now
         → (result ≡ Put.Failed) × (notes.new.taken.entries ≡ notes.old.taken.entries) }
@@ -213,16 +195,25 @@ fn write_file<R: Files>(rt: &R, name: &[u8], content: &[u8], notes: &mut FileNot
     };
     match File::create(rt, name) {
         Ok(file) => {
-            let mut to = NotedWriter::new(file);
-            let answer = write_whole(&mut to, content);
-            notes.taken.note(&to.taken);
-            notes.errors.note(&to.errors);
+            let mut taken = Passed::new();
+            let answer = write_alone(file, content, &mut taken, &mut notes.errors);
+            notes.taken.note(&taken);
             answer
         }
         Err(e) => {
             notes.errors.note(&e.kind());
             Put::Failed
         }
+    }
+}
+
+/// The answer of the folder by that of the file.
+fn write_answer(put: Put) -> WriteAnswer
+    ensures { result ≡ write_answer_of put }
+{
+    match put {
+        Put::Done => WriteAnswer::Written,
+        Put::Failed => WriteAnswer::Failed,
     }
 }
 

@@ -2,6 +2,11 @@
 
 ghost use Rattle.std.specs.Prelude.{◌≡◌, ◌≤◌, ◌<◌, ◌^◌};
 ghost use Rattle.m36_outside.specs.Counts.{raised, Rose};
+ghost use Rattle.m36_outside.specs.Put.{PutHasCause};
+ghost use Rattle.m36_outside.specs.ReadAnswer.{ReadHasCause};
+
+use crate::folder::ReadAnswer;
+use crate::sink::Put;
 
 /// A count of faults after one more. It ends at 2^64 - 1.
 pub fn raise(count: u64) -> u64
@@ -11,4 +16,29 @@ pub fn raise(count: u64) -> u64
     ensures bound { result < 2 ^ 64 }
 {
     count.saturating_add(1)
+}
+
+/// A count of faults after a put of this answer.
+pub fn after_put(count: u64, answer: Put) -> u64
+    ensures cause { PutHasCause answer count result }
+    ensures later { count ≤ result }
+    ensures bound { result < 2 ^ 64 }
+{
+    match answer {
+        Put::Done => count,
+        Put::Failed => raise(count),
+    }
+}
+
+/// A count of faults after a read of this answer.
+#[tactic(auto, using(crate::proofs::Causes::read_without_fault))]
+pub fn after_read(count: u64, answer: &ReadAnswer) -> u64
+    ensures cause { ReadHasCause answer.now count result }
+    ensures later { count ≤ result }
+    ensures bound { result < 2 ^ 64 }
+{
+    match answer {
+        ReadAnswer::Failed => raise(count),
+        _ => count,
+    }
 }

@@ -16,6 +16,10 @@ impl Entries<u8> for &[u8] {
     ghost entries = { λ bytes. bytes.now };
 }
 
+impl Entries<u8> for Passed<u8> {
+    ghost entries = { λ bytes. bytes.entries };
+}
+
 impl Entries<Text> for &[u8] {
     ghost use Rattle.std.specs.Prelude.{[], ◌∷◌};
 

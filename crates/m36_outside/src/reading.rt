@@ -11,10 +11,11 @@ ghost use Rattle.m36_outside.specs.System.{OpenHasError, PieceHasError};
 use crate::folder::{FILE_LIMIT, ReadAnswer};
 use crate::lines::Piece;
 use crate::noted::NotedReader;
+use crate::passed::Passed;
 use crate::text::Text;
 use m36_word::NoMemory;
 use std::alloc::Global;
-use std::io::Read;
+use std::io::{ErrorKind, Read};
 
 /// How many bytes are asked for at once.
 const CHUNK: usize = 8192;
@@ -52,6 +53,25 @@ pub fn read_whole<R: Read>(from: &mut NotedReader<R>, alloc: Global) -> ReadAnsw
             Chunk::NoMemory => return ReadAnswer::NoMemory,
         }
     }
+}
+
+/// Reads to the end a reader of which nothing is noted yet. The pieces that it gave and its errors are added to the notes.
+#[tactic(auto, using(crate::proofs::FilesGiven::opened_gives, crate::proofs::Signalled::open_error_behind))]
+pub fn read_alone<R: Read + Drop>(
+    reader: R,
+    alloc: Global,
+    given: &mut Passed<Text>,
+    errors: &mut Passed<ErrorKind>,
+) -> ReadAnswer
+    ensures limit { IsWithinLimit result }
+    ensures gives { ReadGives result given.old.entries given.new.entries }
+    ensures error { OpenHasError result errors.old.entries errors.new.entries }
+{
+    let mut from = NotedReader::new(reader);
+    let answer = read_whole(&mut from, alloc);
+    given.note(&from.given);
+    errors.note(&from.errors);
+    answer
 }
 
 /// Reads once, and adds what was read.

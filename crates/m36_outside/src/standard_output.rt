@@ -6,12 +6,11 @@ ghost use Rattle.m36_outside.specs.Put.{PutSays, PutHasCause};
 ghost use Rattle.m36_outside.specs.System.{PutHasError};
 
 use crate::block::{Begun, Block};
-use crate::faults::raise;
-use crate::noted::NotedWriter;
+use crate::faults::after_put;
 use crate::passed::Passed;
 use crate::sink::{Put, Sink};
 use crate::text::Text;
-use crate::writing::write_whole;
+use crate::writing::write_alone;
 use std::io;
 use std::io::ErrorKind;
 use std::marker::Model;
@@ -58,7 +57,7 @@ impl<R: Print + Drop> Sink for StdSink<R> {
 
     ghost faults = { λ s. s.faults };
 
-    #[tactic(auto, using(crate::proofs::Takes::takes, crate::proofs::Signalled::behind))]
+    #[tactic(auto, using(crate::proofs::Takes::put_says, crate::proofs::Takes::put_takes))]
     fn put(&mut self, piece: &[u8]) -> Put
         ensures says { PutSays result (Some (joined self.old.taken)) (Some (joined self.new.taken)) piece.now }
         ensures took { PutTakes result
@@ -69,21 +68,15 @@ impl<R: Print + Drop> Sink for StdSink<R> {
 
         ensures error { PutHasError result self.old.errors self.new.errors }
     {
-        let mut to = NotedWriter::new(io::writer(&self.rt));
-        let answer = write_whole(&mut to, piece);
-        self.taken.note(&to.taken);
-        self.errors.note(&to.errors);
-        match answer {
-            Put::Done => Put::Done,
-            Put::Failed => {
-                self.faults = raise(self.faults);
-                Put::Failed
-            }
-        }
+        let mut taken = Passed::new();
+        let answer = write_alone(io::writer(&self.rt), piece, &mut taken, &mut self.errors);
+        self.taken.note(&taken);
+        self.faults = after_put(self.faults, answer);
+        answer
     }
 
     /// The pieces go in one call of the system, or in as many as it needs.
-    #[tactic(auto, using(crate::proofs::Blocks::written_at_once, crate::proofs::Signalled::behind))]
+    #[tactic(auto, using(crate::proofs::Blocks::block_says, crate::proofs::Blocks::block_takes))]
     fn put_block(&mut self, block: &Block) -> Put
         ensures says { PutSays result
             (Some (joined self.old.taken)) (Some (joined self.new.taken)) (joined block.now) }
@@ -98,19 +91,18 @@ impl<R: Print + Drop> Sink for StdSink<R> {
         if block.is_empty() {
             return Put::Done;
         }
-        let mut to = NotedWriter::new(io::writer(&self.rt));
-        let answer = write_whole(&mut to, block.bytes());
+        let mut taken = Passed::new();
+        let answer = write_alone(
+            io::writer(&self.rt),
+            block.bytes(),
+            &mut taken,
+            &mut self.errors,
+        );
         self.taken.note(&Begun {
             block,
-            taken: &to.taken,
+            taken: &taken,
         });
-        self.errors.note(&to.errors);
-        match answer {
-            Put::Done => Put::Done,
-            Put::Failed => {
-                self.faults = raise(self.faults);
-                Put::Failed
-            }
-        }
+        self.faults = after_put(self.faults, answer);
+        answer
     }
 }

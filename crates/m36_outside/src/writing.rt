@@ -7,8 +7,9 @@ ghost use Rattle.m36_outside.specs.Signals.{Signals, GivesUp};
 ghost use Rattle.m36_outside.specs.System.{NotesDone, PutHasError};
 
 use crate::noted::NotedWriter;
+use crate::passed::Passed;
 use crate::sink::Put;
-use std::io::Write;
+use std::io::{ErrorKind, Write};
 
 /// Writes all of these bytes, and flushes them. A writer that takes nothing has failed.
 #[tactic(auto, using(crate::proofs::Appended::appending, crate::proofs::Signalled::in_turn))]
@@ -27,6 +28,25 @@ pub fn write_whole<W: Write>(to: &mut NotedWriter<W>, bytes: &[u8]) -> Put
         }
     }
     if to.flush() { Put::Done } else { Put::Failed }
+}
+
+/// Writes all of these bytes to a writer of which nothing is noted yet, and flushes them. What it took and its errors are
+/// added to the notes.
+#[tactic(auto, using(crate::proofs::Signalled::put_error_behind, crate::proofs::Takes::put_says_behind))]
+pub fn write_alone<W: Write + Drop>(
+    writer: W,
+    bytes: &[u8],
+    taken: &mut Passed<u8>,
+    errors: &mut Passed<ErrorKind>,
+) -> Put
+    ensures taken { PutSays result (Some taken.old.entries) (Some taken.new.entries) bytes.now }
+    ensures error { PutHasError result errors.old.entries errors.new.entries }
+{
+    let mut to = NotedWriter::new(writer);
+    let answer = write_whole(&mut to, bytes);
+    taken.note(&to.taken);
+    errors.note(&to.errors);
+    answer
 }
 
 /// Writes some of these bytes, from a place on: once, and again where a signal broke in.

@@ -1,0 +1,26 @@
+-- The answer is that of the file.
+use Rattle.std.proofs.Common.{ap, subst}
+use Rattle.m36_outside.specs.Told.{FolderTold}
+use Rattle.m36_outside.specs.WriteAnswer.{WriteHasCause}
+use Rattle.m36_outside.specs.System.{WriteTakes, WriteHasError}
+use Rattle.m36_outside.proofs.WriteAnswers.{write_says, write_cause, write_takes, write_error}
+use Rattle.m36_outside.proofs.directory.DirFolderFolder.write.Goals as goal
+
+pub returns-clause-says : goal.returns-clause-says
+returns-clause-says g c =
+    write_says c.write_file-put.result c.write_answer-answer.result c.args.name.now c.args.content.now c.write_answer-answer.ensures
+
+pub returns-clause-cause : goal.returns-clause-cause
+returns-clause-cause g c =
+    subst (λ n. WriteHasCause c.write_answer-answer.result n c.after_put-self-inside.result) (ap (λ (s : FolderTold). s.writes) c.self.view_is)
+    (write_cause c.write_file-put.result c.write_answer-answer.result c.self.inside.write_faults c.after_put-self-inside.result c.write_answer-answer.ensures c.after_put-self-inside.ensures.cause)
+
+pub returns-clause-took : goal.returns-clause-took
+returns-clause-took g c =
+    subst (λ l. WriteTakes c.write_answer-answer.result l c.write_file-put.new.notes.taken.entries c.args.content.now) (ap (λ (s : FolderTold). s.taken) c.self.view_is)
+    (write_takes c.write_file-put.result c.write_answer-answer.result c.self.inside.notes.taken.entries c.write_file-put.new.notes.taken.entries c.args.content.now c.write_answer-answer.ensures c.write_file-put.ensures.took)
+
+pub returns-clause-error : goal.returns-clause-error
+returns-clause-error g c =
+    subst (λ l. WriteHasError c.write_answer-answer.result c.args.name.now l c.write_file-put.new.notes.errors.entries) (ap (λ (s : FolderTold). s.errors) c.self.view_is)
+    (write_error c.write_file-put.result c.write_answer-answer.result c.args.name.now c.self.inside.notes.errors.entries c.write_file-put.new.notes.errors.entries c.write_answer-answer.ensures c.write_file-put.ensures.error)
