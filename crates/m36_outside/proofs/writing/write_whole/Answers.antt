@@ -1,5 +1,5 @@
 -- One more write was made, or it gave up; or all is written, and flushed or not.
-use Rattle.std.proofs.Common.{[], ◌∷◌, ◌++◌, ◌≤◌, Some, length, sym, ap, ◌∙◌, arith}
+use Rattle.std.proofs.Common.{◌≤◌, Some, length, ap, ◌∙◌, arith}
 use Rattle.m36_outside.proofs.Appended.{grows_more, grows_part, grows_whole, appends_more, appends_kept, appends_whole}
 use Rattle.m36_outside.proofs.Signalled.{signals_on, gives_up_on}
 use Rattle.m36_outside.proofs.writing.write_whole.Goals as goal
@@ -46,12 +46,6 @@ returns-then-flush-clause-inner g c =
     let held = g.W.Write.contents in
     let all : length c.args.bytes.now ≤ c.loop-done.done = omega arith in
     appends_whole (held c.args.to.now.inner) (held c.loop-done.to.inner) (held c.flush.new.self.inner) c.args.bytes.now c.loop-done.done c.loop-done.invariant.inner c.flush.ensures.inner all
-
-pub returns-then-flush-clause-flushed : goal.returns-then-flush-clause-flushed
-returns-then-flush-clause-flushed g c =
-    c.if-flush.ensures.done
-    ∙ ap (λ l. l ++ c.loop-done.to.taken.entries ∷ []) c.loop-done.invariant.flushed
-    ∙ ap (λ l. c.args.to.now.flushed.entries ++ l ∷ []) (sym c.flush.ensures.taken)
 
 pub returns-then-flush-clause-error : goal.returns-then-flush-clause-error
 returns-then-flush-clause-error g c =
