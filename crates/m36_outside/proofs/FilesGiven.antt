@@ -112,5 +112,3 @@ pub refused_gives :
     (answer : ReadAnswer) (kind : ErrorKind) (now : List (List ℕ))
     → answer ≡ refusal_of kind → ReadGives answer now now
 refused_gives answer kind now is = subst (λ a. ReadGives a now now) (sym is) (refusal_gives kind now)
-
-pub ruleset opening = (opened_gives, refused_gives)

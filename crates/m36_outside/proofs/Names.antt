@@ -16,5 +16,3 @@ pub not_written :
     (name : List ℕ) (answer : Put) (old new : List (List ℕ))
     → NamesFile name → NamesNoFile name → (answer ≡ put.Failed) × (new ≡ old)
 not_written name answer old new file none = absurd (never_both name file none)
-
-pub ruleset names = (never_both, not_read, not_written)

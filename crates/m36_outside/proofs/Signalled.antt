@@ -5,7 +5,7 @@ use Rattle.std.specs.declared.io.ErrorKind.{ErrorKind}
 use Rattle.std.specs.declared.io.ErrorKind.TheVariants.{NotFound, WriteZero, Interrupted}
 use Rattle.m36_outside.specs.Chunk.{AddSays, ChunkHasError}
 use Rattle.m36_outside.specs.Signals.{Signals, IsFault, GivesUp}
-use Rattle.m36_outside.specs.System.{NamesNoFile, OpenHasError, ReadHasError, FileHasError, PutHasError, refusal_of}
+use Rattle.m36_outside.specs.System.{OpenHasError, ReadHasError, FileHasError, PutHasError, refusal_of}
 use Rattle.m36_outside.specs.declared.folder.ReadAnswer.{ReadAnswer}
 use Rattle.m36_outside.specs.declared.folder.ReadAnswer.TheVariants as read
 use Rattle.m36_outside.specs.declared.reading.Chunk.{Chunk}
@@ -187,8 +187,6 @@ pub refused_has_error :
 refused_has_error answer kind name old new is noted =
     subst (λ a. ReadHasError a name old new) (sym is) (refusal_has_error kind name old new noted)
 
-pub ruleset reads = (read_has_error, refused_has_error)
-
 -- it was written
 pub put_error_behind :
     (answer : Put) (old new before after : List ErrorKind)
@@ -210,10 +208,3 @@ pub made_not :
     (name : List ℕ) (kind : ErrorKind) (old new : List ErrorKind)
     → new ≡ old ++ kind ∷ [] → FileHasError put.Failed name old new
 made_not name kind old new noted = record { why = inr (inr (kind, noted)) }
-
--- its name is that of no file
-pub named_not :
-    (name : List ℕ) (old new : List ErrorKind) → NamesNoFile name → FileHasError put.Failed name old new
-named_not name old new none = record { why = inl none }
-
-pub ruleset writes = (file_has_error, made_not, named_not)

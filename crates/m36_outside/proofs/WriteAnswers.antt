@@ -56,5 +56,3 @@ pub write_error :
     → answer ≡ write_answer_of put → FileHasError put name old new → WriteHasError answer name old new
 write_error put answer name old new is why =
     subst (λ a. WriteHasError a name old new) (sym is) (error put name old new why)
-
-pub ruleset by_put = (write_says, write_cause, write_failed, write_takes, write_error)

@@ -125,7 +125,6 @@ impl<R: Files + Drop> Folder for DirFolder<R> {
         answer
     }
 
-    #[tactic(auto, using(crate::proofs::WriteAnswers::by_put))]
     fn write(&mut self, _alloc: Global, name: &[u8], content: &[u8]) -> WriteAnswer
         ensures says { WriteSays result None None name.now content.now }
         ensures wrote { self.new.wrote ≡ self.old.wrote ++ (name.now, content.now, result) ∷ [] }
@@ -150,7 +149,6 @@ impl<R: Files + Drop> Folder for DirFolder<R> {
 }
 
 /// Reads a file of the current directory.
-#[tactic(auto, using(crate::proofs::Names::names, crate::proofs::FilesGiven::opening, crate::proofs::Signalled::reads))]
 fn read_file<R: Files>(rt: &R, alloc: Global, name: &[u8], notes: &mut FileNotes) -> ReadAnswer
     ensures limit { IsWithinLimit result }
     ensures outside { NamesNoFile name.now → result ≡ ReadAnswer.Absent }
@@ -182,7 +180,6 @@ fn refusal(kind: ErrorKind) -> ReadAnswer
 }
 
 /// Makes a file of the current directory anew.
-#[tactic(auto, using(crate::proofs::Names::names, crate::proofs::Takes::notes_done, crate::proofs::Signalled::writes))]
 fn write_file<R: Files>(rt: &R, name: &[u8], content: &[u8], notes: &mut FileNotes) -> Put
     ensures outside { NamesNoFile name.now
         → (result ≡ Put.Failed) × (notes.new.taken.entries ≡ notes.old.taken.entries) }

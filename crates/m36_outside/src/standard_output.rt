@@ -57,7 +57,6 @@ impl<R: Print + Drop> Sink for StdSink<R> {
 
     ghost faults = { λ s. s.faults };
 
-    #[tactic(auto, using(crate::proofs::Takes::put_says, crate::proofs::Takes::put_takes))]
     fn put(&mut self, piece: &[u8]) -> Put
         ensures says { PutSays result (Some (joined self.old.taken)) (Some (joined self.new.taken)) piece.now }
         ensures took { PutTakes result
@@ -76,7 +75,6 @@ impl<R: Print + Drop> Sink for StdSink<R> {
     }
 
     /// The pieces go in one call of the system, or in as many as it needs.
-    #[tactic(auto, using(crate::proofs::Blocks::block_says, crate::proofs::Blocks::block_takes))]
     fn put_block(&mut self, block: &Block) -> Put
         ensures says { PutSays result
             (Some (joined self.old.taken)) (Some (joined self.new.taken)) (joined block.now) }

@@ -1,9 +1,9 @@
 -- The answer is that of the file.
-use Rattle.std.proofs.Common.{ap, subst}
+use Rattle.std.proofs.Common.{ap, subst, ◌∙◌}
 use Rattle.m36_outside.specs.Told.{FolderTold}
 use Rattle.m36_outside.specs.WriteAnswer.{WriteHasCause}
 use Rattle.m36_outside.specs.System.{WriteTakes, WriteHasError}
-use Rattle.m36_outside.proofs.WriteAnswers.{write_says, write_cause, write_takes, write_error}
+use Rattle.m36_outside.proofs.WriteAnswers.{write_says, write_cause, write_failed, write_takes, write_error}
 use Rattle.m36_outside.proofs.directory.DirFolderFolder.write.Goals as goal
 
 pub returns-clause-says : goal.returns-clause-says
@@ -14,6 +14,13 @@ pub returns-clause-cause : goal.returns-clause-cause
 returns-clause-cause g c =
     subst (λ n. WriteHasCause c.write_answer-answer.result n c.after_put-self-inside.result) (ap (λ (s : FolderTold). s.writes) c.self.view_is)
     (write_cause c.write_file-put.result c.write_answer-answer.result c.self.inside.write_faults c.after_put-self-inside.result c.write_answer-answer.ensures c.after_put-self-inside.ensures.cause)
+
+pub returns-clause-outside : goal.returns-clause-outside
+returns-clause-outside g c =
+    λ none. let both = c.write_file-put.ensures.outside none in (
+      write_failed c.write_file-put.result c.write_answer-answer.result c.write_answer-answer.ensures both.0,
+      both.1 ∙ ap (λ (s : FolderTold). s.taken) c.self.view_is,
+    )
 
 pub returns-clause-took : goal.returns-clause-took
 returns-clause-took g c =
