@@ -56,7 +56,6 @@ pub fn read_whole<R: Read>(from: &mut NotedReader<R>, alloc: Global) -> ReadAnsw
 }
 
 /// Reads to the end a reader of which nothing is noted yet. The pieces that it gave and its errors are added to the notes.
-#[tactic(auto, using(crate::proofs::FilesGiven::opened_gives, crate::proofs::Signalled::open_error_behind))]
 pub fn read_alone<R: Read + Drop>(
     reader: R,
     alloc: Global,
@@ -75,7 +74,6 @@ pub fn read_alone<R: Read + Drop>(
 }
 
 /// Reads once, and adds what was read.
-#[tactic(auto, using(crate::proofs::Signalled::chunk_has_error))]
 fn read_chunk<R: Read>(from: &mut NotedReader<R>, text: &mut Text) -> Chunk
     requires { length text.old ≤ file_limit }
     ensures says { ChunkSays result
@@ -86,7 +84,19 @@ fn read_chunk<R: Read>(from: &mut NotedReader<R>, text: &mut Text) -> Chunk
 {
     let mut buffer = [0; CHUNK];
     let room = room_after(text.bytes());
-    match from.read(&mut buffer[..room]) {
+    read_through(from, &mut buffer[..room], text)
+}
+
+/// Reads once through a buffer, and adds what was read.
+fn read_through<R: Read>(from: &mut NotedReader<R>, buffer: &mut [u8], text: &mut Text) -> Chunk
+    requires room { 1 ≤ length buffer.old }
+    ensures says { ChunkSays result
+        (R.remaining from.old.inner) (R.remaining from.new.inner) text.old text.new }
+    ensures gives { ChunkGives result
+        from.old.given.entries from.new.given.entries text.old text.new }
+    ensures error { ChunkHasError result from.old.errors.entries from.new.errors.entries }
+{
+    match from.read(buffer) {
         Some(0) => Chunk::End,
         Some(count) => add_chunk(&buffer[..count], text),
         None => Chunk::Failed,

@@ -32,7 +32,6 @@ pub fn write_whole<W: Write>(to: &mut NotedWriter<W>, bytes: &[u8]) -> Put
 
 /// Writes all of these bytes to a writer of which nothing is noted yet, and flushes them. What it took and its errors are
 /// added to the notes.
-#[tactic(auto, using(crate::proofs::Signalled::put_error_behind, crate::proofs::Takes::put_says_behind))]
 pub fn write_alone<W: Write + Drop>(
     writer: W,
     bytes: &[u8],

@@ -1,5 +1,5 @@
 -- What is told of the file is told of the folder.
-use Rattle.std.proofs.Common.{ap, subst}
+use Rattle.std.proofs.Common.{ℕ, ◌≤◌, [], ◌∷◌, ◌++◌, ap, subst, ◌∙◌}
 use Rattle.m36_outside.specs.Given.{ReadGives}
 use Rattle.m36_outside.specs.ReadAnswer.{ReadHasCause}
 use Rattle.m36_outside.specs.System.{ReadHasError}
@@ -20,3 +20,29 @@ pub returns-clause-error : goal.returns-clause-error
 returns-clause-error g c =
     subst (λ l. ReadHasError c.read_file-answer.result c.args.name.now l c.read_file-answer.new.notes.errors.entries) (ap (λ (s : FolderTold). s.errors) c.self.view_is)
     c.read_file-answer.ensures.error
+
+pub returns-clause-limit : goal.returns-clause-limit
+returns-clause-limit g c = c.read_file-answer.ensures.limit
+
+pub returns-clause-outside : goal.returns-clause-outside
+returns-clause-outside g c = c.read_file-answer.ensures.outside
+
+pub returns-clause-taken : goal.returns-clause-taken
+returns-clause-taken g c = c.read_file-answer.ensures.taken ∙ ap (λ (s : FolderTold). s.taken) c.self.view_is
+
+pub returns-clause-asked : goal.returns-clause-asked
+returns-clause-asked g c =
+    c.note_read.ensures.asked ∙ ap (λ (s : FolderTold). s.asked ++ (c.args.name.now, c.read_file-answer.result) ∷ []) c.self.view_is
+
+pub returns-clause-wrote : goal.returns-clause-wrote
+returns-clause-wrote g c = c.note_read.ensures.wrote ∙ ap (λ (s : FolderTold). s.wrote) c.self.view_is
+
+pub returns-clause-count : goal.returns-clause-count
+returns-clause-count g c =
+    subst (λ (n : ℕ). n ≤ c.after_read-self-inside.result) (ap (λ (s : FolderTold). s.reads) c.self.view_is) c.after_read-self-inside.ensures.later
+
+pub returns-clause-count_bound : goal.returns-clause-count_bound
+returns-clause-count_bound g c = c.after_read-self-inside.ensures.bound
+
+pub returns-clause-other_count : goal.returns-clause-other_count
+returns-clause-other_count g c = ap (λ (s : FolderTold). s.writes) c.self.view_is

@@ -1,5 +1,5 @@
 -- The answer is that of the file.
-use Rattle.std.proofs.Common.{ap, subst, ◌∙◌}
+use Rattle.std.proofs.Common.{ℕ, ◌≤◌, [], ◌∷◌, ◌++◌, ap, subst, ◌∙◌}
 use Rattle.m36_outside.specs.Told.{FolderTold}
 use Rattle.m36_outside.specs.WriteAnswer.{WriteHasCause}
 use Rattle.m36_outside.specs.System.{WriteTakes, WriteHasError}
@@ -31,3 +31,23 @@ pub returns-clause-error : goal.returns-clause-error
 returns-clause-error g c =
     subst (λ l. WriteHasError c.write_answer-answer.result c.args.name.now l c.write_file-put.new.notes.errors.entries) (ap (λ (s : FolderTold). s.errors) c.self.view_is)
     (write_error c.write_file-put.result c.write_answer-answer.result c.args.name.now c.self.inside.notes.errors.entries c.write_file-put.new.notes.errors.entries c.write_answer-answer.ensures c.write_file-put.ensures.error)
+
+pub returns-clause-given : goal.returns-clause-given
+returns-clause-given g c = c.write_file-put.ensures.given ∙ ap (λ (s : FolderTold). s.given) c.self.view_is
+
+pub returns-clause-wrote : goal.returns-clause-wrote
+returns-clause-wrote g c =
+    c.note_write.ensures.wrote ∙ ap (λ (s : FolderTold). s.wrote ++ (c.args.name.now, c.args.content.now, c.write_answer-answer.result) ∷ []) c.self.view_is
+
+pub returns-clause-asked : goal.returns-clause-asked
+returns-clause-asked g c = c.note_write.ensures.asked ∙ ap (λ (s : FolderTold). s.asked) c.self.view_is
+
+pub returns-clause-count : goal.returns-clause-count
+returns-clause-count g c =
+    subst (λ (n : ℕ). n ≤ c.after_put-self-inside.result) (ap (λ (s : FolderTold). s.writes) c.self.view_is) c.after_put-self-inside.ensures.later
+
+pub returns-clause-count_bound : goal.returns-clause-count_bound
+returns-clause-count_bound g c = c.after_put-self-inside.ensures.bound
+
+pub returns-clause-other_count : goal.returns-clause-other_count
+returns-clause-other_count g c = ap (λ (s : FolderTold). s.reads) c.self.view_is

@@ -1,5 +1,5 @@
 -- What was written is noted as one piece.
-use Rattle.std.proofs.Common.{[], ◌∷◌, ◌++◌, ap, subst, ◌∙◌}
+use Rattle.std.proofs.Common.{ℕ, ◌≤◌, [], ◌∷◌, ◌++◌, ap, subst, ◌∙◌}
 use Rattle.m36_outside.specs.Put.{PutHasCause}
 use Rattle.m36_outside.specs.System.{PutHasError}
 use Rattle.m36_outside.specs.Told.{SinkTold}
@@ -29,3 +29,10 @@ pub returns-clause-error : goal.returns-clause-error
 returns-clause-error g c =
     subst (λ l. PutHasError c.write_alone-answer.result l c.write_alone-answer.new.errors.entries) (ap (λ (s : SinkTold). s.errors) c.self.view_is)
     c.write_alone-answer.ensures.error
+
+pub returns-clause-count : goal.returns-clause-count
+returns-clause-count g c =
+    subst (λ (n : ℕ). n ≤ c.after_put-self-inside.result) (ap (λ (s : SinkTold). s.faults) c.self.view_is) c.after_put-self-inside.ensures.later
+
+pub returns-clause-count_bound : goal.returns-clause-count_bound
+returns-clause-count_bound g c = c.after_put-self-inside.ensures.bound

@@ -1,5 +1,5 @@
 -- What was written is noted in pieces.
-use Rattle.std.proofs.Common.{◌<◌, ◌++◌, Some, length, ap, subst, ◌∙◌, rules, arith}
+use Rattle.std.proofs.Common.{ℕ, ◌≤◌, ◌<◌, ◌++◌, Some, length, ap, subst, ◌∙◌, rules, arith}
 use Rattle.m36_outside.specs.Block.{parts}
 use Rattle.m36_outside.specs.Put.{PutSays, PutHasCause}
 use Rattle.m36_outside.specs.System.{PutHasError}
@@ -38,3 +38,10 @@ pub returns-clause-error : goal.returns-clause-error
 returns-clause-error g c =
     subst (λ l. PutHasError c.write_alone-answer.result l c.write_alone-answer.new.errors.entries) (ap (λ (s : SinkTold). s.errors) c.self.view_is)
     c.write_alone-answer.ensures.error
+
+pub returns-clause-count : goal.returns-clause-count
+returns-clause-count g c =
+    subst (λ (n : ℕ). n ≤ c.after_put-self-inside.result) (ap (λ (s : SinkTold). s.faults) c.self.view_is) c.after_put-self-inside.ensures.later
+
+pub returns-clause-count_bound : goal.returns-clause-count_bound
+returns-clause-count_bound g c = λ _. c.after_put-self-inside.ensures.bound

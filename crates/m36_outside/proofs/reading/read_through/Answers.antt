@@ -1,26 +1,20 @@
--- What was read was added. The buffer is longer than what was asked for, and begins with what was read.
-use Rattle.std.proofs.Common.{[], ◌≡◌, ◌≤◌, ℕ, length, take, sym, subst, refl, append-nil, rules, arith}
-use Rattle.std.proofs.lemmas.List.{take-append-le}
+-- What was read was added.
+use Rattle.std.proofs.Common.{[], ◌≡◌, ℕ, take, sym, subst, refl, append-nil, rules, arith}
 use Rattle.std.specs.Io.KnownBytes.{Consumes}
-use Rattle.m36_outside.specs.Chunk.{AddSays}
 use Rattle.m36_outside.proofs.Consumed.{chunk_says}
 use Rattle.m36_outside.proofs.FilesGiven.{chunk_gives}
 use Rattle.m36_outside.proofs.Signalled.{chunk_has_error}
-use Rattle.m36_outside.proofs.reading.read_chunk.Goals as goal
+use Rattle.m36_outside.proofs.reading.read_through.Goals as goal
 
 pub returns-in-Some-clause-says : goal.returns-in-Some-clause-says
 returns-in-Some-clause-says g c =
-    let few : c.in-Some.count ≤ length c.read.new.into = c.in-Some.ensures.bound in
-    let added : AddSays c.add_chunk.result c.args.text.now c.add_chunk.new.text (take c.in-Some.count c.read.new.into) = rw take-append-le at c.add_chunk.ensures in
     chunk_says c.add_chunk.result (g.R.Read.remaining c.args.from.now.inner) (g.R.Read.remaining c.read.new.self.inner) c.args.text.now c.add_chunk.new.text
-    (take c.in-Some.count c.read.new.into) added c.in-Some.ensures.inner
+    (take c.in-Some.count c.read.new.into) c.add_chunk.ensures c.in-Some.ensures.inner
 
 pub returns-in-Some-clause-gives : goal.returns-in-Some-clause-gives
 returns-in-Some-clause-gives g c =
-    let few : c.in-Some.count ≤ length c.read.new.into = c.in-Some.ensures.bound in
-    let added : AddSays c.add_chunk.result c.args.text.now c.add_chunk.new.text (take c.in-Some.count c.read.new.into) = rw take-append-le at c.add_chunk.ensures in
     chunk_gives c.add_chunk.result c.args.from.now.given.entries c.read.new.self.given.entries c.args.text.now c.add_chunk.new.text
-    (take c.in-Some.count c.read.new.into) added c.in-Some.ensures.given
+    (take c.in-Some.count c.read.new.into) c.add_chunk.ensures c.in-Some.ensures.given
 
 pub returns-in-Some-clause-error : goal.returns-in-Some-clause-error
 returns-in-Some-clause-error g c =

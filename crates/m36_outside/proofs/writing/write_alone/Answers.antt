@@ -1,0 +1,14 @@
+-- What was noted of the writer is noted behind what was there.
+use Rattle.m36_outside.proofs.Signalled.{put_error_behind}
+use Rattle.m36_outside.proofs.Takes.{put_says_behind}
+use Rattle.m36_outside.proofs.writing.write_alone.Goals as goal
+
+pub returns-clause-taken : goal.returns-clause-taken
+returns-clause-taken g c =
+    put_says_behind c.write_whole-answer.result c.args.taken.now.entries c.note.new.self.entries c.new-to.result.taken.entries c.write_whole-answer.new.to.taken.entries c.args.bytes.now
+    c.write_whole-answer.ensures.taken c.new-to.ensures.taken c.note.ensures
+
+pub returns-clause-error : goal.returns-clause-error
+returns-clause-error g c =
+    put_error_behind c.write_whole-answer.result c.args.errors.now.entries c.note-2.new.self.entries c.new-to.result.errors.entries c.write_whole-answer.new.to.errors.entries
+    c.write_whole-answer.ensures.error c.new-to.ensures.errors c.note-2.ensures
