@@ -79,7 +79,6 @@ impl Sink for MemSink {
 
     ghost faults = { λ s. s.faults };
 
-    #[tactic(auto, using(crate::proofs::Grown::within_front, crate::proofs::Takes::takes))]
     fn put(&mut self, piece: &[u8]) -> Put
         ensures says { PutSays result (Some self.old.bytes) (Some self.new.bytes) piece.now }
         ensures took { PutTakes result
