@@ -183,16 +183,14 @@ fn name(text: &str) -> Name {
     Name::new(text.as_bytes()).unwrap_or_default()
 }
 
-fn words_of(alloc: Global, numbers: &[u64]) -> Result<Words, NoMemory> {
-    let mut words = Words::new(alloc);
+fn add_words(words: &mut Words, numbers: &[u64]) -> Result<(), NoMemory> {
     for number in numbers {
         words.push(Word::low(*number))?;
     }
-    Ok(words)
+    Ok(())
 }
 
-fn definitions_of(alloc: Global, rows: &[(&str, Section, bool)]) -> Result<Defs, NoMemory> {
-    let mut definitions = Defs::new(alloc);
+fn add_definitions(definitions: &mut Defs, rows: &[(&str, Section, bool)]) -> Result<(), NoMemory> {
     for (text, section, is_entry) in rows {
         let def = Def {
             value: 0,
@@ -204,11 +202,13 @@ fn definitions_of(alloc: Global, rows: &[(&str, Section, bool)]) -> Result<Defs,
             def,
         })?;
     }
-    Ok(definitions)
+    Ok(())
 }
 
-fn links_of(alloc: Global, rows: &[(&str, &str, u32, u8, Section, u8)]) -> Result<Links, NoMemory> {
-    let mut links = Links::new(alloc);
+fn add_links(
+    links: &mut Links,
+    rows: &[(&str, &str, u32, u8, Section, u8)],
+) -> Result<(), NoMemory> {
     for (segment, entry, expr, kind, section, modifier) in rows {
         links.push(Link {
             name: name(segment),
@@ -219,11 +219,13 @@ fn links_of(alloc: Global, rows: &[(&str, &str, u32, u8, Section, u8)]) -> Resul
             modifier: *modifier % 0o100,
         })?;
     }
-    Ok(links)
+    Ok(())
 }
 
-fn relocations_of(alloc: Global, rows: &[(u32, Section, u8, Section)]) -> Result<Relocs, NoMemory> {
-    let mut relocations = Relocs::new(alloc);
+fn add_relocations(
+    relocations: &mut Relocs,
+    rows: &[(u32, Section, u8, Section)],
+) -> Result<(), NoMemory> {
     for (offset, section, part, target) in rows {
         relocations.push(Reloc {
             offset: *offset % 0o1000000,
@@ -232,19 +234,41 @@ fn relocations_of(alloc: Global, rows: &[(u32, Section, u8, Section)]) -> Result
             target: *target,
         })?;
     }
-    Ok(relocations)
+    Ok(())
+}
+
+// Fills empty parts with those of a sample.
+fn fill(parts: &mut Parts, sample: &Sample) -> Result<(), NoMemory> {
+    add_words(&mut parts.text, sample.text)?;
+    add_words(&mut parts.statics, sample.statics)?;
+    add_definitions(&mut parts.definitions, sample.definitions)?;
+    add_links(&mut parts.links, sample.links)?;
+    add_relocations(&mut parts.relocations, sample.relocations)
+}
+
+// Empty parts, but for the entry bound and the version of a sample.
+fn empty_parts(alloc: Global, sample: &Sample) -> Parts {
+    Parts {
+        text: Words::new(alloc),
+        statics: Words::new(alloc),
+        definitions: Defs::new(alloc),
+        links: Links::new(alloc),
+        relocations: Relocs::new(alloc),
+        entry_bound: sample.entry_bound % 0o1000000,
+        version: sample.version,
+    }
 }
 
 fn parts_of(alloc: Global, sample: &Sample) -> Result<Parts, NoMemory> {
-    Ok(Parts {
-        text: words_of(alloc, sample.text)?,
-        statics: words_of(alloc, sample.statics)?,
-        definitions: definitions_of(alloc, sample.definitions)?,
-        links: links_of(alloc, sample.links)?,
-        relocations: relocations_of(alloc, sample.relocations)?,
-        entry_bound: sample.entry_bound % 0o1000000,
-        version: sample.version,
-    })
+    let mut parts = empty_parts(alloc, sample);
+    match fill(&mut parts, sample) {
+        Ok(()) => Ok(parts),
+        Err(error) => {
+            // Dropped by a call: so the drop is proved once for its type.
+            drop(parts);
+            Err(error)
+        }
+    }
 }
 
 // The print of an object, or its listing for these lines.
@@ -267,11 +291,15 @@ fn shown(
     lines: Option<&Lines36>,
     parts: Parts,
 ) -> Result<Text, NoMemory> {
+    // Dropped by calls: so the drops are proved once for their types.
     if !parts.is_object() {
+        drop(parts);
         return Ok(Text::new(alloc));
     }
     let object = Object::new(alloc, parts)?;
-    text_of(alloc, name, lines, &object)
+    let told = text_of(alloc, name, lines, &object);
+    drop(object);
+    told
 }
 
 // Whether the print of a sample, or its listing for these lines, is this.
@@ -284,7 +312,9 @@ fn shows(
 ) -> Result<bool, NoMemory> {
     let parts = parts_of(alloc, sample)?;
     let text = shown(alloc, name.as_bytes(), lines, parts)?;
-    Ok(text.bytes() == expected.as_bytes())
+    let told = text.bytes() == expected.as_bytes();
+    drop(text);
+    Ok(told)
 }
 
 #[test]
