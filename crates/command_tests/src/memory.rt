@@ -60,7 +60,12 @@ pub(crate) fn words(alloc: Global, command: &[u8]) -> Result<Vec<Text>, NoMemory
 /// Whether a file is there and has this content.
 pub(crate) fn has_file(alloc: Global, folder: &mut MemFolder, name: &[u8], content: &[u8]) -> bool {
     match folder.read(alloc, name) {
-        ReadAnswer::Read(text) => text.bytes() == content,
+        ReadAnswer::Read(text) => {
+            let told = text.bytes() == content;
+            // Dropped by a call: so the drop is proved once for its type. So below.
+            drop(text);
+            told
+        }
         _ => false,
     }
 }
@@ -68,7 +73,11 @@ pub(crate) fn has_file(alloc: Global, folder: &mut MemFolder, name: &[u8], conte
 /// Whether a status has this line.
 pub(crate) fn has_line(alloc: Global, status: &Status, line: &[u8]) -> bool {
     match report(alloc, status) {
-        Ok(text) => text.bytes() == line,
+        Ok(text) => {
+            let told = text.bytes() == line;
+            drop(text);
+            told
+        }
         Err(_) => false,
     }
 }
@@ -106,18 +115,25 @@ fn is_met(
     }
 }
 
+/// Calls words over the folder; what they put and come to is not kept.
+fn call_words_before(
+    alloc: Global,
+    words: &[Text],
+    folder: &mut MemFolder,
+) -> Result<(), NoMemory> {
+    let mut lines = SureLines::new(alloc, &[])?;
+    let status = m36(alloc, words, folder, &mut lines, &mut SureSink::new());
+    drop(status);
+    drop(lines);
+    Ok(())
+}
+
 /// Calls a command over the folder.
 fn call_before(alloc: Global, command: &[u8], folder: &mut MemFolder) -> Result<(), NoMemory> {
     let words = words(alloc, command)?;
-    let mut lines = SureLines::new(alloc, &[])?;
-    let _ = m36(
-        alloc,
-        words.as_slice(),
-        folder,
-        &mut lines,
-        &mut SureSink::new(),
-    );
-    Ok(())
+    let told = call_words_before(alloc, words.as_slice(), folder);
+    drop(words);
+    told
 }
 
 fn fill(alloc: Global, folder: &mut MemFolder, world: &World) -> Result<(), NoMemory> {
@@ -141,7 +157,39 @@ fn call(
     fill(alloc, folder, world)?;
     let (_, _, _, piece) = world.failing;
     let mut lines = MemLines::new(alloc, world.input, &[piece])?;
-    Ok(m36(alloc, words, folder, &mut lines, out))
+    let status = m36(alloc, words, folder, &mut lines, out);
+    drop(lines);
+    Ok(status)
+}
+
+/// Whether words come to what is due over this folder and this output.
+fn words_come_over(
+    alloc: Global,
+    words: &[Text],
+    world: &World,
+    due: Due,
+    folder: &mut MemFolder,
+    out: &mut MemSink,
+) -> Result<bool, NoMemory> {
+    let status = call(alloc, words, world, folder, out)?;
+    let told = is_met(alloc, due, &status, folder, out.bytes());
+    drop(status);
+    Ok(told)
+}
+
+/// The same over an output of its own.
+fn words_come_in(
+    alloc: Global,
+    words: &[Text],
+    world: &World,
+    due: Due,
+    folder: &mut MemFolder,
+) -> Result<bool, NoMemory> {
+    let (_, _, put, _) = world.failing;
+    let mut out = MemSink::new(alloc, ROOM, &[put])?;
+    let told = words_come_over(alloc, words, world, due, folder, &mut out);
+    drop(out);
+    told
 }
 
 /// Whether words come to what is due.
@@ -151,11 +199,11 @@ pub(crate) fn words_come_to(
     world: &World,
     due: Due,
 ) -> Result<bool, NoMemory> {
-    let (read, write, put, _) = world.failing;
+    let (read, write, _, _) = world.failing;
     let mut folder = MemFolder::new(alloc, &[read], &[write])?;
-    let mut out = MemSink::new(alloc, ROOM, &[put])?;
-    let status = call(alloc, words, world, &mut folder, &mut out)?;
-    Ok(is_met(alloc, due, &status, &mut folder, out.bytes()))
+    let told = words_come_in(alloc, words, world, due, &mut folder);
+    drop(folder);
+    told
 }
 
 /// Whether a command comes to what is due.
@@ -166,7 +214,9 @@ pub(crate) fn comes_to(
     due: Due,
 ) -> Result<bool, NoMemory> {
     let words = words(alloc, command)?;
-    words_come_to(alloc, words.as_slice(), world, due)
+    let told = words_come_to(alloc, words.as_slice(), world, due);
+    drop(words);
+    told
 }
 
 /// Whether a command comes to what is due over a folder with one file.
