@@ -27,30 +27,69 @@ loop: eax1 774,x1
  end
 ";
 
+// Calls the words over a folder: the number of the status.
+fn call(
+    alloc: Global,
+    words: &[Text],
+    folder: &mut MemFolder,
+    out: &mut MemSink,
+) -> Result<u8, NoMemory> {
+    let mut lines = SureLines::new(alloc, &[])?;
+    let status = m36(alloc, words, folder, &mut lines, out);
+    let number = status.number();
+    // Dropped by calls: so the drops are proved once for their types. So below.
+    drop(status);
+    drop(lines);
+    Ok(number)
+}
+
 // Makes the files of a seed in a folder: the number of the status.
 fn make(alloc: Global, folder: &mut MemFolder, out: &mut MemSink) -> Result<u8, NoMemory> {
     let words = words(alloc, b"make 1")?;
-    let mut lines = SureLines::new(alloc, &[])?;
-    let status = m36(alloc, words.as_slice(), folder, &mut lines, out);
-    Ok(status.number())
+    let told = call(alloc, words.as_slice(), folder, out);
+    drop(words);
+    told
+}
+
+// Whether the making in a folder, where puts of these numbers fail, ends with this number of the status and has put this.
+fn makes(
+    alloc: Global,
+    folder: &mut MemFolder,
+    failing: &[u32],
+    due: u8,
+    written: &[u8],
+) -> Result<bool, NoMemory> {
+    let mut out = MemSink::new(alloc, 1000, failing)?;
+    let number = make(alloc, folder, &mut out);
+    let is_written = out.bytes() == written;
+    drop(out);
+    Ok(number? == due && is_written)
 }
 
 // The folder as it is made where the write behind the last fails.
 fn whole(alloc: Global) -> Result<MemFolder, Fail> {
     let mut folder = MemFolder::new(alloc, &[], &[FILES + 1])?;
-    let mut out = MemSink::new(alloc, 1000, &[])?;
-    let number = make(alloc, &mut folder, &mut out)?;
-    if number == 0 && out.bytes() == SUMMARY {
-        Ok(folder)
-    } else {
-        Err(Fail::from("the folder is made"))
+    match makes(alloc, &mut folder, &[], 0, SUMMARY) {
+        Ok(true) => Ok(folder),
+        Ok(false) => {
+            drop(folder);
+            Err(Fail::from("the folder is made"))
+        }
+        Err(error) => {
+            drop(folder);
+            Err(Fail::from(error))
+        }
     }
 }
 
 // How many bytes a file has; None where there is no such file.
 fn length_of(alloc: Global, folder: &mut MemFolder, name: &[u8]) -> Option<usize> {
     match folder.read(alloc, name) {
-        ReadAnswer::Read(text) => Some(text.bytes().len()),
+        ReadAnswer::Read(text) => {
+            let length = text.bytes().len();
+            drop(text);
+            Some(length)
+        }
         _ => None,
     }
 }
@@ -114,7 +153,11 @@ fn name_behind(alloc: Global, written: u32) -> Result<Text, NoMemory> {
 // Whether a file is there, and has what it has in the whole folder.
 fn is_whole(alloc: Global, folder: &mut MemFolder, whole: &mut MemFolder, name: &[u8]) -> bool {
     match whole.read(alloc, name) {
-        ReadAnswer::Read(text) => has_file(alloc, folder, name, text.bytes()),
+        ReadAnswer::Read(text) => {
+            let told = has_file(alloc, folder, name, text.bytes());
+            drop(text);
+            told
+        }
         _ => false,
     }
 }
@@ -132,11 +175,13 @@ fn is_due(
     is_there: bool,
 ) -> Result<bool, NoMemory> {
     let name = name_behind(alloc, place)?;
-    if is_there {
-        Ok(is_whole(alloc, folder, whole, name.bytes()))
+    let told = if is_there {
+        is_whole(alloc, folder, whole, name.bytes())
     } else {
-        Ok(is_absent(alloc, folder, name.bytes()))
-    }
+        is_absent(alloc, folder, name.bytes())
+    };
+    drop(name);
+    Ok(told)
 }
 
 // Whether the first so many files are there as in the whole folder, and none of the others.
@@ -154,6 +199,19 @@ fn has_first(
     Ok(true)
 }
 
+// Whether the making in this folder, where a put fails, ends with WriteFault, has put this by then, and has left so many files.
+fn ends_in(
+    alloc: Global,
+    folder: &mut MemFolder,
+    whole: &mut MemFolder,
+    put: u32,
+    written: &[u8],
+    count: u32,
+) -> Result<bool, NoMemory> {
+    let is_told = makes(alloc, folder, &[put], 3, written)?;
+    Ok(is_told && matches!(has_first(alloc, folder, whole, count), Ok(true)))
+}
+
 // Whether the making where a write or a put of these numbers fails, 0 for none, ends with WriteFault, has put this by then,
 // and has left the first so many files and no others.
 fn ends_behind(
@@ -164,10 +222,9 @@ fn ends_behind(
     count: u32,
 ) -> Result<bool, NoMemory> {
     let mut folder = MemFolder::new(alloc, &[], &[write])?;
-    let mut out = MemSink::new(alloc, 1000, &[put])?;
-    let number = make(alloc, &mut folder, &mut out)?;
-    let is_told = number == 3 && out.bytes() == written;
-    Ok(is_told && matches!(has_first(alloc, &mut folder, whole, count), Ok(true)))
+    let told = ends_in(alloc, &mut folder, whole, put, written, count);
+    drop(folder);
+    told
 }
 
 #[test]
