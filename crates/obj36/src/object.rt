@@ -198,18 +198,32 @@ fn sections_found(alloc: Global, parts: &Parts, w: &[Word]) -> Result<Option<Sec
     }
 }
 
+// The object of parts with their sections.
+fn object_of(parts: Parts, sections: Sections) -> Object
+    requires { IsObject parts sections.definition sections.linkage sections.symbol }
+    ensures { result ≡ parts }
+{
+    Object {
+        parts,
+        definition: sections.definition,
+        linkage: sections.linkage,
+        symbol: sections.symbol,
+    }
+}
+
 // The object of parts with their sections, where there are any.
 fn object_with(parts: Parts, sections: Option<Sections>) -> Option<Object>
     requires { IfSome sections (λ s. IsObject parts s.definition s.linkage s.symbol) }
     ensures { result ≡ option_map (λ s. parts) sections }
 {
-    let sections = sections?;
-    Some(Object {
-        parts,
-        definition: sections.definition,
-        linkage: sections.linkage,
-        symbol: sections.symbol,
-    })
+    match sections {
+        Some(sections) => Some(object_of(parts, sections)),
+        None => {
+            // Dropped by a call: so the drop is proved once for its type.
+            drop(parts);
+            None
+        }
+    }
 }
 
 // The object that a list of words is, or none where it stands for no value.
@@ -220,8 +234,13 @@ fn object_in(alloc: Global, w: &[Word]) -> Result<Option<Object>, NoMemory>
     ensures found { IfOk result (λ found. IsFound w.now found) }
 {
     let parts = parts_in(alloc, w)?;
-    let sections = sections_found(alloc, &parts, w)?;
-    Ok(object_with(parts, sections))
+    match sections_found(alloc, &parts, w) {
+        Ok(sections) => Ok(object_with(parts, sections)),
+        Err(cause) => {
+            drop(parts);
+            Err(cause)
+        }
+    }
 }
 
 // The object that a list of words with a map is.
@@ -259,13 +278,13 @@ impl Object {
         requires { is_well_formed parts ≡ true }
         ensures { IfOk result (λ o. o ≡ parts) }
     {
-        let sections = sections_of(alloc, &parts)?;
-        Ok(Object {
-            parts,
-            definition: sections.definition,
-            linkage: sections.linkage,
-            symbol: sections.symbol,
-        })
+        match sections_of(alloc, &parts) {
+            Ok(sections) => Ok(object_of(parts, sections)),
+            Err(cause) => {
+                drop(parts);
+                Err(cause)
+            }
+        }
     }
 
     /// The one list of words that stands for the object. The error is want of memory alone.
