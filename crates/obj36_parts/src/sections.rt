@@ -3,13 +3,14 @@
 ghost use Rattle.std.specs.Prelude.{ℕ, [], ◌∷◌, ◌++◌, ◌≡◌, ◌+◌, ◌-◌, ◌*◌, ◌^◌, ◌<◌, ◌≤◌};
 ghost use Rattle.std.specs.Prelude.{length, replicate, OnOk, IfOk};
 ghost use Rattle.obj36_parts.specs.Halves.{joined};
-ghost use Rattle.obj36_parts.specs.Names.{place_of};
+ghost use Rattle.obj36_parts.specs.Names.{place_of, with_names};
 ghost use Rattle.obj36_parts.specs.Sections.{class_number, place_number, is_text_section, rank};
 ghost use Rattle.obj36_parts.specs.Sections.{later_section};
 ghost use Rattle.obj36_parts.specs.ObjectSegment.{version_of, evened_words};
 ghost use Rattle.obj36_parts.specs.ObjectSegment.{place_if_any};
 ghost use Rattle.obj36_parts.specs.ObjectSegment.{class_of};
 ghost use Rattle.obj36_parts.specs.ObjectSegment.{definition_words, subject_of, entry_place};
+ghost use Rattle.obj36_parts.specs.ObjectSegment.{definition_names, all_link_names, expressions_behind};
 ghost use Rattle.obj36_parts.specs.ObjectSegment.{expression_words, definition_part, link_words};
 ghost use Rattle.obj36_parts.specs.ObjectSegment.{linkage_part, relocation_word};
 ghost use Rattle.obj36_parts.specs.ObjectSegment.{symbol_part, definition_head};
@@ -242,8 +243,66 @@ fn push_expressions(out: &mut Words, table: &NameTable, links: &[Link]) -> Resul
     Ok(())
 }
 
-/// The definition section of these definitions and links.
+// Adds the definition section of these definitions and links, whose names stand in a table.
 #[tactic(auto, unfolding(crate::specs::ObjectSegment::definition_part))]
+fn push_section(
+    out: &mut Words,
+    table: &NameTable,
+    definitions: &[Named],
+    links: &[Link],
+) -> Result<(), NoMemory>
+    requires definitions { length definitions.now < 2 ^ 32 }
+    requires links { length links.now < 2 ^ 32 }
+    requires names { table.now.names
+        ≡ with_names [] (definition_names definitions.now ++ all_link_names links.now) }
+    requires base { table.now.base
+        ≡ expressions_behind (length definitions.now) + 2 * length links.now }
+    ensures { OnOk result (out.new ≡ out.old ++ definition_part definitions.now links.now) }
+{
+    let expressions = 2 + 2 * definitions.len() as u64;
+    push_pair(
+        out,
+        word_of(
+            place_unless_empty(definitions.len(), 2),
+            definitions.len() as u64,
+        ),
+        word_of(
+            place_unless_empty(links.len(), expressions),
+            links.len() as u64,
+        ),
+    )?;
+    push_definitions(out, table, definitions)?;
+    push_expressions(out, table, links)?;
+    push_names(out, table.names())
+}
+
+// The definition section of these definitions and links, whose names stand in a table.
+fn words_by_table(
+    alloc: Global,
+    table: &NameTable,
+    definitions: &[Named],
+    links: &[Link],
+) -> Result<Words, NoMemory>
+    requires definitions { length definitions.now < 2 ^ 32 }
+    requires links { length links.now < 2 ^ 32 }
+    requires names { table.now.names
+        ≡ with_names [] (definition_names definitions.now ++ all_link_names links.now) }
+    requires base { table.now.base
+        ≡ expressions_behind (length definitions.now) + 2 * length links.now }
+    ensures { IfOk result (λ words. words ≡ definition_part definitions.now links.now) }
+{
+    let mut out = Words::new(alloc);
+    match push_section(&mut out, table, definitions, links) {
+        Ok(()) => Ok(out),
+        Err(cause) => {
+            // Dropped by a call: so the drop is proved once for its type.
+            drop(out);
+            Err(cause)
+        }
+    }
+}
+
+/// The definition section of these definitions and links.
 pub fn definition_words_of(
     alloc: Global,
     definitions: &[Named],
@@ -256,22 +315,9 @@ pub fn definition_words_of(
     let expressions = 2 + 2 * definitions.len() as u64;
     let base = expressions + 2 * links.len() as u64;
     let table = names_used(alloc, definitions, links, base)?;
-    let mut out = Words::new(alloc);
-    push_pair(
-        &mut out,
-        word_of(
-            place_unless_empty(definitions.len(), 2),
-            definitions.len() as u64,
-        ),
-        word_of(
-            place_unless_empty(links.len(), expressions),
-            links.len() as u64,
-        ),
-    )?;
-    push_definitions(&mut out, &table, definitions)?;
-    push_expressions(&mut out, &table, links)?;
-    push_names(&mut out, table.names())?;
-    Ok(out)
+    let words = words_by_table(alloc, &table, definitions, links);
+    drop(table);
+    words
 }
 
 // ---- the linkage section
