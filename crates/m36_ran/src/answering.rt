@@ -178,8 +178,16 @@ pub fn with_image<S: Sink>(
         (sink_of S.written S.taken S.faults out.old) (sink_of S.written S.taken S.faults out.new) }
 {
     match findings_in(alloc, &image) {
-        Ok(verdict) => answer_found(alloc, command, verdict.findings.as_slice(), image, out),
-        Err(_) => Status::NoMemory,
+        Ok(verdict) => {
+            let status = answer_found(alloc, command, verdict.findings.as_slice(), image, out);
+            // Dropped by a call: so the drop is proved once for its type.
+            drop(verdict);
+            status
+        }
+        Err(_) => {
+            drop(image);
+            Status::NoMemory
+        }
     }
 }
 

@@ -128,11 +128,24 @@ pub fn run<S: Sink>(machine: &mut Machine, steps: u32, out: &mut S) -> Ended
     'steps: while left > 0 {
         match take_turn(machine, taken as u64 + 1, &mut told, &mut block, out) {
             Turn::Next => {}
-            Turn::Last(outcome) => return put_end(&mut block, &outcome, taken as u64 + 1, out),
-            Turn::Cut => return Ended::Cut,
+            Turn::Last(outcome) => {
+                let ended = put_end(&mut block, &outcome, taken as u64 + 1, out);
+                // Dropped by a call: so the drop is proved once for its type.
+                drop(block);
+                drop(told);
+                return ended;
+            }
+            Turn::Cut => {
+                drop(block);
+                drop(told);
+                return Ended::Cut;
+            }
         }
         taken += 1;
         left -= 1;
     }
-    put_end(&mut block, &Outcome::Next, taken as u64, out)
+    let ended = put_end(&mut block, &Outcome::Next, taken as u64, out);
+    drop(block);
+    drop(told);
+    ended
 }

@@ -11,4 +11,4 @@ pub returns : goal.returns
 unfolding state_reads
 returns g c =
     let name = c.args.name.now in
-    reads_on (file_bytes name) (λ bytes. state_by name (state_given bytes)) c.in_ok-text.text c.state_in.result _ _ _ _ c.in_ok-text.ensures.reads (subst (λ b. Gives c.state_in.result (state_by name (state_given b))) c.bytes.ensures c.state_in.ensures)
+    reads_on (file_bytes name) (λ bytes. state_by name (state_given bytes)) c.in_ok-text.text c.state_in-given.result _ _ _ _ c.in_ok-text.ensures.reads (subst (λ b. Gives c.state_in-given.result (state_by name (state_given b))) c.bytes.ensures c.state_in-given.ensures)
