@@ -149,15 +149,17 @@ fn with_system<S: Sink>(
 {
     match audited(alloc, &system) {
         Ok(verdict) => {
-            answer_found(
-                command,
-                &mut system,
-                denied,
-                verdict.findings.as_slice(),
-                out,
-            )
+            let findings = verdict.findings.as_slice();
+            let status = answer_found(command, &mut system, denied, findings, out);
+            // Dropped by a call: so the drop is proved once for its type.
+            drop(verdict);
+            drop(system);
+            status
         }
-        Err(_) => Status::NoMemory,
+        Err(_) => {
+            drop(system);
+            Status::NoMemory
+        }
     }
 }
 

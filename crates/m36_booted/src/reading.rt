@@ -109,7 +109,10 @@ fn boot_files(
 {
     match Super::boot(alloc, catalog, files.items) {
         Ok(system) => Ok(BootedFolder { system, denied }),
-        Err(fault) => Err(refuse_fault(alloc, fault)),
+        Err(fault) => {
+            drop(denied);
+            Err(refuse_fault(alloc, fault))
+        }
     }
 }
 
@@ -126,9 +129,14 @@ fn read_booted<F: Folder>(
         (F.asked folder.old) (F.asked folder.new) }
     ensures booted { IfOk result (λ booted. IsFresh booted.system) }
 {
-    let Access { catalog, denied } = access;
-    let files = read_files(alloc, &catalog, folder)?;
-    boot_files(alloc, catalog, denied, files)
+    match read_files(alloc, &access.catalog, folder) {
+        Ok(files) => boot_files(alloc, access.catalog, access.denied, files),
+        Err(refusal) => {
+            // Dropped by a call: so the drop is proved once for its type.
+            drop(access);
+            Err(refusal)
+        }
+    }
 }
 
 /// Reads a folder, and boots it, for a user if there is one.

@@ -8,6 +8,6 @@ use Rattle.m36_booted.proofs.answering.with_system.Goals as goal
 
 pub returns-in-Ok : goal.returns-in-Ok
 returns-in-Ok g c =
-    folder_puts c.args.command c.args.system c.args.denied.now (pairs c.as_slice.result.now) c.answer_found.result _ _ c.requires
-    (subst (λ (l : List Finding). AreFindings c.args.system.core c.args.system.regs.dbr (pairs l)) (sym c.as_slice.ensures.value) c.in-Ok.ensures)
-    c.answer_found.ensures
+    folder_puts c.args.command c.args.system c.args.denied.now (pairs c.as_slice-findings.result.now) c.answer_found-status.result _ _ c.requires
+    (subst (λ (l : List Finding). AreFindings c.args.system.core c.args.system.regs.dbr (pairs l)) (sym c.as_slice-findings.ensures.value) c.in-Ok.ensures)
+    c.answer_found-status.ensures
