@@ -19,7 +19,7 @@ no_value_of words parts b e f bad =
     sym (cond-false (is_well_formed (parts_of words) && same (words_of (parts_of words)) words) (Some (parts_of words)) None
     (and_left (is_well_formed (parts_of words)) (same (words_of (parts_of words)) words) (ap is_well_formed (sym e) ∙ sym f ∙ bad)))
 
-pub other_value : (words written : List ℕ) (parts : PartsFields) (b : Bool) → parts ≡ parts_of words → Stands parts written → b ≡ same written words → b ≡ false → None ≡ value_of words
+other_value : (words written : List ℕ) (parts : PartsFields) (b : Bool) → parts ≡ parts_of words → Stands parts written → b ≡ same written words → b ≡ false → None ≡ value_of words
 unfolding value_of
 other_value words written parts b e t f other =
     sym (cond-false (is_well_formed (parts_of words) && same (words_of (parts_of words)) words) (Some (parts_of words)) None
@@ -36,13 +36,18 @@ outline_value words f e = by (is_well_formed (parts_of words) && same (words_of 
         let both = and_parts (is_well_formed (parts_of words)) (same (words_of (parts_of words)) words) g in
         absurd (outline_stands words f e (parts_of words) (record { formed = both.0; spelled = sym (same_is (words_of (parts_of words)) words both.1) }))
 
-pub own_value : (words written : List ℕ) (parts : PartsFields) (b : Bool) → parts ≡ parts_of words → Stands parts written → b ≡ same written words → b ≡ true → Some parts ≡ value_of words
+own_value : (words written : List ℕ) (parts : PartsFields) (b : Bool) → parts ≡ parts_of words → Stands parts written → b ≡ same written words → b ≡ true → Some parts ≡ value_of words
 unfolding value_of
 own_value words written parts b e t f alike =
     ap Some e
     ∙ sym (cond-true (is_well_formed (parts_of words) && same (words_of (parts_of words)) words) (Some (parts_of words)) None
     (and_from (is_well_formed (parts_of words)) (same (words_of (parts_of words)) words) (ap is_well_formed (sym e) ∙ t.formed)
     (ap (λ (p : PartsFields). same (words_of p) words) (sym e) ∙ ap (λ (ws : List ℕ). same ws words) (sym t.spelled) ∙ sym f ∙ alike)))
+
+-- by whether the list is the one that stands for its parts
+pub value_by : (words written : List ℕ) (parts : PartsFields) (b : Bool) → parts ≡ parts_of words → Stands parts written → b ≡ same written words → cond b (Some parts) None ≡ value_of words
+value_by words written parts true e t f = own_value words written parts true e t f refl
+value_by words written parts false e t f = other_value words written parts false e t f refl
 
 -- the value of a list that stands for one
 stands_value : (words : List ℕ) (p : PartsFields) → Stands p words → Some p ≡ value_of words

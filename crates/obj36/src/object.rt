@@ -1,7 +1,7 @@
 //! Objects.
 
 ghost use Rattle.std.specs.Prelude.{ℕ, List, [], ◌∷◌, ◌++◌, ◌≡◌, ◌+◌, ◌*◌, ◌<◌, ◌≤◌, ◌^◌, Bool};
-ghost use Rattle.std.specs.Prelude.{true, length, nat_eq, if◌then◌else◌, None, option_map, IfOk, IfSome, OnOk};
+ghost use Rattle.std.specs.Prelude.{true, length, nat_eq, if◌then◌else◌, Some, None, option_map, IfOk, IfSome, OnOk};
 ghost use Rattle.obj36_parts.specs.ObjectSegment.{is_newer, inner_statics, outer_statics};
 ghost use Rattle.obj36_parts.specs.ObjectSegment.{definition_section, linkage_section};
 ghost use Rattle.obj36_parts.specs.ObjectSegment.{symbol_section, section_words, map_part};
@@ -140,8 +140,29 @@ fn lengths_of(parts: &Parts, definition: &[Word], linkage: &[Word], symbol: &[Wo
     }
 }
 
-// The words of an object, from its parts and the sections that are made of them.
+// Adds the words of an object where there are none, from its parts and the sections that are made of them.
 #[tactic(auto, unfolding(obj36_parts::specs::ObjectSegment::words_of, obj36_parts::specs::ObjectSegment::map_words))]
+fn push_sections(
+    out: &mut Words,
+    parts: &Parts,
+    definition: &[Word],
+    linkage: &[Word],
+    symbol: &[Word],
+) -> Result<(), NoMemory>
+    requires empty { out.old ≡ [] }
+    requires object { IsObject parts.now definition.now linkage.now symbol.now }
+    ensures { OnOk result (Stands parts.now out.new) }
+{
+    let lengths = lengths_of(parts, definition, linkage, symbol);
+    push_all(out, parts.text.slice())?;
+    push_all(out, definition)?;
+    push_all(out, linkage)?;
+    push_all(out, parts.outer_statics())?;
+    push_all(out, symbol)?;
+    push_map(out, parts.version == 2, lengths, parts.entry_bound as u64)
+}
+
+// The words of an object, from its parts and the sections that are made of them.
 fn joined_sections(
     alloc: Global,
     parts: &Parts,
@@ -152,20 +173,15 @@ fn joined_sections(
     requires { IsObject parts.now definition.now linkage.now symbol.now }
     ensures { IfOk result (λ words. Stands parts.now words) }
 {
-    let lengths = lengths_of(parts, definition, linkage, symbol);
     let mut out = Words::new(alloc);
-    push_all(&mut out, parts.text.slice())?;
-    push_all(&mut out, definition)?;
-    push_all(&mut out, linkage)?;
-    push_all(&mut out, parts.outer_statics())?;
-    push_all(&mut out, symbol)?;
-    push_map(
-        &mut out,
-        parts.version == 2,
-        lengths,
-        parts.entry_bound as u64,
-    )?;
-    Ok(out)
+    match push_sections(&mut out, parts, definition, linkage, symbol) {
+        Ok(()) => Ok(out),
+        Err(cause) => {
+            // Dropped by a call: so the drop is proved once for its type.
+            drop(out);
+            Err(cause)
+        }
+    }
 }
 
 // Whether two lists of words are the same.
@@ -173,6 +189,26 @@ fn are_same_words(words: &[Word], others: &[Word]) -> bool
     ensures { result ≡ pointwise nat_eq words.now others.now }
 {
     words == others
+}
+
+// Whether a list of words spells the parts, from the sections that are made of them.
+fn is_spelled(
+    alloc: Global,
+    parts: &Parts,
+    sections: &Sections,
+    w: &[Word],
+) -> Result<bool, NoMemory>
+    requires object { IsObject parts.now sections.now.definition sections.now.linkage sections.now.symbol }
+    requires spelled { parts.now ≡ parts_of w.now }
+    ensures { IfOk result (λ is. (if is then Some parts.now else None) ≡ value_of w.now) }
+{
+    let definition = sections.definition.slice();
+    let linkage = sections.linkage.slice();
+    let symbol = sections.symbol.slice();
+    let words = joined_sections(alloc, parts, definition, linkage, symbol)?;
+    let same = are_same_words(words.slice(), w);
+    drop(words);
+    Ok(same)
 }
 
 // The sections of the parts that a list of words would spell, or none where it does not spell them.
@@ -187,19 +223,21 @@ fn sections_found(alloc: Global, parts: &Parts, w: &[Word]) -> Result<Option<Sec
         return Ok(None);
     }
     let sections = sections_of(alloc, parts)?;
-    let definition = sections.definition.slice();
-    let linkage = sections.linkage.slice();
-    let symbol = sections.symbol.slice();
-    let words = joined_sections(alloc, parts, definition, linkage, symbol)?;
-    if are_same_words(words.slice(), w) {
-        Ok(Some(sections))
-    } else {
-        Ok(None)
+    match is_spelled(alloc, parts, &sections, w) {
+        Ok(true) => Ok(Some(sections)),
+        Ok(false) => {
+            drop(sections);
+            Ok(None)
+        }
+        Err(cause) => {
+            drop(sections);
+            Err(cause)
+        }
     }
 }
 
 // The object of parts with their sections.
-fn object_of(parts: Parts, sections: Sections) -> Object
+fn object_from(parts: Parts, sections: Sections) -> Object
     requires { IsObject parts sections.definition sections.linkage sections.symbol }
     ensures { result ≡ parts }
 {
@@ -217,9 +255,8 @@ fn object_with(parts: Parts, sections: Option<Sections>) -> Option<Object>
     ensures { result ≡ option_map (λ s. parts) sections }
 {
     match sections {
-        Some(sections) => Some(object_of(parts, sections)),
+        Some(sections) => Some(object_from(parts, sections)),
         None => {
-            // Dropped by a call: so the drop is proved once for its type.
             drop(parts);
             None
         }
@@ -279,7 +316,7 @@ impl Object {
         ensures { IfOk result (λ o. o ≡ parts) }
     {
         match sections_of(alloc, &parts) {
-            Ok(sections) => Ok(object_of(parts, sections)),
+            Ok(sections) => Ok(object_from(parts, sections)),
             Err(cause) => {
                 drop(parts);
                 Err(cause)
