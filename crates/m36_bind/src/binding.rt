@@ -40,6 +40,8 @@ fn fitting(object: Object) -> Result<Object, BindFault>
     if sections_fit(&object) {
         Ok(object)
     } else {
+        // Dropped by a call: so the drop is proved once for its type.
+        drop(object);
         Err(BindFault::B4(0))
     }
 }
@@ -60,6 +62,7 @@ fn made(alloc: Global, parts: Parts) -> Result<Object, BindFault>
     if parts.is_object() {
         object_fitting(alloc, parts)
     } else {
+        drop(parts);
         Err(BindFault::B4(0))
     }
 }
@@ -74,6 +77,7 @@ fn made_of(
     ensures { BindSays result (made_of frame.now all.now kept) }
 {
     if !components_fit(frame, all.items()) {
+        drop(kept);
         return Err(BindFault::B4(0));
     }
     made(alloc, bound_parts(alloc, frame, all, kept)?)
