@@ -32,27 +32,42 @@ fn link(rt: &impl Abort, entry: &str) -> Link {
     }
 }
 
+// Adds definitions, and finds their names.
+fn find_names(rt: &impl Abort, definitions: &mut Defs) -> Result<(), NoMemory> {
+    for (text, are_own) in [("go", true), ("cnt", true), ("go", false)] {
+        definitions.push(definition(rt, text))?;
+        assert_eq!(rt; definitions.have_own_names(), are_own);
+    }
+    assert!(rt; definitions.has(&name(rt, "cnt")));
+    assert!(rt; definitions.find(&name(rt, "b")).is_none());
+    assert_eq!(rt; definitions.names().len(), 2);
+    Ok(())
+}
+
 #[test]
 fn names_are_found(rt: HostRuntime) -> Result<(), NoMemory> {
     let mut definitions = Defs::new(rt.alloc());
-    for (text, are_own) in [("go", true), ("cnt", true), ("go", false)] {
-        definitions.push(definition(&rt, text))?;
-        assert_eq!(rt; definitions.have_own_names(), are_own);
+    let told = find_names(&rt, &mut definitions);
+    // Dropped by a call: so the drop is proved once for its type. So below.
+    drop(definitions);
+    told
+}
+
+// Adds links, and finds them.
+fn find_links(rt: &impl Abort, links: &mut Links) -> Result<(), NoMemory> {
+    for (entry, place) in [("x", 0), ("y", 1), ("x", 0)] {
+        links.push(link(rt, entry).copied())?;
+        assert_eq!(rt; links.place(&link(rt, entry)), Some(place));
     }
-    assert!(rt; definitions.has(&name(&rt, "cnt")));
-    assert!(rt; definitions.find(&name(&rt, "b")).is_none());
-    assert_eq!(rt; definitions.names().len(), 2);
+    assert!(rt; !links.has(&link(rt, "z")));
+    assert_eq!(rt; links.names().len(), 3);
     Ok(())
 }
 
 #[test]
 fn links_are_found(rt: HostRuntime) -> Result<(), NoMemory> {
     let mut links = Links::new(rt.alloc());
-    for (entry, place) in [("x", 0), ("y", 1), ("x", 0)] {
-        links.push(link(&rt, entry).copied())?;
-        assert_eq!(rt; links.place(&link(&rt, entry)), Some(place));
-    }
-    assert!(rt; !links.has(&link(&rt, "z")));
-    assert_eq!(rt; links.names().len(), 3);
-    Ok(())
+    let told = find_links(&rt, &mut links);
+    drop(links);
+    told
 }
