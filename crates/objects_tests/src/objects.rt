@@ -236,7 +236,12 @@ enum Due<'a> {
 
 fn is_written_as(alloc: Global, object: &Object, values: &[u64]) -> bool {
     match object.write(alloc) {
-        Ok(words) => are_words(words.slice(), values),
+        Ok(words) => {
+            let told = are_words(words.slice(), values);
+            // Dropped by a call: so the drop is proved once for its type. So below.
+            drop(words);
+            told
+        }
         Err(_) => false,
     }
 }
@@ -269,9 +274,16 @@ fn is_so(alloc: Global, object: &Object, due: Due) -> bool {
     }
 }
 
+// Whether this is so of an object, which is then dropped.
+fn was_so(alloc: Global, object: Object, due: Due) -> bool {
+    let told = is_so(alloc, &object, due);
+    drop(object);
+    told
+}
+
 fn reads(alloc: Global, words: &[Word], due: Due) -> bool {
     match read_as(alloc, words) {
-        Ok(object) => is_so(alloc, &object, due),
+        Ok(object) => was_so(alloc, object, due),
         Err(_) => false,
     }
 }
@@ -306,7 +318,9 @@ fn changed(alloc: Global, values: &[u64], place: usize, value: u64) -> Result<Wo
 fn refuses(alloc: Global, values: &[u64], change: Change) -> Result<bool, NoMemory> {
     let (place, value, fault) = change;
     let words = changed(alloc, values, place, value)?;
-    Ok(read_as(alloc, words.slice()).err() == Some(fault))
+    let told = read_as(alloc, words.slice()).err() == Some(fault);
+    drop(words);
+    Ok(told)
 }
 
 fn all_refused(
