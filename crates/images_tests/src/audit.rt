@@ -137,26 +137,19 @@ fn put(core: &mut Core, place: u32, word: Word) {
     }
 }
 
-/// Core with the tables of an image. Paged descriptors lie in frame 1.
-fn core_of(
-    alloc: Global,
-    unpaged: bool,
-    segments: &[Segment],
-    pages: &[(u32, u8)],
-) -> Result<Core, NoMemory> {
-    let mut core = Core::new(alloc, 3)?;
+/// Puts the tables of an image into core. Paged descriptors lie in frame 1.
+fn put_tables(core: &mut Core, unpaged: bool, segments: &[Segment], pages: &[(u32, u8)]) {
     let first = if unpaged { 0 } else { 0o2000 };
     for segment in segments {
         let (number, sdw) = described(*segment);
         let pair = sdw.to_words();
         let place = first + 2 * (number % 8);
-        put(&mut core, place, pair.even);
-        put(&mut core, place + 1, pair.odd);
+        put(core, place, pair.even);
+        put(core, place + 1, pair.odd);
     }
     for (place, frame) in pages {
-        put(&mut core, *place, page_table_word(*frame));
+        put(core, *place, page_table_word(*frame));
     }
-    Ok(core)
 }
 
 /// Whether these are found, each a condition and a place.
@@ -271,13 +264,24 @@ const TABLES: &[Image] = &[
     Image(Base::TwoPages, &[], &[(0o100, 1), (0o101, 3)], &[]),
 ];
 
+/// Whether the audit of core finds these.
+fn finds(alloc: Global, core: &Core, dbr: Dbr, expected: &[(u8, u32)]) -> Result<bool, NoMemory> {
+    let verdict = audit(alloc, core, dbr)?;
+    let told = are_found(&verdict, expected);
+    drop(verdict);
+    Ok(told)
+}
+
 /// Whether the audit of an image finds what it is to find.
 fn is_found(alloc: Global, image: &Image) -> Result<bool, NoMemory> {
     let Image(base, segments, pages, findings) = image;
     let dbr = dbr(*base);
-    let core = core_of(alloc, dbr.unpaged, segments, pages)?;
-    let verdict = audit(alloc, &core, dbr)?;
-    Ok(are_found(&verdict, findings))
+    let mut core = Core::new(alloc, 3)?;
+    put_tables(&mut core, dbr.unpaged, segments, pages);
+    let told = finds(alloc, &core, dbr, findings);
+    // Dropped by a call: so the drop is proved once for its type. So above.
+    drop(core);
+    told
 }
 
 #[test]
