@@ -10,8 +10,8 @@
 //! What is promised: each function gives exactly what the definition of its name in `specs/` gives, for either version of
 //! component and bound object, and by the layout map the first link of an object stands where its parts have it, its first
 //! static word at the place from which relocations count, and a component's link goes to the word of the link that stands
-//! for it ([`laws::layout_law`]). Want of memory may come where a table grows. A
-//! table is found in by a hash, and words are moved in the time of one step a relocation.
+//! for it ([`laws::layout_law`]). Want of memory may come where a table grows. A table is found in by a hash, and words are
+//! moved in the time of one step a relocation.
 //!
 //! Source: objects and binding are this project's own; they follow object segments and the binder of Multics, as the Multics
 //! Programmers' Manual describes them.

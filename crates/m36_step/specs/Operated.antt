@@ -51,6 +51,7 @@ abbrev pub ran_from :
     RegsFields → Operation → Formed → List ℕ → List Reference → Ran (Result Performed Halt) (List ℕ)
 ran_from g program f core refs = run core_store g program (formed_mid core f refs)
 
+-- the same, of what an effect does once the address is formed
 abbrev pub operation_from :
     Effect → ℕ → RegsFields → Formed → List ℕ → List Reference
     → Ran (Result Performed Halt) (List ℕ)
