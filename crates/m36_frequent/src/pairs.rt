@@ -9,7 +9,7 @@ ghost use Rattle.m36_model.specs.Effect.{exec};
 ghost use Rattle.m36_model.specs.Fields.{FinalFields};
 ghost use Rattle.m36_model.specs.Loads.{load};
 ghost use Rattle.m36_model.specs.Results.{AQ, with_indicators, with_value};
-ghost use Rattle.m36_model.specs.Results.{zn, zn_carry_overflow};
+ghost use Rattle.m36_model.specs.Results.{tested, zn_carry_overflow};
 ghost use Rattle.m36_model.specs.Step.{no_operand};
 ghost use Rattle.m36_model.specs.Sums.{into_register};
 ghost use Rattle.m36_frequent.specs.Frequent.{reads_pair, stores_pair, pair_read};
@@ -36,7 +36,7 @@ fn take_pair(p: &Pair, regs: &mut Regs)
 #[inline(always)]
 #[tactic(auto, unfolding(m36_model::specs::Results::zn))]
 fn test_pair(p: &Pair, regs: &mut Regs)
-    ensures { regs.new ≡ with_indicators (zn (2 ^ 71) (number_of p.now) regs.old.ind) regs.old }
+    ensures { regs.new ≡ tested (2 ^ 71) (number_of p.now) regs.old }
 {
     let v = p.value();
     regs.ind.zero = v == 0;

@@ -9,7 +9,7 @@ ghost use Rattle.m36_model.specs.Effect.{exec};
 ghost use Rattle.m36_model.specs.Fields.{FinalFields};
 ghost use Rattle.m36_model.specs.Loads.{load};
 ghost use Rattle.m36_model.specs.Results.{A, Q, X, completes};
-ghost use Rattle.m36_model.specs.Results.{moved_on, with_indicators, zn, zn_carry_overflow, compared};
+ghost use Rattle.m36_model.specs.Results.{moved_on, with_indicators, tested, zn_carry_overflow, compared};
 ghost use Rattle.m36_model.specs.Step.{no_operand};
 ghost use Rattle.m36_model.specs.Sums.{into_register, into_operand};
 ghost use Rattle.m36_frequent.specs.Frequent.{reads_word, stores_word, changes_word};
@@ -36,7 +36,7 @@ pub(crate) fn move_on(regs: &mut Regs)
 #[inline(always)]
 #[tactic(auto, unfolding(m36_model::specs::Results::zn))]
 fn test(w: Word, regs: &mut Regs)
-    ensures { regs.new ≡ with_indicators (zn (2 ^ 35) w regs.old.ind) regs.old }
+    ensures { regs.new ≡ tested (2 ^ 35) w regs.old }
 {
     let v = w.value();
     regs.ind.zero = v == 0;
@@ -47,7 +47,7 @@ fn test(w: Word, regs: &mut Regs)
 #[inline(always)]
 #[tactic(auto, unfolding(m36_model::specs::Results::zn))]
 fn test_index(v: u32, regs: &mut Regs)
-    ensures { regs.new ≡ with_indicators (zn (2 ^ 17) v regs.old.ind) regs.old }
+    ensures { regs.new ≡ tested (2 ^ 17) v regs.old }
 {
     regs.ind.zero = v == 0;
     regs.ind.negative = v >= 1 << 17;

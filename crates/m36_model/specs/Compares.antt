@@ -5,8 +5,8 @@ use Rattle.std.specs.Prelude.{ℕ, ◌^◌, [], ◌∷◌, Result}
 use Rattle.m36_model.specs.Registers.{RegsFields}
 use Rattle.m36_model.specs.Arithmetic.{comparison}
 use Rattle.m36_model.specs.Booleans.{and_of, xor_of, and_not_of}
-use Rattle.m36_model.specs.Results.{EffectFields, Working, half, width, value, with_indicators, zn}
-use Rattle.m36_model.specs.Results.{compared, completes, completes_with}
+use Rattle.m36_model.specs.Results.{EffectFields, Working, half, width, value, with_indicators}
+use Rattle.m36_model.specs.Results.{tested, compared, completes, completes_with}
 
 -- CMPA, CMPQ, CMPAQ, CMPX: register and value are compared
 unfoldable pub compare : Working → ℕ → RegsFields → Result EffectFields ℕ
@@ -14,7 +14,7 @@ compare r v g = completes (with_indicators (compared (comparison (half r) (value
 
 -- a number of a width is tested
 abbrev pub test : ℕ → ℕ → RegsFields → Result EffectFields ℕ
-test h v g = completes (with_indicators (zn h v g.ind) g)
+test h v g = completes (tested h v g)
 
 -- SZN: the word is tested
 unfoldable pub test_word : ℕ → RegsFields → Result EffectFields ℕ
@@ -22,7 +22,7 @@ test_word v g = test (2 ^ 35) v g
 
 -- SZNC: the word is tested, and becomes 0
 unfoldable pub test_and_clear : ℕ → RegsFields → Result EffectFields ℕ
-test_and_clear v g = completes_with (with_indicators (zn (2 ^ 35) v g.ind) g) (0 ∷ [])
+test_and_clear v g = completes_with (tested (2 ^ 35) v g) (0 ∷ [])
 
 -- CMK: A and the word, where Q has no mask bit, are tested for difference
 unfoldable pub compare_masked : ℕ → RegsFields → Result EffectFields ℕ

@@ -3,7 +3,7 @@
 use Rattle.std.specs.Prelude.{ℕ, ◌*◌, ◌^◌, [], ◌∷◌, Result}
 use Rattle.m36_word.specs.Bits.{is_on}
 use Rattle.m36_model.specs.Registers.{RegsFields}
-use Rattle.m36_model.specs.Results.{EffectFields, Working, half, with_indicators, zn, takes}
+use Rattle.m36_model.specs.Results.{EffectFields, Working, with_indicators, takes_tested}
 use Rattle.m36_model.specs.Results.{completes, completes_with, becomes, becomes_negative}
 use Rattle.m36_model.specs.declared.registers.Ind.{Ind}
 
@@ -17,7 +17,7 @@ load_complement r v g = becomes_negative r v g
 
 -- LDAC, LDQC: the register becomes the value, and the word becomes 0
 unfoldable pub load_and_clear : Working → ℕ → RegsFields → Result EffectFields ℕ
-load_and_clear r v g = completes_with (takes r v (zn (half r) v g.ind) g) (0 ∷ [])
+load_and_clear r v g = completes_with (takes_tested r v g) (0 ∷ [])
 
 -- EAA, EAQ: bits 0 to 17 become the computed address, and the rest 0
 abbrev pub address_in_upper : ℕ → ℕ

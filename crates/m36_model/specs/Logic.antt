@@ -5,10 +5,10 @@ use Rattle.std.specs.Prelude.{ℕ, Result}
 use Rattle.m36_model.specs.Registers.{RegsFields}
 use Rattle.m36_model.specs.Booleans.{and_of, or_of, xor_of}
 use Rattle.m36_model.specs.Results.{EffectFields, Working, half, width, value, words}
-use Rattle.m36_model.specs.Results.{with_indicators, zn, completes_with, becomes}
+use Rattle.m36_model.specs.Results.{tested, completes_with, becomes}
 
 abbrev pub bits_into_operand : Working → ℕ → RegsFields → Result EffectFields ℕ
-bits_into_operand r v g = completes_with (with_indicators (zn (half r) v g.ind) g) (words r v)
+bits_into_operand r v g = completes_with (tested (half r) v g) (words r v)
 
 -- ANA, ANQ, ANAQ, ANX
 unfoldable pub and_register : Working → ℕ → RegsFields → Result EffectFields ℕ

@@ -204,10 +204,18 @@ completes_with g put = completes_or_overflows g put false
 abbrev pub takes : Working → ℕ → Ind → RegsFields → RegsFields
 takes r v i g = with_indicators i (with_value r v g)
 
+-- a number of a width is tested: zero and negative tell of it, and nothing else changes
+abbrev pub tested : ℕ → ℕ → RegsFields → RegsFields
+tested h v g = with_indicators (zn h v g.ind) g
+
+-- a register takes a value, of which zero and negative tell
+abbrev pub takes_tested : Working → ℕ → RegsFields → RegsFields
+takes_tested r v g = takes r v (zn (half r) v g.ind) g
+
 -- A register becomes a value, of which zero and negative tell; and the negative of a value, of
 -- which overflow tells too.
 abbrev pub becomes : Working → ℕ → RegsFields → Result EffectFields ℕ
-becomes r v g = completes (takes r v (zn (half r) v g.ind) g)
+becomes r v g = completes (takes_tested r v g)
 
 abbrev pub becomes_negative : Working → ℕ → RegsFields → Result EffectFields ℕ
 becomes_negative r v g =
