@@ -1,7 +1,7 @@
 //! The numbers that a seed draws.
 
 ghost use Rattle.std.specs.Prelude.{ℕ, ◌≡◌, ◌+◌, ◌*◌, ◌/◌, ◌%◌, ◌^◌, ◌<◌, ◌≤◌};
-ghost use Rattle.m36_gen.specs.Draws.{next, drawn, draws_from};
+ghost use Rattle.m36_gen.specs.Draws.{next, drawn, draws_from, behind_draws};
 
 /// What three draws make of a source.
 #[derive(Clone, Copy, Debug, PartialEq, Eq)]
@@ -48,7 +48,7 @@ impl Sequence {
     /// Three draws, of one source.
     #[tactic(auto, unfolding(crate::specs::Draws::draws_from))]
     pub fn draws(&mut self) -> Draws
-        ensures state { self.new.state ≡ next (next (next self.old.state)) }
+        ensures state { self.new.state ≡ behind_draws self.old.state }
         ensures draws { result ≡ draws_from self.old.state }
     {
         let add = self.draw() % 1000;
