@@ -5,9 +5,8 @@ use Rattle.std.specs.Prelude.{Option, Some, None}
 use Rattle.obj36_parts.specs.Fields.{LinkFields}
 use Rattle.obj36_parts.specs.Sections.{later_section}
 use Rattle.obj36_parts.specs.ObjectSegment.{to_section, to_segment, to_entry, to_own_entry}
-use Rattle.obj36_parts.specs.declared.section.Section.TheVariants.{Text}
 use Rattle.m36_relocate.specs.Fields.{ShapeFields}
-use Rattle.m36_relocate.specs.Layout.{spot, spot_moved}
+use Rattle.m36_relocate.specs.Layout.{spot, spot_moved, text_spot}
 use Rattle.m36_relocate.specs.Exports.{export_named}
 use Rattle.m36_bind.specs.Components.{PlacedFields, moving, component_named}
 use Rattle.m36_relocate.specs.declared.exports.Export.{Export}
@@ -32,7 +31,7 @@ farther s n = spot s.section (s.offset + n)
 -- to a segment: word 0 of the component's text, and the number of the link
 abbrev pub segment_link : LinkFields → Option PlacedFields → LinkFields
 segment_link l None = l
-segment_link l (Some p) = own_link l (spot Text (p.bases.text + l.expr))
+segment_link l (Some p) = own_link l (text_spot p.bases l.expr)
 
 -- to an entry of a segment: where the definition goes, and the number of the link
 abbrev pub entry_link : ShapeFields → LinkFields → PlacedFields → Option Export → LinkFields

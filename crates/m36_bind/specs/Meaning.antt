@@ -18,11 +18,10 @@ use Rattle.obj36_parts.specs.ObjectSegment.{offset_part, part_of}
 use Rattle.obj36_parts.specs.declared.definition.Named.{Named}
 use Rattle.m36_word.specs.Field.{offset_limit}
 use Rattle.obj36_parts.specs.declared.section.Section.{Section}
-use Rattle.obj36_parts.specs.declared.section.Section.TheVariants.{Text}
 use Rattle.m36_bindfile.specs.declared.line.BindLine.{BindLine}
 use Rattle.m36_bindfile.specs.BindFile.{bind_lines, asks_newer, retained_names}
 use Rattle.m36_relocate.specs.Fields.{BasesFields}
-use Rattle.m36_relocate.specs.Layout.{shape_of, first_bases, bases_behind, meant, spot}
+use Rattle.m36_relocate.specs.Layout.{shape_of, first_bases, bases_behind, meant, text_spot}
 use Rattle.m36_relocate.specs.declared.layout.Meant.{Meant}
 use Rattle.m36_relocate.specs.declared.layout.Meant.TheVariants.{TextWord, StaticWord, LinkWord}
 use Rattle.m36_relocate.specs.declared.layout.Meant.TheVariants.{HeadWord}
@@ -172,7 +171,7 @@ pub record IsMovedLink (bound : PartsFields) (all : List PlacedFields) (p : Plac
     (old new : LinkFields) : Type 0 where
   pub own : old.kind ≡ to_section → LinksAt bound p old new
   pub segment : (q : PlacedFields) → old.kind ≡ to_segment → component_named old.name all ≡ Some q
-      → new ≡ own_link old (spot Text (q.bases.text + old.expr))
+      → new ≡ own_link old (text_spot q.bases old.expr)
   pub outer : (q : PlacedFields) (e : Export) → old.kind ≡ to_entry
       → component_named old.name all ≡ Some q → export_named old.entry q.entries ≡ Some e
       → LinksTo bound q e.def.section e.def.value old new

@@ -85,11 +85,15 @@ first_static f = if f.newer then statics_behind_links f.links else head_words
 abbrev pub spot : Section → ℕ → Spot
 spot section offset = record { section = section; offset = offset % 2 ^ 18 }
 
+-- where a word of the text of a component goes
+abbrev pub text_spot : BasesFields → ℕ → Spot
+text_spot b v = spot Text (b.text + v)
+
 abbrev pub static_spot : ShapeFields → ℕ → Spot
 static_spot f w = if f.newer then spot Static w else spot Linkage (head_words + w)
 
 abbrev pub image_spot : ShapeFields → BasesFields → Meant → Spot
-image_spot f b (TextWord v) = spot Text (b.text + v)
+image_spot f b (TextWord v) = text_spot b v
 image_spot f b (StaticWord w) = static_spot f (b.statics + w)
 image_spot f b (LinkWord k) = spot Linkage (word_of_link (first_link f) b.links + k)
 image_spot f b (HeadWord v) = spot Linkage v
