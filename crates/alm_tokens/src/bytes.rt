@@ -33,7 +33,7 @@ pub fn is_character(byte: u8) -> bool
     matches!(byte, 0o40..=0o176)
 }
 
-/// A byte that a source may have outside comments and texts that are placed.
+/// A byte that a source may have outside comments and texts that are placed, up to its operation `end`.
 #[tactic(auto, unfolding(crate::specs::Bytes::is_legal))]
 pub fn is_legal(byte: u8) -> bool
     ensures { result ≡ is_legal byte }

@@ -36,10 +36,14 @@ abbrev pub page_table_word : ℕ → Option SdwFields → ℕ
 page_table_word page None = 0
 page_table_word page (Some d) = if nat_lt page (page_count d) then absent_ptw else 0
 
+-- the word of the descriptor segment at a place: descriptors one behind another, of two words each
+abbrev pub described_word : CatalogFields → List (List ℕ) → ℕ → ℕ
+described_word catalog files a = descriptor_word (a % 2) (booted_sdw catalog files (a / 2))
+
 -- the word of core at a place: descriptors, then page tables, and then empty frames
 unfoldable pub booted_word : CatalogFields → List (List ℕ) → ℕ → ℕ
 booted_word catalog files a =
-    if nat_lt a descriptor_words then descriptor_word (a % 2) (booted_sdw catalog files (a / 2))
+    if nat_lt a descriptor_words then described_word catalog files a
     else if nat_lt a (1024 * wired_frames)
     then page_table_word ((a - descriptor_words) % table_words)
     (booted_sdw catalog files ((a - descriptor_words) / table_words))
@@ -57,7 +61,7 @@ pub record AreDescribed
   pub size : length new ≡ length old
   pub written :
       (a : ℕ) → a < 2 * count
-      → slice_index new a ≡ descriptor_word (a % 2) (booted_sdw catalog files (a / 2))
+      → slice_index new a ≡ described_word catalog files a
   pub others : (a : ℕ) → 2 * count ≤ a → slice_index new a ≡ slice_index old a
   pub whole :
       (seg : ℕ) (d : SdwFields) → seg < count → booted_sdw catalog files seg ≡ Some d → IsWhole d

@@ -27,7 +27,7 @@ impl From<NoMemory> for Refusal {
 }
 
 impl Refusal {
-    /// The status with which the command ends. Nothing is written.
+    /// The status with which the command ends. Nothing is put, and no file is written but those of `make`.
     pub fn status(self) -> Status
         ensures { result ≡ status_of self }
     {
