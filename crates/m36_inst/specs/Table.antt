@@ -33,36 +33,29 @@ numbered code bit27 stem reg effect =
       reg = reg;
     }
 
--- eight codes in a row with bit 27 off, for registers 0 to 7
-abbrev pub eight : ℕ → List ℕ → Effect → List Entry
-eight code stem effect =
-    numbered code false stem 0 effect ∷ numbered (code + 1) false stem 1 effect
-    ∷ numbered (code + 2) false stem 2 effect ∷ numbered (code + 3) false stem 3 effect
-    ∷ numbered (code + 4) false stem 4 effect ∷ numbered (code + 5) false stem 5 effect
-    ∷ numbered (code + 6) false stem 6 effect ∷ numbered (code + 7) false stem 7 effect ∷ []
+-- eight codes in two runs of four, for registers 0 to 3 and 4 to 7, with one bit 27 for even registers
+-- and one for odd ones
+abbrev pub in_fours : ℕ → ℕ → Bool → Bool → List ℕ → Effect → List Entry
+in_fours low high even odd stem effect =
+    numbered low even stem 0 effect ∷ numbered (low + 1) odd stem 1 effect
+    ∷ numbered (low + 2) even stem 2 effect ∷ numbered (low + 3) odd stem 3 effect
+    ∷ numbered high even stem 4 effect ∷ numbered (high + 1) odd stem 5 effect
+    ∷ numbered (high + 2) even stem 6 effect ∷ numbered (high + 3) odd stem 7 effect ∷ []
 
--- eight codes in two runs of four, for registers 0 to 3 and 4 to 7, with bit 27 off
+-- the same with bit 27 off
 abbrev pub two_fours : ℕ → ℕ → List ℕ → Effect → List Entry
-two_fours low high stem effect =
-    numbered low false stem 0 effect ∷ numbered (low + 1) false stem 1 effect
-    ∷ numbered (low + 2) false stem 2 effect ∷ numbered (low + 3) false stem 3 effect
-    ∷ numbered high false stem 4 effect ∷ numbered (high + 1) false stem 5 effect
-    ∷ numbered (high + 2) false stem 6 effect ∷ numbered (high + 3) false stem 7 effect ∷ []
+two_fours low high stem effect = in_fours low high false false stem effect
 
--- the same runs with bit 27 off for even registers and on for odd ones, and the other way
+-- the same with bit 27 off for even registers and on for odd ones, and the other way
 abbrev pub even_off : ℕ → ℕ → List ℕ → Effect → List Entry
-even_off low high stem effect =
-    numbered low false stem 0 effect ∷ numbered (low + 1) true stem 1 effect
-    ∷ numbered (low + 2) false stem 2 effect ∷ numbered (low + 3) true stem 3 effect
-    ∷ numbered high false stem 4 effect ∷ numbered (high + 1) true stem 5 effect
-    ∷ numbered (high + 2) false stem 6 effect ∷ numbered (high + 3) true stem 7 effect ∷ []
+even_off low high stem effect = in_fours low high false true stem effect
 
 abbrev pub even_on : ℕ → ℕ → List ℕ → Effect → List Entry
-even_on low high stem effect =
-    numbered low true stem 0 effect ∷ numbered (low + 1) false stem 1 effect
-    ∷ numbered (low + 2) true stem 2 effect ∷ numbered (low + 3) false stem 3 effect
-    ∷ numbered high true stem 4 effect ∷ numbered (high + 1) false stem 5 effect
-    ∷ numbered (high + 2) true stem 6 effect ∷ numbered (high + 3) false stem 7 effect ∷ []
+even_on low high stem effect = in_fours low high true false stem effect
+
+-- eight codes in a row with bit 27 off, for registers 0 to 7
+abbrev pub eight : ℕ → List ℕ → Effect → List Entry
+eight code stem effect = two_fours code (code + 4) stem effect
 
 -- Data movement: load and store.
 abbrev pub data_movement : List Entry

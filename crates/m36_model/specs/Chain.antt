@@ -69,8 +69,8 @@ plain_point p word held w r1 =
       carrier = record { seg = p.seg; word = word; ring = max p.ring r1 };
     }
 
--- An ITS pair gives the segment, the ring, y, the bit number and the tag that go on; its odd word
--- carries the tag.
+-- An ITS pair gives the segment, y, the bit number and the tag that go on, and names a ring; the ring
+-- that goes on is the one after a pair. Its odd word carries the tag, in that ring.
 abbrev pub its_point : Point → ℕ → Option ℕ → ℕ → ℕ → ℕ → Point
 its_point p word held even odd r1 =
     let its = its_of even odd in
@@ -84,8 +84,9 @@ its_point p word held even odd r1 =
       carrier = record { seg = p.seg; word = word + 1; ring = pair_ring p.ring r1 its.ring };
     }
 
--- An ITP pair names a pointer register: segment and ring are those of the register, y is the sum of
--- both word numbers, and the bit number and the tag are those of the pair.
+-- An ITP pair names a pointer register: the segment is that of the register, and so is the ring that
+-- the pair names; y is the sum of both word numbers, and the bit number and the tag are those of the
+-- pair.
 abbrev pub itp_point : RegsFields → Point → ℕ → Option ℕ → ℕ → ℕ → ℕ → Point
 itp_point g p word held even odd r1 =
     let itp = itp_of even odd in

@@ -1,4 +1,4 @@
--- Comparisons and tests, which change indicators alone.
+-- Comparisons and tests, which change indicators alone, but for SZNC, which clears the word too.
 -- Multics Processor Manual AL39, "Fixed-point comparison instructions", "Fixed-point miscellaneous
 -- instructions", "Boolean comparative AND and NOT instructions".
 use Rattle.std.specs.Prelude.{ℕ, ◌^◌, [], ◌∷◌, Result}

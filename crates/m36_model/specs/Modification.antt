@@ -117,21 +117,21 @@ move_register g p td None =
     else if td == direct_lower then ends_direct p p.y
     else ends_at p ((p.y + index_of g td) % 2 ^ 18)
 
+-- A modification by a register and an indirect word reads the word of that number, and from then on
+-- this register is held. du and dl are an illegal procedure (this project's choice).
+abbrev pub reads_unless_direct : RegsFields → ℕ → ℕ → Option ℕ → Move
+reads_unless_direct g td word held =
+    if is_direct td then Fails (halt_here illegal_procedure g) else Reads word held
+
 -- Register then indirect (RI). The indirect word is at y plus the register; a held register stays.
--- du and dl are an illegal procedure (this project's choice).
 abbrev pub move_register_then_indirect : RegsFields → Point → ℕ → Move
 move_register_then_indirect g p td =
-    if is_direct td
-    then Fails (halt_here illegal_procedure g)
-    else Reads ((p.y + index_of g td) % 2 ^ 18) p.held
+    reads_unless_direct g td ((p.y + index_of g td) % 2 ^ 18) p.held
 
 -- Indirect then register (IR). The indirect word is at y; the register is held in place of any
--- earlier one, and none is held as 0. du and dl are an illegal procedure (this project's choice).
+-- earlier one, and none is held as 0.
 abbrev pub move_indirect_then_register : RegsFields → Point → ℕ → Move
-move_indirect_then_register g p td =
-    if is_direct td
-    then Fails (halt_here illegal_procedure g)
-    else Reads p.y (Some (index_of g td))
+move_indirect_then_register g p td = reads_unless_direct g td p.y (Some (index_of g td))
 
 -- Td of the three fault tags, of Tm IT
 abbrev pub first_fault_tag : ℕ

@@ -1,6 +1,6 @@
 -- Stores. Multics Processor Manual AL39, "Fixed-point data movement store instructions", "Store
 -- indicator register".
-use Rattle.std.specs.Prelude.{ℕ, ◌≡◌, ◌+◌, ◌*◌, ◌^◌, ◌==◌, if◌then◌else◌, [], ◌∷◌, Result}
+use Rattle.std.specs.Prelude.{ℕ, Bool, ◌≡◌, ◌+◌, ◌*◌, ◌^◌, ◌==◌, if◌then◌else◌, [], ◌∷◌, Result}
 use Rattle.m36_word.specs.Bits.{of_bit}
 use Rattle.m36_model.specs.Registers.{RegsFields}
 use Rattle.m36_model.specs.Results.{EffectFields, Working, value, words, with_indicators, with_zero}
@@ -31,13 +31,15 @@ IndicatorsComeBack = (i : Ind) → indicators_of (indicators_half i) ≡ i
 unfoldable pub store_indicators : RegsFields → Result EffectFields ℕ
 store_indicators g = completes_with g (indicators_half g.ind ∷ [])
 
--- STAC: where the word is 0 it becomes A, and else stays; zero tells which
-unfoldable pub store_where_zero : ℕ → RegsFields → Result EffectFields ℕ
-store_where_zero v g =
-    completes_with (with_indicators (with_zero (v == 0) g.ind) g) ((if v == 0 then g.a else v) ∷ [])
+-- a store on a condition: where it holds the word becomes A, and else it stays; zero tells which
+abbrev pub store_where : Bool → ℕ → RegsFields → Result EffectFields ℕ
+store_where holds v g =
+    completes_with (with_indicators (with_zero holds g.ind) g) ((if holds then g.a else v) ∷ [])
 
--- STACQ: where the word equals Q it becomes A, and else stays; zero tells which
+-- STAC: a store where the word is 0
+unfoldable pub store_where_zero : ℕ → RegsFields → Result EffectFields ℕ
+store_where_zero v g = store_where (v == 0) v g
+
+-- STACQ: a store where the word equals Q
 unfoldable pub store_where_equal : ℕ → RegsFields → Result EffectFields ℕ
-store_where_equal v g =
-    completes_with (with_indicators (with_zero (v == g.q) g.ind) g)
-    ((if v == g.q then g.a else v) ∷ [])
+store_where_equal v g = store_where (v == g.q) v g

@@ -1,4 +1,4 @@
-//! Comparisons and tests, which change indicators alone.
+//! Comparisons and tests, which change indicators alone, but for SZNC, which clears the word too.
 
 ghost use Rattle.std.specs.Prelude.{◌≡◌, IsTrue, length};
 ghost use Rattle.m36_model.specs.OperandHeld.{is_word};
