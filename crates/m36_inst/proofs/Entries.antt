@@ -1,5 +1,5 @@
 -- What holds of each entry of the table, since the table is computed.
-use Rattle.std.proofs.Common.{◌≡◌, ℕ, ◌<◌, ◌≤◌, refl, sym, Bool, true, false, ◌&&◌, ◌==◌, nat_lt, nat_le, Option, Some, None, List, [], ◌∷◌, length, arith}
+use Rattle.std.proofs.Common.{◌≡◌, ℕ, ◌+◌, ◌*◌, ◌/◌, ◌%◌, ◌^◌, ◌<◌, ◌≤◌, refl, sym, ap, Bool, true, false, ◌&&◌, ◌==◌, nat_lt, nat_le, Option, Some, None, List, [], ◌∷◌, length, arith}
 use Rattle.std.specs.List.{list_all, All}
 use Rattle.std.specs.Str.{bytes_eq}
 use Rattle.std.proofs.lemmas.Bool.{and_parts, and_from, eqb-true, eq-eqb, ltb-true, leb-true}
@@ -9,6 +9,7 @@ use Rattle.m36_inst.specs.Table.{Entry, table}
 use Rattle.m36_inst.specs.Lookup.{entry_at, entry_named, has_code, has_name, same_bit}
 use Rattle.m36_inst.specs.Named.{padded, text_of, IsPlain}
 use Rattle.m36_inst.proofs.Found.{found_passes, found_sound, apart, found_by_key}
+use Rattle.m36_inst.proofs.Halves.{apart_from}
 
 -- a test of an entry: its code and its register are within their widths, and its name is plain text of up to five characters
 abbrev is_ascii : List ℕ → Bool
@@ -28,11 +29,28 @@ by_code x = has_code x.code x.bit27
 abbrev by_name : Entry → Entry → Bool
 by_name x = has_name x.name
 
+-- bits by which codes and names are told apart in parts of the table
+abbrev pub code_bit : ℕ → Entry → Bool
+code_bit n e = e.code / 2 ^ n % 2 == 1
+
+abbrev mixed : List ℕ → ℕ
+mixed [] = 0
+mixed (b ∷ name) = b + 3 * mixed name
+
+abbrev name_bit : ℕ → Entry → Bool
+name_bit n e = mixed e.name / 2 ^ n % 2 == 1
+
 apart_by_code : apart by_code table ≡ true
-apart_by_code = refl
+apart_by_code =
+    apart_from by_code code_bit 6 table
+    (λ n x z h. ap (λ c. c / 2 ^ n % 2 == 1) (sym (eqb-true z.code x.code (and_parts (z.code == x.code) (same_bit z.bit27 x.bit27) h).0)))
+    refl
 
 apart_by_name : apart by_name table ≡ true
-apart_by_name = refl
+apart_by_name =
+    apart_from by_name name_bit 6 table
+    (λ n x z h. ap (λ name. mixed name / 2 ^ n % 2 == 1) (sym ((bytes_eq-Decides z.name x.name).0 h)))
+    refl
 
 -- what the test says
 all_ascii : (name : List ℕ) → is_ascii name ≡ true → All (λ b. b < 128) name

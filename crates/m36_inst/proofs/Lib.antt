@@ -1,5 +1,6 @@
 pub mod Instructions
 pub mod Found
+pub mod Halves
 pub mod Blocks
 pub mod Entries
 pub mod Parts

@@ -1,5 +1,5 @@
 -- The names in rising order are those of the table, since both are computed; and a name is found among them by halves.
-use Rattle.std.proofs.Common.{◌≡◌, ℕ, ◌<◌, zero, suc, refl, sym, ap, ◌∙◌, Bool, true, false, ◌&&◌, ◌||◌, ◌==◌, nat_lt, Option, Some, None, List, [], ◌∷◌, length, map, get_or, arith}
+use Rattle.std.proofs.Common.{◌≡◌, ℕ, ◌/◌, ◌%◌, ◌^◌, ◌<◌, zero, suc, refl, sym, ap, ◌∙◌, Bool, true, false, ◌&&◌, ◌||◌, ◌==◌, nat_lt, Option, Some, None, List, [], ◌∷◌, length, map, get_or, arith}
 use Rattle.std.specs.Prelude.{option_map}
 use Rattle.std.specs.List.{list_all, list_any}
 use Rattle.std.proofs.lemmas.Bool.{and_parts, eqb-true, ltb-true, ltb-false}
@@ -11,7 +11,8 @@ use Rattle.m36_inst.specs.Names.{key, key_at, code_at, bit27_at, HasRow, IsRisin
 use Rattle.m36_inst.specs.declared.names.Coded.{Coded}
 use Rattle.m36_inst.specs.declared.names.TheConstants.{NAMES}
 use Rattle.m36_inst.proofs.Found.{found_sound}
-use Rattle.m36_inst.proofs.Entries.{found, same_bit_true}
+use Rattle.m36_inst.proofs.Halves.{paired, paired_from}
+use Rattle.m36_inst.proofs.Entries.{found, same_bit_true, code_bit}
 use Rattle.m36_inst.proofs.OneToOne.{named_code, unnamed}
 
 -- ---- rising order
@@ -49,29 +50,27 @@ rises rows h i j order within = rising_at (keys rows) i j h order (simp length-m
 
 -- ---- each name has its code
 
--- the name in a row is that of the entry with its code
-abbrev names_it : Coded → Option Entry → Bool
-names_it r None = false
-names_it r (Some e) = key r.name == key e.name
-
-abbrev is_known : Coded → Bool
-is_known r = names_it r (entry_at r.code r.bit27)
-
+-- a row for an entry: its operation code with bit 27, and its name
 abbrev is_of : Entry → Coded → Bool
-is_of e r = (r.code == e.code) && same_bit r.bit27 e.bit27
+is_of e r = (r.code == e.code) && (same_bit r.bit27 e.bit27 && key r.name == key e.name)
+
+abbrev all_there : List Coded → Bool
+all_there rows = paired is_of table rows
 
 row_by :
-    (r : Coded) (rows : List Coded) (e : Entry) (b : Bool) → is_of e r ≡ b → is_known r ≡ true → (b || list_any (is_of e) rows) ≡ true
-    → (list_any (is_of e) rows ≡ true → HasRow rows e.code e.bit27 (key e.name)) → entry_at e.code e.bit27 ≡ Some e
-    → HasRow (r ∷ rows) e.code e.bit27 (key e.name)
-row_by r rows e true is known any later placed =
-    let parts = and_parts (r.code == e.code) (same_bit r.bit27 e.bit27) is in
-    let code : r.code ≡ e.code = eqb-true r.code e.code parts.0 in
-    let bit27 : r.bit27 ≡ e.bit27 = same_bit_true r.bit27 e.bit27 parts.1 in
-    let here : entry_at r.code r.bit27 ≡ Some e = ap (λ c. entry_at c r.bit27) code ∙ ap (λ b. entry_at e.code b) bit27 ∙ placed in
-    let same : names_it r (Some e) ≡ true = ap (names_it r) (sym here) ∙ known in
-    record { place = 0; inside = omega arith; key_is = eqb-true (key r.name) (key e.name) same; code_is = code; bit27_is = bit27 }
-row_by r rows e false is known any later placed =
+    (r : Coded) (rows : List Coded) (e : Entry) (b : Bool) → is_of e r ≡ b → (b || list_any (is_of e) rows) ≡ true
+    → (list_any (is_of e) rows ≡ true → HasRow rows e.code e.bit27 (key e.name)) → HasRow (r ∷ rows) e.code e.bit27 (key e.name)
+row_by r rows e true is any later =
+    let a = and_parts (r.code == e.code) _ is in
+    let b = and_parts (same_bit r.bit27 e.bit27) (key r.name == key e.name) a.1 in
+    record {
+      place = 0;
+      inside = omega arith;
+      key_is = eqb-true (key r.name) (key e.name) b.1;
+      code_is = eqb-true r.code e.code a.0;
+      bit27_is = same_bit_true r.bit27 e.bit27 b.0;
+    }
+row_by r rows e false is any later =
     let next = later any in
     let inside = next.inside in
     record {
@@ -82,30 +81,22 @@ row_by r rows e false is known any later placed =
       bit27_is = next.bit27_is;
     }
 
-row_of_entry :
-    (rows : List Coded) (e : Entry) → list_all is_known rows ≡ true → list_any (is_of e) rows ≡ true → entry_at e.code e.bit27 ≡ Some e
-    → HasRow rows e.code e.bit27 (key e.name)
-row_of_entry [] e known any placed = absurd cc
-row_of_entry (r ∷ rows) e known any placed =
-    let parts = and_parts (is_known r) (list_all is_known rows) known in
-    row_by r rows e (is_of e r) refl parts.0 any (λ rest. row_of_entry rows e parts.1 rest placed) placed
+row_of_entry : (rows : List Coded) (e : Entry) → list_any (is_of e) rows ≡ true → HasRow rows e.code e.bit27 (key e.name)
+row_of_entry [] e any = absurd cc
+row_of_entry (r ∷ rows) e any = row_by r rows e (is_of e r) refl any (row_of_entry rows e)
 
-there :
-    (rows : List Coded) (code : ℕ) (bit27 : Bool) (e : Entry) → list_all (λ x. list_any (is_of x) rows) table ≡ true
-    → entry_at code bit27 ≡ Some e → list_any (is_of e) rows ≡ true
+there : (rows : List Coded) (code : ℕ) (bit27 : Bool) (e : Entry) → all_there rows ≡ true → entry_at code bit27 ≡ Some e → list_any (is_of e) rows ≡ true
 unfolding entry_at
 there rows code bit27 e all h = found_sound (has_code code bit27) (λ x. list_any (is_of x) rows) table e all h
 
 complete_by :
-    (rows : List Coded) (code : ℕ) (bit27 : Bool) (name : List ℕ) (o : Option Entry) → list_all is_known rows ≡ true
-    → list_all (λ x. list_any (is_of x) rows) table ≡ true → entry_at code bit27 ≡ o → option_map (λ e. e.name) o ≡ Some name
-    → HasRow rows code bit27 (key name)
-complete_by rows code bit27 name None known all h named = absurd cc
-complete_by rows code bit27 name (Some e) known all h named =
+    (rows : List Coded) (code : ℕ) (bit27 : Bool) (name : List ℕ) (o : Option Entry) → all_there rows ≡ true → entry_at code bit27 ≡ o
+    → option_map (λ e. e.name) o ≡ Some name → HasRow rows code bit27 (key name)
+complete_by rows code bit27 name None all h named = absurd cc
+complete_by rows code bit27 name (Some e) all h named =
     let f = found code bit27 e h in
     let same : e.name ≡ name = cc in
-    let placed : entry_at e.code e.bit27 ≡ Some e = ap (λ c. entry_at c e.bit27) f.same_code ∙ ap (λ b. entry_at code b) f.same_bit27 ∙ h in
-    let row = row_of_entry rows e known (there rows code bit27 e all h) placed in
+    let row = row_of_entry rows e (there rows code bit27 e all h) in
     record {
       place = row.place;
       inside = row.inside;
@@ -114,28 +105,26 @@ complete_by rows code bit27 name (Some e) known all h named =
       bit27_is = row.bit27_is ∙ f.same_bit27;
     }
 
-index_of :
-    (rows : List Coded) → is_rising (keys rows) ≡ true → list_all is_known rows ≡ true
-    → list_all (λ x. list_any (is_of x) rows) table ≡ true → IsIndex rows
-index_of rows order known all =
+index_of : (rows : List Coded) → is_rising (keys rows) ≡ true → all_there rows ≡ true → IsIndex rows
+index_of rows order all =
     record {
       rising = rises rows order;
-      complete = λ code bit27 name named. complete_by rows code bit27 name (entry_at code bit27) known all refl named;
+      complete = λ code bit27 name named. complete_by rows code bit27 name (entry_at code bit27) all refl named;
     }
 
 in_order : is_rising (keys NAMES) ≡ true
 unfolding key
 in_order = refl
 
-all_known : list_all is_known NAMES ≡ true
-unfolding entry_at key
-all_known = refl
+abbrev coded_bit : ℕ → Coded → Bool
+coded_bit n r = r.code / 2 ^ n % 2 == 1
 
-all_there : list_all (λ x. list_any (is_of x) NAMES) table ≡ true
-all_there = refl
+names_there : all_there NAMES ≡ true
+unfolding key
+names_there = paired_from is_of code_bit coded_bit 6 table NAMES refl
 
 pub is_index : IsIndex NAMES
-is_index = index_of NAMES in_order all_known all_there
+is_index = index_of NAMES in_order names_there
 
 -- ---- what is found
 

@@ -38,5 +38,3 @@ own_row code bit27 (Some e) h =
 
 pub row_parts : (code : ℕ) (bit27 : Bool) (o : Option Named) → o ≡ option_map named_of (entry_at code bit27) → IfSome o (λ n. IsRow n.row)
 row_parts code bit27 o h = rw h (own_row code bit27 (entry_at code bit27) refl)
-
-pub ruleset parts = (rows, names, plain, row_parts)

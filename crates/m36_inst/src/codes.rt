@@ -54,7 +54,6 @@ use bit_27::{
 use from_400::{codes_400, codes_500, codes_600, codes_700};
 
 /// The row and the name of an operation code with bit 27; None exactly where the table has none.
-#[tactic(auto, using(crate::proofs::Parts::parts))]
 pub(crate) fn named(code: u16, bit27: bool) -> Option<Named>
     ensures row { option_map (λ n. n.row) result ≡ row_at code bit27 }
     ensures parts { IfSome result (λ n. IsRow n.row) }

@@ -7,7 +7,7 @@ use m36_word::{Field, Word};
 use std::marker::Model;
 
 /// The fields of an instruction's word.
-#[derive(Clone, Copy, PartialEq, Eq, Debug)]
+#[derive(Clone, Copy, PartialEq, Eq)]
 pub struct Inst {
     /// The address; 18 bits. Where `by_pr` is on, a pointer register's number in its first 3 bits, and a signed offset
     /// in the other 15.

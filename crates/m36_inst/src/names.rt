@@ -360,7 +360,6 @@ static NAMES: [Coded; 333] = coded![
 ];
 
 /// All names.
-#[tactic(auto, using(crate::proofs::NamesInOrder::is_index))]
 pub(crate) fn names() -> &'static [Coded; 333]
     ensures { IsIndex result.now }
 {

@@ -1,7 +1,7 @@
 //! How operands are referenced.
 
 /// What an instruction does with its final address.
-#[derive(Clone, Copy, PartialEq, Eq, Debug)]
+#[derive(Clone, Copy, PartialEq, Eq)]
 pub enum Operand {
     /// Reads a word.
     R,

@@ -4,7 +4,7 @@ use crate::effect::Effect;
 use crate::operand::Operand;
 
 /// What the processor has to know of an instruction.
-#[derive(Clone, Copy, PartialEq, Eq, Debug)]
+#[derive(Clone, Copy, PartialEq, Eq)]
 pub struct Row {
     pub effect: Effect,
     /// How its operand is referenced.

@@ -68,7 +68,6 @@ static ROWS_000: [Option<Named>; 64] = rows![
     (b"adaq " Adaq 0 R2)
 ];
 
-#[tactic(auto, using(crate::proofs::Blocks::codes_000))]
 pub(crate) fn codes_000() -> &'static [Option<Named>; 64]
     ensures { result.now ≡ block false 0o000 }
 {
@@ -139,7 +138,6 @@ static ROWS_100: [Option<Named>; 64] = rows![
     (b"sbaq " Sbaq 0 R2)
 ];
 
-#[tactic(auto, using(crate::proofs::Blocks::codes_100))]
 pub(crate) fn codes_100() -> &'static [Option<Named>; 64]
     ensures { result.now ≡ block false 0o100 }
 {
@@ -220,7 +218,6 @@ static ROWS_200: [Option<Named>; 64] = rows![
     (b"oraq " Oraq 0 R2)
 ];
 
-#[tactic(auto, using(crate::proofs::Blocks::codes_200))]
 pub(crate) fn codes_200() -> &'static [Option<Named>; 64]
     ensures { result.now ≡ block false 0o200 }
 {
@@ -294,7 +291,6 @@ static ROWS_300: [Option<Named>; 64] = rows![
     (b"anaq " Anaq 0 R2)
 ];
 
-#[tactic(auto, using(crate::proofs::Blocks::codes_300))]
 pub(crate) fn codes_300() -> &'static [Option<Named>; 64]
     ensures { result.now ≡ block false 0o300 }
 {

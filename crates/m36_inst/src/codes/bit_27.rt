@@ -26,7 +26,6 @@ static ROWS_000_ON: [Option<Named>; 64] = rows![
     _ _ _ _ _ _ _ _
 ];
 
-#[tactic(auto, using(crate::proofs::Blocks::codes_000_on))]
 pub(crate) fn codes_000_on() -> &'static [Option<Named>; 64]
     ensures { result.now ≡ block true 0o000 }
 {
@@ -52,7 +51,6 @@ static ROWS_100_ON: [Option<Named>; 64] = rows![
     _ _ _ _ _ _ _ _
 ];
 
-#[tactic(auto, using(crate::proofs::Blocks::codes_100_on))]
 pub(crate) fn codes_100_on() -> &'static [Option<Named>; 64]
     ensures { result.now ≡ block true 0o100 }
 {
@@ -82,7 +80,6 @@ static ROWS_200_ON: [Option<Named>; 64] = rows![
     _ _ _ _ _ _ _ _
 ];
 
-#[tactic(auto, using(crate::proofs::Blocks::codes_200_on))]
 pub(crate) fn codes_200_on() -> &'static [Option<Named>; 64]
     ensures { result.now ≡ block true 0o200 }
 {
@@ -116,7 +113,6 @@ static ROWS_300_ON: [Option<Named>; 64] = rows![
     _ _ _ _
 ];
 
-#[tactic(auto, using(crate::proofs::Blocks::codes_300_on))]
 pub(crate) fn codes_300_on() -> &'static [Option<Named>; 64]
     ensures { result.now ≡ block true 0o300 }
 {
@@ -142,7 +138,6 @@ static ROWS_400_ON: [Option<Named>; 64] = rows![
     _ _ _ _ _ _ _ _
 ];
 
-#[tactic(auto, using(crate::proofs::Blocks::codes_400_on))]
 pub(crate) fn codes_400_on() -> &'static [Option<Named>; 64]
     ensures { result.now ≡ block true 0o400 }
 {
@@ -170,7 +165,6 @@ static ROWS_500_ON: [Option<Named>; 64] = rows![
     _ _ _ _ _ _ _ _
 ];
 
-#[tactic(auto, using(crate::proofs::Blocks::codes_500_on))]
 pub(crate) fn codes_500_on() -> &'static [Option<Named>; 64]
     ensures { result.now ≡ block true 0o500 }
 {
@@ -203,7 +197,6 @@ static ROWS_600_ON: [Option<Named>; 64] = rows![
     _ _ _ _ _ _ _ _
 ];
 
-#[tactic(auto, using(crate::proofs::Blocks::codes_600_on))]
 pub(crate) fn codes_600_on() -> &'static [Option<Named>; 64]
     ensures { result.now ≡ block true 0o600 }
 {
@@ -229,7 +222,6 @@ static ROWS_700_ON: [Option<Named>; 64] = rows![
     _ _ _ _ _ _ _ _
 ];
 
-#[tactic(auto, using(crate::proofs::Blocks::codes_700_on))]
 pub(crate) fn codes_700_on() -> &'static [Option<Named>; 64]
     ensures { result.now ≡ block true 0o700 }
 {

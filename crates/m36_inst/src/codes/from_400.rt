@@ -36,7 +36,6 @@ static ROWS_400: [Option<Named>; 64] = rows![
     _ _ _ _ _ _ _ _
 ];
 
-#[tactic(auto, using(crate::proofs::Blocks::codes_400))]
 pub(crate) fn codes_400() -> &'static [Option<Named>; 64]
     ensures { result.now ≡ block false 0o400 }
 {
@@ -68,7 +67,6 @@ static ROWS_500: [Option<Named>; 64] = rows![
     _ _ _ _ _ _ _ _
 ];
 
-#[tactic(auto, using(crate::proofs::Blocks::codes_500))]
 pub(crate) fn codes_500() -> &'static [Option<Named>; 64]
     ensures { result.now ≡ block false 0o500 }
 {
@@ -143,7 +141,6 @@ static ROWS_600: [Option<Named>; 64] = rows![
     (b"eraq " Eraq 0 R2)
 ];
 
-#[tactic(auto, using(crate::proofs::Blocks::codes_600))]
 pub(crate) fn codes_600() -> &'static [Option<Named>; 64]
     ensures { result.now ≡ block false 0o600 }
 {
@@ -218,7 +215,6 @@ static ROWS_700: [Option<Named>; 64] = rows![
     (b"llr  " Llr 0 A)
 ];
 
-#[tactic(auto, using(crate::proofs::Blocks::codes_700))]
 pub(crate) fn codes_700() -> &'static [Option<Named>; 64]
     ensures { result.now ≡ block false 0o700 }
 {

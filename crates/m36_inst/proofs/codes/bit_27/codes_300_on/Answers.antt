@@ -1,0 +1,5 @@
+use Rattle.m36_inst.proofs.Blocks.{codes_300_on}
+use Rattle.m36_inst.proofs.codes.bit_27.codes_300_on.Goals as goal
+
+pub returns : goal.returns
+returns c = codes_300_on
