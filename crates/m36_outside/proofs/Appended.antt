@@ -29,6 +29,26 @@ keeps_by_nothing (Some held) None next first more = absurd first
 keeps_by_nothing (Some held) (Some same) None first more = absurd more
 keeps_by_nothing (Some held) (Some same) (Some rest) first more = more ∙ append-nil same ∙ first
 
+-- a write behind others that took nothing
+pub appends_behind :
+    (start now next : Option (List ℕ)) (bytes : List ℕ)
+    → Keeps start now → Appends now next bytes → Appends start next bytes
+appends_behind None now next bytes same more = tt
+appends_behind (Some held) None next bytes same more = absurd same
+appends_behind (Some held) (Some part) None bytes same more = absurd more
+appends_behind (Some held) (Some part) (Some whole) bytes same more = more ∙ ap (λ l. l ++ bytes) same
+
+-- nothing was written, and what was held is kept
+pub keeps_nothing : (now next : Option (List ℕ)) → Appends now next [] → Keeps now next
+keeps_nothing None next more = tt
+keeps_nothing (Some held) None more = absurd more
+keeps_nothing (Some held) (Some same) more = more ∙ append-nil held
+
+pub appends_nothing : (now next : Option (List ℕ)) → Keeps now next → Appends now next []
+appends_nothing None next same = tt
+appends_nothing (Some held) None same = absurd same
+appends_nothing (Some held) (Some kept) same = same ∙ sym (append-nil held)
+
 -- a write that took nothing, or a flush
 pub appends_kept :
     (start now next : Option (List ℕ)) (bytes : List ℕ) (done : ℕ)

@@ -1,6 +1,6 @@
 -- Answers that need no cause.
 use Rattle.std.proofs.Common.{◌≡◌, ℕ, refl}
-use Rattle.m36_outside.specs.ReadAnswer.{ReadHasCause}
+use Rattle.m36_outside.specs.ReadAnswer.{ReadHasCause, IsNoFault}
 use Rattle.m36_outside.specs.declared.folder.ReadAnswer.{ReadAnswer}
 use Rattle.m36_outside.specs.declared.folder.ReadAnswer.TheVariants.{Read, Absent, TooLarge, Failed, NoMemory}
 
@@ -11,3 +11,10 @@ read_without_fault Absent count sure = refl
 read_without_fault TooLarge count sure = refl
 read_without_fault Failed count sure = absurd (sure refl)
 read_without_fault NoMemory count sure = refl
+
+pub sure_read : (answer : ReadAnswer) (count : ℕ) → IsNoFault answer → ReadHasCause answer count count
+sure_read (Read bytes) count sure = refl
+sure_read Absent count sure = refl
+sure_read TooLarge count sure = refl
+sure_read Failed count sure = absurd sure
+sure_read NoMemory count sure = refl

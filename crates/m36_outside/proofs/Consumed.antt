@@ -53,6 +53,15 @@ chunk_says NoMemory old new before after got added taken = tt
 
 pub ruleset consumed = (consumes_none, consumes_more, consumes_all, consumes_too_much)
 
+-- a read after reads that took nothing
+pub consumes_kept :
+    (start now next : Option (List ℕ)) (bytes : List ℕ)
+    → Keeps start now → Consumes now next bytes → Consumes start next bytes
+consumes_kept None now next bytes same more = tt
+consumes_kept (Some all) None next bytes same more = absurd same
+consumes_kept (Some all) (Some left) None bytes same more = absurd more
+consumes_kept (Some all) (Some left) (Some rest) bytes same more = sym same ∙ more
+
 -- a read that gave bytes, after reads that gave none
 pub piece_got :
     (start now next : Option (List ℕ)) (count : ℕ) (into : List ℕ)

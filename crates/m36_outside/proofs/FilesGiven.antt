@@ -5,7 +5,7 @@ use Rattle.std.specs.declared.io.ErrorKind.{ErrorKind}
 use Rattle.std.specs.declared.io.ErrorKind.TheVariants.{NotFound}
 use Rattle.m36_outside.specs.Chunk.{AddSays, ChunkGives, GivesPiece}
 use Rattle.m36_outside.specs.Given.{Gives, GivesAll, GivesTooMuch, GivesSome, ReadGives}
-use Rattle.m36_outside.specs.ReadAnswer.{file_limit}
+use Rattle.m36_outside.specs.ReadAnswer.{file_limit, IsWithinLimit}
 use Rattle.m36_outside.specs.System.{refusal_of}
 use Rattle.m36_outside.specs.declared.folder.ReadAnswer.{ReadAnswer}
 use Rattle.m36_outside.specs.declared.folder.ReadAnswer.TheVariants.{Read, Absent, TooLarge, Failed, NoMemory}
@@ -112,3 +112,11 @@ pub refused_gives :
     (answer : ReadAnswer) (kind : ErrorKind) (now : List (List ℕ))
     → answer ≡ refusal_of kind → ReadGives answer now now
 refused_gives answer kind now is = subst (λ a. ReadGives a now now) (sym is) (refusal_gives kind now)
+
+-- and is within the limit
+refusal_within : (kind : ErrorKind) → IsWithinLimit (refusal_of kind)
+refusal_within NotFound = tt
+refusal_within _ = tt
+
+pub refused_within : (answer : ReadAnswer) (kind : ErrorKind) → answer ≡ refusal_of kind → IsWithinLimit answer
+refused_within answer kind is = subst IsWithinLimit (sym is) (refusal_within kind)

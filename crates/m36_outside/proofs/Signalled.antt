@@ -1,6 +1,8 @@
 -- Laws of errors that were noted: of signals, behind which a call is made again, and of what makes it give up.
-use Rattle.std.proofs.Common.{◌≡◌, ◌≢◌, ℕ, ◌+◌, ◌-◌, ◌^◌, ◌≤◌, ◌⊎◌, inl, inr, List, [], ◌∷◌, ◌++◌, length, replicate, refl, sym, ap, subst, ◌∙◌, arith, length-append}
+use Rattle.std.proofs.Common.{◌≡◌, ◌≢◌, ◌↔◌, Bool, true, false, ℕ, ◌+◌, ◌-◌, ◌^◌, ◌≤◌, ◌⊎◌, inl, inr, List, [], ◌∷◌, ◌++◌, length, replicate, refl, sym, ap, subst, ◌∙◌, arith, length-append}
 use Rattle.std.proofs.lemmas.List.{append-nil, append_assoc, replicate_more, replicate-append-replicate}
+use Rattle.std.specs.Prelude.{IsTrue}
+use Rattle.std.specs.Bool.{OnTrue, OnFalse}
 use Rattle.std.specs.declared.io.ErrorKind.{ErrorKind}
 use Rattle.std.specs.declared.io.ErrorKind.TheVariants.{NotFound, WriteZero, Interrupted}
 use Rattle.m36_outside.specs.Chunk.{AddSays, ChunkHasError}
@@ -63,6 +65,21 @@ pub gives_up_by :
     → Signals start now → next ≡ now ++ kind ∷ [] → kind ≢ Interrupted → GivesUp start next
 gives_up_by start now next kind first noted other =
     gives_up_at start now next first (other_is_fault now next kind other noted)
+
+-- one error, by whether it is a signal
+pub noted_signal :
+    (signal : Bool) (kind : ErrorKind) (now next : List ErrorKind)
+    → IsTrue signal ↔ (kind ≡ Interrupted) → next ≡ now ++ kind ∷ []
+    → OnTrue signal (next ≡ now ++ Interrupted ∷ [])
+noted_signal true kind now next is noted = noted ∙ ap (λ k. now ++ k ∷ []) (is.0 refl)
+noted_signal false kind now next is noted = tt
+
+pub noted_fault :
+    (signal : Bool) (kind : ErrorKind) (now next : List ErrorKind)
+    → IsTrue signal ↔ (kind ≡ Interrupted) → next ≡ now ++ kind ∷ [] → OnFalse signal (IsFault now next)
+noted_fault true kind now next is noted = tt
+noted_fault false kind now next is noted =
+    other_is_fault now next kind (λ e. let t : false ≡ true = is.1 e in cc) noted
 
 -- the last of 2^64 - 1 signals
 pub gives_up_last :

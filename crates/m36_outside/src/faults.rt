@@ -2,10 +2,12 @@
 
 ghost use Rattle.std.specs.Prelude.{◌≡◌, ◌≤◌, ◌<◌, ◌^◌};
 ghost use Rattle.m36_outside.specs.Counts.{raised, Rose};
+ghost use Rattle.m36_outside.specs.Piece.{PieceHasCause};
 ghost use Rattle.m36_outside.specs.Put.{PutHasCause};
 ghost use Rattle.m36_outside.specs.ReadAnswer.{ReadHasCause};
 
 use crate::folder::ReadAnswer;
+use crate::lines::Piece;
 use crate::sink::Put;
 
 /// A count of faults after one more. It ends at 2^64 - 1.
@@ -27,6 +29,18 @@ pub fn after_put(count: u64, answer: Put) -> u64
     match answer {
         Put::Done => count,
         Put::Failed => raise(count),
+    }
+}
+
+/// A count of faults after a call for a piece of this answer.
+pub fn after_piece(count: u64, answer: Piece) -> u64
+    ensures cause { PieceHasCause answer count result }
+    ensures later { count ≤ result }
+    ensures bound { result < 2 ^ 64 }
+{
+    match answer {
+        Piece::Failed => raise(count),
+        Piece::End | Piece::Got(_) => count,
     }
 }
 

@@ -1,12 +1,13 @@
 //! A list of named files in memory.
 
-ghost use Rattle.std.specs.Prelude.{◌≡◌, [], Some, None, MatchOption, OnOk, OnErr};
+ghost use Rattle.std.specs.Prelude.{ℕ, ◌≡◌, [], ◌∷◌, ◌++◌, Some, None, MatchOption, OnOk, OnErr};
 ghost use Rattle.std.specs.List.{position_or_len};
 ghost use Rattle.m36_outside.specs.Files.{with_file};
 ghost use Rattle.m36_outside.specs.FileList.{file_named, has_name};
 ghost use Rattle.m36_outside.specs.ReadAnswer.{ReadSays, IsWithinLimit, IsNoFault};
+ghost use Rattle.m36_outside.specs.WriteAnswer.{WriteSays, WriteHasCause};
 
-use crate::folder::{FILE_LIMIT, ReadAnswer};
+use crate::folder::{FILE_LIMIT, ReadAnswer, WriteAnswer};
 use crate::text::Text;
 use m36_word::NoMemory;
 use std::alloc::Global;
@@ -95,11 +96,47 @@ impl FileList {
         if place < self.files.len() {
             let file = &mut self.files[place];
             file.content = content;
+            Ok(())
         } else {
-            let name = Text::from_bytes(alloc, name)?;
-            self.files.push(NamedFile { name, content })?;
+            push_file(&mut self.files, alloc, name, content)
         }
-        Ok(())
+    }
+
+    /// Writes a file. The answer is never Failed.
+    pub fn write(&mut self, alloc: Global, name: &[u8], content: &[u8]) -> WriteAnswer
+        ensures says { WriteSays result
+            (Some (file_named self.old)) (Some (file_named self.new)) name.now content.now }
+        ensures cause { (count : ℕ) → WriteHasCause result count count }
+        ensures sure { (result ≡ WriteAnswer.Failed) → ⊥ }
+    {
+        match self.set(alloc, name, content) {
+            Ok(()) => WriteAnswer::Written,
+            Err(NoMemory) => WriteAnswer::NoMemory,
+        }
+    }
+}
+
+/// Adds a file at the end. Where no memory is found, nothing changes.
+fn push_file(
+    files: &mut Vec<NamedFile>,
+    alloc: Global,
+    name: &[u8],
+    content: Text,
+) -> Result<(), NoMemory>
+    ensures ok { OnOk result
+        (files.new.items ≡ files.old.items ++ record { name = name.now; content = content } ∷ []) }
+    ensures err { OnErr result (files.new.items ≡ files.old.items) }
+{
+    match Text::from_bytes(alloc, name) {
+        Ok(name) => {
+            files.push(NamedFile { name, content })?;
+            Ok(())
+        }
+        Err(cause) => {
+            // Dropped by a call: so the drop is proved once for its type.
+            drop(content);
+            Err(cause)
+        }
     }
 }
 

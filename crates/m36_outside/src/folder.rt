@@ -13,7 +13,7 @@ use std::alloc::Global;
 pub const FILE_LIMIT: usize = 1 << 24;
 
 /// The answer of a read.
-#[derive(Drop, Debug)]
+#[derive(Drop)]
 pub enum ReadAnswer {
     /// The whole content of the file, of at most 16,777,216 bytes.
     Read(Text),
@@ -28,7 +28,7 @@ pub enum ReadAnswer {
 }
 
 /// The answer of a write.
-#[derive(Clone, Copy, PartialEq, Eq, Debug)]
+#[derive(Clone, Copy, PartialEq, Eq)]
 pub enum WriteAnswer {
     /// The file has this content, and nothing else.
     Written,

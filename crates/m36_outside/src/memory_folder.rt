@@ -61,14 +61,22 @@ impl MemFolder {
     ) -> Result<MemFolder, NoMemory>
         ensures { IfOk result (λ folder. folder ≡ new_folder fail_reads.now fail_writes.now) }
     {
-        Ok(MemFolder {
-            files: FileList::new(alloc),
-            reads: Calls::new(alloc, fail_reads)?,
-            writes: Calls::new(alloc, fail_writes)?,
-            calls: FolderCalls::new(),
-            read_faults: 0,
-            write_faults: 0,
-        })
+        let reads = Calls::new(alloc, fail_reads)?;
+        match Calls::new(alloc, fail_writes) {
+            Ok(writes) => Ok(MemFolder {
+                files: FileList::new(alloc),
+                reads,
+                writes,
+                calls: FolderCalls::new(),
+                read_faults: 0,
+                write_faults: 0,
+            }),
+            Err(cause) => {
+                // Dropped by a call: so the drop is proved once for its type.
+                drop(reads);
+                Err(cause)
+            }
+        }
     }
 
     /// Puts a file in, in place of the one of this name that may be there. It counts as no write. Where no memory is
@@ -135,15 +143,8 @@ impl Folder for MemFolder {
             self.calls.note_write(name, content, WriteAnswer::Failed);
             return WriteAnswer::Failed;
         }
-        match self.files.set(alloc, name, content) {
-            Ok(()) => {
-                self.calls.note_write(name, content, WriteAnswer::Written);
-                WriteAnswer::Written
-            }
-            Err(NoMemory) => {
-                self.calls.note_write(name, content, WriteAnswer::NoMemory);
-                WriteAnswer::NoMemory
-            }
-        }
+        let answer = self.files.write(alloc, name, content);
+        self.calls.note_write(name, content, answer);
+        answer
     }
 }

@@ -50,12 +50,20 @@ impl MemLines {
     pub fn new(alloc: Global, content: &[u8], fail: &[u32]) -> Result<MemLines, NoMemory>
         ensures { IfOk result (λ lines. lines ≡ new_lines content.now fail.now) }
     {
-        Ok(MemLines {
-            unread: Unread::new(alloc, content)?,
-            calls: Calls::new(alloc, fail)?,
-            given: Passed::new(),
-            faults: 0,
-        })
+        let unread = Unread::new(alloc, content)?;
+        match Calls::new(alloc, fail) {
+            Ok(calls) => Ok(MemLines {
+                unread,
+                calls,
+                given: Passed::new(),
+                faults: 0,
+            }),
+            Err(cause) => {
+                // Dropped by a call: so the drop is proved once for its type.
+                drop(unread);
+                Err(cause)
+            }
+        }
     }
 }
 

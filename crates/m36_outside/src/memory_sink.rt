@@ -53,13 +53,21 @@ impl MemSink {
     pub fn new(alloc: Global, room: usize, fail: &[u32]) -> Result<MemSink, NoMemory>
         ensures { IfOk result (λ sink. sink ≡ new_sink room fail.now) }
     {
-        Ok(MemSink {
-            bytes: Vec::with_capacity(alloc, room)?,
-            puts: Calls::new(alloc, fail)?,
-            pieces: Passed::new(),
-            room,
-            faults: 0,
-        })
+        let bytes = Vec::with_capacity(alloc, room)?;
+        match Calls::new(alloc, fail) {
+            Ok(puts) => Ok(MemSink {
+                bytes,
+                puts,
+                pieces: Passed::new(),
+                room,
+                faults: 0,
+            }),
+            Err(cause) => {
+                // Dropped by a call: so the drop is proved once for its type.
+                drop(bytes);
+                Err(cause)
+            }
+        }
     }
 
     /// All that is written.

@@ -10,7 +10,7 @@ ghost use Rattle.m36_outside.specs.Signals.{Signals, IsFault, GivesUp};
 
 use crate::passed::{Entries, Passed};
 use crate::text::Text;
-use std::io::{ErrorKind, Read, Write};
+use std::io::{Error, ErrorKind, Read, Write};
 
 impl Entries<u8> for &[u8] {
     ghost entries = { λ bytes. bytes.now };
@@ -73,7 +73,6 @@ impl<W: Write> NotedWriter<W> {
 
     /// Writes once. None says that the writer answered an error, or took nothing of bytes that are some; Some(0) that a
     /// signal broke in. In both one error was noted.
-    #[tactic(auto, using(crate::proofs::Signalled::trying))]
     pub fn write(&mut self, bytes: &[u8]) -> Option<usize>
         requires some { 1 ≤ length bytes.now }
         ensures bound { IfSome result (λ count. count ≤ length bytes.now) }
@@ -100,9 +99,11 @@ impl<W: Write> NotedWriter<W> {
                 Some(count)
             }
             Err(e) => {
-                let kind = e.kind();
-                self.errors.note(&kind);
-                if is_signal(kind) { Some(0) } else { None }
+                if note_error(&mut self.errors, &e) {
+                    Some(0)
+                } else {
+                    None
+                }
             }
         }
     }
@@ -124,9 +125,7 @@ impl<W: Write> NotedWriter<W> {
                     return true;
                 }
                 Err(e) => {
-                    let kind = e.kind();
-                    self.errors.note(&kind);
-                    if !is_signal(kind) {
+                    if !note_error(&mut self.errors, &e) {
                         return false;
                     }
                 }
@@ -180,9 +179,7 @@ impl<R: Read> NotedReader<R> {
                     return Some(count);
                 }
                 Err(e) => {
-                    let kind = e.kind();
-                    self.errors.note(&kind);
-                    if !is_signal(kind) {
+                    if !note_error(&mut self.errors, &e) {
                         return None;
                     }
                 }
@@ -190,6 +187,17 @@ impl<R: Read> NotedReader<R> {
         }
         None
     }
+}
+
+/// Notes an error, and tells whether it is that a signal broke in.
+fn note_error(errors: &mut Passed<ErrorKind>, error: &Error) -> bool
+    ensures signal { OnTrue result
+        (errors.new.entries ≡ errors.old.entries ++ ErrorKind.Interrupted ∷ []) }
+    ensures fault { OnFalse result (IsFault errors.old.entries errors.new.entries) }
+{
+    let kind = error.kind();
+    errors.note(&kind);
+    is_signal(kind)
 }
 
 /// Whether the error is that a signal broke in.

@@ -7,7 +7,7 @@ ghost use Rattle.m36_outside.specs.Put.{PutSays, PutHasCause};
 use crate::block::Block;
 
 /// The answer of a put.
-#[derive(Clone, Copy, PartialEq, Eq, Debug)]
+#[derive(Clone, Copy, PartialEq, Eq)]
 pub enum Put {
     /// The whole piece was written.
     Done,

@@ -5,7 +5,7 @@ ghost use Rattle.m36_outside.specs.Passing.{PieceGives};
 ghost use Rattle.m36_outside.specs.Piece.{PieceSays, PieceHasCause};
 ghost use Rattle.m36_outside.specs.System.{PieceHasError};
 
-use crate::faults::raise;
+use crate::faults::after_piece;
 use crate::lines::{Lines, Piece};
 use crate::noted::NotedReader;
 use crate::reading::read_piece;
@@ -65,13 +65,8 @@ impl<R: Input + Drop> Lines for StdLines<R> {
 
         ensures error { PieceHasError result self.old.errors self.new.errors }
     {
-        match read_piece(&mut self.reader, into) {
-            Piece::Failed => {
-                self.faults = raise(self.faults);
-                Piece::Failed
-            }
-            Piece::End => Piece::End,
-            Piece::Got(count) => Piece::Got(count),
-        }
+        let answer = read_piece(&mut self.reader, into);
+        self.faults = after_piece(self.faults, answer);
+        answer
     }
 }

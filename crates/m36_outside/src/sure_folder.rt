@@ -84,15 +84,8 @@ impl Folder for SureFolder {
         ensures asked { self.new.asked ≡ self.old.asked }
         ensures cause { WriteHasCause result 0 0 }
     {
-        match self.files.set(alloc, name, content) {
-            Ok(()) => {
-                self.calls.note_write(name, content, WriteAnswer::Written);
-                WriteAnswer::Written
-            }
-            Err(NoMemory) => {
-                self.calls.note_write(name, content, WriteAnswer::NoMemory);
-                WriteAnswer::NoMemory
-            }
-        }
+        let answer = self.files.write(alloc, name, content);
+        self.calls.note_write(name, content, answer);
+        answer
     }
 }

@@ -8,7 +8,7 @@ use std::marker::Model;
 
 /// A list of bytes that grows at its end, seen as a list of numbers: a file's content, a file's name or a word of
 /// the command line.
-#[derive(Drop, Debug)]
+#[derive(Drop)]
 pub struct Text {
     items: Vec<u8>,
 }

@@ -1,5 +1,5 @@
 -- A file was opened and read, or was not opened and gave nothing.
-use Rattle.m36_outside.proofs.FilesGiven.{refused_gives}
+use Rattle.m36_outside.proofs.FilesGiven.{refused_gives, refused_within}
 use Rattle.m36_outside.proofs.Names.{not_read}
 use Rattle.m36_outside.proofs.Signalled.{read_has_error, refused_has_error}
 use Rattle.m36_outside.proofs.directory.read_file.Goals as goal
@@ -11,6 +11,9 @@ returns-in-Ok-clause-outside g c =
 pub returns-in-Ok-clause-error : goal.returns-in-Ok-clause-error
 returns-in-Ok-clause-error g c =
     read_has_error c.read_alone.result c.args.name.now c.args.notes.now.errors.entries c.read_alone.new.errors.entries c.read_alone.ensures.error
+
+pub returns-in-Err-clause-limit : goal.returns-in-Err-clause-limit
+returns-in-Err-clause-limit g c = refused_within c.refusal.result c.kind-kind.result c.refusal.ensures
 
 pub returns-in-Err-clause-outside : goal.returns-in-Err-clause-outside
 returns-in-Err-clause-outside g c =

@@ -1,9 +1,10 @@
 -- One more signal broke in.
-use Rattle.std.proofs.Common.{◌≡◌, ℕ, [], ◌∷◌, ◌++◌, take, subst, ◌∙◌, append-nil, rules, arith}
+use Rattle.std.proofs.Common.{◌≡◌, ℕ, [], ◌∷◌, ◌++◌, ◌≤◌, take, ap, subst, ◌∙◌, append-nil, rules, arith}
 use Rattle.std.specs.Io.KnownBytes.{Appends}
 use Rattle.std.specs.declared.io.ErrorKind.TheVariants.{Interrupted}
-use Rattle.m36_outside.proofs.Appended.{keeps_by_nothing}
-use Rattle.m36_outside.proofs.Signalled.{signals_more, turns_more}
+use Rattle.m36_outside.proofs.Appended.{keeps_by_nothing, appends_behind}
+use Rattle.m36_outside.proofs.Consumed.{keeps_on}
+use Rattle.m36_outside.proofs.Signalled.{signals_same, signals_more, turns_more, gives_up_at, gives_up_last}
 use Rattle.m36_outside.proofs.writing.write_some.Goals as goal
 
 pub loop-turn-preserved : goal.loop-turn-preserved
@@ -25,3 +26,36 @@ loop-turn-preserved g c =
       signals = signals_more start now next c.loop-turn.invariant.signals noted;
       turns = turns_more start now next Interrupted c.loop-turn._turn c.loop-turn.invariant.turns noted;
     }
+
+-- Some bytes were written.
+pub returns-in-Some-clause-taken : goal.returns-in-Some-clause-taken
+returns-in-Some-clause-taken g c =
+    c.in-Some.ensures.taken ∙ ap (λ l. l ++ take c.in-Some.count c.args.bytes.now) c.loop-turn.invariant.taken
+
+pub returns-in-Some-clause-inner : goal.returns-in-Some-clause-inner
+returns-in-Some-clause-inner g c =
+    let held = g.W.Write.contents in
+    appends_behind (held c.args.to.now.inner) (held c.loop-turn.to.inner) (held c.write.new.self.inner) (take c.in-Some.count c.args.bytes.now) c.loop-turn.invariant.inner c.in-Some.ensures.inner
+
+pub returns-in-Some-clause-sure : goal.returns-in-Some-clause-sure
+returns-in-Some-clause-sure g c =
+    let some : 1 ≤ c.in-Some.count = first_of (omega arith, search rules, grind arith) in
+    signals_same c.args.to.now.errors.entries c.loop-turn.to.errors.entries c.write.new.self.errors.entries c.loop-turn.invariant.signals (c.in-Some.ensures.sure some)
+
+-- An error came that is no signal.
+pub returns-in-None-clause-inner : goal.returns-in-None-clause-inner
+returns-in-None-clause-inner g c =
+    let held = g.W.Write.contents in
+    keeps_on (held c.args.to.now.inner) (held c.loop-turn.to.inner) (held c.write.new.self.inner) c.loop-turn.invariant.inner c.in-None.ensures.inner
+
+pub returns-in-None-clause-failed : goal.returns-in-None-clause-failed
+returns-in-None-clause-failed g c =
+    gives_up_at c.args.to.now.errors.entries c.loop-turn.to.errors.entries c.write.new.self.errors.entries c.loop-turn.invariant.signals c.in-None.ensures.failed
+
+-- Each turn noted a signal.
+pub returns-clause-inner : goal.returns-clause-inner
+returns-clause-inner g c = c.loop-turn.invariant.inner
+
+pub returns-clause-failed : goal.returns-clause-failed
+returns-clause-failed g c =
+    gives_up_last c.args.to.now.errors.entries c.loop-turn.to.errors.entries c.loop-turn._turn c.loop-turn.invariant.signals c.loop-turn.invariant.turns (omega arith)
