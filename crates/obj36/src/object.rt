@@ -25,13 +25,15 @@ use obj36_parts::halves::word_of;
 use obj36_parts::link::Link;
 use obj36_parts::parts::Parts;
 use obj36_parts::section::Section;
-use obj36_parts::sections::{definition_words_of, linkage_words_of, push_all, symbol_words_of};
+use obj36_parts::sections::{
+    definition_words_of, linkage_words_of, push_all, symbol_words_of, version_of,
+};
 use obj36_read::reading::parts_in;
 use std::alloc::Global;
 use std::marker::Model;
 
 // The sections that are made of parts.
-#[derive(Debug, Drop)]
+#[derive(Drop)]
 struct Sections {
     definition: Words,
     linkage: Words,
@@ -39,7 +41,7 @@ struct Sections {
 }
 
 /// An object: parts for which a list of words stands. It is seen as its parts.
-#[derive(Debug, Drop)]
+#[derive(Drop)]
 pub struct Object {
     parts: Parts,
     definition: Words,
@@ -58,6 +60,7 @@ impl Model for Object {
     ghost invariant = { λ o. IsObject o.parts o.definition o.linkage o.symbol };
 }
 
+// The sections of parts.
 #[tactic(auto, unfolding(obj36_parts::specs::ObjectSegment::definition_section, obj36_parts::specs::ObjectSegment::linkage_section, obj36_parts::specs::ObjectSegment::symbol_section))]
 fn sections_of(alloc: Global, parts: &Parts) -> Result<Sections, NoMemory>
     requires { HasShortLists parts.now }
@@ -93,9 +96,10 @@ fn push_static_entry(out: &mut Words, newer: bool, offset: u64, length: u64) -> 
     ensures { OnOk result (out.new ≡ out.old ++ (if newer then joined offset length ∷ [] else [])) }
 {
     if newer {
-        out.push(word_of(offset, length))?;
+        out.push(word_of(offset, length))
+    } else {
+        Ok(())
     }
-    Ok(())
 }
 
 // The map and the last word.
@@ -110,15 +114,20 @@ fn push_map(out: &mut Words, newer: bool, lengths: Lengths, bound: u64) -> Resul
     let statics = linkage + lengths.linkage;
     let symbol = statics + lengths.statics;
     let map = symbol + lengths.symbol;
-    out.push(word_of(0, if newer { 2 } else { 1 }))?;
-    out.push(word_of(0, lengths.text))?;
-    out.push(word_of(lengths.text, lengths.definition))?;
-    out.push(word_of(linkage, lengths.linkage))?;
+    let front = [
+        word_of(0, version_of(newer) as u64),
+        word_of(0, lengths.text),
+        word_of(lengths.text, lengths.definition),
+        word_of(linkage, lengths.linkage),
+    ];
+    let back = [
+        word_of(symbol, lengths.symbol),
+        word_of(bound, 0),
+        word_of(map, 0),
+    ];
+    push_all(out, &front)?;
     push_static_entry(out, newer, statics, lengths.statics)?;
-    out.push(word_of(symbol, lengths.symbol))?;
-    out.push(word_of(bound, 0))?;
-    out.push(word_of(map, 0))?;
-    Ok(())
+    push_all(out, &back)
 }
 
 // The lengths fit what tells them.
@@ -264,7 +273,6 @@ fn object_with(parts: Parts, sections: Option<Sections>) -> Option<Object>
 }
 
 // The object that a list of words is, or none where it stands for no value.
-#[tactic(auto, using(crate::proofs::ObjectLaws::found_by_value))]
 fn object_in(alloc: Global, w: &[Word]) -> Result<Option<Object>, NoMemory>
     requires { length w.now < 2 ^ 32 }
     ensures value { IfOk result (λ found. found ≡ value_of w.now) }

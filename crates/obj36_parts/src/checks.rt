@@ -9,8 +9,9 @@ ghost use Rattle.obj36_parts.specs.ObjectSegment.{is_section_where, is_name_wher
 ghost use Rattle.obj36_parts.specs.ObjectSegment.{is_definition, is_link, is_place, is_relocation};
 ghost use Rattle.obj36_parts.specs.Sections.{place_number};
 ghost use Rattle.obj36_parts.specs.ObjectSegment.{order_of, are_in_order, left_part};
+ghost use Rattle.obj36_parts.specs.ObjectSegment.{definition_names, are_distinct};
 
-use crate::definition::Named;
+use crate::definition::{Defs, Named};
 use crate::link::Link;
 use crate::names::{has_its_entry, has_its_name};
 use crate::relocation::Reloc;
@@ -43,12 +44,17 @@ fn is_good_definition(version: u8, definition: &Named) -> bool
         && class(def.section) <= greatest_class(version)
 }
 
-pub(crate) fn are_good_definitions(version: u8, definitions: &[Named]) -> bool
+fn are_good_definitions(version: u8, definitions: &[Named]) -> bool
     ensures { result ≡ list_all (is_definition version) definitions.now }
 {
-    definitions
-        .iter()
-        .all(|definition| is_good_definition(version, definition))
+    let mut rest = definitions;
+    while let [first, others @ ..] = rest {
+        if !is_good_definition(version, first) {
+            return false;
+        }
+        rest = others;
+    }
+    true
 }
 
 /// Whether a link of this type has a section.
@@ -91,10 +97,17 @@ fn is_good_link(version: u8, link: &Link) -> bool
         && link.modifier < 1 << 6
 }
 
-pub(crate) fn are_good_links(version: u8, links: &[Link]) -> bool
+fn are_good_links(version: u8, links: &[Link]) -> bool
     ensures { result ≡ list_all (is_link version) links.now }
 {
-    links.iter().all(|link| is_good_link(version, link))
+    let mut rest = links;
+    while let [first, others @ ..] = rest {
+        if !is_good_link(version, first) {
+            return false;
+        }
+        rest = others;
+    }
+    true
 }
 
 /// How many words relocations may name, and in which version.
@@ -134,13 +147,18 @@ fn is_good_relocation(room: Room, relocation: &Reloc) -> bool
         && number(relocation.target) <= greatest_place(room.version)
 }
 
-pub(crate) fn are_good_relocations(room: Room, relocations: &[Reloc]) -> bool
+fn are_good_relocations(room: Room, relocations: &[Reloc]) -> bool
     ensures { result
         ≡ list_all (is_relocation room.text room.inner room.outer room.version) relocations.now }
 {
-    relocations
-        .iter()
-        .all(|relocation| is_good_relocation(room, relocation))
+    let mut rest = relocations;
+    while let [first, others @ ..] = rest {
+        if !is_good_relocation(room, first) {
+            return false;
+        }
+        rest = others;
+    }
+    true
 }
 
 #[tactic(auto, unfolding(crate::specs::ObjectSegment::order_of))]
@@ -167,7 +185,7 @@ fn barred_behind(part: u8, place: u64, barred: u64) -> u64
 
 // Whether relocations are in rising order, without parts 0 and 2 of one word.
 #[tactic(auto, unfolding(crate::specs::ObjectSegment::are_rising))]
-pub(crate) fn are_in_order(relocations: &[Reloc]) -> bool
+fn are_in_order(relocations: &[Reloc]) -> bool
     ensures { result ≡ are_in_order relocations.now }
 {
     let mut least = 0;
@@ -183,4 +201,25 @@ pub(crate) fn are_in_order(relocations: &[Reloc]) -> bool
         rest = others;
     }
     true
+}
+
+// Whether definitions, links and relocations are those of an object.
+pub(crate) fn are_good_tables(
+    room: Room,
+    definitions: &Defs,
+    links: &[Link],
+    relocations: &[Reloc],
+) -> bool
+    ensures { result
+        ≡ (list_all (is_definition room.version) definitions.now
+        && are_distinct (definition_names definitions.now)
+        && list_all (is_link room.version) links.now
+        && list_all (is_relocation room.text room.inner room.outer room.version) relocations.now
+        && are_in_order relocations.now) }
+{
+    are_good_definitions(room.version, definitions.items())
+        && definitions.have_own_names()
+        && are_good_links(room.version, links)
+        && are_good_relocations(room, relocations)
+        && are_in_order(relocations)
 }

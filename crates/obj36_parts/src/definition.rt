@@ -15,7 +15,7 @@ use std::alloc::Global;
 use std::marker::Model;
 
 /// Where a definition lies.
-#[derive(Clone, Copy, Debug, PartialEq, Eq)]
+#[derive(Clone, Copy, PartialEq, Eq)]
 pub struct Def {
     /// Its offset in the section; 18 bits.
     pub value: u32,
@@ -39,7 +39,7 @@ impl Model for Def {
 }
 
 /// A definition with its name.
-#[derive(Debug, Drop)]
+#[derive(Drop)]
 pub struct Named {
     /// 1 to 32 letters, digits, `_` and full stops; unique in its object.
     pub name: Name,
@@ -48,7 +48,7 @@ pub struct Named {
 }
 
 /// A list of definitions that grows at its end, with where the first definition of each name lies.
-#[derive(Debug, Drop)]
+#[derive(Drop)]
 pub struct Defs {
     items: Vec<Named>,
     firsts: IndexMap<Name, Def>,

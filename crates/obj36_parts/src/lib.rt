@@ -11,6 +11,7 @@ pub mod checks;
 pub mod definition;
 pub mod halves;
 pub mod link;
+mod linkage;
 pub mod names;
 pub mod parts;
 pub mod relocation;

@@ -78,7 +78,7 @@ impl Link {
 }
 
 /// A list of links that grows at its end, with the first place of each and the names that they use.
-#[derive(Debug, Drop)]
+#[derive(Drop)]
 pub struct Links {
     items: Vec<Link>,
     places: IndexMap<Link, u64>,
@@ -99,7 +99,6 @@ impl Model for Links {
 
 impl Links {
     /// An empty list.
-    #[tactic(auto, using(crate::proofs::IndexLaws::none_indexed))]
     pub fn new(alloc: Global) -> Links
         ensures { result ≡ [] }
     {

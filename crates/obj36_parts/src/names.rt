@@ -145,8 +145,21 @@ fn add_links(table: &mut NameTable, links: &[Link]) -> Result<(), NoMemory>
     Ok(())
 }
 
-// Each name once, in order of first use, from a place on.
+// Adds the names of definitions and links where there are none, in order of first use.
 #[tactic(auto, using(crate::proofs::NameTables::added_then))]
+fn add_names(table: &mut NameTable, definitions: &[Named], links: &[Link]) -> Result<(), NoMemory>
+    requires definitions { length definitions.now < 2 ^ 32 }
+    requires links { length links.now < 2 ^ 32 }
+    requires empty { table.old.names ≡ [] }
+    ensures names { OnOk result (table.new.names
+        ≡ with_names [] (definition_names definitions.now ++ all_link_names links.now)) }
+    ensures base { table.new.base ≡ table.old.base }
+{
+    add_definitions(table, definitions)?;
+    add_links(table, links)
+}
+
+// Each name once, in order of first use, from a place on.
 pub(crate) fn names_used(
     alloc: Global,
     definitions: &[Named],
@@ -161,9 +174,14 @@ pub(crate) fn names_used(
     ensures base { IfOk result (λ table. table.base ≡ base) }
 {
     let mut table = NameTable::new(alloc, base);
-    add_definitions(&mut table, definitions)?;
-    add_links(&mut table, links)?;
-    Ok(table)
+    match add_names(&mut table, definitions, links) {
+        Ok(()) => Ok(table),
+        Err(cause) => {
+            // Dropped by a call: so the drop is proved once for its type.
+            drop(table);
+            Err(cause)
+        }
+    }
 }
 
 #[tactic(auto, unfolding(crate::specs::Names::unit_of))]

@@ -6,9 +6,7 @@ ghost use Rattle.obj36_parts.specs.ObjectSegment.{inner_statics, outer_statics, 
 ghost use Rattle.obj36_parts.specs.ObjectSegment.{is_newer_version, words_of, is_well_formed};
 ghost use Rattle.obj36_parts.specs.Sizes.{HasShortLists};
 
-use crate::checks::{
-    Room, are_good_definitions, are_good_links, are_good_relocations, are_in_order,
-};
+use crate::checks::{Room, are_good_tables};
 use crate::definition::Defs;
 use crate::link::Links;
 use crate::relocation::Relocs;
@@ -18,7 +16,7 @@ use m36_word::{Word, Words};
 use std::marker::Model;
 
 /// What an object is made of.
-#[derive(Debug, Drop)]
+#[derive(Drop)]
 pub struct Parts {
     /// Instructions and constants.
     pub text: Words,
@@ -132,7 +130,6 @@ impl Parts {
         let version = self.version;
         let text = self.text.slice().len();
         let statics = self.statics.slice();
-        let definitions = self.definitions.items();
         let links = self.links.items();
         let relocations = self.relocations.items();
         let room = Room {
@@ -145,11 +142,7 @@ impl Parts {
             && size <= SEGMENT_LIMIT
             && self.entry_bound as usize <= text
             && (version == 2 || statics.len() % 2 == 0)
-            && are_good_definitions(version, definitions)
-            && self.definitions.have_own_names()
-            && are_good_links(version, links)
-            && are_good_relocations(room, relocations)
-            && are_in_order(relocations)
+            && are_good_tables(room, &self.definitions, links, relocations)
     }
 
     /// Whether some list of words stands for these parts, whose lists may be of any length.

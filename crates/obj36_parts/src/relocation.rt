@@ -8,7 +8,7 @@ use std::alloc::Global;
 use std::marker::Model;
 
 /// A part of a word that holds a place of a section.
-#[derive(Clone, Copy, Debug, PartialEq, Eq)]
+#[derive(Clone, Copy, PartialEq, Eq)]
 pub struct Reloc {
     /// The offset of the word in its section; 18 bits.
     pub offset: u32,
@@ -44,7 +44,7 @@ impl Model for Reloc {
 }
 
 /// A list of relocations that grows at its end.
-#[derive(Debug, Drop)]
+#[derive(Drop)]
 pub struct Relocs {
     items: Vec<Reloc>,
 }

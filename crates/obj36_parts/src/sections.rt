@@ -11,13 +11,14 @@ ghost use Rattle.obj36_parts.specs.ObjectSegment.{place_if_any};
 ghost use Rattle.obj36_parts.specs.ObjectSegment.{class_of};
 ghost use Rattle.obj36_parts.specs.ObjectSegment.{definition_words, subject_of, entry_place};
 ghost use Rattle.obj36_parts.specs.ObjectSegment.{definition_names, all_link_names, expressions_behind};
-ghost use Rattle.obj36_parts.specs.ObjectSegment.{expression_words, definition_part, link_words};
+ghost use Rattle.obj36_parts.specs.ObjectSegment.{expression_words, definition_part};
 ghost use Rattle.obj36_parts.specs.ObjectSegment.{linkage_part, relocation_word};
 ghost use Rattle.obj36_parts.specs.ObjectSegment.{symbol_part, definition_head};
 
 use crate::definition::{Def, Named};
 use crate::halves::word_of;
 use crate::link::Link;
+use crate::linkage::push_linkage;
 use crate::names::{NameTable, has_its_entry, has_its_name, names_used, push_names};
 use crate::relocation::Reloc;
 use crate::section::Section;
@@ -128,8 +129,14 @@ pub fn copied(alloc: Global, words: &[Word]) -> Result<Words, NoMemory>
     ensures { IfOk result (λ copy. copy ≡ words.now) }
 {
     let mut copy = Words::new(alloc);
-    push_all(&mut copy, words)?;
-    Ok(copy)
+    match push_all(&mut copy, words) {
+        Ok(()) => Ok(copy),
+        Err(cause) => {
+            // Dropped by a call: so the drop is proved once for its type.
+            drop(copy);
+            Err(cause)
+        }
+    }
 }
 
 /// Adds so many zeros at the end.
@@ -152,12 +159,10 @@ pub fn push_evening(out: &mut Words) -> Result<(), NoMemory>
     out.push(Word::ZERO)
 }
 
-fn push_pair(out: &mut Words, first: Word, second: Word) -> Result<(), NoMemory>
+pub(crate) fn push_pair(out: &mut Words, first: Word, second: Word) -> Result<(), NoMemory>
     ensures { OnOk result (out.new ≡ out.old ++ first ∷ second ∷ []) }
 {
-    out.push(first)?;
-    out.push(second)?;
-    Ok(())
+    push_all(out, &[first, second])
 }
 
 // ---- the definition section
@@ -322,39 +327,7 @@ pub fn definition_words_of(
 
 // ---- the linkage section
 
-fn push_links(out: &mut Words, links: &[Link], first: u64, expressions: u64) -> Result<(), NoMemory>
-    requires first { first ≤ 2 ^ 40 }
-    requires expressions { expressions ≤ 2 ^ 40 }
-    requires short { length links.now < 2 ^ 32 }
-    ensures { OnOk result (out.new ≡ out.old ++ link_words links.now first expressions) }
-{
-    let mut at = first;
-    let mut expression = expressions;
-    for link in links {
-        let offset = (1u64 << 18).saturating_sub(at);
-        push_pair(
-            out,
-            word_of(offset, LINK_TAG),
-            word_of(expression, link.modifier as u64),
-        )?;
-        at += 2;
-        expression += 2;
-    }
-    Ok(())
-}
-
-fn push_linkage_header(out: &mut Words, first: u64, count: u64) -> Result<(), NoMemory>
-    ensures { OnOk result
-        (out.new ≡ out.old ++ 0 ∷ joined first count ∷ 0 ∷ 0 ∷ 0 ∷ 0 ∷ 0 ∷ 0 ∷ []) }
-{
-    push_pair(out, Word::ZERO, word_of(first, count))?;
-    push_pair(out, Word::ZERO, Word::ZERO)?;
-    push_pair(out, Word::ZERO, Word::ZERO)?;
-    push_pair(out, Word::ZERO, Word::ZERO)
-}
-
 /// The linkage section of these static words and links, whose expressions stand from a place on.
-#[tactic(auto, unfolding(crate::specs::ObjectSegment::linkage_part))]
 pub fn linkage_words_of(
     alloc: Global,
     statics: &[Word],
@@ -367,11 +340,14 @@ pub fn linkage_words_of(
     ensures { IfOk result (λ words. words ≡ linkage_part statics.now links.now expressions) }
 {
     let mut out = Words::new(alloc);
-    let first = HEAD_WORDS + statics.len() as u64;
-    push_linkage_header(&mut out, first, links.len() as u64)?;
-    push_all(&mut out, statics)?;
-    push_links(&mut out, links, first, expressions)?;
-    Ok(out)
+    match push_linkage(&mut out, statics, links, expressions) {
+        Ok(()) => Ok(out),
+        Err(cause) => {
+            // Dropped by a call: so the drop is proved once for its type.
+            drop(out);
+            Err(cause)
+        }
+    }
 }
 
 // ---- the symbol section
@@ -386,15 +362,29 @@ fn word_of_relocation(relocation: &Reloc) -> Word
     word_of(relocation.offset as u64, place + part + target)
 }
 
-/// The symbol section of these relocations.
+// Adds the symbol section of these relocations.
 #[tactic(auto, unfolding(crate::specs::ObjectSegment::symbol_part))]
-pub fn symbol_words_of(alloc: Global, relocations: &[Reloc]) -> Result<Words, NoMemory>
-    ensures { IfOk result (λ words. words ≡ symbol_part relocations.now) }
+fn push_symbol(out: &mut Words, relocations: &[Reloc]) -> Result<(), NoMemory>
+    ensures { OnOk result (out.new ≡ out.old ++ symbol_part relocations.now) }
 {
-    let mut out = Words::new(alloc);
     out.push(word_of(0, relocations.len() as u64))?;
     for relocation in relocations {
         out.push(word_of_relocation(relocation))?;
     }
-    Ok(out)
+    Ok(())
+}
+
+/// The symbol section of these relocations.
+pub fn symbol_words_of(alloc: Global, relocations: &[Reloc]) -> Result<Words, NoMemory>
+    ensures { IfOk result (λ words. words ≡ symbol_part relocations.now) }
+{
+    let mut out = Words::new(alloc);
+    match push_symbol(&mut out, relocations) {
+        Ok(()) => Ok(out),
+        Err(cause) => {
+            // Dropped by a call: so the drop is proved once for its type.
+            drop(out);
+            Err(cause)
+        }
+    }
 }

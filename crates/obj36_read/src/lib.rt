@@ -9,6 +9,7 @@
 #![tactic(auto)]
 
 pub mod linking;
+mod lists;
 pub mod map;
 pub mod reading;
 mod repeats;

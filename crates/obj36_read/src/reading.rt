@@ -1,7 +1,7 @@
 //! The parts that a list of words would spell.
 
 ghost use Rattle.std.specs.Prelude.{ℕ, [], ◌≡◌, ◌+◌, ◌-◌, ◌*◌, ◌/◌, ◌%◌, ◌^◌, ◌<◌};
-ghost use Rattle.std.specs.Prelude.{◌≤◌, min, length, take, drop, slice_index, if◌then◌else◌, IfOk};
+ghost use Rattle.std.specs.Prelude.{◌≤◌, ◌++◌, min, length, take, drop, slice_index, if◌then◌else◌, IfOk, OnOk};
 ghost use Rattle.obj36_parts.specs.declared.section.Section.TheVariants.{Text};
 ghost use Rattle.obj36_parts.specs.Halves.{quarter};
 ghost use Rattle.obj36_read.specs.Reading.{unit_at, characters, name_at, class_with};
@@ -13,8 +13,9 @@ ghost use Rattle.obj36_read.specs.Reading.{statics_in, bound_index, bound_in, pa
 ghost use Rattle.m36_text.specs.Texts.{name_limit};
 ghost use Rattle.obj36_parts.specs.ObjectSegment.{definition_head, symbol_head};
 
+use crate::lists::{no_lists, parts_with, read_lists};
 use m36_text::{LONGEST_NAME, Name};
-use m36_word::{NoMemory, Word, Words};
+use m36_word::{NoMemory, Word};
 use obj36_parts::definition::{Def, Defs, Named};
 use obj36_parts::halves::{left_of, right_of};
 use obj36_parts::link::{Link, Links};
@@ -22,7 +23,7 @@ use obj36_parts::names::{has_its_entry, has_its_name};
 use obj36_parts::parts::Parts;
 use obj36_parts::relocation::{Reloc, Relocs};
 use obj36_parts::section::Section;
-use obj36_parts::sections::{ENTRY_MARK, HEAD_WORDS, copied, version_of};
+use obj36_parts::sections::{ENTRY_MARK, HEAD_WORDS, version_of};
 use std::alloc::Global;
 
 /// How many words the map of version 1 has, with the last word of the list.
@@ -162,17 +163,18 @@ fn definition(words: &[Word], at: u64) -> Named
     }
 }
 
-fn definitions(alloc: Global, words: &[Word], count: u64) -> Result<Defs, NoMemory>
+// Adds the definitions that stand in a table.
+pub(crate) fn read_definitions(found: &mut Defs, words: &[Word], count: u64) -> Result<(), NoMemory>
     requires { count < 2 ^ 32 }
-    ensures { IfOk result (λ ds. ds ≡ definitions_in words.now definition_head count) }
+    ensures { OnOk result
+        (found.new ≡ found.old ++ definitions_in words.now definition_head count) }
 {
-    let mut found = Defs::new(alloc);
     let mut at = 2;
     for _ in 0..count {
         found.push(definition(words, at))?;
         at += 2;
     }
-    Ok(found)
+    Ok(())
 }
 
 // ---- links
@@ -218,20 +220,21 @@ fn link(words: &[Word], at: u64, linkage: &[Word], place: u64) -> Link
     }
 }
 
-fn links(
-    alloc: Global,
+// Adds the links that stand in a table of expressions and in the linkage section.
+pub(crate) fn read_links(
+    found: &mut Links,
     words: &[Word],
     expressions: u64,
     linkage: &[Word],
     first: u64,
     count: u64,
-) -> Result<Links, NoMemory>
+) -> Result<(), NoMemory>
     requires expressions { expressions < 2 ^ 38 }
     requires first { first < 2 ^ 38 }
     requires count { count < 2 ^ 32 }
-    ensures { IfOk result (λ ls. ls ≡ links_in words.now expressions linkage.now first count) }
+    ensures { OnOk result
+        (found.new ≡ found.old ++ links_in words.now expressions linkage.now first count) }
 {
-    let mut found = Links::new(alloc);
     let mut at = expressions;
     let mut place = first;
     for _ in 0..count {
@@ -239,7 +242,7 @@ fn links(
         at += 2;
         place += 2;
     }
-    Ok(found)
+    Ok(())
 }
 
 // ---- relocations
@@ -257,17 +260,22 @@ fn relocation(word: Word) -> Reloc
     }
 }
 
-fn relocations(alloc: Global, words: &[Word], count: u64) -> Result<Relocs, NoMemory>
+// Adds the relocations that stand in a table.
+pub(crate) fn read_relocations(
+    found: &mut Relocs,
+    words: &[Word],
+    count: u64,
+) -> Result<(), NoMemory>
     requires { count < 2 ^ 32 }
-    ensures { IfOk result (λ rs. rs ≡ relocations_in words.now symbol_head count) }
+    ensures { OnOk result
+        (found.new ≡ found.old ++ relocations_in words.now symbol_head count) }
 {
-    let mut found = Relocs::new(alloc);
     let mut at = 1;
     for _ in 0..count {
         found.push(relocation(word_at(words, at)))?;
         at += 1;
     }
-    Ok(found)
+    Ok(())
 }
 
 // ---- the whole
@@ -300,7 +308,7 @@ pub fn length_told(words: &[Word], i: u64) -> u64
 }
 
 #[tactic(auto, unfolding(crate::specs::Reading::told_count))]
-fn count_told(words: &[Word], part: &[Word], i: u64) -> u64
+pub(crate) fn count_told(words: &[Word], part: &[Word], i: u64) -> u64
     ensures value { result ≡ told_count words.now part.now i }
     ensures bound { result < 2 ^ 18 }
 {
@@ -308,14 +316,14 @@ fn count_told(words: &[Word], part: &[Word], i: u64) -> u64
 }
 
 #[tactic(auto, unfolding(crate::specs::Reading::from_definition))]
-fn definition_on(words: &[Word]) -> &[Word]
+pub(crate) fn definition_on(words: &[Word]) -> &[Word]
     ensures { result.now ≡ from_definition words.now }
 {
     behind(words, length_told(words, 1))
 }
 
 #[tactic(auto, unfolding(crate::specs::Reading::from_linkage))]
-fn linkage_on(words: &[Word]) -> &[Word]
+pub(crate) fn linkage_on(words: &[Word]) -> &[Word]
     ensures { result.now ≡ from_linkage words.now }
 {
     behind(definition_on(words), length_told(words, 2))
@@ -329,7 +337,7 @@ fn statics_on(words: &[Word]) -> &[Word]
 }
 
 #[tactic(auto, unfolding(crate::specs::Reading::from_symbol))]
-fn symbol_on(words: &[Word]) -> &[Word]
+pub(crate) fn symbol_on(words: &[Word]) -> &[Word]
     ensures { result.now ≡ from_symbol words.now }
 {
     if version(words) == 2 {
@@ -340,7 +348,7 @@ fn symbol_on(words: &[Word]) -> &[Word]
 }
 
 #[tactic(auto, unfolding(crate::specs::Reading::told_first, crate::specs::Reading::link_start))]
-fn first_told(words: &[Word]) -> u64
+pub(crate) fn first_told(words: &[Word]) -> u64
     ensures value { result ≡ told_first words.now }
     ensures bound { result < 2 ^ 18 }
 {
@@ -348,7 +356,7 @@ fn first_told(words: &[Word]) -> u64
 }
 
 #[tactic(auto, unfolding(crate::specs::Reading::statics_in))]
-fn statics(words: &[Word]) -> &[Word]
+pub(crate) fn statics(words: &[Word]) -> &[Word]
     ensures { result.now ≡ statics_in words.now }
 {
     if version(words) == 2 {
@@ -368,7 +376,7 @@ pub fn index_of_bound(version: u8) -> u64
 }
 
 #[tactic(auto, unfolding(crate::specs::Reading::bound_in))]
-fn bound(words: &[Word]) -> u64
+pub(crate) fn bound(words: &[Word]) -> u64
     ensures value { result ≡ bound_in words.now }
     ensures bound { result < 2 ^ 18 }
 {
@@ -377,34 +385,17 @@ fn bound(words: &[Word]) -> u64
 }
 
 /// The parts that a list of fewer than 2^32 words would spell. The error is want of memory alone.
-#[tactic(auto, unfolding(crate::specs::Reading::parts_of))]
 pub fn parts_in(alloc: Global, words: &[Word]) -> Result<Parts, NoMemory>
     requires { length words.now < 2 ^ 32 }
     ensures { IfOk result (λ p. p ≡ parts_of words.now) }
 {
-    let from = definition_on(words);
-    let count = count_told(words, from, 0);
-    let expressions = 2 + 2 * count;
-    let symbol = symbol_on(words);
-    let text = copied(alloc, front(words, length_told(words, 1)))?;
-    let inner = copied(alloc, statics(words))?;
-    let named = definitions(alloc, from, count)?;
-    let linked = links(
-        alloc,
-        from,
-        expressions,
-        linkage_on(words),
-        first_told(words),
-        count_told(words, from, 1),
-    )?;
-    let moved = relocations(alloc, symbol, count_told(words, symbol, 0))?;
-    Ok(Parts {
-        text,
-        statics: inner,
-        definitions: named,
-        links: linked,
-        relocations: moved,
-        entry_bound: bound(words) as u32,
-        version: version(words),
-    })
+    let mut lists = no_lists(alloc);
+    match read_lists(&mut lists, words) {
+        Ok(()) => Ok(parts_with(lists, words)),
+        Err(cause) => {
+            // Dropped by a call: so the drop is proved once for its type.
+            drop(lists);
+            Err(cause)
+        }
+    }
 }

@@ -1,6 +1,6 @@
 //! Names that two definitions have, as they stand in a list of words.
 
-ghost use Rattle.std.specs.Prelude.{ℕ, ◌≡◌, ◌+◌, ◌/◌, ◌%◌, ◌^◌, ◌<◌, min, length};
+ghost use Rattle.std.specs.Prelude.{ℕ, [], ◌≡◌, ◌+◌, ◌/◌, ◌%◌, ◌^◌, ◌<◌, min, length};
 ghost use Rattle.std.specs.Prelude.{Option, Some, None, IfSome, IfOk, OnOk};
 ghost use Rattle.std.specs.Option.{option_map};
 ghost use Rattle.obj36_read.specs.Reading.{unit_at};
@@ -107,6 +107,26 @@ fn note<'a>(
     Ok(here)
 }
 
+// The least place of a name that two definitions have, by keeping the places of all names where none is kept.
+fn repeats_noted<'a>(
+    d: &'a [Word],
+    places: &mut IndexMap<Spelling<'a>, u64>,
+) -> Result<Option<u64>, NoMemory>
+    requires { places.old.entries ≡ [] }
+    ensures value { IfOk result (λ place.
+        place ≡ repeats d.now (definition_count d.now) (first_definition d.now)) }
+    ensures bound { IfOk result (λ place. IfSome place (λ p. p < 2 ^ 20)) }
+{
+    let mut found = None;
+    let mut at = definition_first(d);
+    for _ in 0..count_of_definitions(d) {
+        let here = note(d, places, place_of_name(d, at))?;
+        found = earlier_of(found, here);
+        at = definition_behind(d, at);
+    }
+    Ok(found)
+}
+
 // The least place of a name that two definitions have.
 pub(crate) fn fault_of_repeats(alloc: Global, d: &[Word]) -> Result<Option<u64>, NoMemory>
     ensures value { IfOk result (λ place.
@@ -114,12 +134,8 @@ pub(crate) fn fault_of_repeats(alloc: Global, d: &[Word]) -> Result<Option<u64>,
     ensures bound { IfOk result (λ place. IfSome place (λ p. p < 2 ^ 20)) }
 {
     let mut places = IndexMap::new(alloc);
-    let mut found = None;
-    let mut at = definition_first(d);
-    for _ in 0..count_of_definitions(d) {
-        let here = note(d, &mut places, place_of_name(d, at))?;
-        found = earlier_of(found, here);
-        at = definition_behind(d, at);
-    }
-    Ok(found)
+    let found = repeats_noted(d, &mut places);
+    // Dropped by a call: so the drop is proved once for its type.
+    drop(places);
+    found
 }

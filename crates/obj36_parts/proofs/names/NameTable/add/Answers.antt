@@ -1,8 +1,8 @@
 use Rattle.std.proofs.Common.{List, ℕ, refl, sym, ap, ◌∙◌}
 use Rattle.indexmap.specs.IndexMap.{insert_entry}
-use Rattle.obj36_parts.specs.Names.{same, with_name}
+use Rattle.obj36_parts.specs.Names.{same, with_name, names_in}
 use Rattle.obj36_parts.specs.NameTables.{NameTableFields}
-use Rattle.obj36_parts.proofs.NamePlaces.{laid_more, named_last}
+use Rattle.obj36_parts.proofs.NamePlaces.{laid_more, named_last, few_named}
 use Rattle.obj36_parts.proofs.names.NameTable.add.Goals as goal
 
 pub invariant_of-self-2 : goal.invariant_of-self-2
@@ -19,3 +19,7 @@ returns-clause-names c =
     named_last entries c.insert.new.self.entries c.args.name.now c.self.inside.next (sym c.contains_key.ensures ∙ c.if-contains_key.false)
     (c.in_ok-insert.ensures.entries ∙ ap (λ (n : List ℕ). insert_entry same entries n c.self.inside.next) c.copied.ensures)
     ∙ ap (λ (t : NameTableFields). with_name t.names c.args.name.now) c.self.view_is
+
+pub returns-clause-few : goal.returns-clause-few
+returns-clause-few c =
+    few_named c.args.self.now.names (names_in c.insert.new.self.entries) c.args.name.now (returns-clause-names c)

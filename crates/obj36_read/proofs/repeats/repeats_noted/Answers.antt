@@ -3,7 +3,7 @@ use Rattle.obj36_read.specs.TableFaults.{earlier, repeats, definition_count, fir
 use Rattle.obj36_read.specs.Repeated.{least_of_each}
 use Rattle.obj36_read.proofs.FaultLoops.{found_more, found_all}
 use Rattle.obj36_read.proofs.RepeatLoops.{repeats_begin, repeats_more, repeats_end}
-use Rattle.obj36_read.proofs.repeats.fault_of_repeats.Goals as goal
+use Rattle.obj36_read.proofs.repeats.repeats_noted.Goals as goal
 
 pub loop-preserved : goal.loop-preserved
 loop-preserved c = record {
@@ -29,7 +29,7 @@ loop-init c =
     let told : count - 0 ≡ definition_count c.args.d.now = omega (arith, c.count_of_definitions-end.ensures.value) in
     record {
       rest =
-          repeats_begin c.args.d.now c.new-places.result.entries (count - 0) c.definition_first-at.result c.new-places.ensures.empty
+          repeats_begin c.args.d.now c.args.places.now.entries (count - 0) c.definition_first-at.result c.requires
           ∙ (λ i. repeats c.args.d.now (told i) (c.definition_first-at.ensures.value i));
       near = c.definition_first-at.ensures.bound;
       bound = tt;

@@ -1,6 +1,6 @@
 use Rattle.std.proofs.Common.{◌≡◌, ◌++◌, ◌+◌, ◌*◌, drop}
 use Rattle.obj36_parts.specs.ObjectSegment.{link_words}
-use Rattle.obj36_parts.proofs.sections.push_links.Given as goal
+use Rattle.obj36_parts.proofs.linkage.push_links.Given as goal
 
 -- the links that follow complete the table
 abbrev pub invariant-loop-link : goal.invariant-loop-link

@@ -2,7 +2,7 @@ use Rattle.std.proofs.Common.{◌≡◌, ◌-◌, ◌^◌, ◌<◌}
 use Rattle.std.specs.Prelude.{IfSome}
 use Rattle.obj36_read.specs.TableFaults.{earlier, repeats, definition_count, first_definition}
 use Rattle.obj36_read.specs.Repeated.{least_of_each}
-use Rattle.obj36_read.proofs.repeats.fault_of_repeats.Given as goal
+use Rattle.obj36_read.proofs.repeats.repeats_noted.Given as goal
 
 -- what is found, what the rest have in common with what is behind, and the rest
 abbrev pub invariant-loop : goal.invariant-loop

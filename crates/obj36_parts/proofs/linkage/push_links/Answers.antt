@@ -3,7 +3,7 @@ use Rattle.obj36_parts.specs.Fields.{LinkFields}
 use Rattle.obj36_parts.specs.Halves.{joined}
 use Rattle.obj36_parts.specs.ObjectSegment.{link_words}
 use Rattle.obj36_parts.proofs.SectionLoops.{link_more, links_done}
-use Rattle.obj36_parts.proofs.sections.push_links.Goals as goal
+use Rattle.obj36_parts.proofs.linkage.push_links.Goals as goal
 
 pub loop-link-preserved : goal.loop-link-preserved
 loop-link-preserved c = record {

@@ -1,0 +1,62 @@
+//! The words of a linkage section.
+
+ghost use Rattle.std.specs.Prelude.{ℕ, [], ◌∷◌, ◌++◌, ◌≡◌, ◌+◌, ◌-◌, ◌*◌, ◌^◌, ◌<◌, ◌≤◌};
+ghost use Rattle.std.specs.Prelude.{length, OnOk};
+ghost use Rattle.obj36_parts.specs.Halves.{joined};
+ghost use Rattle.obj36_parts.specs.ObjectSegment.{link_words, linkage_part};
+
+use crate::halves::word_of;
+use crate::link::Link;
+use crate::sections::{HEAD_WORDS, LINK_TAG, push_all, push_pair};
+use m36_word::{NoMemory, Word, Words};
+
+// Adds links whose first stands at a place, and the expression of the first at another.
+fn push_links(out: &mut Words, links: &[Link], first: u64, expressions: u64) -> Result<(), NoMemory>
+    requires first { first ≤ 2 ^ 40 }
+    requires expressions { expressions ≤ 2 ^ 40 }
+    requires short { length links.now < 2 ^ 32 }
+    ensures { OnOk result (out.new ≡ out.old ++ link_words links.now first expressions) }
+{
+    let mut at = first;
+    let mut expression = expressions;
+    for link in links {
+        let offset = (1u64 << 18).saturating_sub(at);
+        push_pair(
+            out,
+            word_of(offset, LINK_TAG),
+            word_of(expression, link.modifier as u64),
+        )?;
+        at += 2;
+        expression += 2;
+    }
+    Ok(())
+}
+
+// Adds the head of the section.
+fn push_linkage_header(out: &mut Words, first: u64, count: u64) -> Result<(), NoMemory>
+    ensures { OnOk result
+        (out.new ≡ out.old ++ 0 ∷ joined first count ∷ 0 ∷ 0 ∷ 0 ∷ 0 ∷ 0 ∷ 0 ∷ []) }
+{
+    let zero = Word::ZERO;
+    let head = word_of(first, count);
+    push_all(out, &[zero, head, zero, zero, zero, zero, zero, zero])
+}
+
+// Adds the linkage section of these static words and links, whose expressions stand from a place on.
+#[tactic(auto, unfolding(crate::specs::ObjectSegment::linkage_part))]
+pub(crate) fn push_linkage(
+    out: &mut Words,
+    statics: &[Word],
+    links: &[Link],
+    expressions: u64,
+) -> Result<(), NoMemory>
+    requires statics { length statics.now < 2 ^ 32 }
+    requires links { length links.now < 2 ^ 32 }
+    requires expressions { expressions ≤ 2 ^ 40 }
+    ensures { OnOk result (out.new ≡ out.old ++ linkage_part statics.now links.now expressions) }
+{
+    let first = HEAD_WORDS + statics.len() as u64;
+    push_linkage_header(out, first, links.len() as u64)?;
+    push_all(out, statics)?;
+    push_links(out, links, first, expressions)
+}

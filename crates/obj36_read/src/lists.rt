@@ -1,0 +1,107 @@
+//! The lists of the parts of an object, as a list of words would spell them.
+
+ghost use Rattle.std.specs.Prelude.{ℕ, [], ◌++◌, ◌≡◌, ◌^◌, ◌<◌, length, OnOk};
+ghost use Rattle.obj36_read.specs.Reading.{parts_of};
+
+use crate::reading::{
+    bound, count_told, definition_on, first_told, front, length_told, linkage_on, read_definitions,
+    read_links, read_relocations, statics, symbol_on, version,
+};
+use m36_word::{NoMemory, Word, Words};
+use obj36_parts::definition::Defs;
+use obj36_parts::link::Links;
+use obj36_parts::parts::Parts;
+use obj36_parts::relocation::Relocs;
+use obj36_parts::sections::push_all;
+use std::alloc::Global;
+
+// The lists of the parts of an object.
+#[derive(Drop)]
+pub(crate) struct Lists {
+    text: Words,
+    statics: Words,
+    definitions: Defs,
+    links: Links,
+    relocations: Relocs,
+}
+
+// Lists of nothing.
+pub(crate) fn no_lists(alloc: Global) -> Lists
+    ensures text { result.text ≡ [] }
+    ensures statics { result.statics ≡ [] }
+    ensures definitions { result.definitions ≡ [] }
+    ensures links { result.links ≡ [] }
+    ensures relocations { result.relocations ≡ [] }
+{
+    Lists {
+        text: Words::new(alloc),
+        statics: Words::new(alloc),
+        definitions: Defs::new(alloc),
+        links: Links::new(alloc),
+        relocations: Relocs::new(alloc),
+    }
+}
+
+// Adds the definitions and the links that a list of words would spell.
+#[tactic(auto, unfolding(crate::specs::Reading::parts_of))]
+fn read_tables(definitions: &mut Defs, links: &mut Links, words: &[Word]) -> Result<(), NoMemory>
+    requires { length words.now < 2 ^ 32 }
+    ensures definitions { OnOk result
+        (definitions.new ≡ definitions.old ++ (parts_of words.now).definitions) }
+    ensures links { OnOk result (links.new ≡ links.old ++ (parts_of words.now).links) }
+{
+    let from = definition_on(words);
+    let count = count_told(words, from, 0);
+    read_definitions(definitions, from, count)?;
+    read_links(
+        links,
+        from,
+        2 + 2 * count,
+        linkage_on(words),
+        first_told(words),
+        count_told(words, from, 1),
+    )
+}
+
+// Adds what a list of words would spell.
+#[tactic(auto, unfolding(crate::specs::Reading::parts_of))]
+pub(crate) fn read_lists(lists: &mut Lists, words: &[Word]) -> Result<(), NoMemory>
+    requires { length words.now < 2 ^ 32 }
+    ensures text { OnOk result (lists.new.text ≡ lists.old.text ++ (parts_of words.now).text) }
+    ensures statics { OnOk result
+        (lists.new.statics ≡ lists.old.statics ++ (parts_of words.now).statics) }
+    ensures definitions { OnOk result
+        (lists.new.definitions ≡ lists.old.definitions ++ (parts_of words.now).definitions) }
+    ensures links { OnOk result (lists.new.links ≡ lists.old.links ++ (parts_of words.now).links) }
+    ensures relocations { OnOk result
+        (lists.new.relocations ≡ lists.old.relocations ++ (parts_of words.now).relocations) }
+{
+    let symbol = symbol_on(words);
+    push_all(&mut lists.text, front(words, length_told(words, 1)))?;
+    push_all(&mut lists.statics, statics(words))?;
+    read_tables(&mut lists.definitions, &mut lists.links, words)?;
+    read_relocations(&mut lists.relocations, symbol, count_told(words, symbol, 0))
+}
+
+// The parts of these lists, with the entry bound and the version of a list of words.
+#[tactic(auto, unfolding(crate::specs::Reading::parts_of))]
+pub(crate) fn parts_with(lists: Lists, words: &[Word]) -> Parts
+    requires text { lists.text ≡ (parts_of words.now).text }
+    requires statics { lists.statics ≡ (parts_of words.now).statics }
+    requires definitions { lists.definitions ≡ (parts_of words.now).definitions }
+    requires links { lists.links ≡ (parts_of words.now).links }
+    requires relocations { lists.relocations ≡ (parts_of words.now).relocations }
+    ensures { result ≡ parts_of words.now }
+{
+    let entry_bound = bound(words) as u32;
+    let version = version(words);
+    Parts {
+        text: lists.text,
+        statics: lists.statics,
+        definitions: lists.definitions,
+        links: lists.links,
+        relocations: lists.relocations,
+        entry_bound,
+        version,
+    }
+}
