@@ -350,5 +350,8 @@ pub fn lines_refusal(
         (links_from text.now tables.old.symbols tables.old.links start lines.now)) }
 {
     let mut done = Defs::new(alloc);
-    take_lines(alloc, text, tables, lines, &mut done)
+    let refused = take_lines(alloc, text, tables, lines, &mut done);
+    // Dropped by a call: so the drop is proved once for its type.
+    drop(done);
+    refused
 }

@@ -1,24 +1,37 @@
 -- There is room for the words of all lines.
-use Rattle.std.proofs.Common.{◌≡◌, ℕ, ◌+◌, ◌^◌, ◌<◌, arith}
+use Rattle.std.proofs.Common.{◌≡◌, ℕ, ◌+◌, ◌-◌, ◌*◌, ◌^◌, ◌<◌, ◌≤◌, arith}
 use Rattle.alm_lines.specs.Spots.{start, HasRoom, IsNear}
 use Rattle.alm_lines.specs.SpotFields.{Spot}
 
 -- before the first line
+begins : (lines : ℕ) → lines < 2 ^ 32 → 0 + lines * 2 ^ 64 ≤ 2 ^ 96 - 2 ^ 64
+begins lines few = omega (arith, few)
+
 pub room_start : (lines : ℕ) → lines < 2 ^ 32 → HasRoom lines start
-room_start lines few = record { text = omega (arith, few); inner = omega (arith, few); outer = omega (arith, few) }
+room_start lines few = let room = begins lines few in record { text = room; inner = room; outer = room }
 
 -- of the lines that are left, for the next one
+next : (lines at : ℕ) → 0 < lines → at + lines * 2 ^ 64 ≤ 2 ^ 96 - 2 ^ 64 → at + 1 * 2 ^ 64 ≤ 2 ^ 96 - 2 ^ 64
+next lines at some room = omega (arith, some, room)
+
 pub room_next : (lines : ℕ) (spot : Spot) → 0 < lines → HasRoom lines spot → HasRoom 1 spot
 room_next lines spot some room =
-    record { text = omega (arith, some, room.text); inner = omega (arith, some, room.inner); outer = omega (arith, some, room.outer) }
+    record {
+      text = next lines spot.text some room.text;
+      inner = next lines spot.inner some room.inner;
+      outer = next lines spot.outer some room.outer;
+    }
 
 -- and below it for the others
+below : (lines more at after : ℕ) → lines ≡ more + 1 → at + lines * 2 ^ 64 ≤ 2 ^ 96 - 2 ^ 64 → after ≤ at + 2 ^ 64 → after + more * 2 ^ 64 ≤ 2 ^ 96 - 2 ^ 64
+below lines more at after e room near = omega (arith, e, room, near)
+
 pub room_below : (lines more : ℕ) (spot after : Spot) → lines ≡ more + 1 → HasRoom lines spot → IsNear spot after → HasRoom more after
 room_below lines more spot after e room near =
     record {
-      text = omega (arith, e, room.text, near.text);
-      inner = omega (arith, e, room.inner, near.inner);
-      outer = omega (arith, e, room.outer, near.outer);
+      text = below lines more spot.text after.text e room.text near.text;
+      inner = below lines more spot.inner after.inner e room.inner near.inner;
+      outer = below lines more spot.outer after.outer e room.outer near.outer;
     }
 
 pub ruleset rooms = (room_start, room_next, room_below)

@@ -253,15 +253,39 @@ fn take_line(
     Ok(sooner(sooner(labels, own), over(line, after)))
 }
 
+// Defines the symbols of lines, and tells the first refusal of them or of a section's length.
+#[tactic(auto, using(crate::proofs::Rooms::rooms), unfolding(crate::specs::Layout::symbols_from, crate::specs::Layout::layout_refusal))]
+fn take_lines(
+    alloc: Global,
+    text: &[u8],
+    symbols: &mut Symbols,
+    lines: &[Line36],
+) -> Result<Option<Refusal>, NoMemory>
+    requires { length lines.now < 2 ^ 32 }
+    ensures symbols { OnOk result
+        (symbols.new ≡ symbols_from text.now symbols.old start lines.now) }
+    ensures refused { IfOk result (λ r.
+        r ≡ layout_refusal text.now None symbols.old start lines.now) }
+{
+    let mut refused = None;
+    let mut spot = Spot::start();
+    let mut rest = lines;
+    while let [line, more @ ..] = rest {
+        refused = take_line(alloc, text, symbols, spot, line, refused)?;
+        spot = below(alloc, text, spot, line)?;
+        rest = more;
+    }
+    Ok(refused)
+}
+
 /// The symbols of lines, and the first refusal of a symbol's definition or of a section's length.
-#[derive(Debug, Drop)]
+#[derive(Drop)]
 pub struct Layout {
     pub symbols: Symbols,
     pub refused: Option<Refusal>,
 }
 
 /// Lays out lines: their symbols, and what is refused of them. The error is want of memory alone.
-#[tactic(auto, using(crate::proofs::Rooms::rooms), unfolding(crate::specs::Layout::symbols_from, crate::specs::Layout::layout_refusal))]
 pub fn layout_of(alloc: Global, text: &[u8], lines: &[Line36]) -> Result<Layout, NoMemory>
     requires { length lines.now < 2 ^ 32 }
     ensures symbols { IfOk result (λ layout.
@@ -270,13 +294,12 @@ pub fn layout_of(alloc: Global, text: &[u8], lines: &[Line36]) -> Result<Layout,
         layout.refused ≡ layout_refusal text.now None [] start lines.now) }
 {
     let mut symbols = Symbols::new(alloc);
-    let mut refused = None;
-    let mut spot = Spot::start();
-    let mut rest = lines;
-    while let [line, more @ ..] = rest {
-        refused = take_line(alloc, text, &mut symbols, spot, line, refused)?;
-        spot = below(alloc, text, spot, line)?;
-        rest = more;
+    match take_lines(alloc, text, &mut symbols, lines) {
+        Ok(refused) => Ok(Layout { symbols, refused }),
+        Err(fault) => {
+            // Dropped by a call: so the drop is proved once for its type.
+            drop(symbols);
+            Err(fault)
+        }
     }
-    Ok(Layout { symbols, refused })
 }

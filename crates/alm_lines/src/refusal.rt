@@ -15,7 +15,7 @@ use obj36_parts::halves::OFFSET_LIMIT;
 use obj36_parts::sections::SECTION_LIMIT;
 
 /// Why lines are not an object's.
-#[derive(Clone, Copy, Debug, PartialEq, Eq)]
+#[derive(Clone, Copy, PartialEq, Eq)]
 pub enum Code {
     /// A symbol, or a name of a definition, that is defined a second time.
     E5,
@@ -29,7 +29,7 @@ pub enum Code {
 }
 
 /// A code at a place of the text, in a line of a number that begins at a place.
-#[derive(Clone, Copy, Debug, PartialEq, Eq)]
+#[derive(Clone, Copy, PartialEq, Eq)]
 pub struct Refusal {
     pub place: u64,
     pub start: u32,
@@ -38,7 +38,7 @@ pub struct Refusal {
 }
 
 /// What an expression has to fit in.
-#[derive(Clone, Copy, Debug, PartialEq, Eq)]
+#[derive(Clone, Copy, PartialEq, Eq)]
 pub enum Room {
     /// A half of a word.
     Half,

@@ -19,7 +19,7 @@ use std::marker::Model;
 /// than 2^96 - 8: there are fewer than 2^32 lines, each of fewer than 2^64 words. `inner` are the static words of the
 /// linkage section, `outer` those of a section of their own; `uses_inner` and `uses_outer` say whether a line above has
 /// entered them.
-#[derive(Clone, Copy, Debug, PartialEq, Eq)]
+#[derive(Clone, Copy, PartialEq, Eq)]
 pub struct Spot {
     pub text: u128,
     pub inner: u128,

@@ -1,6 +1,6 @@
 //! What expressions come to: numbers, and how often each section counts in them.
 
-ghost use Rattle.std.specs.Prelude.{ℕ, ◌≡◌, ◌+◌, ◌-◌, ◌%◌, ◌≤◌, ◌<◌, ◌^◌};
+ghost use Rattle.std.specs.Prelude.{ℕ, ◌≡◌, ◌+◌, ◌-◌, ◌%◌, ◌≤◌, ◌<◌, ◌^◌, ◌&&◌};
 ghost use Rattle.alm_lines.specs.Sums.{balance_plus, turned, is_even, is_one, is_within, half_of};
 ghost use Rattle.alm_lines.specs.Sums.{offset_of, settled, absolute, unknown_sum, sum_plus};
 ghost use Rattle.alm_lines.specs.Sums.{sum_turned, kind_of, IsAtMost, IsTerm};
@@ -8,7 +8,7 @@ ghost use Rattle.alm_lines.specs.Sums.{sum_turned, kind_of, IsAtMost, IsTerm};
 use obj36_parts::Section;
 
 /// A whole number as what is added and what is taken away.
-#[derive(Clone, Copy, Debug, PartialEq, Eq)]
+#[derive(Clone, Copy, PartialEq, Eq)]
 pub struct Balance {
     pub up: u128,
     pub down: u128,
@@ -16,7 +16,7 @@ pub struct Balance {
 
 /// What an expression comes to: its number, and how often the places of each section are counted in it. `inner` are the
 /// static words of the linkage section, `outer` those of a section of their own.
-#[derive(Clone, Copy, Debug, PartialEq, Eq)]
+#[derive(Clone, Copy, PartialEq, Eq)]
 pub struct Sum {
     pub value: Balance,
     pub text: Balance,
@@ -27,7 +27,7 @@ pub struct Sum {
 }
 
 /// What a sum is: a number, a place of a section, or what no object can say.
-#[derive(Clone, Copy, Debug, PartialEq, Eq)]
+#[derive(Clone, Copy, PartialEq, Eq)]
 pub enum Kind {
     Absolute,
     Moved(Section),
@@ -143,6 +143,13 @@ pub fn unknown() -> Sum
     }
 }
 
+// Whether all three hold.
+fn all_three(first: bool, second: bool, third: bool) -> bool
+    ensures { result ≡ (first && second && third) }
+{
+    first && second && third
+}
+
 impl Sum {
     /// The sum of what terms come to and one term more.
     #[tactic(auto, unfolding(crate::specs::Sums::sum_plus))]
@@ -188,16 +195,16 @@ impl Sum {
             outer,
             unknown: _,
         } = self;
-        if text.is_even() && inner.is_even() && outer.is_even() {
+        if all_three(text.is_even(), inner.is_even(), outer.is_even()) {
             return Kind::Absolute;
         }
-        if text.is_one() && inner.is_even() && outer.is_even() {
+        if all_three(text.is_one(), inner.is_even(), outer.is_even()) {
             return Kind::Moved(Section::Text);
         }
-        if text.is_even() && inner.is_one() && outer.is_even() {
+        if all_three(text.is_even(), inner.is_one(), outer.is_even()) {
             return Kind::Moved(Section::Linkage);
         }
-        if text.is_even() && inner.is_even() && outer.is_one() {
+        if all_three(text.is_even(), inner.is_even(), outer.is_one()) {
             return Kind::Moved(Section::Static);
         }
         Kind::Unsaid

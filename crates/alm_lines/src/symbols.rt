@@ -12,7 +12,7 @@ use std::alloc::Global;
 use std::marker::Model;
 
 /// Symbols with what they come to, each less than 2^96.
-#[derive(Debug, Drop)]
+#[derive(Drop)]
 pub struct Symbols {
     sums: IndexMap<Name, Sum>,
 }

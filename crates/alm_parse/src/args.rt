@@ -9,7 +9,7 @@ use std::alloc::Global;
 use std::marker::Model;
 
 /// An argument of an operation.
-#[derive(Debug, Drop)]
+#[derive(Drop)]
 pub enum Arg {
     /// A symbol, the slice that the span names.
     Symbol(Span),
@@ -31,7 +31,7 @@ pub enum Arg {
 }
 
 /// A list of arguments that grows at its end.
-#[derive(Debug, Drop)]
+#[derive(Drop)]
 pub struct Args {
     items: Vec<Arg>,
 }
@@ -72,20 +72,36 @@ impl Args {
     }
 }
 
+// A list with one argument more.
+fn with(mut args: Args, arg: Arg) -> Result<Args, NoMemory>
+    ensures { IfOk result (λ more. more ≡ args ++ arg ∷ []) }
+{
+    match args.push(arg) {
+        Ok(()) => Ok(args),
+        Err(fault) => {
+            // Dropped by a call: so the drop is proved once for its type. So below.
+            drop(args);
+            Err(fault)
+        }
+    }
+}
+
 /// A list of one argument.
 pub fn one(alloc: Global, arg: Arg) -> Result<Args, NoMemory>
     ensures { IfOk result (λ args. args ≡ arg ∷ []) }
 {
-    let mut args = Args::new(alloc);
-    args.push(arg)?;
-    Ok(args)
+    with(Args::new(alloc), arg)
 }
 
 /// A list of two arguments.
 pub fn two(alloc: Global, first: Arg, second: Arg) -> Result<Args, NoMemory>
     ensures { IfOk result (λ args. args ≡ first ∷ second ∷ []) }
 {
-    let mut args = one(alloc, first)?;
-    args.push(second)?;
-    Ok(args)
+    match one(alloc, first) {
+        Ok(args) => with(args, second),
+        Err(fault) => {
+            drop(second);
+            Err(fault)
+        }
+    }
 }

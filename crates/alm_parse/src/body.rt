@@ -12,7 +12,7 @@ use alm_tokens::modifiers::pr_number;
 use alm_tokens::pieces::{Piece, Pieces};
 use alm_tokens::span::{Span, bytes_of, first_byte};
 use alm_tokens::tokens::is_symbol;
-use m36_text::{is_name_character, lines};
+use m36_text::{is_name_character, is_text, lines};
 use m36_word::NoMemory;
 use obj36_parts::Section;
 use std::alloc::Global;
@@ -113,13 +113,13 @@ pub fn body_of(text: &[u8], whole: Span) -> Body
 fn section_named(bytes: &[u8]) -> Option<Section>
     ensures { result ≡ own_section bytes.now }
 {
-    if bytes == b"*text".as_slice() {
+    if is_text(b"*text", bytes) {
         return Some(Section::Text);
     }
-    if bytes == b"*link".as_slice() {
+    if is_text(b"*link", bytes) {
         return Some(Section::Linkage);
     }
-    if bytes == b"*static".as_slice() {
+    if is_text(b"*static", bytes) {
         return Some(Section::Static);
     }
     None

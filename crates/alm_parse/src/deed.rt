@@ -1,7 +1,7 @@
 //! What operations do.
 
 /// What an operation does.
-#[derive(Clone, Copy, Debug, PartialEq, Eq)]
+#[derive(Clone, Copy, PartialEq, Eq)]
 pub enum Deed {
     /// Nothing: there is no operation, or it is `end`.
     Nothing,

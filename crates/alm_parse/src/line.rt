@@ -6,7 +6,7 @@ use alm_tokens::span::{Span, Spans};
 
 /// A line of a source: its number, counted from 1, the place where it begins, its labels in order, and its operation
 /// with what this does and is about. An operation without an operand has no arguments.
-#[derive(Debug, Drop)]
+#[derive(Drop)]
 pub struct Line36 {
     pub labels: Spans,
     pub args: Args,

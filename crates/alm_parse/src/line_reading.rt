@@ -1,9 +1,10 @@
 //! The lines of a source, as they are read.
 
-ghost use Rattle.std.specs.Prelude.{ℕ, ◌≡◌, ◌^◌, ◌<◌, Option, Result, IfSome, IfOk, IfErr, length};
+ghost use Rattle.std.specs.Prelude.{ℕ, ◌≡◌, ◌^◌, ◌<◌, Option, Result, Ok, IfSome, IfOk, IfErr, length};
+ghost use Rattle.m36_text.specs.Results.{and_then};
 ghost use Rattle.std.specs.List.{All};
-ghost use Rattle.alm_tokens.specs.Heads.{IsMark};
-ghost use Rattle.alm_parse.specs.Lines.{missing, args_with, operand_for, args_of, is_no_symbol, label_refusal, line_of, line_given};
+ghost use Rattle.alm_tokens.specs.Heads.{IsMark, IsToken};
+ghost use Rattle.alm_parse.specs.Lines.{missing, args_with, operand_for, args_of, is_no_symbol, label_refusal, line_of, line_headed, line_given};
 ghost use Rattle.alm_parse.specs.Refusals.{Reads, IsInside, HaltsInside};
 
 use crate::args::Args;
@@ -132,19 +133,20 @@ fn line_of(text: &[u8], row: Row, head: Head, args: Args) -> Line36
     }
 }
 
-/// A line, as it is read.
-#[tactic(auto, unfolding(crate::specs::Lines::line_given))]
-pub fn read_line(alloc: Global, text: &[u8], row: Row) -> Result<Line36, Halt>
-    requires { length text.now < 2 ^ 32 }
-    ensures value { Reads result (line_given text.now row) }
+// The arguments of a line with this head, unless it is refused.
+fn args_given(alloc: Global, text: &[u8], row: Row, head: &Head) -> Result<Args, Halt>
+    requires text { length text.now < 2 ^ 32 }
+    requires marks { All (IsMark (length text.now)) head.now.labels }
+    requires op { IfSome head.now.op (IsToken (length text.now)) }
+    ensures value { Reads (and_then result (λ args. Ok (line_of text.now row head.now args)))
+        (line_headed text.now row head.now) }
     ensures inside { IfErr result (HaltsInside (length text.now)) }
 {
-    let head = head_of(alloc, text, row.span)?;
     if let Some(refusal) = label_refusal(text, head.labels.items()) {
         return Err(Halt::Refused(refusal));
     }
     let Some(op) = head.op else {
-        return Ok(line_of(text, row, head, Args::new(alloc)));
+        return Ok(Args::new(alloc));
     };
     let Some(operation) = operation_of(bytes_of(text, op)) else {
         return Err(Halt::Refused(told(text, op.from, Code::E3)));
@@ -154,8 +156,30 @@ pub fn read_line(alloc: Global, text: &[u8], row: Row) -> Result<Line36, Halt>
         to: row.span.to,
     };
     match args_of(alloc, operation, text, op.from, rest) {
-        Ok(args) => Ok(line_of(text, row, head, args)),
+        Ok(args) => Ok(args),
         Err(Halt::Refused(refusal)) => Err(Halt::Refused(refusal)),
         Err(Halt::NoMemory) => Err(Halt::NoMemory),
+    }
+}
+
+/// A line, as it is read.
+#[tactic(auto, unfolding(crate::specs::Lines::line_given))]
+pub fn read_line(alloc: Global, text: &[u8], row: Row) -> Result<Line36, Halt>
+    requires { length text.now < 2 ^ 32 }
+    ensures value { Reads result (line_given text.now row) }
+    ensures inside { IfErr result (HaltsInside (length text.now)) }
+{
+    let head = head_of(alloc, text, row.span)?;
+    match args_given(alloc, text, row, &head) {
+        Ok(args) => Ok(line_of(text, row, head, args)),
+        Err(Halt::Refused(refusal)) => {
+            // Dropped by a call: so the drop is proved once for its type. So below.
+            drop(head);
+            Err(Halt::Refused(refusal))
+        }
+        Err(Halt::NoMemory) => {
+            drop(head);
+            Err(Halt::NoMemory)
+        }
     }
 }

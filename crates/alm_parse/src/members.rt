@@ -1,8 +1,11 @@
 //! Operands that are lists between commas.
 
-ghost use Rattle.std.specs.Prelude.{ℕ, ◌≡◌, ◌^◌, ◌<◌, IfOk, IfErr, length, map};
-ghost use Rattle.alm_parse.specs.Members.{symbol_arg, number_arg, symbols_given, numbers_given};
-ghost use Rattle.alm_parse.specs.Refusals.{Reads, HaltsInside};
+ghost use Rattle.std.specs.Prelude.{ℕ, ◌≡◌, ◌^◌, ◌<◌, None, IfOk, IfErr, length, map};
+ghost use Rattle.std.specs.List.{list_all};
+ghost use Rattle.m36_text.specs.Results.{unless};
+ghost use Rattle.alm_tokens.specs.Lists.{is_symbol_at};
+ghost use Rattle.alm_parse.specs.Members.{symbol_arg, number_arg, symbols_given, numbers_by, numbers_given};
+ghost use Rattle.alm_parse.specs.Refusals.{refused, Reads, HaltsInside};
 
 use crate::args::{Arg, Args};
 use crate::refusal::{Halt, refused};
@@ -23,6 +26,21 @@ fn symbol_args(alloc: Global, members: &[Piece]) -> Result<Args, NoMemory>
     Ok(args)
 }
 
+// Symbols that are these members.
+fn symbols_of(alloc: Global, text: &[u8], at: u32, members: &[Piece]) -> Result<Args, Halt>
+    requires { at < length text.now }
+    ensures value { Reads result
+        (unless (refused text.now at (list_all (is_symbol_at text.now) members.now) None)
+        (map symbol_arg members.now)) }
+    ensures inside { IfErr result (HaltsInside (length text.now)) }
+{
+    let form = are_symbols(text, members);
+    if let Some(refusal) = refused(text, at, form, None) {
+        return Err(Halt::Refused(refusal));
+    }
+    Ok(symbol_args(alloc, members)?)
+}
+
 /// Symbols between commas.
 #[tactic(auto, unfolding(crate::specs::Members::symbols_given))]
 pub fn symbols_args(alloc: Global, text: &[u8], operand: Span) -> Result<Args, Halt>
@@ -32,11 +50,10 @@ pub fn symbols_args(alloc: Global, text: &[u8], operand: Span) -> Result<Args, H
     ensures inside { IfErr result (HaltsInside (length text.now)) }
 {
     let members = members(alloc, text, operand)?;
-    let form = are_symbols(text, members.items());
-    if let Some(refusal) = refused(text, operand.from, form, None) {
-        return Err(Halt::Refused(refusal));
-    }
-    Ok(symbol_args(alloc, members.items())?)
+    let given = symbols_of(alloc, text, operand.from, members.items());
+    // Dropped by a call: so the drop is proved once for its type. So below.
+    drop(members);
+    given
 }
 
 /// A number, as an argument.
@@ -61,6 +78,26 @@ fn number_args(
     Ok(args)
 }
 
+// Numbers that are these members.
+fn numbers_by(
+    alloc: Global,
+    numeral: Numeral,
+    text: &[u8],
+    at: u32,
+    members: &[Piece],
+) -> Result<Args, Halt>
+    requires { at < length text.now }
+    ensures value { Reads result (numbers_by numeral text.now at members.now) }
+    ensures inside { IfErr result (HaltsInside (length text.now)) }
+{
+    let form = are_written(numeral, text, members);
+    let over = place_out(numeral, text, members);
+    if let Some(refusal) = refused(text, at, form, over) {
+        return Err(Halt::Refused(refusal));
+    }
+    Ok(number_args(alloc, numeral, text, members)?)
+}
+
 /// Numbers between commas.
 #[tactic(auto, unfolding(crate::specs::Members::numbers_given))]
 pub fn numbers_args(
@@ -75,10 +112,7 @@ pub fn numbers_args(
     ensures inside { IfErr result (HaltsInside (length text.now)) }
 {
     let members = members(alloc, text, operand)?;
-    let form = are_written(numeral, text, members.items());
-    let over = place_out(numeral, text, members.items());
-    if let Some(refusal) = refused(text, operand.from, form, over) {
-        return Err(Halt::Refused(refusal));
-    }
-    Ok(number_args(alloc, numeral, text, members.items())?)
+    let given = numbers_by(alloc, numeral, text, operand.from, members.items());
+    drop(members);
+    given
 }

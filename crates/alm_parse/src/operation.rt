@@ -1,7 +1,7 @@
 //! The operations: the instructions, and what directs the assembler.
 
 /// What kind of operand an operation has.
-#[derive(Clone, Copy, Debug, PartialEq, Eq)]
+#[derive(Clone, Copy, PartialEq, Eq)]
 pub enum Operation {
     /// An instruction.
     Instruction,

@@ -1,7 +1,10 @@
 //! Operands of two parts, and names of sections.
 
-ghost use Rattle.std.specs.Prelude.{ℕ, ◌≡◌, ◌^◌, ◌<◌, Option, IfSome, IfOk, IfErr, length};
-ghost use Rattle.alm_parse.specs.Pairs.{value_given, halves_given, block_given, used_section, section_given};
+ghost use Rattle.std.specs.Prelude.{ℕ, [], ◌∷◌, ◌≡◌, ◌≤◌, ◌^◌, ◌<◌, Option, IfSome, IfOk, IfErr, length, map};
+ghost use Rattle.alm_tokens.specs.Expressions.{expression_pieces, term_of};
+ghost use Rattle.alm_parse.specs.declared.args.Arg.TheVariants as arg;
+ghost use Rattle.alm_parse.specs.Pairs.{value_by, value_of_members, value_given, halves_by, halves_of_members, halves_given};
+ghost use Rattle.alm_parse.specs.Pairs.{block_of_members, block_given, used_section, section_given};
 ghost use Rattle.alm_parse.specs.Refusals.{Reads, HaltsInside};
 
 use crate::args::{Arg, Args, one, two};
@@ -10,9 +13,70 @@ use crate::refusal::{Code, Halt, refused, told};
 use alm_tokens::expression::{are_terms, expr_of, expression_pieces};
 use alm_tokens::lists::{is_symbol_at, is_written_at, members, place_out};
 use alm_tokens::numerals::Numeral;
+use alm_tokens::pieces::Piece;
 use alm_tokens::span::{Span, bytes_of};
+use m36_text::is_text;
+use m36_word::NoMemory;
 use obj36_parts::Section;
 use std::alloc::Global;
+
+// The expression whose terms are these pieces, as an argument.
+fn plain_arg(alloc: Global, text: &[u8], pieces: &[Piece]) -> Result<Arg, NoMemory>
+    requires { length pieces.now ≤ 2 ^ 32 }
+    ensures { IfOk result (λ plain. plain ≡ arg.Plain (map (term_of text.now) pieces.now)) }
+{
+    Ok(Arg::Plain(expr_of(alloc, text, pieces)?))
+}
+
+// A symbol, and the expression whose terms are these pieces.
+fn value_by(
+    alloc: Global,
+    text: &[u8],
+    at: u32,
+    name: &Piece,
+    pieces: &[Piece],
+) -> Result<Args, Halt>
+    requires inside { at < length text.now }
+    requires count { length pieces.now ≤ 2 ^ 32 }
+    ensures value { Reads result (value_by text.now at name.now pieces.now) }
+    ensures inside { IfErr result (HaltsInside (length text.now)) }
+{
+    let form = is_symbol_at(text, name) && are_terms(text, pieces);
+    let over = place_out(Numeral::Small, text, pieces);
+    if let Some(refusal) = refused(text, at, form, over) {
+        return Err(Halt::Refused(refusal));
+    }
+    let value = plain_arg(alloc, text, pieces)?;
+    Ok(two(alloc, Arg::Symbol(name.span), value)?)
+}
+
+// A symbol, and the expression that a piece is.
+fn value_with(alloc: Global, text: &[u8], at: u32, name: &Piece, value: Piece) -> Result<Args, Halt>
+    requires text { length text.now < 2 ^ 32 }
+    requires inside { at < length text.now }
+    ensures value { Reads result
+        (value_by text.now at name.now (expression_pieces text.now value)) }
+    ensures inside { IfErr result (HaltsInside (length text.now)) }
+{
+    let pieces = expression_pieces(alloc, text, value)?;
+    let given = value_by(alloc, text, at, name, pieces.items());
+    // Dropped by a call: so the drop is proved once for its type. So below.
+    drop(pieces);
+    given
+}
+
+// A symbol and an expression, if the members of an operand are these.
+fn value_of_members(alloc: Global, text: &[u8], at: u32, members: &[Piece]) -> Result<Args, Halt>
+    requires text { length text.now < 2 ^ 32 }
+    requires inside { at < length text.now }
+    ensures value { Reads result (value_of_members text.now at members.now) }
+    ensures inside { IfErr result (HaltsInside (length text.now)) }
+{
+    let [name, value] = members else {
+        return Err(Halt::Refused(told(text, at, Code::E2)));
+    };
+    value_with(alloc, text, at, name, *value)
+}
 
 /// A symbol and an expression.
 #[tactic(auto, unfolding(crate::specs::Pairs::value_given))]
@@ -23,21 +87,106 @@ pub fn value_args(alloc: Global, text: &[u8], operand: Span) -> Result<Args, Hal
     ensures inside { IfErr result (HaltsInside (length text.now)) }
 {
     let members = members(alloc, text, operand)?;
-    let [name, value] = members.items() else {
-        return Err(Halt::Refused(told(text, operand.from, Code::E2)));
-    };
-    let pieces = expression_pieces(alloc, text, *value)?;
-    let form = is_symbol_at(text, name) && are_terms(text, pieces.items());
-    let over = place_out(Numeral::Small, text, pieces.items());
-    if let Some(refusal) = refused(text, operand.from, form, over) {
+    let given = value_of_members(alloc, text, operand.from, members.items());
+    drop(members);
+    given
+}
+
+// The two expressions whose terms are these pieces, as arguments.
+fn plain_args(alloc: Global, text: &[u8], left: &[Piece], right: &[Piece]) -> Result<Args, NoMemory>
+    requires left { length left.now ≤ 2 ^ 32 }
+    requires right { length right.now ≤ 2 ^ 32 }
+    ensures { IfOk result (λ args.
+        args
+        ≡ arg.Plain (map (term_of text.now) left.now)
+        ∷ arg.Plain (map (term_of text.now) right.now) ∷ []) }
+{
+    let left = plain_arg(alloc, text, left)?;
+    match plain_arg(alloc, text, right) {
+        Ok(right) => two(alloc, left, right),
+        Err(fault) => {
+            drop(left);
+            Err(fault)
+        }
+    }
+}
+
+// Two expressions whose terms are these pieces.
+#[tactic(auto, using(crate::proofs::Inside::first_inside))]
+fn halves_by(
+    alloc: Global,
+    text: &[u8],
+    at: u32,
+    left: &[Piece],
+    right: &[Piece],
+) -> Result<Args, Halt>
+    requires inside { at < length text.now }
+    requires left { length left.now ≤ 2 ^ 32 }
+    requires right { length right.now ≤ 2 ^ 32 }
+    ensures value { Reads result (halves_by text.now at left.now right.now) }
+    ensures inside { IfErr result (HaltsInside (length text.now)) }
+{
+    let form = are_terms(text, left) && are_terms(text, right);
+    let first = place_out(Numeral::Small, text, left);
+    let second = place_out(Numeral::Small, text, right);
+    let over = first.or(second);
+    if let Some(refusal) = refused(text, at, form, over) {
         return Err(Halt::Refused(refusal));
     }
-    let expr = expr_of(alloc, text, pieces.items())?;
-    Ok(two(alloc, Arg::Symbol(name.span), Arg::Plain(expr))?)
+    Ok(plain_args(alloc, text, left, right)?)
+}
+
+// Two expressions: the first has these terms, and the second is a piece.
+fn halves_behind(
+    alloc: Global,
+    text: &[u8],
+    at: u32,
+    left: &[Piece],
+    right: Piece,
+) -> Result<Args, Halt>
+    requires text { length text.now < 2 ^ 32 }
+    requires inside { at < length text.now }
+    requires left { length left.now ≤ 2 ^ 32 }
+    ensures value { Reads result
+        (halves_by text.now at left.now (expression_pieces text.now right)) }
+    ensures inside { IfErr result (HaltsInside (length text.now)) }
+{
+    let right = expression_pieces(alloc, text, right)?;
+    let given = halves_by(alloc, text, at, left, right.items());
+    drop(right);
+    given
+}
+
+// Two expressions that pieces are.
+fn halves_with(alloc: Global, text: &[u8], at: u32, left: Piece, right: Piece) -> Result<Args, Halt>
+    requires text { length text.now < 2 ^ 32 }
+    requires inside { at < length text.now }
+    ensures value { Reads result
+        (halves_by text.now at (expression_pieces text.now left)
+        (expression_pieces text.now right)) }
+    ensures inside { IfErr result (HaltsInside (length text.now)) }
+{
+    let left = expression_pieces(alloc, text, left)?;
+    let given = halves_behind(alloc, text, at, left.items(), right);
+    drop(left);
+    given
+}
+
+// Two expressions, if the members of an operand are these.
+fn halves_of_members(alloc: Global, text: &[u8], at: u32, members: &[Piece]) -> Result<Args, Halt>
+    requires text { length text.now < 2 ^ 32 }
+    requires inside { at < length text.now }
+    ensures value { Reads result (halves_of_members text.now at members.now) }
+    ensures inside { IfErr result (HaltsInside (length text.now)) }
+{
+    let [left, right] = members else {
+        return Err(Halt::Refused(told(text, at, Code::E2)));
+    };
+    halves_with(alloc, text, at, *left, *right)
 }
 
 /// Two expressions.
-#[tactic(auto, using(crate::proofs::Inside::first_inside), unfolding(crate::specs::Pairs::halves_given))]
+#[tactic(auto, unfolding(crate::specs::Pairs::halves_given))]
 pub fn halves_args(alloc: Global, text: &[u8], operand: Span) -> Result<Args, Halt>
     requires text { length text.now < 2 ^ 32 }
     requires inside { operand.from < length text.now }
@@ -45,21 +194,27 @@ pub fn halves_args(alloc: Global, text: &[u8], operand: Span) -> Result<Args, Ha
     ensures inside { IfErr result (HaltsInside (length text.now)) }
 {
     let members = members(alloc, text, operand)?;
-    let [left, right] = members.items() else {
-        return Err(Halt::Refused(told(text, operand.from, Code::E2)));
+    let given = halves_of_members(alloc, text, operand.from, members.items());
+    drop(members);
+    given
+}
+
+// A symbol and a number, if the members of an operand are these.
+fn block_of_members(alloc: Global, text: &[u8], at: u32, members: &[Piece]) -> Result<Args, Halt>
+    requires { at < length text.now }
+    ensures value { Reads result (block_of_members text.now at members.now) }
+    ensures inside { IfErr result (HaltsInside (length text.now)) }
+{
+    let [name, count] = members else {
+        return Err(Halt::Refused(told(text, at, Code::E2)));
     };
-    let left = expression_pieces(alloc, text, *left)?;
-    let right = expression_pieces(alloc, text, *right)?;
-    let form = are_terms(text, left.items()) && are_terms(text, right.items());
-    let first = place_out(Numeral::Small, text, left.items());
-    let second = place_out(Numeral::Small, text, right.items());
-    let over = first.or(second);
-    if let Some(refusal) = refused(text, operand.from, form, over) {
+    let form = is_symbol_at(text, name) && is_written_at(Numeral::Small, text, count);
+    let over = place_out(Numeral::Small, text, &[*count]);
+    if let Some(refusal) = refused(text, at, form, over) {
         return Err(Halt::Refused(refusal));
     }
-    let left = expr_of(alloc, text, left.items())?;
-    let right = expr_of(alloc, text, right.items())?;
-    Ok(two(alloc, Arg::Plain(left), Arg::Plain(right))?)
+    let count = number_arg(Numeral::Small, text, count);
+    Ok(two(alloc, Arg::Symbol(name.span), count)?)
 }
 
 /// A symbol and a number.
@@ -71,16 +226,9 @@ pub fn block_args(alloc: Global, text: &[u8], operand: Span) -> Result<Args, Hal
     ensures inside { IfErr result (HaltsInside (length text.now)) }
 {
     let members = members(alloc, text, operand)?;
-    let [name, count] = members.items() else {
-        return Err(Halt::Refused(told(text, operand.from, Code::E2)));
-    };
-    let form = is_symbol_at(text, name) && is_written_at(Numeral::Small, text, count);
-    let over = place_out(Numeral::Small, text, &[*count]);
-    if let Some(refusal) = refused(text, operand.from, form, over) {
-        return Err(Halt::Refused(refusal));
-    }
-    let count = number_arg(Numeral::Small, text, count);
-    Ok(two(alloc, Arg::Symbol(name.span), count)?)
+    let given = block_of_members(alloc, text, operand.from, members.items());
+    drop(members);
+    given
 }
 
 /// The section that a name behind `use` names.
@@ -88,13 +236,13 @@ pub fn block_args(alloc: Global, text: &[u8], operand: Span) -> Result<Args, Hal
 pub fn used_section(bytes: &[u8]) -> Option<Section>
     ensures { result ≡ used_section bytes.now }
 {
-    if bytes == b"text".as_slice() {
+    if is_text(b"text", bytes) {
         return Some(Section::Text);
     }
-    if bytes == b"link".as_slice() {
+    if is_text(b"link", bytes) {
         return Some(Section::Linkage);
     }
-    if bytes == b"static".as_slice() {
+    if is_text(b"static", bytes) {
         return Some(Section::Static);
     }
     None

@@ -16,7 +16,7 @@ use std::alloc::Global;
 use std::marker::Model;
 
 /// A list of lines that grows at its end.
-#[derive(Debug, Drop)]
+#[derive(Drop)]
 struct Lines {
     items: Vec<Line36>,
 }
@@ -55,7 +55,7 @@ impl Lines {
 }
 
 /// A source in its lines, fewer than 2^32, with a copy of its text, of which the spans of the lines speak.
-#[derive(Debug, Drop)]
+#[derive(Drop)]
 pub struct Lines36 {
     text: Text,
     lines: Lines,

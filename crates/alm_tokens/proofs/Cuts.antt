@@ -1,26 +1,34 @@
 -- Pieces of a text, byte by byte.
-use Rattle.std.proofs.Common.{◌≡◌, ℕ, ◌+◌, ◌<◌, ◌≤◌, ◌==◌, Bool, true, false, List, [], ◌∷◌, length, drop, get_or, refl, drop-cons, add-one, ◌++◌, ap, ◌∙◌}
+use Rattle.std.proofs.Common.{◌≡◌, ℕ, ◌+◌, ◌<◌, ◌≤◌, ◌==◌, Bool, true, false, cond, List, [], ◌∷◌, length, drop, get_or, refl, drop-cons, add-one, ◌++◌, ap, ◌∙◌}
 use Rattle.std.proofs.lemmas.List.{length-append}
 use Rattle.std.proofs.Math.ListN.{drop_of_length-le}
 use Rattle.alm_tokens.specs.declared.pieces.Parter.{Parter}
 use Rattle.alm_tokens.specs.declared.pieces.Piece.{Piece}
 use Rattle.alm_tokens.specs.Pieces.{parts, piece_at, cut}
 
+-- by whether the next byte parts
+cut_step :
+    (parter : Parter) (minus : Bool) (from at : ℕ) (bytes : List ℕ) (i : ℕ) → i < length bytes
+    → cut parter minus from at (drop i bytes)
+    ≡ cond (parts parter (get_or bytes i 0)) (piece_at minus from at ∷ cut parter (get_or bytes i 0 == 45) (at + 1) (at + 1) (drop (i + 1) bytes)) (cut parter minus from (at + 1) (drop (i + 1) bytes))
+unfolding cut
+cut_step parter minus from at bytes i within = rw (add-one i, drop-cons bytes i 0) refl
+
 -- at a byte that parts, a piece ends
 pub cut_ends :
     (parter : Parter) (minus : Bool) (from at : ℕ) (bytes : List ℕ) (i : ℕ) → i < length bytes
     → parts parter (get_or bytes i 0) ≡ true
     → cut parter minus from at (drop i bytes) ≡ piece_at minus from at ∷ cut parter (get_or bytes i 0 == 45) (at + 1) (at + 1) (drop (i + 1) bytes)
-unfolding cut
-cut_ends parter minus from at bytes i within e = rw (add-one i, drop-cons bytes i 0) (rw e refl)
+cut_ends parter minus from at bytes i within e =
+    cut_step parter minus from at bytes i within ∙ ap (λ parted. cond parted (piece_at minus from at ∷ cut parter (get_or bytes i 0 == 45) (at + 1) (at + 1) (drop (i + 1) bytes)) (cut parter minus from (at + 1) (drop (i + 1) bytes))) e
 
 -- at any other it goes on
 pub cut_goes_on :
     (parter : Parter) (minus : Bool) (from at : ℕ) (bytes : List ℕ) (i : ℕ) → i < length bytes
     → parts parter (get_or bytes i 0) ≡ false
     → cut parter minus from at (drop i bytes) ≡ cut parter minus from (at + 1) (drop (i + 1) bytes)
-unfolding cut
-cut_goes_on parter minus from at bytes i within e = rw (add-one i, drop-cons bytes i 0) (rw e refl)
+cut_goes_on parter minus from at bytes i within e =
+    cut_step parter minus from at bytes i within ∙ ap (λ parted. cond parted (piece_at minus from at ∷ cut parter (get_or bytes i 0 == 45) (at + 1) (at + 1) (drop (i + 1) bytes)) (cut parter minus from (at + 1) (drop (i + 1) bytes))) e
 
 -- the last piece ends with the text
 pub cut_last :

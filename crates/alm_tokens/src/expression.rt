@@ -14,7 +14,7 @@ use std::marker::Model;
 
 /// What a term is: a number up to 262143, a symbol, which is the slice that the term's span names, or `*`, the current
 /// place.
-#[derive(Clone, Copy, Debug, PartialEq, Eq)]
+#[derive(Clone, Copy, PartialEq, Eq)]
 pub enum Atom {
     Number(u32),
     Symbol,
@@ -23,7 +23,7 @@ pub enum Atom {
 
 /// A term of an expression, and whether it is taken away. The span is that of the number, symbol or `*`, without its
 /// sign.
-#[derive(Clone, Copy, Debug, PartialEq, Eq)]
+#[derive(Clone, Copy, PartialEq, Eq)]
 pub struct Term {
     pub what: Atom,
     pub span: Span,
@@ -31,7 +31,7 @@ pub struct Term {
 }
 
 /// An expression: a list of at most 2^32 terms that grows at its end. An empty one is 0.
-#[derive(Debug, Drop)]
+#[derive(Drop)]
 pub struct Expr {
     items: Vec<Term>,
 }

@@ -4,7 +4,7 @@ ghost use Rattle.std.specs.Prelude.{ℕ, ◌≡◌, ◌<◌, IfSome};
 ghost use Rattle.m36_text.specs.Numbers.{octal_in};
 ghost use Rattle.alm_tokens.specs.Modifiers.{after_x, register_of, pr_digit, pr_name, pr_number, single_tag, indirect_first, indirect_last, tag_of};
 
-use m36_text::octal_in;
+use m36_text::{is_text, octal_in};
 
 /// The value of a text that is one octal digit.
 fn octal_digit(bytes: &[u8]) -> Option<u8>
@@ -30,28 +30,28 @@ pub fn register_of(bytes: &[u8]) -> Option<u8>
     ensures value { result ≡ register_of bytes.now }
     ensures below { IfSome result (λ n. n < 16) }
 {
-    if bytes == b"n".as_slice() {
+    if is_text(b"n", bytes) {
         return Some(0);
     }
-    if bytes == b"au".as_slice() {
+    if is_text(b"au", bytes) {
         return Some(1);
     }
-    if bytes == b"qu".as_slice() {
+    if is_text(b"qu", bytes) {
         return Some(2);
     }
-    if bytes == b"du".as_slice() {
+    if is_text(b"du", bytes) {
         return Some(3);
     }
-    if bytes == b"ic".as_slice() {
+    if is_text(b"ic", bytes) {
         return Some(4);
     }
-    if bytes == b"al".as_slice() {
+    if is_text(b"al", bytes) {
         return Some(5);
     }
-    if bytes == b"ql".as_slice() {
+    if is_text(b"ql", bytes) {
         return Some(6);
     }
-    if bytes == b"dl".as_slice() {
+    if is_text(b"dl", bytes) {
         return Some(7);
     }
     let index = octal_digit(after_x(bytes))?;
@@ -73,28 +73,28 @@ fn pr_name(bytes: &[u8]) -> Option<u8>
     ensures value { result ≡ pr_name bytes.now }
     ensures below { IfSome result (λ n. n < 8) }
 {
-    if bytes == b"ap".as_slice() {
+    if is_text(b"ap", bytes) {
         return Some(0);
     }
-    if bytes == b"ab".as_slice() {
+    if is_text(b"ab", bytes) {
         return Some(1);
     }
-    if bytes == b"bp".as_slice() {
+    if is_text(b"bp", bytes) {
         return Some(2);
     }
-    if bytes == b"bb".as_slice() {
+    if is_text(b"bb", bytes) {
         return Some(3);
     }
-    if bytes == b"lp".as_slice() {
+    if is_text(b"lp", bytes) {
         return Some(4);
     }
-    if bytes == b"lb".as_slice() {
+    if is_text(b"lb", bytes) {
         return Some(5);
     }
-    if bytes == b"sp".as_slice() {
+    if is_text(b"sp", bytes) {
         return Some(6);
     }
-    if bytes == b"sb".as_slice() {
+    if is_text(b"sb", bytes) {
         return Some(7);
     }
     None
@@ -117,22 +117,22 @@ fn single_tag(bytes: &[u8]) -> Option<u8>
     ensures value { result ≡ single_tag bytes.now }
     ensures below { IfSome result (λ n. n < 64) }
 {
-    if bytes == b"*".as_slice() {
+    if is_text(b"*", bytes) {
         return Some(0o20);
     }
-    if bytes == b"sd".as_slice() {
+    if is_text(b"sd", bytes) {
         return Some(0o44);
     }
-    if bytes == b"i".as_slice() {
+    if is_text(b"i", bytes) {
         return Some(0o51);
     }
-    if bytes == b"ad".as_slice() {
+    if is_text(b"ad", bytes) {
         return Some(0o53);
     }
-    if bytes == b"di".as_slice() {
+    if is_text(b"di", bytes) {
         return Some(0o54);
     }
-    if bytes == b"id".as_slice() {
+    if is_text(b"id", bytes) {
         return Some(0o56);
     }
     None

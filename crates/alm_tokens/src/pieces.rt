@@ -74,20 +74,19 @@ fn parts(parter: Parter, byte: u8) -> bool
     }
 }
 
-/// The pieces of what a piece names. They are parted by commas, or by signs; the first of them has the minus of the
-/// whole. There is one at least.
+// Adds the pieces of what a piece names to no pieces.
 #[tactic(auto, using(crate::proofs::Cuts::cuts), unfolding(crate::specs::Pieces::pieces_of))]
-pub fn pieces_of(
-    alloc: Global,
+fn push_pieces(
+    pieces: &mut Pieces,
     parter: Parter,
     text: &[u8],
     whole: Piece,
-) -> Result<Pieces, NoMemory>
-    requires { length text.now < 2 ^ 32 }
-    ensures value { IfOk result (λ p. p ≡ pieces_of parter text.now whole) }
-    ensures count { IfOk result (λ p. length p ≤ 2 ^ 32) }
+) -> Result<(), NoMemory>
+    requires text { length text.now < 2 ^ 32 }
+    requires none { pieces.old ≡ [] }
+    ensures value { OnOk result (pieces.new ≡ pieces_of parter text.now whole) }
+    ensures count { OnOk result (length pieces.new ≤ 2 ^ 32) }
 {
-    let mut pieces = Pieces::new(alloc);
     let mut minus = whole.minus;
     let mut from = whole.span.from;
     let mut at = from;
@@ -105,6 +104,28 @@ pub fn pieces_of(
     pieces.push(Piece {
         span: Span { from, to: at },
         minus,
-    })?;
-    Ok(pieces)
+    })
+}
+
+/// The pieces of what a piece names. They are parted by commas, or by signs; the first of them has the minus of the
+/// whole. There is one at least.
+pub fn pieces_of(
+    alloc: Global,
+    parter: Parter,
+    text: &[u8],
+    whole: Piece,
+) -> Result<Pieces, NoMemory>
+    requires { length text.now < 2 ^ 32 }
+    ensures value { IfOk result (λ p. p ≡ pieces_of parter text.now whole) }
+    ensures count { IfOk result (λ p. length p ≤ 2 ^ 32) }
+{
+    let mut pieces = Pieces::new(alloc);
+    match push_pieces(&mut pieces, parter, text, whole) {
+        Ok(()) => Ok(pieces),
+        Err(fault) => {
+            // Dropped by a call: so the drop is proved once for its type.
+            drop(pieces);
+            Err(fault)
+        }
+    }
 }

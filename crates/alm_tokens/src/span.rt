@@ -8,7 +8,7 @@ use std::alloc::Global;
 use std::marker::Model;
 
 /// The bytes of a text from place `from` up to place `to`, which is not among them. Places count from 0.
-#[derive(Clone, Copy, Debug, PartialEq, Eq)]
+#[derive(Clone, Copy, PartialEq, Eq)]
 pub struct Span {
     pub from: u32,
     pub to: u32,
@@ -45,7 +45,7 @@ pub fn first_byte(bytes: &[u8]) -> u8
 }
 
 /// A list of spans that grows at its end.
-#[derive(Debug, Drop)]
+#[derive(Drop)]
 pub struct Spans {
     items: Vec<Span>,
 }

@@ -1,6 +1,6 @@
 //! The listing of a source.
 
-ghost use Rattle.std.specs.Prelude.{ℕ, ◌+◌, ◌++◌, ◌≡◌, ◌≤◌, length, codes, IfOk, OnOk};
+ghost use Rattle.std.specs.Prelude.{ℕ, [], ◌+◌, ◌++◌, ◌≡◌, ◌≤◌, length, codes, IfOk, OnOk};
 ghost use Rattle.obj36_parts.specs.ObjectSegment.{inner_statics, head_words, segment_limit};
 ghost use Rattle.m36_list.specs.Counts.{IsCount};
 ghost use Rattle.alm_lines.specs.Spots.{start};
@@ -79,36 +79,48 @@ fn inner_words(count: Counts, o: &Object) -> &[Word]
     o.parts().inner_statics()
 }
 
-/// The listing of a source and the object that it assembles to, under a name: a line for each word that a line of the source
-/// places, in order of section and place, and then the print of the object. The error is want of memory alone.
+// Puts the listing of a source, and of the object that it assembles to, into a text with nothing in it.
 #[tactic(auto, unfolding(crate::specs::Listing::listing_of))]
-pub fn listing(alloc: Global, name: &[u8], lines: &Lines36, o: &Object) -> Result<Text, NoMemory>
-    ensures { IfOk result (λ text. text ≡ listing_of name.now lines.now o.now) }
+fn put_listing(
+    alloc: Global,
+    text: &mut Text,
+    name: &[u8],
+    lines: &Lines36,
+    o: &Object,
+) -> Result<(), NoMemory>
+    requires { text.old ≡ [] }
+    ensures { OnOk result (text.new ≡ listing_of name.now lines.now o.now) }
 {
     let count = counted(alloc, o)?;
     let words = o.section(Section::Text);
     let inner = inner_words(count, o);
     let outer = o.section(Section::Static);
-    let mut text = Text::new(alloc);
-    put_section_words(alloc, &mut text, b"text", Section::Text, lines, 0, words)?;
+    put_section_words(alloc, text, b"text", Section::Text, lines, 0, words)?;
     put_section_words(
         alloc,
-        &mut text,
+        text,
         b"link",
         Section::Linkage,
         lines,
         HEAD_WORDS,
         inner,
     )?;
-    put_section_words(
-        alloc,
-        &mut text,
-        b"static",
-        Section::Static,
-        lines,
-        0,
-        outer,
-    )?;
-    put_print(&mut text, name, count, o)?;
-    Ok(text)
+    put_section_words(alloc, text, b"static", Section::Static, lines, 0, outer)?;
+    put_print(text, name, count, o)
+}
+
+/// The listing of a source and the object that it assembles to, under a name: a line for each word that a line of the source
+/// places, in order of section and place, and then the print of the object. The error is want of memory alone.
+pub fn listing(alloc: Global, name: &[u8], lines: &Lines36, o: &Object) -> Result<Text, NoMemory>
+    ensures { IfOk result (λ text. text ≡ listing_of name.now lines.now o.now) }
+{
+    let mut text = Text::new(alloc);
+    match put_listing(alloc, &mut text, name, lines, o) {
+        Ok(()) => Ok(text),
+        Err(fault) => {
+            // Dropped by a call: so the drop is proved once for its type.
+            drop(text);
+            Err(fault)
+        }
+    }
 }

@@ -1,6 +1,6 @@
 use Rattle.std.proofs.Common.{◌++◌, ◌≡◌, ◌+◌, ◌≤◌, drop, length}
 use Rattle.alm_tokens.specs.Pieces.{cut, pieces_of}
-use Rattle.alm_tokens.proofs.pieces.pieces_of.Given as goal
+use Rattle.alm_tokens.proofs.pieces.push_pieces.Given as goal
 
 abbrev pub invariant-loop-byte : goal.invariant-loop-byte
 invariant-loop-byte l = record {

@@ -1,8 +1,8 @@
 use Rattle.std.proofs.Common.{◌≡◌, ◌≤◌, ◌+◌, length, arith}
 use Rattle.std.proofs.lemmas.Grind.{common_steps}
 use Rattle.alm_tokens.proofs.Cuts.{cuts, one_more}
-use Rattle.alm_tokens.proofs.pieces.pieces_of.Goals as goal
-use Rattle.alm_tokens.proofs.pieces.pieces_of.Goals.{then-parts+in_ok-push, else-parts}
+use Rattle.alm_tokens.proofs.pieces.push_pieces.Goals as goal
+use Rattle.alm_tokens.proofs.pieces.push_pieces.Goals.{then-parts+in_ok-push, else-parts}
 
 pub loop-byte-preserved : goal.loop-byte-preserved
 loop-byte-preserved c = record {

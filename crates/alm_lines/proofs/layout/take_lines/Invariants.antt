@@ -1,14 +1,14 @@
-use Rattle.std.proofs.Common.{◌≡◌, [], None, length}
+use Rattle.std.proofs.Common.{◌≡◌, None, length}
 use Rattle.alm_lines.specs.Spots.{start, HasRoom}
 use Rattle.alm_lines.specs.Layout.{symbols_from, layout_refusal}
-use Rattle.alm_lines.proofs.layout.layout_of.Given as goal
+use Rattle.alm_lines.proofs.layout.take_lines.Given as goal
 
 -- what the rest define and what is refused of them is that of all
 abbrev pub invariant-loop-rest : goal.invariant-loop-rest
 invariant-loop-rest l = record {
   room : HasRoom (length l.rest) l.spot;
-  symbols : symbols_from l.text l.symbols l.spot l.rest ≡ symbols_from l.text [] start l.lines;
-  refused : layout_refusal l.text l.refused l.symbols l.spot l.rest ≡ layout_refusal l.text None [] start l.lines;
+  symbols : symbols_from l.text l.symbols l.spot l.rest ≡ symbols_from l.text l.initial.symbols start l.lines;
+  refused : layout_refusal l.text l.refused l.symbols l.spot l.rest ≡ layout_refusal l.text None l.initial.symbols start l.lines;
 }
 
 abbrev pub decreases-loop-rest : goal.decreases-loop-rest
