@@ -7,7 +7,7 @@
 //! there; only the Write of a word that was read is asked for again by itself. Pairs, CALL6 and RTCD are those of `paired`,
 //! which tells a refusal at once.
 
-ghost use Rattle.std.specs.Prelude.{◌≡◌, ◌≢◌, ◌<◌, ◌≤◌, Ok, IfSome, IfNone, length};
+ghost use Rattle.std.specs.Prelude.{◌≡◌, ◌≢◌, ◌<◌, ◌≤◌, None, Ok, IfSome, IfNone, length};
 ghost use Rattle.m36_inst.specs.Lookup.{IsRow};
 ghost use Rattle.m36_inst.specs.declared.operand.Operand.TheVariants as kind;
 ghost use Rattle.m36_ea.specs.Formed.{plain};
@@ -109,6 +109,7 @@ fn stored_operand(
     requires dbr { walk.old.dbr ≡ regs.old.dbr }
     requires row { IsRow row.now }
     requires kind { row.now.operand ≡ kind.W }
+    requires direct { last.now.direct ≡ None }
     requires room { length told.old.refs.items ≤ 38 }
     ensures ends { EndsFormed regs.old
         (operated row.now.effect row.now.reg regs.old word (chain_end_fields (plain last.now)))
@@ -121,16 +122,13 @@ fn stored_operand(
         return operated_else(walk, regs, word, row, last, told);
     }
     let at = regs.here();
-    match last.direct {
-        Some(_) => operated_else(walk, regs, word, row, last, told),
-        None => match try_hold(walk, regs, last, &mut told.refs) {
-            Some(place) => {
-                let stored = m36_frequent::store_word(row, regs);
-                walk.store(place, stored);
-                tell_done(told, at, word, last, regs, false);
-            }
-            None => operated_else(walk, regs, word, row, last, told),
-        },
+    match try_hold(walk, regs, last, &mut told.refs) {
+        Some(place) => {
+            let stored = m36_frequent::store_word(row, regs);
+            walk.store(place, stored);
+            tell_done(told, at, word, last, regs, false);
+        }
+        None => operated_else(walk, regs, word, row, last, told),
     }
 }
 
@@ -207,6 +205,7 @@ fn changed_operand(
     requires dbr { walk.old.dbr ≡ regs.old.dbr }
     requires row { IsRow row.now }
     requires kind { row.now.operand ≡ kind.Rw }
+    requires direct { last.now.direct ≡ None }
     requires room { length told.old.refs.items ≤ 38 }
     ensures ends { EndsFormed regs.old
         (operated row.now.effect row.now.reg regs.old word (chain_end_fields (plain last.now)))
@@ -219,18 +218,15 @@ fn changed_operand(
         return operated_else(walk, regs, word, row, last, told);
     }
     let at = regs.here();
-    match last.direct {
-        Some(_) => operated_else(walk, regs, word, row, last, told),
-        None => match try_read(walk, regs, last, &mut told.refs) {
-            None => operated_else(walk, regs, word, row, last, told),
-            Some(operand) => match hold(walk, regs, word, last, told) {
-                Some(place) => {
-                    let (changed, overflow) = m36_frequent::change_word(row, regs, operand);
-                    walk.store(place, changed);
-                    tell_done(told, at, word, last, regs, overflow);
-                }
-                None => {}
-            },
+    match try_read(walk, regs, last, &mut told.refs) {
+        None => operated_else(walk, regs, word, row, last, told),
+        Some(operand) => match hold(walk, regs, word, last, told) {
+            Some(place) => {
+                let (changed, overflow) = m36_frequent::change_word(row, regs, operand);
+                walk.store(place, changed);
+                tell_done(told, at, word, last, regs, overflow);
+            }
+            None => {}
         },
     }
 }
@@ -248,6 +244,7 @@ fn address_operand(
     requires dbr { walk.old.dbr ≡ regs.old.dbr }
     requires row { IsRow row.now }
     requires kind { row.now.operand ≡ kind.A }
+    requires direct { last.now.direct ≡ None }
     requires room { length told.old.refs.items ≤ 38 }
     ensures ends { EndsFormed regs.old
         (operated row.now.effect row.now.reg regs.old word (chain_end_fields (plain last.now)))
@@ -260,13 +257,8 @@ fn address_operand(
         return shift_operand(walk, regs, word, row, last, told);
     }
     let place = regs.here();
-    match last.direct {
-        Some(_) => operated_else(walk, regs, word, row, last, told),
-        None => {
-            let overflow = m36_frequent::load_address(row, regs, last);
-            tell_done(told, place, word, last, regs, overflow);
-        }
-    }
+    let overflow = m36_frequent::load_address(row, regs, last);
+    tell_done(told, place, word, last, regs, overflow);
 }
 
 /// A transfer.
@@ -282,6 +274,7 @@ fn target_operand(
     requires dbr { walk.old.dbr ≡ regs.old.dbr }
     requires row { IsRow row.now }
     requires kind { row.now.operand ≡ kind.T }
+    requires direct { last.now.direct ≡ None }
     requires room { length told.old.refs.items ≤ 38 }
     ensures ends { EndsFormed regs.old
         (operated row.now.effect row.now.reg regs.old word (chain_end_fields (plain last.now)))
@@ -294,19 +287,48 @@ fn target_operand(
         return operated_else(walk, regs, word, row, last, told);
     }
     let place = regs.here();
-    match last.direct {
-        Some(_) => operated_else(walk, regs, word, row, last, told),
-        None => {
-            if !m36_xfer::is_taken(row.effect, regs) {
-                m36_xfer::transfer(row.effect, regs, last);
-                return tell_done(told, place, word, last, regs, false);
-            }
-            if !walk.try_transfer(final_at(last), place.ring) {
-                return operated_else(walk, regs, word, row, last, told);
-            }
-            m36_xfer::transfer(row.effect, regs, last);
-            tell_done(told, place, word, last, regs, false);
-        }
+    if !m36_xfer::is_taken(row.effect, regs) {
+        m36_xfer::transfer(row.effect, regs, last);
+        return tell_done(told, place, word, last, regs, false);
+    }
+    if !walk.try_transfer(final_at(last), place.ring) {
+        return operated_else(walk, regs, word, row, last, told);
+    }
+    m36_xfer::transfer(row.effect, regs, last);
+    tell_done(told, place, word, last, regs, false);
+}
+
+/// The operation of an instruction whose operand stands in a segment, or is its address.
+#[inline(always)]
+fn operated_there(
+    walk: &mut Walk,
+    regs: &mut Regs,
+    word: Word,
+    row: &Row,
+    last: &Final,
+    told: &mut StepRecord,
+)
+    requires dbr { walk.old.dbr ≡ regs.old.dbr }
+    requires row { IsRow row.now }
+    requires addressed { row.now.operand ≢ kind.N }
+    requires direct { last.now.direct ≡ None }
+    requires room { length told.old.refs.items ≤ 38 }
+    ensures ends { EndsFormed regs.old
+        (operated row.now.effect row.now.reg regs.old word (chain_end_fields (plain last.now)))
+        walk.old.core (plain last.now) told.old.refs.items walk.new.core told.new.refs.items
+        regs.new (ended_of told.new) }
+    ensures ppr { told.new.ppr ≡ told.old.ppr }
+    ensures dbr { walk.new.dbr ≡ regs.new.dbr }
+{
+    match row.operand {
+        Operand::W => stored_operand(walk, regs, word, row, last, told),
+        Operand::Rw => changed_operand(walk, regs, word, row, last, told),
+        Operand::A => address_operand(walk, regs, word, row, last, told),
+        Operand::T => target_operand(walk, regs, word, row, last, told),
+        Operand::R2 => pair_operand(walk, regs, word, row, last, told),
+        Operand::W2 => stored_pair(walk, regs, word, row, last, told),
+        Operand::Call6 => called(walk, regs, word, row, last, told),
+        _ => operated_else(walk, regs, word, row, last, told),
     }
 }
 
@@ -333,13 +355,9 @@ pub(crate) fn operated_plain(
 {
     match row.operand {
         Operand::R => read_operand(walk, regs, word, row, last, told),
-        Operand::W => stored_operand(walk, regs, word, row, last, told),
-        Operand::Rw => changed_operand(walk, regs, word, row, last, told),
-        Operand::A => address_operand(walk, regs, word, row, last, told),
-        Operand::T => target_operand(walk, regs, word, row, last, told),
-        Operand::R2 => pair_operand(walk, regs, word, row, last, told),
-        Operand::W2 => stored_pair(walk, regs, word, row, last, told),
-        Operand::Call6 => called(walk, regs, word, row, last, told),
-        _ => operated_else(walk, regs, word, row, last, told),
+        _ => match last.direct {
+            Some(_) => operated_else(walk, regs, word, row, last, told),
+            None => operated_there(walk, regs, word, row, last, told),
+        },
     }
 }

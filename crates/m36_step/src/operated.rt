@@ -4,7 +4,7 @@
 //! room for a block, and would be copied with each answer.
 
 /// Which part of a word is written.
-#[derive(Clone, Copy, PartialEq, Eq, Debug)]
+#[derive(Clone, Copy, PartialEq, Eq)]
 pub(crate) enum Part {
     Whole,
     Left,

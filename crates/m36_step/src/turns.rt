@@ -6,7 +6,7 @@ use m36_word::Pair;
 use std::marker::Model;
 
 /// A link service: a link was snapped for a ring, or refused.
-#[derive(Debug, Drop)]
+#[derive(Drop)]
 pub struct LinkNote {
     /// The link as `name$entry`, up to 65 characters; `?` where the word is no link.
     pub name: ArrayVec<u8, 65>,
@@ -30,7 +30,7 @@ impl Model for LinkNote {
 }
 
 /// A console service: what was written, up to 256 characters.
-#[derive(Debug, Drop)]
+#[derive(Drop)]
 pub struct ConsoleNote {
     pub bytes: ArrayVec<u8, 256>,
 }
@@ -44,7 +44,7 @@ impl Model for ConsoleNote {
 }
 
 /// What a turn answers.
-#[derive(Debug, Drop)]
+#[derive(Drop)]
 pub enum Turn {
     /// A step was taken.
     Stepped(StepRecord),
@@ -61,7 +61,7 @@ pub enum Turn {
 }
 
 /// What going back answers.
-#[derive(Clone, Copy, PartialEq, Eq, Debug)]
+#[derive(Clone, Copy, PartialEq, Eq)]
 pub enum BackAnswer {
     /// The machine stands so many steps earlier.
     Done,

@@ -12,8 +12,8 @@ ghost use Rattle.m36_associative.specs.Right.{AreRight};
 ghost use Rattle.m36_model.specs.Core.{core_store};
 ghost use Rattle.m36_model.specs.Place.{wrapped, core_sdw, directory_at, word_place, marks_by, with_marks};
 ghost use Rattle.m36_model.specs.Store.{spots_of};
-ghost use Rattle.m36_walk.specs.Reached.{told, told_acv, reached, found_run, Marked};
-ghost use Rattle.m36_walk.specs.Runs.{LiesIn};
+ghost use Rattle.m36_walk.specs.Reached.{told, told_acv, reached, reached_places, found_run, Marked};
+ghost use Rattle.m36_walk.specs.Runs.{LiesIn, told_places};
 ghost use Rattle.m36_walk.specs.Served.{sdw_in};
 ghost use Rattle.m36_tables.specs.Tables.{TableIn};
 
@@ -121,6 +121,39 @@ fn read_in_page(
     }
 }
 
+/// So many words of a segment by the tables, with the marks of a reference to them set. Their page is put in front.
+fn marked_run(
+    core: &mut Core,
+    dbr: Dbr,
+    memories: &mut Memories,
+    sdw: &Sdw,
+    at: At,
+    count: u32,
+    write: bool,
+) -> Result<Found, Fault>
+    requires some { 1 ≤ count }
+    requires block { at.word % 16 + count ≤ 16 }
+    requires right { AreRight core.old dbr memories.old }
+    requires directory { TableIn (length core.old) dbr.unpaged (directory_at dbr at.seg) }
+    ensures run { reached_places sdw.now
+        (told_places at (spots_of core_store core.old dbr sdw.now at.seg at.word count))
+        ≡ found_run count result }
+    ensures marked { Marked dbr at write core.old core.new result }
+    ensures inside { IfOk result (λ f. LiesIn (length core.new) f.place count) }
+    ensures bound { IfOk result (λ f. f.place < 2 ^ 24) }
+    ensures len { length core.new ≡ length core.old }
+    ensures right { AreRight core.new dbr memories.new }
+{
+    match places_kept(core, dbr, memories, sdw, at.word, count) {
+        Ok(place) => {
+            set_marks(core, memories, dbr, sdw, at.seg, at.word, write);
+            enter(core, dbr, memories, at.seg, at.word);
+            Ok(Found { sdw: *sdw, place })
+        }
+        Err(refused) => Err(fault_further(refused, at)),
+    }
+}
+
 /// A reference that reads so many words in the ring of `at`, for an instruction of segment `psr`, by the tables.
 #[inline(never)]
 #[tactic(auto, unfolding(crate::specs::Reached::reached))]
@@ -147,14 +180,7 @@ fn read_by_tables(
     memories.settle();
     let sdw = described_kept(core, dbr, memories, at)?;
     permitted(may_read(&sdw, at.ring, at.seg == psr), at)?;
-    match places_kept(core, dbr, memories, &sdw, at.word, count) {
-        Ok(place) => {
-            set_marks(core, memories, dbr, &sdw, at.seg, at.word, false);
-            enter(core, dbr, memories, at.seg, at.word);
-            Ok(Found { sdw, place })
-        }
-        Err(refused) => Err(fault_further(refused, at)),
-    }
+    marked_run(core, dbr, memories, &sdw, at, count, false)
 }
 
 /// A reference that reads so many words in the ring of `at`, for an instruction of segment `psr`.
@@ -242,14 +268,7 @@ fn write_by_tables(
     memories.settle();
     let sdw = described_kept(core, dbr, memories, at)?;
     permitted(may_write(&sdw, at.ring), at)?;
-    match places_kept(core, dbr, memories, &sdw, at.word, count) {
-        Ok(place) => {
-            set_marks(core, memories, dbr, &sdw, at.seg, at.word, true);
-            enter(core, dbr, memories, at.seg, at.word);
-            Ok(Found { sdw, place })
-        }
-        Err(refused) => Err(fault_further(refused, at)),
-    }
+    marked_run(core, dbr, memories, &sdw, at, count, true)
 }
 
 /// A reference that is to write so many words, in the ring of `at`.
@@ -331,14 +350,7 @@ fn fetch_by_tables(
     memories.settle();
     let sdw = described_kept(core, dbr, memories, at)?;
     permitted(may_fetch(&sdw, at.ring), at)?;
-    match places_kept(core, dbr, memories, &sdw, at.word, 1) {
-        Ok(place) => {
-            set_marks(core, memories, dbr, &sdw, at.seg, at.word, false);
-            enter(core, dbr, memories, at.seg, at.word);
-            Ok(Found { sdw, place })
-        }
-        Err(refused) => Err(fault_further(refused, at)),
-    }
+    marked_run(core, dbr, memories, &sdw, at, 1, false)
 }
 
 /// The fetch of an instruction, in the ring of `at`.

@@ -52,11 +52,16 @@ impl Walk {
     pub fn copy(&self, alloc: Global) -> Result<Walk, NoMemory>
         ensures { IfOk result (λ walk. (walk.core ≡ self.now.core) × (walk.dbr ≡ self.now.dbr)) }
     {
-        Ok(Walk {
-            core: self.core.copy(alloc)?,
-            dbr: self.dbr,
-            memories: Memories::new(alloc)?,
-        })
+        match self.core.copy(alloc) {
+            Ok(core) => match Walk::new(alloc, core, self.dbr) {
+                Ok(walk) => Ok(walk),
+                Err(core) => {
+                    drop(core); // Dropped by a call: so the drop is proved once for its type.
+                    Err(NoMemory)
+                }
+            },
+            Err(NoMemory) => Err(NoMemory),
+        }
     }
 
     /// Core as it stands.

@@ -16,7 +16,7 @@ use m36_tables::wrapped;
 use m36_word::{Pair, Word};
 
 /// A word that an instruction is still to write, and that its own references see as written.
-#[derive(Clone, Copy, PartialEq, Eq, Debug)]
+#[derive(Clone, Copy, PartialEq, Eq)]
 pub struct Pending {
     pub word: Word,
     /// The place in core where it will stand.
@@ -24,7 +24,7 @@ pub struct Pending {
 }
 
 /// Words in core, one after another modulo 2^24.
-#[derive(Clone, Copy, PartialEq, Eq, Debug)]
+#[derive(Clone, Copy, PartialEq, Eq)]
 pub struct Run {
     /// The place of the first.
     pub place: u32,
