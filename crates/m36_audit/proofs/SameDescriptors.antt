@@ -1,6 +1,7 @@
 -- Equal descriptors: two live segments have the same number exactly where their descriptors are equal words.
-use Rattle.std.proofs.Common.{◌≡◌, ℕ, ◌+◌, ◌*◌, ◌/◌, ◌%◌, ◌^◌, ◌<◌, length, refl, sym, ◌∙◌, ap, subst, arith}
+use Rattle.std.proofs.Common.{◌≡◌, ℕ, ◌+◌, ◌*◌, ◌/◌, ◌%◌, ◌^◌, ◌<◌, ◌≤◌, length, refl, sym, ◌∙◌, ap, subst, arith}
 use Rattle.std.specs.Prelude.{List, slice_get, slice_index, Option, Some, None, Result, Ok, Err}
+use Rattle.std.proofs.lemmas.Option.{slice_get_within, slice_get-get_or}
 use Rattle.m36_desc.specs.Fields.{SdwFields, DbrFields}
 use Rattle.m36_model.specs.Place.{wrapped, sdw_place, sdw_words, sdw_at, core_sdw}
 use Rattle.m36_model.specs.JointAudit.{AreSame}
@@ -35,6 +36,42 @@ key_sdw core dbr seg key h = ap (sdw_at core) h.found ∙ (λ i. sdw_words (h.ev
 
 same_at : (core : List ℕ) (dbr : DbrFields) (seg x y : ℕ) → sdw_place core dbr seg ≡ Ok x → sdw_place core dbr seg ≡ Ok y → x ≡ y
 same_at core dbr seg x y h k = cc
+
+-- there is no key where no descriptor is found, or a word of it is past the end of core
+pub key_refused : (core : List ℕ) (dbr : DbrFields) (seg : ℕ) (why : Refusal) → Err why ≡ sdw_place core dbr seg → (key : ℕ) → IsKey core dbr seg key → ⊥
+key_refused core dbr seg why refused key h = cc
+
+pub key_cut : (core : List ℕ) (dbr : DbrFields) (seg at : ℕ) → Ok at ≡ sdw_place core dbr seg → length core ≤ at → (key : ℕ) → IsKey core dbr seg key → ⊥
+key_cut core dbr seg at found past key h =
+    let same : at ≡ h.at = same_at core dbr seg at h.at (sym found) h.found in
+    let within : h.at < length core = slice_get_within core h.at h.even h.even_is in
+    omega arith
+
+pub key_halved : (core : List ℕ) (dbr : DbrFields) (seg at : ℕ) → Ok at ≡ sdw_place core dbr seg → length core ≤ wrapped (at + 1) → (key : ℕ) → IsKey core dbr seg key → ⊥
+key_halved core dbr seg at found past key h =
+    let same : at ≡ h.at = same_at core dbr seg at h.at (sym found) h.found in
+    let within : wrapped (at + 1) < length core = slice_get_within core (wrapped (at + 1)) h.odd (ap (λ a. slice_get core (wrapped (a + 1))) same ∙ h.odd_is) in
+    omega arith
+
+-- the key of a descriptor that stands in core, and its odd word
+pub key_there : (core : List ℕ) (dbr : DbrFields) (seg at next even odd : ℕ) → Ok at ≡ sdw_place core dbr seg → next ≡ wrapped (at + 1) → at < length core → next < length core → even ≡ slice_index core at → odd ≡ slice_index core next → IsKey core dbr seg (even * 2 ^ 36 + odd)
+key_there core dbr seg at next even odd found is there there_too e o = record {
+  at = at;
+  found = sym found;
+  even = even;
+  odd = odd;
+  even_is = slice_get-get_or core at 0 there ∙ ap (λ (n : ℕ). Some n) (sym e);
+  odd_is = ap (slice_get core) (sym is) ∙ (slice_get-get_or core next 0 there_too ∙ ap (λ (n : ℕ). Some n) (sym o));
+  key_is = refl;
+}
+
+pub key_odd : (core : List ℕ) (dbr : DbrFields) (seg at next odd : ℕ) → Ok at ≡ sdw_place core dbr seg → next ≡ wrapped (at + 1) → next < length core → odd ≡ slice_index core next → odd < 2 ^ 36 → (key : ℕ) → (h : IsKey core dbr seg key) → h.odd < 2 ^ 36
+key_odd core dbr seg at next odd found is there o small key h =
+    let same : at ≡ h.at = same_at core dbr seg at h.at (sym found) h.found in
+    let read : slice_get core next ≡ Some odd = slice_get-get_or core next 0 there ∙ ap (λ (n : ℕ). Some n) (sym o) in
+    let other : slice_get core next ≡ Some h.odd = ap (slice_get core) (is ∙ ap (λ a. wrapped (a + 1)) same) ∙ h.odd_is in
+    let equal : odd ≡ h.odd = cc in
+    omega arith
 
 same_some : (x y : ℕ) (o p : Option ℕ) → o ≡ Some x → p ≡ Some y → o ≡ p → x ≡ y
 same_some x y o p e f g = cc

@@ -20,19 +20,21 @@ fn key(core: &Core, dbr: Dbr, seg: u16) -> Option<u128>
         (λ k. IsKey core.now dbr seg k) }
     ensures small { (k : ℕ) (h : IsKey core.now dbr seg k) → h.odd < 2 ^ 36 }
 {
-    match descriptor_place(core, dbr, seg) {
-        Ok(at) => {
-            let next = wrapped(at + 1);
-            if at < core.len() && next < core.len() {
-                let even = core.peek(at).value();
-                let odd = core.peek(next).value();
-                Some(even as u128 * (1 << 36) + odd as u128)
-            } else {
-                None
-            }
-        }
-        Err(_) => None,
+    let at = match descriptor_place(core, dbr, seg) {
+        Ok(at) => at,
+        Err(_) => return None,
+    };
+    let next = wrapped(at + 1);
+    let size = core.len();
+    if at >= size {
+        return None;
     }
+    if next >= size {
+        return None;
+    }
+    let even = core.peek(at).value();
+    let odd = core.peek(next).value();
+    Some(even as u128 * (1 << 36) + odd as u128)
 }
 
 /// Notes the number of one descriptor, where its words stand in core.

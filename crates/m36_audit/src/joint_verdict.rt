@@ -11,7 +11,7 @@ use crate::verdict::Verdict;
 use arrayvec::ArrayVec;
 
 /// A condition that fails, and the least place that breaks it.
-#[derive(Clone, Copy, PartialEq, Eq, Debug)]
+#[derive(Clone, Copy, PartialEq, Eq)]
 pub struct JointFinding {
     /// Of the first, fifth and sixth condition of a process a segment number of 15 bits; of the others an address of a core
     /// word.
@@ -36,7 +36,7 @@ impl Default for JointFinding {
 }
 
 /// The findings of a joint audit: those of each process in order, and one for each condition between processes that fails.
-#[derive(Debug, Drop)]
+#[derive(Drop)]
 pub struct Joint {
     pub findings: ArrayVec<JointFinding, 50>,
 }

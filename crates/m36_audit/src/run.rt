@@ -7,7 +7,7 @@ use m36_word::NoMemory;
 use std::alloc::Global;
 
 /// Core words from the first to the one before the end.
-#[derive(Clone, Copy, PartialEq, Eq, Debug)]
+#[derive(Clone, Copy, PartialEq, Eq)]
 pub(crate) struct Run {
     pub(crate) first: u32,
     pub(crate) end: u32,

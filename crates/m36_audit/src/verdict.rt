@@ -9,7 +9,7 @@ ghost use Rattle.m36_audit.specs.Findings.{pairs};
 use arrayvec::ArrayVec;
 
 /// A condition that fails, and the least place that breaks it.
-#[derive(Clone, Copy, PartialEq, Eq, Debug)]
+#[derive(Clone, Copy, PartialEq, Eq)]
 pub struct Finding {
     /// Of the first, fifth and sixth condition a segment number of 15 bits; of the others an address of a core word.
     pub place: u32,
@@ -30,7 +30,7 @@ impl Default for Finding {
 }
 
 /// The findings of an audit: one for each condition that fails, in order.
-#[derive(Debug, Drop)]
+#[derive(Drop)]
 pub struct Verdict {
     pub findings: ArrayVec<Finding, 6>,
 }

@@ -110,8 +110,6 @@ packed_back seg word ring in_seg in_word =
     let bit_back : r.bit ≡ 0 = omega (arith, in_seg, in_word) in
     λ i. record { seg = seg_back i; ring = ring; word = word_back i; bit = bit_back i }
 
-pub ruleset comes_back = (sdw_back, ptw_back, dbr_back, ptr_back, its_back, itp_back, even_tags, packed_back)
-
 -- the same for words that are known to be the descriptor's
 pub sdw_read : (even odd : ℕ) (s : SdwFields) → IsSdw s → even ≡ sdw_even s → odd ≡ sdw_odd s → sdw_of even odd ≡ s
 sdw_read even odd s h e o = rw (e, o) (sdw_back s h)

@@ -7,7 +7,7 @@ ghost use Rattle.m36_desc.specs.Access.{fetch_rows, transfer_rows, call_rows, ri
 use crate::sdw::Sdw;
 
 /// An access violation, by its number from 0 to 15.
-#[derive(Clone, Copy, PartialEq, Eq, Debug)]
+#[derive(Clone, Copy, PartialEq, Eq)]
 pub struct Acv(pub u8);
 
 /// Whether a word may be read in ring `trr`. `same` says that the segment is the one that executes.

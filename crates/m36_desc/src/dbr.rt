@@ -8,7 +8,7 @@ use std::marker::Model;
 
 /// The descriptor segment base register: where the descriptor segment lies, how far it reaches, and where the
 /// stacks of the rings begin.
-#[derive(Clone, Copy, PartialEq, Eq, Debug)]
+#[derive(Clone, Copy, PartialEq, Eq)]
 pub struct Dbr {
     /// Place in core of the descriptor segment or of its page table; 24 bits.
     pub addr: u32,
@@ -47,7 +47,7 @@ impl Dbr {
     }
 
     /// The pair of words that the register is stored as, with all other bits zero.
-    #[tactic(auto, using(crate::proofs::RoundTrips::comes_back))]
+    #[tactic(auto, using(crate::proofs::RoundTrips::dbr_back))]
     pub fn to_words(&self) -> Pair
         ensures even { result.even ≡ dbr_even self.now }
         ensures odd { result.odd ≡ dbr_odd self.now }

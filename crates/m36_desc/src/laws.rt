@@ -8,7 +8,6 @@ ghost use Rattle.m36_desc.specs.Widths.{ItsWords, ItpWords};
 
 /// Each descriptor that is written to words is read back as it was, whatever its fields within their widths, and so is
 /// a packed pointer to bit 0 of a word. The even word of a pair has the tag by which the pair is known.
-#[tactic(auto, using(crate::proofs::RoundTrips::comes_back))]
 pub fn descriptor_laws()
     ensures sdw { SdwComesBack }
     ensures ptw { PtwComesBack }

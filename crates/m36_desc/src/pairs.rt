@@ -7,7 +7,7 @@ use m36_word::{Field, Pair, Word};
 use std::marker::Model;
 
 /// An indirect-to-segment pair.
-#[derive(Clone, Copy, PartialEq, Eq, Debug)]
+#[derive(Clone, Copy, PartialEq, Eq)]
 pub struct Its {
     /// Word number; 18 bits.
     pub word: u32,
@@ -35,7 +35,7 @@ impl Model for Its {
 }
 
 /// An indirect-through-pointer-register pair.
-#[derive(Clone, Copy, PartialEq, Eq, Debug)]
+#[derive(Clone, Copy, PartialEq, Eq)]
 pub struct Itp {
     /// Word number, to be added to that of the pointer register; 18 bits.
     pub word: u32,
@@ -82,7 +82,7 @@ impl Its {
     }
 
     /// The pair with these fields, tag 43 octal in its even word, and all other bits zero.
-    #[tactic(auto, using(crate::proofs::RoundTrips::comes_back))]
+    #[tactic(auto, using(crate::proofs::RoundTrips::its_back))]
     pub fn to_words(&self) -> Pair
         ensures even { result.even ≡ its_even self.now }
         ensures odd { result.odd ≡ its_odd self.now }
@@ -112,7 +112,7 @@ impl Itp {
     }
 
     /// The pair with these fields, tag 41 octal in its even word, and all other bits zero.
-    #[tactic(auto, using(crate::proofs::RoundTrips::comes_back))]
+    #[tactic(auto, using(crate::proofs::RoundTrips::itp_back))]
     pub fn to_words(&self) -> Pair
         ensures even { result.even ≡ itp_even self.now }
         ensures odd { result.odd ≡ itp_odd self.now }

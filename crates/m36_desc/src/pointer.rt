@@ -8,7 +8,7 @@ use m36_word::{Field, Pair};
 use std::marker::Model;
 
 /// A pointer register: a bit of a word of a segment, and the ring that stands for it.
-#[derive(Clone, Copy, PartialEq, Eq, Debug)]
+#[derive(Clone, Copy, PartialEq, Eq)]
 pub struct Ptr {
     /// Word number; 18 bits.
     pub word: u32,
@@ -48,7 +48,7 @@ impl Ptr {
     }
 
     /// The ITS pair of the pointer's fields, with tag 0 in its odd word.
-    #[tactic(auto, using(crate::proofs::RoundTrips::comes_back))]
+    #[tactic(auto, using(crate::proofs::RoundTrips::ptr_back))]
     pub fn to_words(&self) -> Pair
         ensures even { result.even ≡ ptr_even self.now }
         ensures odd { result.odd ≡ ptr_odd self.now }

@@ -7,7 +7,7 @@ use m36_word::{Field, Word};
 use std::marker::Model;
 
 /// A page table word: where a page lies, and whether it was used and modified.
-#[derive(Clone, Copy, PartialEq, Eq, Debug)]
+#[derive(Clone, Copy, PartialEq, Eq)]
 pub struct Ptw {
     /// Place of the frame in units of 64 words, whose low four bits count as zero; 18 bits.
     pub addr: u32,
@@ -50,7 +50,7 @@ impl Ptw {
     }
 
     /// The word that holds the descriptor, with all other bits zero.
-    #[tactic(auto, using(crate::proofs::RoundTrips::comes_back))]
+    #[tactic(auto, using(crate::proofs::RoundTrips::ptw_back))]
     pub fn to_words(&self) -> Word
         ensures word { result ≡ ptw_word self.now }
         ensures back { ptw_of result ≡ self.now }

@@ -8,7 +8,7 @@ use m36_word::{Field, Pair, Word};
 use std::marker::Model;
 
 /// A segment descriptor word: where a segment lies, who may use it, and how far it reaches.
-#[derive(Clone, Copy, PartialEq, Eq, Debug)]
+#[derive(Clone, Copy, PartialEq, Eq)]
 pub struct Sdw {
     /// Place in core of the segment or of its page table; 24 bits.
     pub addr: u32,
@@ -77,7 +77,6 @@ impl Sdw {
     }
 
     /// The pair of words that holds the descriptor, with all other bits zero.
-    #[tactic(auto, using(crate::proofs::RoundTrips::sdw_read))]
     pub fn to_words(&self) -> Pair
         ensures even { result.even ≡ sdw_even self.now }
         ensures odd { result.odd ≡ sdw_odd self.now }

@@ -3,8 +3,10 @@ use Rattle.std.proofs.Common.{◌≡◌, ℕ, List, [], ◌∷◌, Option, Some,
 use Rattle.m36_word.specs.declared.pair.Pair.{Pair}
 use Rattle.m36_image.specs.declared.refusal.ImageCode.{ImageCode}
 use Rattle.m36_image.specs.declared.refusal.ImageCode.TheVariants.{I1}
-use Rattle.m36_text.specs.Lines.{cut_line, words_of, line_at, first_told}
+use Rattle.m36_text.specs.Lines.{lines_of, cut_line, words_of, line_at, first_told}
+use Rattle.m36_model.specs.Fields.{PprFields}
 use Rattle.m36_image.specs.BareImage.{core_words, dbr_words, start_words, header_codes}
+use Rattle.m36_image.specs.HeaderFields.{IsHeader}
 
 pub cut_none : (text : List ℕ) → line_at (cut_line text) 1 ≡ None
 cut_none [] = refl
@@ -58,4 +60,16 @@ pub third_form :
 unfolding first_told
 third_form lines more rest last line second third frames dbr e c f d g s = rw (e, c, f, d, g, s)
 
-pub ruleset headers = (missing_first, first_code, missing_second, second_form, missing_third, third_form)
+-- all three are of their form
+pub header_read :
+    (lines more rest : List (Option (List ℕ))) (line second third text : List ℕ) (frames : ℕ) (dbr : Pair) (start : PprFields)
+    → lines ≡ Some line ∷ more → core_words (words_of line) ≡ Ok frames
+    → more ≡ Some second ∷ rest → dbr_words (words_of second) ≡ Some dbr
+    → rest ≡ Some third ∷ lines_of text → start_words (words_of third) ≡ Some start
+    → IsHeader (record { dbr = dbr; start = start; frames = frames }) text lines
+header_read lines more rest line second third text frames dbr start e c f d g s = record {
+  frames = rw (e, c);
+  dbr = rw (e, f, d);
+  start = rw (e, f, g, s);
+  others = rw (e, f, g);
+}

@@ -4,7 +4,7 @@ ghost use Rattle.std.specs.Prelude.{ℕ, ◌≡◌, ◌≤◌, IfOk};
 ghost use Rattle.m36_text.specs.Lines.{words_of};
 ghost use Rattle.m36_text.specs.Numbers.{octal_word_in};
 ghost use Rattle.m36_word.specs.Field.{frames_reached};
-ghost use Rattle.m36_image.specs.BareImage.{core_words, frames_read, dbr_words, start_words};
+ghost use Rattle.m36_image.specs.BareImage.{core_words, frames_read, dbr_in, dbr_words, start_in, start_words};
 
 use crate::refusal::ImageCode;
 use m36_model::Ppr;
@@ -55,6 +55,15 @@ pub fn core_line(line: &[u8]) -> Result<u32, ImageCode>
     frames_of(read_decimal(frames, MOST_FRAMES))
 }
 
+// The words of the descriptor segment base register, from two texts.
+fn dbr_of(even: &[u8], odd: &[u8]) -> Option<Pair>
+    ensures { result ≡ dbr_in even.now odd.now }
+{
+    let even = word_of(even)?;
+    let odd = word_of(odd)?;
+    Some(Pair { even, odd })
+}
+
 /// The line `dbr E O`: the words of the descriptor segment base register; none where it is not of its form.
 pub fn dbr_line(line: &[u8]) -> Option<Pair>
     ensures { result ≡ dbr_words (words_of line.now) }
@@ -62,12 +71,25 @@ pub fn dbr_line(line: &[u8]) -> Option<Pair>
     let (name, rest) = first_word(line);
     let (even, rest) = first_word(rest?);
     let odd = only_word(rest?)?;
-    if !is_text(b"dbr", name) {
-        return None;
+    if is_text(b"dbr", name) {
+        dbr_of(even, odd)
+    } else {
+        None
     }
-    let even = word_of(even)?;
-    let odd = word_of(odd)?;
-    Some(Pair { even, odd })
+}
+
+// Where the machine starts, from a segment, a ring and a word.
+fn start_of(seg: &[u8], ring: &[u8], word: &[u8]) -> Option<Ppr>
+    ensures { result ≡ start_in seg.now ring.now word.now }
+{
+    let seg = octal_in(seg, 5)?;
+    let ring = octal_in(ring, 1)?;
+    let word = octal_in(word, 6)?;
+    Some(Ppr {
+        ic: word as u32,
+        psr: seg as u16,
+        prr: ring as u8,
+    })
 }
 
 /// The line `start S R I`: where the machine starts; none where it is not of its form.
@@ -78,15 +100,9 @@ pub fn start_line(line: &[u8]) -> Option<Ppr>
     let (seg, rest) = first_word(rest?);
     let (ring, rest) = first_word(rest?);
     let word = only_word(rest?)?;
-    if !is_text(b"start", name) {
-        return None;
+    if is_text(b"start", name) {
+        start_of(seg, ring, word)
+    } else {
+        None
     }
-    let seg = octal_in(seg, 5)?;
-    let ring = octal_in(ring, 1)?;
-    let word = octal_in(word, 6)?;
-    Some(Ppr {
-        ic: word as u32,
-        psr: seg as u16,
-        prr: ring as u8,
-    })
 }

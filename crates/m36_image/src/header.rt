@@ -33,7 +33,6 @@ fn wrong(line: u32) -> Refusal
 }
 
 /// Reads the first three lines. Answers what they say, and the text behind them.
-#[tactic(auto, using(crate::proofs::Headers::headers))]
 pub fn read_header(text: &[u8]) -> Result<(Header, &[u8]), Refusal>
     ensures says { HeaderSays result (lines_of text.now) }
     ensures some { IfOk result (λ h. 1 ≤ h.0.frames) }

@@ -3,7 +3,8 @@
 ghost use Rattle.std.specs.Prelude.{ℕ, ◌≡◌, ◌<◌, ◌≤◌, ◌^◌};
 ghost use Rattle.std.specs.Option.{option_map};
 ghost use Rattle.m36_text.specs.Lines.{words_of};
-ghost use Rattle.m36_image.specs.BareImage.{words_given, at_words};
+ghost use Rattle.m36_text.specs.Numbers.{core_address_in};
+ghost use Rattle.m36_image.specs.BareImage.{words_given, at_read, at_words};
 
 use crate::forms::word_of;
 use arrayvec::ArrayVec;
@@ -48,6 +49,18 @@ fn eight_words(line: &[u8]) -> Option<ArrayVec<Word, 8>>
     None
 }
 
+// Words that stand from an address on, by the texts of the address and of the words.
+fn placed_of(address: &[u8], texts: &[u8]) -> Option<Placed>
+    ensures { result ≡ at_read (core_address_in address.now) (words_given (words_of texts.now)) }
+{
+    let first = octal_in(address, 8)?;
+    let words = eight_words(texts)?;
+    Some(Placed {
+        words,
+        first: first as u32,
+    })
+}
+
 /// The line `at A W ..`; none where it is not of its form.
 #[tactic(auto, unfolding(crate::specs::Several::one_to))]
 pub fn at_line(line: &[u8]) -> Option<Placed>
@@ -55,13 +68,10 @@ pub fn at_line(line: &[u8]) -> Option<Placed>
 {
     let (name, rest) = first_word(line);
     let (address, rest) = first_word(rest?);
-    let words = eight_words(rest?)?;
-    if !is_text(b"at", name) {
-        return None;
+    let texts = rest?;
+    if is_text(b"at", name) {
+        placed_of(address, texts)
+    } else {
+        None
     }
-    let first = octal_in(address, 8)?;
-    Some(Placed {
-        words,
-        first: first as u32,
-    })
 }

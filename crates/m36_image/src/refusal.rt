@@ -17,7 +17,7 @@ pub enum ImageCode {
 }
 
 /// The first line with a fault, and the least code that it has.
-#[derive(Clone, Copy, PartialEq, Eq, Debug)]
+#[derive(Clone, Copy, PartialEq, Eq)]
 pub struct Refusal {
     /// The line, counted from 1. A missing line has the number that it would have.
     pub line: u32,
@@ -25,7 +25,7 @@ pub struct Refusal {
 }
 
 /// Why an image is not read.
-#[derive(Clone, Copy, PartialEq, Eq, Debug)]
+#[derive(Clone, Copy, PartialEq, Eq)]
 pub enum ImageFault {
     Refused(Refusal),
     /// No memory was found for the core.

@@ -153,8 +153,7 @@ fn audited(alloc: Global, core: &Core, dbr: Dbr) -> Result<Verdict, NoMemory>
     ensures found { IfOk result (λ v. AreFindings core.now dbr (pairs v.findings.items)) }
     ensures isolated { IfOk result (λ v. pairs v.findings.items ≡ [] → IsIsolated core.now dbr) }
 {
-    let verdict = audit(alloc, core, dbr)?;
-    Ok(verdict)
+    audit(alloc, core, dbr)
 }
 
 // The audit of an image.

@@ -70,5 +70,3 @@ object_none name words (fault.O6 at) r is refuses = none_given name words (fault
 object_none name words (fault.O7 at) r is refuses = none_given name words (fault.O7 at) r is refuses
 object_none name words (fault.O8 at) r is refuses = none_given name words (fault.O8 at) r is refuses
 object_none name words fault.NoMemory r is refuses = memory_given PartsFields r (object_by name (object_of words)) refuses
-
-pub ruleset objects = (object_given, object_none)

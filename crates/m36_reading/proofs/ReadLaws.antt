@@ -197,6 +197,4 @@ reads_stop A B p next r old new before after first = record {
   write_faults = first.write_faults;
 }
 
-pub ruleset bytes = (bytes_read, bytes_absent, bytes_large, bytes_failed, bytes_starved)
-
 pub ruleset reads_early = (reads_stop)

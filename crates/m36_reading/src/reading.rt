@@ -42,7 +42,6 @@ pub fn refuse(alloc: Global, name: &[u8], code: Code, at: u32) -> Refusal
 }
 
 /// Reads the bytes of a file: F1 where it is absent, and F2 where it has more than 16 MiB.
-#[tactic(auto, using(crate::proofs::ReadLaws::bytes))]
 pub fn read_bytes<F: Folder>(alloc: Global, name: &[u8], folder: &mut F) -> Result<Text, Refusal>
     ensures reads { Reads (file_bytes name.now) result
         (folder_of F.files F.wrote F.read_faults F.write_faults folder.old)
@@ -88,7 +87,6 @@ pub fn words_in(alloc: Global, name: &[u8], bytes: &[u8]) -> Result<Words, Refus
 }
 
 /// Reads the words of a file.
-#[tactic(auto, using(crate::proofs::ReadLaws::reads_early), unfolding(crate::specs::Readers::file_words))]
 pub fn read_words<F: Folder>(alloc: Global, name: &[u8], folder: &mut F) -> Result<Words, Refusal>
     ensures reads { Reads (file_words name.now) result
         (folder_of F.files F.wrote F.read_faults F.write_faults folder.old)
@@ -118,7 +116,6 @@ fn refuse_object(alloc: Global, name: &[u8], fault: ObjectFault) -> Refusal
 }
 
 /// The object that the words of a file are, of fewer than 2^32: O1 to O8 where they are none.
-#[tactic(auto, using(crate::proofs::FileLaws::objects))]
 pub fn object_in(alloc: Global, name: &[u8], words: &[Word]) -> Result<Object, Refusal>
     requires { length words.now < 2 ^ 32 }
     ensures { Gives result (object_by name.now (object_of words.now)) }
@@ -130,7 +127,6 @@ pub fn object_in(alloc: Global, name: &[u8], words: &[Word]) -> Result<Object, R
 }
 
 /// Reads the object of a file.
-#[tactic(auto, using(crate::proofs::ReadLaws::reads_early), unfolding(crate::specs::Readers::file_object))]
 pub fn read_object<F: Folder>(alloc: Global, name: &[u8], folder: &mut F) -> Result<Object, Refusal>
     ensures { Reads (file_object name.now) result
         (folder_of F.files F.wrote F.read_faults F.write_faults folder.old)

@@ -6,7 +6,7 @@ use m36_model::End;
 use m36_outside::Text;
 
 /// Why a file was refused.
-#[derive(Clone, Copy, PartialEq, Eq, Debug)]
+#[derive(Clone, Copy, PartialEq, Eq)]
 pub enum Code {
     /// The file is absent.
     F1,

@@ -1,8 +1,8 @@
 //! How the descriptor of a segment is found.
 
-ghost use Rattle.std.specs.Prelude.{◌≡◌, ◌<◌, ◌^◌, IfOk, OnOk, length};
+ghost use Rattle.std.specs.Prelude.{◌≡◌, ◌<◌, ◌^◌, IfOk, OnOk, Ok, length};
 ghost use Rattle.m36_desc.specs.Descriptors.{sdw_of};
-ghost use Rattle.m36_model.specs.Place.{directory_at, in_bounds, sdw_place, live_by, core_sdw};
+ghost use Rattle.m36_model.specs.Place.{directory_at, in_bounds, sdw_place, live_by, sdw_at, core_sdw};
 ghost use Rattle.m36_tables.specs.Tables.{TableIn};
 
 use crate::addresses::{directory_at, wrapped};
@@ -56,6 +56,22 @@ fn live(pair: Pair) -> Result<Sdw, Refusal>
     }
 }
 
+/// The descriptor in the two words that begin at an address, where they lie in core and the segment is there.
+#[inline(always)]
+fn descriptor_at(core: &Core, even: u32) -> Result<Sdw, Refusal>
+    requires { even < 2 ^ 24 }
+    ensures { result ≡ sdw_at core.now (Ok even) }
+{
+    let odd = wrapped(even + 1);
+    if even >= core.len() || odd >= core.len() {
+        return Err(store_fault());
+    }
+    live(Pair {
+        even: core.peek(even),
+        odd: core.peek(odd),
+    })
+}
+
 /// The descriptor of a live segment.
 #[inline(always)]
 #[tactic(auto, unfolding(m36_model::specs::Place::core_sdw))]
@@ -64,16 +80,5 @@ pub fn descriptor(core: &Core, dbr: Dbr, seg: u16) -> Result<Sdw, Refusal>
     ensures value { result ≡ core_sdw core.now dbr seg }
     ensures directory { OnOk result (TableIn (length core.now) dbr.unpaged (directory_at dbr seg)) }
 {
-    let even = descriptor_place(core, dbr, seg)?;
-    let odd = wrapped(even + 1);
-    if even >= core.len() {
-        return Err(store_fault());
-    }
-    if odd >= core.len() {
-        return Err(store_fault());
-    }
-    live(Pair {
-        even: core.peek(even),
-        odd: core.peek(odd),
-    })
+    descriptor_at(core, descriptor_place(core, dbr, seg)?)
 }

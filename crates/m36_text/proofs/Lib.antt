@@ -4,6 +4,7 @@ pub mod NameLaws
 pub mod NumeralLaws
 pub mod PackingInverse
 pub mod PackingLaws
+pub mod Places
 pub mod ReadingLaws
 pub mod Splitting
 pub mod Telling

@@ -9,7 +9,14 @@ pub fn place_of(text: &[u8], byte: u8) -> Option<usize>
     ensures place { result ≡ position (λ b. b == byte) text.now }
     ensures within { IfSome result (λ i. i < length text.now) }
 {
-    text.iter().position(|b| *b == byte)
+    // A loop of its own, and not `position`, proves in less time.
+    for place in 0..text.len() {
+        let here = text[place];
+        if here == byte {
+            return Some(place);
+        }
+    }
+    None
 }
 
 // A text up to a byte, and what stands behind it; none where the byte does not stand in the text.

@@ -58,7 +58,7 @@ impl Name {
 }
 
 /// A list of names that grows at its end, seen as a list of lists of numbers.
-#[derive(Debug, Drop)]
+#[derive(Drop)]
 pub struct Names {
     items: Vec<Name>,
 }

@@ -10,7 +10,7 @@ use m36_word::{NoMemory, Pair, Word, Words};
 use std::alloc::Global;
 
 /// Why bytes are not unpacked.
-#[derive(Clone, Copy, Debug, PartialEq, Eq)]
+#[derive(Clone, Copy, PartialEq, Eq)]
 pub enum PackFault {
     /// The count of the bytes, which is that of no packed words: modulo 9 it is neither 0 nor 5.
     T3(usize),
@@ -117,7 +117,6 @@ pub fn unpack(alloc: Global, t: &[u8]) -> Result<Words, PackFault>
     Ok(whole_words(alloc, t)?)
 }
 
-#[tactic(auto, using(crate::proofs::PackingLaws::words_last))]
 fn whole_words(alloc: Global, t: &[u8]) -> Result<Words, NoMemory>
     requires { (length t.now % 9 ≡ 0) ⊎ (length t.now % 9 ≡ 5) }
     ensures { IfOk result (λ words. words ≡ words_of (length t.now / 9) t.now) }

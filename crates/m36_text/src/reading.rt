@@ -5,7 +5,7 @@ ghost use Rattle.m36_text.specs.Digits.{is_digit};
 ghost use Rattle.m36_text.specs.Reading.{first_other, number_of, number_read, IsWithin, ReadsOctal, ReadsDecimal, HasPlaces, HasNoLeadingZero};
 
 /// Why a text is not read as a number.
-#[derive(Clone, Copy, Debug, PartialEq, Eq)]
+#[derive(Clone, Copy, PartialEq, Eq)]
 pub enum NumberFault {
     /// The place of the first byte that is no digit, counted from 0; 0 too where there is no byte.
     T1(usize),
@@ -61,13 +61,18 @@ fn read_number(base: u8, t: &[u8], max: u64) -> Result<u64, NumberFault>
     }
 }
 
-#[tactic(auto, unfolding(crate::specs::Reading::first_other))]
+// The place of the first byte that is no digit. A loop of its own, and not `position`, proves in less time.
 fn place_of_other(base: u8, t: &[u8]) -> Option<usize>
     requires { (1 ≤ base) × (base ≤ 10) }
     ensures value { result ≡ first_other base t.now }
     ensures within { IfSome result (λ place. place < length t.now) }
 {
-    t.iter().position(|byte| !is_digit(base, *byte))
+    for place in 0..t.len() {
+        if !is_digit(base, t[place]) {
+            return Some(place);
+        }
+    }
+    None
 }
 
 // The number that digits write, or `cap` where it is that or more.

@@ -1,5 +1,23 @@
-use Rattle.m36_audit.proofs.JointVerdicts.{nothing_joint}
+use Rattle.std.proofs.Common.{length}
+use Rattle.m36_audit.proofs.JointVerdicts.{no_shares, zeros_len, nothing_joint}
 use Rattle.m36_audit.proofs.joint_auditor.joint.Goals as goal
+
+pub jointly_judged-requires-clause-marks_len : goal.jointly_judged-requires-clause-marks_len
+jointly_judged-requires-clause-marks_len c =
+    zeros_len c.len-size.result c.in_ok-marks.marks.tables.items (length c.args.core.now) c.in_ok-marks.ensures.tables c.len-size.ensures.value
+
+pub jointly_judged-requires-clause-starts_len : goal.jointly_judged-requires-clause-starts_len
+jointly_judged-requires-clause-starts_len c =
+    zeros_len c.len-size.result c.in_ok-counts.counts.starts.items (length c.args.core.now) c.in_ok-counts.ensures.starts c.len-size.ensures.value
+
+pub jointly_judged-requires-clause-stops_len : goal.jointly_judged-requires-clause-stops_len
+jointly_judged-requires-clause-stops_len c =
+    zeros_len c.len-size.result c.in_ok-counts.counts.stops.items (length c.args.core.now) c.in_ok-counts.ensures.stops c.len-size.ensures.value
+
+pub jointly_judged-requires-clause-before : goal.jointly_judged-requires-clause-before
+jointly_judged-requires-clause-before c =
+    no_shares c.args.core.now c.args.dbrs.now c.in_ok-firsts.firsts.items c.len-size.result c.in_ok-shares.shares.tables.values.items c.in_ok-shares.shares.segments.values.items c.in_ok-shares.shares.identities.values.items
+    c.len-size.ensures.value c.in_ok-shares.ensures.tables c.in_ok-shares.ensures.segments c.in_ok-shares.ensures.identities
 
 pub returns-clause-audited : goal.returns-clause-audited
 returns-clause-audited c =

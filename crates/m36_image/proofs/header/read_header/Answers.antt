@@ -1,7 +1,11 @@
--- Each exit is the first fault of the header: a line that is missing, or has a code.
+-- Each exit but the last is the first fault of the header: a line that is missing, or has a code.
 use Rattle.std.proofs.Common.{sym, ap, Some, ◌∙◌}
-use Rattle.m36_image.proofs.Headers.{first_code, missing_second, second_form, missing_third, third_form}
+use Rattle.m36_image.proofs.Headers.{missing_first, first_code, missing_second, second_form, missing_third, third_form, header_read}
 use Rattle.m36_image.proofs.header.read_header.Goals as goal
+
+pub returns-in_default-clause-says : goal.returns-in_default-clause-says
+returns-in_default-clause-says c =
+    missing_first _ c.args.text.now c.in_default.ensures.line ∙ ap (λ r. Some (r.line, r.code)) (sym c.wrong.ensures)
 
 pub returns-in-Err-clause-says : goal.returns-in-Err-clause-says
 returns-in-Err-clause-says c =
@@ -22,3 +26,7 @@ returns-in_default-first_line-2-clause-says c =
 pub returns-in_default-start_line-clause-says : goal.returns-in_default-start_line-clause-says
 returns-in_default-start_line-clause-says c =
     third_form _ _ _ _ c.in-Some.line.now c.in-Some-first_line.line.now c.in-Some-first_line-2.line.now c.in-Ok.frames c.in-Some-dbr_line.dbr c.in-Some.ensures.line (sym c.in-Ok.ensures.frames) c.in-Some-first_line.ensures.line (sym c.in-Some-dbr_line.ensures) c.in-Some-first_line-2.ensures.line (sym c.in_default-start_line.ensures) ∙ ap (λ r. Some (r.line, r.code)) (sym c.wrong-in_default-start_line.ensures)
+
+pub returns-clause-says : goal.returns-clause-says
+returns-clause-says c =
+    header_read _ _ _ c.in-Some.line.now c.in-Some-first_line.line.now c.in-Some-first_line-2.line.now c.in-Some-first_line-2.rest.now c.in-Ok.frames c.in-Some-dbr_line.dbr c.in-Some-start_line.start c.in-Some.ensures.line (sym c.in-Ok.ensures.frames) c.in-Some-first_line.ensures.line (sym c.in-Some-dbr_line.ensures) c.in-Some-first_line-2.ensures.line (sym c.in-Some-start_line.ensures)
