@@ -11,7 +11,8 @@ mod image;
 mod running;
 
 use image::{Loop, counted, machine};
-use running::{with_lines, without_lines};
+use m36_step::Machine;
+use running::{Taken, with_lines, without_lines};
 use std::io::Print;
 use std::rt::{Clock, Env};
 use std::time::Instant;
@@ -24,17 +25,91 @@ struct Asked {
     mixed: bool,
 }
 
-fn read_words(rt: &(impl Env + AllocGlobal)) -> io::Result<Asked> {
-    let mut steps = None;
-    let mut mixed = false;
-    for arg in env::args(rt)?.skip(1) {
-        if arg.as_str() == "mixed" {
-            mixed = true;
-        } else {
-            steps = arg.as_str().parse::<u64>().ok();
+/// What is asked for with one more word.
+fn with_word(asked: Asked, word: &str) -> Asked {
+    if word == "mixed" {
+        Asked {
+            mixed: true,
+            steps: asked.steps,
+        }
+    } else {
+        Asked {
+            steps: word.parse::<u64>().ok(),
+            mixed: asked.mixed,
         }
     }
-    Ok(Asked { steps, mixed })
+}
+
+fn read_words(rt: &(impl Env + AllocGlobal)) -> io::Result<Asked> {
+    let mut asked = Asked {
+        steps: None,
+        mixed: false,
+    };
+    for arg in env::args(rt)?.skip(1) {
+        asked = with_word(asked, arg.as_str());
+    }
+    Ok(asked)
+}
+
+/// A run: the steps that are asked for, the loop, the kind of its segment, and whether lines are made.
+#[derive(Clone, Copy)]
+struct Run {
+    asked: Option<u64>,
+    chosen: Loop,
+    paged: bool,
+    lines: bool,
+}
+
+/// How a run went.
+#[derive(Clone, Copy)]
+struct Went {
+    taken: Taken,
+    turns: u64,
+    nanoseconds: u128,
+}
+
+fn take_steps(machine: &mut Machine, run: Run) -> Taken {
+    let steps = run.asked.unwrap_or(1000);
+    if run.lines {
+        with_lines(machine, steps)
+    } else {
+        without_lines(machine, steps)
+    }
+}
+
+/// Takes the steps of a run, by the clock.
+fn measured(rt: &impl Clock, machine: &mut Machine, run: Run) -> io::Result<Went> {
+    let start = Instant::now(rt)?;
+    let taken = take_steps(machine, run);
+    let nanoseconds = start.elapsed(rt)?.as_nanos();
+    let turns = counted(machine, run.chosen);
+    Ok(Went {
+        taken,
+        turns,
+        nanoseconds,
+    })
+}
+
+/// Prints the loop, the kind of its segment, the steps, and how often the loop has counted.
+fn print_steps(rt: &(impl Print + AllocGlobal), run: Run, went: Went) -> io::Result<()> {
+    let mixed = match run.chosen {
+        Loop::Simple => "",
+        Loop::Mixed => "mixed, ",
+    };
+    let name = if run.paged { "paged" } else { "unpaged" };
+    let steps = went.taken.steps;
+    let turns = went.turns;
+    print!(rt; "{mixed}{name}: {steps} steps, counted {turns}")
+}
+
+/// Prints how long the lines are, where they are made.
+fn print_lines(rt: &(impl Print + AllocGlobal), run: Run, went: Went) -> io::Result<()> {
+    if run.lines {
+        let bytes = went.taken.bytes;
+        print!(rt; ", lines of {bytes} bytes")
+    } else {
+        Ok(())
+    }
 }
 
 /// The steps a second.
@@ -43,42 +118,34 @@ fn rate(steps: u64, nanoseconds: u128) -> u64 {
     u64::try_from(whole).unwrap_or(u64::MAX)
 }
 
-/// Takes steps in a segment, and prints how it went.
-fn report<R: Print + Clock + AllocGlobal>(
-    rt: &R,
-    asked: Option<u64>,
-    chosen: Loop,
-    paged: bool,
-    lines: bool,
-) -> io::Result<()> {
-    let name = if paged { "paged" } else { "unpaged" };
-    let steps = asked.unwrap_or(1000);
-    let Ok(mut machine) = machine(rt.alloc(), paged, chosen) else {
-        println!(rt; "no memory was found")?;
-        return Ok(());
-    };
-    let start = Instant::now(rt)?;
-    let taken = if lines {
-        with_lines(&mut machine, steps)
+/// Prints the steps a second, where a number of them is asked for, and ends the line.
+fn print_rate(rt: &(impl Print + AllocGlobal), run: Run, went: Went) -> io::Result<()> {
+    if run.asked.is_some() {
+        let rate = rate(went.taken.steps, went.nanoseconds);
+        println!(rt; ", {rate} steps a second")
     } else {
-        without_lines(&mut machine, steps)
-    };
-    let nanoseconds = start.elapsed(rt)?.as_nanos();
-    let steps = taken.steps;
-    let bytes = taken.bytes;
-    let turns = counted(&machine, chosen);
-    if let Loop::Mixed = chosen {
-        print!(rt; "mixed, ")?;
+        println!(rt; "")
     }
-    print!(rt; "{name}: {steps} steps, counted {turns}")?;
-    if lines {
-        print!(rt; ", lines of {bytes} bytes")?;
+}
+
+/// Prints the line of a run.
+fn print_run(rt: &(impl Print + AllocGlobal), run: Run, went: Went) -> io::Result<()> {
+    print_steps(rt, run, went)?;
+    print_lines(rt, run, went)?;
+    print_rate(rt, run, went)
+}
+
+/// Takes the steps of a run, and prints how it went.
+fn report<R: Print + Clock + AllocGlobal>(rt: &R, run: Run) -> io::Result<()> {
+    match machine(rt.alloc(), run.paged, run.chosen) {
+        Ok(mut machine) => {
+            let went = measured(rt, &mut machine, run);
+            // Dropped by a call: so the drop is proved once for its type.
+            drop(machine);
+            print_run(rt, run, went?)
+        }
+        Err(_) => println!(rt; "no memory was found"),
     }
-    if asked.is_some() {
-        let rate = rate(steps, nanoseconds);
-        print!(rt; ", {rate} steps a second")?;
-    }
-    println!(rt; "")
 }
 
 /// Takes steps of a loop in both kinds of segments, without and with lines.
@@ -87,10 +154,16 @@ fn four_reports<R: Print + Clock + AllocGlobal>(
     asked: Option<u64>,
     chosen: Loop,
 ) -> io::Result<()> {
-    report(rt, asked, chosen, false, false)?;
-    report(rt, asked, chosen, false, true)?;
-    report(rt, asked, chosen, true, false)?;
-    report(rt, asked, chosen, true, true)
+    for (paged, lines) in [(false, false), (false, true), (true, false), (true, true)] {
+        let run = Run {
+            asked,
+            chosen,
+            paged,
+            lines,
+        };
+        report(rt, run)?;
+    }
+    Ok(())
 }
 
 fn main(rt: HostRuntime) -> io::Result<()> {

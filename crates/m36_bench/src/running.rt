@@ -1,6 +1,6 @@
 //! Steps of the machine, without and with their trace lines.
 
-use m36_model::Outcome;
+use m36_model::{Outcome, StepRecord};
 use m36_step::Machine;
 use m36_trace::line;
 
@@ -11,14 +11,25 @@ pub struct Taken {
     pub bytes: u64,
 }
 
+/// Takes a step, and answers whether another may follow.
+fn goes_on(machine: &mut Machine, told: &mut StepRecord) -> bool {
+    machine.step_into(told);
+    match told.outcome {
+        Outcome::Next => true,
+        _ => false,
+    }
+}
+
+fn line_length(number: u64, told: &StepRecord) -> u64 {
+    line(number, told).len() as u64
+}
+
 /// Takes so many steps, or fewer where one ends the run.
 pub fn without_lines(machine: &mut Machine, steps: u64) -> Taken {
     let mut told = machine.untold();
     for n in 0..steps {
-        machine.step_into(&mut told);
-        match told.outcome {
-            Outcome::Next => {}
-            _ => return Taken { steps: n, bytes: 0 },
+        if !goes_on(machine, &mut told) {
+            return Taken { steps: n, bytes: 0 };
         }
     }
     Taken { steps, bytes: 0 }
@@ -29,11 +40,10 @@ pub fn with_lines(machine: &mut Machine, steps: u64) -> Taken {
     let mut bytes = 0u64;
     let mut told = machine.untold();
     for n in 0..steps {
-        machine.step_into(&mut told);
-        bytes = bytes.wrapping_add(line(n.wrapping_add(1), &told).len() as u64);
-        match told.outcome {
-            Outcome::Next => {}
-            _ => return Taken { steps: n, bytes },
+        let more = goes_on(machine, &mut told);
+        bytes = bytes.wrapping_add(line_length(n.wrapping_add(1), &told));
+        if !more {
+            return Taken { steps: n, bytes };
         }
     }
     Taken { steps, bytes }
