@@ -1,9 +1,11 @@
 //! Effects worked out by hand. Each begins at word 5 of segment 1 in ring 4, with all that is not named 0.
 
-ghost use Rattle.std.specs.Prelude.{◌<◌, IsTrue};
+ghost use Rattle.std.specs.Prelude.{ℕ, ◌<◌, IsTrue};
+ghost use Rattle.std.specs.Bool.{OnTrue};
 ghost use Rattle.m36_inst.specs.Groups.{is_data};
 ghost use Rattle.m36_inst.specs.Operands.{operand_of};
 ghost use Rattle.m36_model.specs.OperandHeld.{HoldsFor};
+ghost use Rattle.m36_model.specs.declared.effects.Held.TheVariants as held;
 
 use m36_desc::{Dbr, Ptr};
 use m36_inst::{Effect, Operand, Row};
@@ -225,26 +227,36 @@ const OF_WORDS: &[OfWord] = &[
     ),
 ];
 
+/// Whether an instruction is one of the table.
+fn is_of_word(effect: Effect) -> bool
+    ensures data { OnTrue result (IsTrue (is_data effect)) }
+    ensures got { (w : ℕ) → OnTrue result (HoldsFor (operand_of effect) (held.One w)) }
+{
+    matches!(
+        effect,
+        Effect::Cmpa
+            | Effect::Cmk
+            | Effect::Ada
+            | Effect::Lca
+            | Effect::Adl
+            | Effect::SsxN
+            | Effect::Mpy
+            | Effect::Div
+            | Effect::LxlN
+            | Effect::Stac
+            | Effect::Ldi
+            | Effect::Ana
+            | Effect::ErsxN
+    )
+}
+
 /// What an instruction of the table comes to.
 fn of_word((effect, reg): (Effect, u8), regs: &Regs, v: u64) -> Option<Result<Effect36, Fault>> {
-    let got = Held::One(Word::low(v));
-    let reg = reg % 8;
-    match effect {
-        Effect::Cmpa => Some(effect_of(Effect::Cmpa, reg, regs, 0, got)),
-        Effect::Cmk => Some(effect_of(Effect::Cmk, reg, regs, 0, got)),
-        Effect::Ada => Some(effect_of(Effect::Ada, reg, regs, 0, got)),
-        Effect::Lca => Some(effect_of(Effect::Lca, reg, regs, 0, got)),
-        Effect::Adl => Some(effect_of(Effect::Adl, reg, regs, 0, got)),
-        Effect::SsxN => Some(effect_of(Effect::SsxN, reg, regs, 0, got)),
-        Effect::Mpy => Some(effect_of(Effect::Mpy, reg, regs, 0, got)),
-        Effect::Div => Some(effect_of(Effect::Div, reg, regs, 0, got)),
-        Effect::LxlN => Some(effect_of(Effect::LxlN, reg, regs, 0, got)),
-        Effect::Stac => Some(effect_of(Effect::Stac, reg, regs, 0, got)),
-        Effect::Ldi => Some(effect_of(Effect::Ldi, reg, regs, 0, got)),
-        Effect::Ana => Some(effect_of(Effect::Ana, reg, regs, 0, got)),
-        Effect::ErsxN => Some(effect_of(Effect::ErsxN, reg, regs, 0, got)),
-        _ => None,
+    if is_of_word(effect) {
+        let got = Held::One(Word::low(v));
+        return Some(effect_of(effect, reg % 8, regs, 0, got));
     }
+    None
 }
 
 fn gives_of_word(row: &OfWord) -> bool {
@@ -337,18 +349,29 @@ const OF_ADDRESSES: &[OfAddress] = &[
     ),
 ];
 
+/// Whether an instruction is one of the table.
+fn is_of_address(effect: Effect) -> bool
+    ensures data { OnTrue result (IsTrue (is_data effect)) }
+    ensures got { OnTrue result (HoldsFor (operand_of effect) held.Empty) }
+{
+    matches!(
+        effect,
+        Effect::Als
+            | Effect::Ars
+            | Effect::Alr
+            | Effect::Lrl
+            | Effect::Eaq
+            | Effect::Staq
+            | Effect::Sti
+    )
+}
+
 /// What an instruction of the table comes to.
 fn of_address(effect: Effect, regs: &Regs, word: u32) -> Option<Result<Effect36, Fault>> {
-    match effect {
-        Effect::Als => Some(effect_of(Effect::Als, 0, regs, word, Held::Empty)),
-        Effect::Ars => Some(effect_of(Effect::Ars, 0, regs, word, Held::Empty)),
-        Effect::Alr => Some(effect_of(Effect::Alr, 0, regs, word, Held::Empty)),
-        Effect::Lrl => Some(effect_of(Effect::Lrl, 0, regs, word, Held::Empty)),
-        Effect::Eaq => Some(effect_of(Effect::Eaq, 0, regs, word, Held::Empty)),
-        Effect::Staq => Some(effect_of(Effect::Staq, 0, regs, word, Held::Empty)),
-        Effect::Sti => Some(effect_of(Effect::Sti, 0, regs, word, Held::Empty)),
-        _ => None,
+    if is_of_address(effect) {
+        return Some(effect_of(effect, 0, regs, word, Held::Empty));
     }
+    None
 }
 
 fn gives_of_address(row: &OfAddress) -> bool {

@@ -3,7 +3,6 @@
 use m36_word::{NoMemory, Word, Words};
 use obj36::{Object, ObjectFault, Section, object_laws};
 use std::alloc::Global;
-use std::process::Abort;
 
 /// The object of an empty source.
 const EMPTY: &[u64] = &[
@@ -201,20 +200,42 @@ const OF_NEWER: &[Change] = &[
 ];
 
 fn are_words(words: &[Word], values: &[u64]) -> bool {
+    for (word, value) in words.iter().zip(values) {
+        if word.value() != *value {
+            return false;
+        }
+    }
     words.len() == values.len()
-        && words
-            .iter()
-            .zip(values)
-            .all(|(word, value)| word.value() == *value)
+}
+
+// Puts the words of these numbers, of which one may be changed, behind others.
+fn fill(words: &mut Words, values: &[u64], change: Option<(usize, u64)>) -> Result<(), NoMemory> {
+    for (i, old) in values.iter().enumerate() {
+        let value = match change {
+            Some((place, value)) if place == i => value,
+            _ => *old,
+        };
+        words.push(Word::low(value))?;
+    }
+    Ok(())
+}
+
+// The words of these numbers, of which one may be changed.
+fn changed(alloc: Global, values: &[u64], change: Option<(usize, u64)>) -> Result<Words, NoMemory> {
+    let mut words = Words::new(alloc);
+    match fill(&mut words, values, change) {
+        Ok(()) => Ok(words),
+        Err(error) => {
+            // Dropped by a call: so the drop is proved once for its type. So below.
+            drop(words);
+            Err(error)
+        }
+    }
 }
 
 // The words of these numbers.
 pub(crate) fn words_of(alloc: Global, values: &[u64]) -> Result<Words, NoMemory> {
-    let mut words = Words::new(alloc);
-    for value in values {
-        words.push(Word::low(*value))?;
-    }
-    Ok(words)
+    changed(alloc, values, None)
 }
 
 /// The object that words are read as, or the fault.
@@ -225,20 +246,21 @@ fn read_as(alloc: Global, words: &[Word]) -> Result<Object, ObjectFault> {
     Object::read(alloc, words)
 }
 
-/// What is asked of an object.
+/// What is asked of the answer that words are given.
 #[derive(Clone, Copy)]
 enum Due<'a> {
-    /// That these are its words.
+    /// An object, and that these are its words.
     Words(&'a [u64]),
-    /// That it is the caller above.
+    /// The object of the caller above.
     Caller,
+    /// That the words are refused with this fault.
+    Refused(ObjectFault),
 }
 
 fn is_written_as(alloc: Global, object: &Object, values: &[u64]) -> bool {
     match object.write(alloc) {
         Ok(words) => {
             let told = are_words(words.slice(), values);
-            // Dropped by a call: so the drop is proved once for its type. So below.
             drop(words);
             told
         }
@@ -263,14 +285,15 @@ fn has_names_of_caller(object: &Object) -> bool {
     matches!(object.find(b"cnt"), Some(def) if def.value == 8) && object.find(b"co").is_none()
 }
 
+fn is_caller(object: &Object) -> bool {
+    has_numbers_of_caller(object) && has_sections_of_caller(object) && has_names_of_caller(object)
+}
+
 fn is_so(alloc: Global, object: &Object, due: Due) -> bool {
     match due {
         Due::Words(values) => is_written_as(alloc, object, values),
-        Due::Caller => {
-            has_numbers_of_caller(object)
-                && has_sections_of_caller(object)
-                && has_names_of_caller(object)
-        }
+        Due::Caller => is_caller(object),
+        Due::Refused(_) => false,
     }
 }
 
@@ -281,70 +304,77 @@ fn was_so(alloc: Global, object: Object, due: Due) -> bool {
     told
 }
 
-fn reads(alloc: Global, words: &[Word], due: Due) -> bool {
+fn is_refused(fault: ObjectFault, due: Due) -> bool {
+    matches!(due, Due::Refused(expected) if expected == fault)
+}
+
+// Whether words are given the answer that is due.
+fn answers(alloc: Global, words: &[Word], due: Due) -> bool {
     match read_as(alloc, words) {
         Ok(object) => was_so(alloc, object, due),
-        Err(_) => false,
+        Err(fault) => is_refused(fault, due),
     }
+}
+
+// The same of the words of these numbers, of which one may be changed.
+fn are_answered(
+    alloc: Global,
+    values: &[u64],
+    change: Option<(usize, u64)>,
+    due: Due,
+) -> Result<bool, NoMemory> {
+    let words = changed(alloc, values, change)?;
+    let told = answers(alloc, words.slice(), due);
+    drop(words);
+    Ok(told)
 }
 
 #[test]
 fn values_of_a_caller(rt: HostRuntime) -> Result<(), NoMemory> {
-    let words = words_of(rt.alloc(), CALLER)?;
-    assert!(rt; reads(rt.alloc(), words.slice(), Due::Caller));
+    assert!(rt; are_answered(rt.alloc(), CALLER, None, Due::Caller)?);
     object_laws();
     Ok(())
 }
 
 #[test]
 fn objects_are_read(rt: HostRuntime) -> Result<(), NoMemory> {
-    for values in [EMPTY, COUNTER, CALLER, NEWER] {
-        let words = words_of(rt.alloc(), values)?;
-        assert!(rt; reads(rt.alloc(), words.slice(), Due::Words(values)));
+    for values in [EMPTY, COUNTER, CALLER, NEWER].iter() {
+        assert!(rt; are_answered(rt.alloc(), values, None, Due::Words(values))?);
     }
     Ok(())
 }
 
-/// The words with one of them changed.
-fn changed(alloc: Global, values: &[u64], place: usize, value: u64) -> Result<Words, NoMemory> {
-    let mut words = Words::new(alloc);
-    for (i, old) in values.iter().enumerate() {
-        words.push(Word::low(if i == place { value } else { *old }))?;
-    }
-    Ok(words)
-}
-
-/// Whether words are refused with a change.
-fn refuses(alloc: Global, values: &[u64], change: Change) -> Result<bool, NoMemory> {
+// Whether words are refused with a change.
+fn are_refused(alloc: Global, values: &[u64], change: Change) -> Result<bool, NoMemory> {
     let (place, value, fault) = change;
-    let words = changed(alloc, values, place, value)?;
-    let told = read_as(alloc, words.slice()).err() == Some(fault);
-    drop(words);
-    Ok(told)
+    are_answered(alloc, values, Some((place, value)), Due::Refused(fault))
 }
 
-fn all_refused(
-    rt: &impl Abort,
+// The place of the first of these changes with which words are not refused, if there is one.
+fn first_not_refused(
     alloc: Global,
     values: &[u64],
     changes: &[Change],
-) -> Result<(), NoMemory> {
+) -> Result<Option<usize>, NoMemory> {
     for change in changes {
-        assert!(rt; refuses(alloc, values, *change)?, "at {}", change.0);
+        if !are_refused(alloc, values, *change)? {
+            return Ok(Some(change.0));
+        }
     }
-    Ok(())
+    Ok(None)
 }
 
 #[test]
 fn changes_are_refused(rt: HostRuntime) -> Result<(), NoMemory> {
-    all_refused(&rt, rt.alloc(), EMPTY, OF_EMPTY)?;
-    all_refused(&rt, rt.alloc(), CALLER, OF_CALLER)?;
-    all_refused(&rt, rt.alloc(), NEWER, OF_NEWER)
+    for (values, changes) in [(EMPTY, OF_EMPTY), (CALLER, OF_CALLER), (NEWER, OF_NEWER)].iter() {
+        assert!(rt; first_not_refused(rt.alloc(), values, changes)?.is_none());
+    }
+    Ok(())
 }
 
 #[test]
 fn few_words_are_refused(rt: HostRuntime) -> Result<(), NoMemory> {
-    let few = words_of(rt.alloc(), EMPTY.get(..6).unwrap_or_default())?;
-    assert!(rt; read_as(rt.alloc(), few.slice()).err() == Some(ObjectFault::O1(6)));
+    let few = EMPTY.get(..6).unwrap_or_default();
+    assert!(rt; are_answered(rt.alloc(), few, None, Due::Refused(ObjectFault::O1(6)))?);
     Ok(())
 }

@@ -3,28 +3,28 @@
 use m36_text::Name;
 use m36_word::NoMemory;
 use obj36_parts::{Def, Defs, Link, Links, Named, Section};
-use std::process::Abort;
 
-fn name(rt: &impl Abort, text: &str) -> Name {
-    Name::new(text.as_bytes()).expect(rt, "a name")
+// A name; of a text that is none, the empty one.
+fn name(text: &str) -> Name {
+    Name::new(text.as_bytes()).unwrap_or_default()
 }
 
-fn definition(rt: &impl Abort, text: &str) -> Named {
+fn definition(text: &str) -> Named {
     let def = Def {
         value: 0,
         section: Section::Text,
         is_entry: false,
     };
     Named {
-        name: name(rt, text),
+        name: name(text),
         def,
     }
 }
 
-fn link(rt: &impl Abort, entry: &str) -> Link {
+fn link(entry: &str) -> Link {
     Link {
-        name: name(rt, "b"),
-        entry: name(rt, entry),
+        name: name("b"),
+        entry: name(entry),
         expr: 0,
         kind: 4,
         section: Section::Text,
@@ -32,42 +32,75 @@ fn link(rt: &impl Abort, entry: &str) -> Link {
     }
 }
 
-// Adds definitions, and finds their names.
-fn find_names(rt: &impl Abort, definitions: &mut Defs) -> Result<(), NoMemory> {
-    for (text, are_own) in [("go", true), ("cnt", true), ("go", false)] {
-        definitions.push(definition(rt, text))?;
-        assert_eq!(rt; definitions.have_own_names(), are_own);
+// Adds a definition. Whether all have names of their own.
+fn add_definition(definitions: &mut Defs, text: &str) -> Result<bool, NoMemory> {
+    definitions.push(definition(text))?;
+    Ok(definitions.have_own_names())
+}
+
+fn has_name(definitions: &Defs, text: &str) -> bool {
+    definitions.has(&name(text))
+}
+
+fn finds_name(definitions: &Defs, text: &str) -> bool {
+    definitions.find(&name(text)).is_some()
+}
+
+// Whether these are two names, of which one is found and another is not.
+fn has_names(definitions: &Defs) -> bool {
+    has_name(definitions, "cnt") && !finds_name(definitions, "b") && definitions.names().len() == 2
+}
+
+// Adds definitions. Whether their names are found.
+fn find_names(definitions: &mut Defs) -> Result<bool, NoMemory> {
+    for (text, are_own) in [("go", true), ("cnt", true), ("go", false)].iter() {
+        if add_definition(definitions, text)? != *are_own {
+            return Ok(false);
+        }
     }
-    assert!(rt; definitions.has(&name(rt, "cnt")));
-    assert!(rt; definitions.find(&name(rt, "b")).is_none());
-    assert_eq!(rt; definitions.names().len(), 2);
-    Ok(())
+    Ok(has_names(definitions))
 }
 
 #[test]
 fn names_are_found(rt: HostRuntime) -> Result<(), NoMemory> {
     let mut definitions = Defs::new(rt.alloc());
-    let told = find_names(&rt, &mut definitions);
+    let told = find_names(&mut definitions);
     // Dropped by a call: so the drop is proved once for its type. So below.
     drop(definitions);
-    told
+    assert!(rt; told?);
+    Ok(())
 }
 
-// Adds links, and finds them.
-fn find_links(rt: &impl Abort, links: &mut Links) -> Result<(), NoMemory> {
-    for (entry, place) in [("x", 0), ("y", 1), ("x", 0)] {
-        links.push(link(rt, entry).copied())?;
-        assert_eq!(rt; links.place(&link(rt, entry)), Some(place));
+// Adds a copy of a link. Its place.
+fn add_link(links: &mut Links, link: &Link) -> Result<Option<u64>, NoMemory> {
+    links.push(link.copied())?;
+    Ok(links.place(link))
+}
+
+// The same of the link to an entry.
+fn add_entry(links: &mut Links, entry: &str) -> Result<Option<u64>, NoMemory> {
+    add_link(links, &link(entry))
+}
+
+fn has_entry(links: &Links, entry: &str) -> bool {
+    links.has(&link(entry))
+}
+
+// Adds links. Whether they are found.
+fn find_links(links: &mut Links) -> Result<bool, NoMemory> {
+    for (entry, place) in [("x", 0), ("y", 1), ("x", 0)].iter() {
+        if add_entry(links, entry)? != Some(*place) {
+            return Ok(false);
+        }
     }
-    assert!(rt; !links.has(&link(rt, "z")));
-    assert_eq!(rt; links.names().len(), 3);
-    Ok(())
+    Ok(!has_entry(links, "z") && links.names().len() == 3)
 }
 
 #[test]
 fn links_are_found(rt: HostRuntime) -> Result<(), NoMemory> {
     let mut links = Links::new(rt.alloc());
-    let told = find_links(&rt, &mut links);
+    let told = find_links(&mut links);
     drop(links);
-    told
+    assert!(rt; told?);
+    Ok(())
 }

@@ -65,23 +65,29 @@ fn count_of_definitions(alloc: Global, words: &[Word]) -> Result<usize, NoMemory
     }
     let parts = parts_in(alloc, words)?;
     let count = parts.definitions.items().len();
-    // Dropped by a call: so the drop is proved once for its type.
+    // Dropped by a call: so the drop is proved once for its type. So below.
     drop(parts);
     Ok(count)
+}
+
+fn is_right(alloc: Global, words: &[Word]) -> Result<bool, NoMemory> {
+    Ok(has_right_map(words) && has_right_links(words) && has_right_sections(alloc, words)?)
 }
 
 #[test]
 fn parts_are_told(rt: HostRuntime) -> Result<(), NoMemory> {
     let list = words_of(rt.alloc(), &ENTRY)?;
-    assert_eq!(rt; count_of_definitions(rt.alloc(), list.slice())?, 1);
+    let count = count_of_definitions(rt.alloc(), list.slice());
+    drop(list);
+    assert!(rt; count? == 1);
     Ok(())
 }
 
 #[test]
 fn sections_are_right(rt: HostRuntime) -> Result<(), NoMemory> {
     let list = words_of(rt.alloc(), &ENTRY)?;
-    let words = list.slice();
-    assert!(rt; has_right_map(words) && has_right_links(words));
-    assert!(rt; has_right_sections(rt.alloc(), words)?);
+    let told = is_right(rt.alloc(), list.slice());
+    drop(list);
+    assert!(rt; told?);
     Ok(())
 }

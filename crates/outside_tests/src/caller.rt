@@ -5,6 +5,7 @@ ghost use Rattle.m36_outside.specs.Passing.{TakesLines};
 ghost use Rattle.m36_outside.specs.Put.{PutSays, PutHasCause};
 ghost use Rattle.m36_outside.specs.ReadAnswer.{ReadSays, ReadHasCause};
 
+use crate::answers::{Due, is_due};
 use m36_outside::{Folder, MemFolder, MemSink, Put, ReadAnswer, Sink, SureFolder, SureSink};
 use m36_word::NoMemory;
 use std::alloc::Global;
@@ -42,7 +43,6 @@ fn put_file<F: Folder, S: Sink>(
 }
 
 /// Puts a line, and then the last line.
-#[tactic(auto, using(m36_outside::proofs::Grown::output, m36_outside::proofs::LinesTaken::lines_taken))]
 fn put_lines<S: Sink>(line: &[u8], out: &mut S) -> Put
     ensures through { TakesLines result (S.taken out.old) (S.taken out.new) (line.now ∷ END.now ∷ []) }
     ensures says { PutSays result (S.written out.old) (S.written out.new) (line.now ++ END.now) }
@@ -66,35 +66,77 @@ const ROOMS: &[(usize, u32, Put, &[u8])] = &[
     (8, 2, Put::Failed, b"dis\n"),
 ];
 
+/// Whether a call of `put_file` comes to this.
+fn comes_to<F: Folder, S: Sink>(
+    alloc: Global,
+    name: &[u8],
+    folder: &mut F,
+    out: &mut S,
+    want: Result<Put, Due>,
+) -> bool {
+    let answer = put_file(alloc, name, folder, out);
+    let told = match (&answer, want) {
+        (Ok(put), Ok(want)) => *put == want,
+        (Err(answer), Err(due)) => is_due(answer, due),
+        _ => false,
+    };
+    drop(answer);
+    told
+}
+
 /// Whether two calls over a folder whose second read fails answer so, and this is written behind each.
-fn answers(alloc: Global, row: &(usize, u32, Put, &[u8])) -> Result<bool, NoMemory> {
-    let (room, fail, want, written) = row;
-    let mut folder = MemFolder::new(alloc, &[2], &[])?;
+fn answers(
+    alloc: Global,
+    folder: &mut MemFolder,
+    row: &(usize, u32, Put, &[u8]),
+) -> Result<bool, NoMemory> {
     folder.add(b"a", b"dis\n")?;
+    let (room, fail, want, written) = row;
     let mut out = MemSink::new(alloc, *room, &[*fail])?;
-    let first = put_file(alloc, b"a", &mut folder, &mut out);
-    let is_first = matches!(first, Ok(put) if put == *want) && out.bytes() == *written;
-    let second = put_file(alloc, b"a", &mut folder, &mut out);
-    Ok(is_first && matches!(second, Err(ReadAnswer::Failed)) && out.bytes() == *written)
+    let mut told = true;
+    for want in [Ok(*want), Err(Due::Failed)] {
+        told = told && comes_to(alloc, b"a", folder, &mut out, want) && out.bytes() == *written;
+    }
+    drop(out);
+    Ok(told)
+}
+
+fn is_row_met(alloc: Global, row: &(usize, u32, Put, &[u8])) -> Result<bool, NoMemory> {
+    let mut folder = MemFolder::new(alloc, &[2], &[])?;
+    let told = answers(alloc, &mut folder, row);
+    drop(folder);
+    told
 }
 
 #[test]
 fn gives_a_prefix(rt: HostRuntime) -> Result<(), NoMemory> {
     for row in ROOMS {
-        assert!(rt; answers(rt.alloc(), row)?, "room {} fail {}", row.0, row.1);
+        assert!(rt;
+            is_row_met(rt.alloc(), row)?,
+            "room {} fail {}",
+            row.0,
+            row.1
+        );
     }
     Ok(())
 }
 
-#[test]
-fn gives_the_whole(rt: HostRuntime) -> Result<(), NoMemory> {
-    let alloc = rt.alloc();
-    let mut folder = SureFolder::new(alloc)?;
+/// Whether a file is put as a whole, and another is absent.
+fn puts_whole(alloc: Global, folder: &mut SureFolder) -> Result<bool, NoMemory> {
     folder.add(b"a", b"dis\n")?;
     let mut out = SureSink::new();
-    let answer = put_file(alloc, b"a", &mut folder, &mut out);
-    assert!(rt; matches!(answer, Ok(Put::Done)));
-    let answer = put_file(alloc, b"b", &mut folder, &mut out);
-    assert!(rt; matches!(answer, Err(ReadAnswer::Absent)));
+    let mut told = true;
+    for (name, want) in [(b"a", Ok(Put::Done)), (b"b", Err(Due::Absent))] {
+        told = told && comes_to(alloc, name, folder, &mut out, want);
+    }
+    Ok(told)
+}
+
+#[test]
+fn gives_the_whole(rt: HostRuntime) -> Result<(), NoMemory> {
+    let mut folder = SureFolder::new(rt.alloc())?;
+    let told = puts_whole(rt.alloc(), &mut folder);
+    drop(folder);
+    assert!(rt; told?);
     Ok(())
 }

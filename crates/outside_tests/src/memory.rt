@@ -1,77 +1,92 @@
 //! Files, input and output in memory, some calls of which fail. What is expected was worked out by hand.
 
+use crate::answers::{Due, reads};
 use m36_outside::{
-    Block, Folder, Lines, MemFolder, MemLines, MemSink, Piece, Put, ReadAnswer, Sink, SureLines,
-    Text, WriteAnswer,
+    Block, Folder, Lines, MemFolder, MemLines, MemSink, Piece, Put, Sink, SureLines, Text,
+    WriteAnswer,
 };
 use m36_word::NoMemory;
 use std::alloc::Global;
+use std::process::Abort;
+
+/// Adds bytes one by one, and then many.
+fn grow(text: &mut Text) -> Result<(), NoMemory> {
+    for byte in [b'm', b'3'] {
+        text.push(byte)?;
+    }
+    text.append(b"6 bare")
+}
+
+/// Whether a text that grew has these bytes.
+fn has_grown(alloc: Global, bytes: &[u8]) -> Result<bool, NoMemory> {
+    let mut text = Text::new(alloc);
+    let grown = grow(&mut text);
+    let told = text.bytes() == bytes;
+    drop(text);
+    grown?;
+    Ok(told)
+}
 
 #[test]
 fn text_grows_at_its_end(rt: HostRuntime) -> Result<(), NoMemory> {
-    let mut text = Text::new(rt.alloc());
-    text.push(b'm')?;
-    text.push(b'3')?;
-    text.append(b"6 bare")?;
     let same = Text::from_bytes(rt.alloc(), b"m36 bare")?;
-    assert!(rt; text.bytes() == b"m36 bare".as_slice());
-    assert!(rt; same.bytes() == text.bytes());
+    let grown = has_grown(rt.alloc(), same.bytes());
+    let told = same.bytes() == b"m36 bare".as_slice();
+    drop(same);
+    assert!(rt; grown? && told);
     Ok(())
 }
 
 /// What is asked of a folder.
 #[derive(Clone, Copy)]
 enum Call<'a> {
-    /// A read of a file, and what it has.
-    Reads(&'a [u8], &'a [u8]),
-    /// A read of a file that is not there.
-    Lacks(&'a [u8]),
-    /// A read that fails.
-    Misreads(&'a [u8]),
+    /// A read of a file, and its answer.
+    Reads(&'a [u8], Due<'a>),
     /// A write, and its answer.
     Writes(&'a [u8], &'a [u8], WriteAnswer),
 }
 
 /// The calls of a folder with the file `boot`, where the second read, the first write and the third fail.
 const CALLS: &[Call] = &[
-    Call::Reads(b"boot", b"frames 24\n"),
-    Call::Misreads(b"boot"),
-    Call::Lacks(b"boo"),
+    Call::Reads(b"boot", Due::Content(b"frames 24\n")),
+    Call::Reads(b"boot", Due::Failed),
+    Call::Reads(b"boo", Due::Absent),
     Call::Writes(b"main", b"x", WriteAnswer::Failed),
-    Call::Lacks(b"main"),
+    Call::Reads(b"main", Due::Absent),
     Call::Writes(b"main", b"y", WriteAnswer::Written),
     Call::Writes(b"main", b"z", WriteAnswer::Failed),
-    Call::Reads(b"main", b"y"),
+    Call::Reads(b"main", Due::Content(b"y")),
     Call::Writes(b"boot", b"frames 25\n", WriteAnswer::Written),
-    Call::Reads(b"boot", b"frames 25\n"),
-    Call::Reads(b"main", b"y"),
+    Call::Reads(b"boot", Due::Content(b"frames 25\n")),
+    Call::Reads(b"main", Due::Content(b"y")),
 ];
-
-fn is_read_as(answer: &ReadAnswer, content: &[u8]) -> bool {
-    match answer {
-        ReadAnswer::Read(text) => text.bytes() == content,
-        _ => false,
-    }
-}
 
 /// Whether a call is answered as it says.
 fn is_answered(alloc: Global, folder: &mut MemFolder, call: &Call) -> bool {
     match call {
-        Call::Reads(name, content) => is_read_as(&folder.read(alloc, name), content),
-        Call::Lacks(name) => matches!(folder.read(alloc, name), ReadAnswer::Absent),
-        Call::Misreads(name) => matches!(folder.read(alloc, name), ReadAnswer::Failed),
+        Call::Reads(name, due) => reads(folder, alloc, name, *due),
         Call::Writes(name, content, answer) => folder.write(alloc, name, content) == *answer,
     }
+}
+
+fn calls_are_answered(
+    rt: &impl Abort,
+    alloc: Global,
+    folder: &mut MemFolder,
+) -> Result<(), NoMemory> {
+    folder.add(b"boot", b"frames 24\n")?;
+    for (place, call) in CALLS.iter().enumerate() {
+        assert!(rt; is_answered(alloc, folder, call), "call {place}");
+    }
+    Ok(())
 }
 
 #[test]
 fn listed_calls_fail(rt: HostRuntime) -> Result<(), NoMemory> {
     let mut folder = MemFolder::new(rt.alloc(), &[2], &[1, 3])?;
-    folder.add(b"boot", b"frames 24\n")?;
-    for (place, call) in CALLS.iter().enumerate() {
-        assert!(rt; is_answered(rt.alloc(), &mut folder, call), "call {place}");
-    }
-    Ok(())
+    let answered = calls_are_answered(&rt, rt.alloc(), &mut folder);
+    drop(folder);
+    answered
 }
 
 /// The pieces of an input whose second call fails, and those of one that never fails: each answer, and the bytes.
@@ -112,13 +127,23 @@ const PUTS: &[(&[u8], Put)] = &[
     (b"", Put::Done),
 ];
 
-#[test]
-fn output_fails_past_its_room(rt: HostRuntime) -> Result<(), NoMemory> {
-    let mut out = MemSink::new(rt.alloc(), 5, &[2])?;
+fn has_written(out: &MemSink, bytes: &[u8]) -> bool {
+    out.bytes() == bytes
+}
+
+fn puts_are_answered(rt: &impl Abort, out: &mut MemSink) {
     for (piece, want) in PUTS {
         assert!(rt; out.put(piece) == *want, "{piece:?}");
     }
-    assert!(rt; out.bytes() == b"abcde".as_slice());
+}
+
+#[test]
+fn output_fails_past_its_room(rt: HostRuntime) -> Result<(), NoMemory> {
+    let mut out = MemSink::new(rt.alloc(), 5, &[2])?;
+    puts_are_answered(&rt, &mut out);
+    let told = has_written(&out, b"abcde");
+    drop(out);
+    assert!(rt; told);
     Ok(())
 }
 
@@ -136,11 +161,20 @@ fn block_fails(out: &mut MemSink) -> bool {
     block.hand_over(out) == Put::Failed
 }
 
+fn blocks_fail(out: &mut MemSink) -> bool {
+    for written in BLOCKS {
+        if !block_fails(out) || !has_written(out, written) {
+            return false;
+        }
+    }
+    true
+}
+
 #[test]
 fn output_takes_blocks_piece_by_piece(rt: HostRuntime) -> Result<(), NoMemory> {
     let mut out = MemSink::new(rt.alloc(), 9, &[3])?;
-    for written in BLOCKS {
-        assert!(rt; block_fails(&mut out) && out.bytes() == *written);
-    }
+    let told = blocks_fail(&mut out);
+    drop(out);
+    assert!(rt; told);
     Ok(())
 }

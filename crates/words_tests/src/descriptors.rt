@@ -35,47 +35,89 @@ fn segment_descriptor(rt: HostRuntime) {
     assert!(rt; s.to_words() == words);
 }
 
-#[test]
-fn other_descriptors(rt: HostRuntime) {
-    let mut page = Ptw::of_words(Word::low(0o000020000004));
-    assert!(rt; page.addr == 0o20 && page.f && page.fc == 0);
-    page.used = true;
-    assert!(rt; page.to_words() == Word::low(0o000020001004));
-    page.modified = true;
-    assert!(rt; page.to_words() == Word::low(0o000020001104));
+/// A page table word, as it is read; used; and modified too.
+const PAGES: &[(u64, bool, bool)] = &[
+    (0o000020000004, false, false),
+    (0o000020001004, true, false),
+    (0o000020001104, true, true),
+];
 
-    let words = pair(0o000001000000, 0o001770200001);
-    let base = Dbr::of_words(words);
-    assert!(rt; base.addr == 0o100 && base.bnd == 127 && base.unpaged && base.stack == 1);
-    assert!(rt; base.to_words() == words);
+/// Whether this is the word of a page in frame 1, used and modified or not.
+fn is_page(bits: u64, used: bool, modified: bool) -> bool {
+    let word = Word::low(bits);
+    let page = Ptw {
+        addr: 0o20,
+        fc: 0,
+        used,
+        modified,
+        f: true,
+    };
+    Ptw::of_words(word) == page && page.to_words() == word
 }
 
 #[test]
-fn pairs_and_pointers(rt: HostRuntime) {
-    let words = pair(0o000101400043, 0o000012005020);
-    let link = Its::of_words(words);
-    assert!(rt; link.seg == 0o101 && link.ring == 4 && link.word == 0o12);
-    assert!(rt; link.bit == 5 && link.tag == 0o20);
-    assert!(rt; link.to_words() == words);
+fn page_table_words(rt: HostRuntime) {
+    for (bits, used, modified) in PAGES {
+        assert!(rt; is_page(*bits, *used, *modified), "{bits:o}");
+    }
+}
 
-    let register = Ptr::of_words(words);
-    assert!(rt; register.seg == 0o101 && register.ring == 4 && register.word == 0o12);
-    assert!(rt; register.bit == 5);
-    assert!(rt; register.to_words() == pair(0o000101400043, 0o000012005000));
+#[test]
+fn descriptor_base(rt: HostRuntime) {
+    let words = pair(0o000001000000, 0o001770200001);
+    let base = Dbr {
+        addr: 0o100,
+        bnd: 127,
+        stack: 1,
+        unpaged: true,
+    };
+    assert!(rt; Dbr::of_words(words) == base && base.to_words() == words);
+}
+
+#[test]
+fn pairs(rt: HostRuntime) {
+    let words = pair(0o000101400043, 0o000012005020);
+    let link = Its {
+        word: 0o12,
+        seg: 0o101,
+        ring: 4,
+        bit: 5,
+        tag: 0o20,
+    };
+    assert!(rt; Its::of_words(words) == link && link.to_words() == words);
 
     let words = pair(0o600000000041, 0o000024000020);
-    let through = Itp::of_words(words);
-    assert!(rt; through.pr == 6 && through.word == 0o24);
-    assert!(rt; through.bit == 0 && through.tag == 0o20);
-    assert!(rt; through.to_words() == words);
+    let through = Itp {
+        word: 0o24,
+        pr: 6,
+        bit: 0,
+        tag: 0o20,
+    };
+    assert!(rt; Itp::of_words(words) == through && through.to_words() == words);
+}
 
+#[test]
+fn pointers(rt: HostRuntime) {
+    let register = Ptr {
+        word: 0o12,
+        seg: 0o101,
+        ring: 4,
+        bit: 5,
+    };
+    let found = Ptr::of_words(pair(0o000101400043, 0o000012005020));
+    let words = pair(0o000101400043, 0o000012005000);
+    assert!(rt; found == register && register.to_words() == words);
+}
+
+#[test]
+fn laws() {
     descriptor_laws();
     field_widths();
     word_widths();
 }
 
 /// A reference, with the ring that it is made from.
-#[derive(Clone, Copy, Debug)]
+#[derive(Clone, Copy)]
 enum Asked {
     Fetch(u8),
     /// Whether the segment is the one that executes.
@@ -89,7 +131,9 @@ enum Asked {
 
 /// Brackets, the call limiter of a gate, a reference, and the ring in which it goes on or its access violation. The
 /// segments may be executed, and not be read or written.
-const REFERENCES: [((u8, u8, u8), Option<u16>, Asked, Result<u8, Acv>); 16] = [
+type Reference = ((u8, u8, u8), Option<u16>, Asked, Result<u8, Acv>);
+
+const REFERENCES: &[Reference] = &[
     ((1, 4, 4), None, Asked::Fetch(4), Ok(4)),
     ((1, 0, 4), None, Asked::Fetch(0), Err(Acv(0))),
     ((1, 4, 4), None, Asked::Fetch(0), Err(Acv(1))),
@@ -119,20 +163,28 @@ fn segment(brackets: (u8, u8, u8), gate: Option<u16>) -> Sdw {
     s
 }
 
+/// The ring of a reference that is granted.
+fn in_ring(ring: u8, granted: Result<(), Acv>) -> Result<u8, Acv> {
+    match granted {
+        Ok(()) => Ok(ring),
+        Err(violation) => Err(violation),
+    }
+}
+
 fn answer(s: &Sdw, asked: Asked) -> Result<u8, Acv> {
     match asked {
-        Asked::Fetch(ring) => may_fetch(s, ring).map(|()| ring),
-        Asked::Read(ring, same) => may_read(s, ring, same).map(|()| ring),
-        Asked::Write(ring) => may_write(s, ring).map(|()| ring),
-        Asked::Transfer(ring, prr) => may_transfer(s, ring, prr).map(|()| ring),
+        Asked::Fetch(ring) => in_ring(ring, may_fetch(s, ring)),
+        Asked::Read(ring, same) => in_ring(ring, may_read(s, ring, same)),
+        Asked::Write(ring) => in_ring(ring, may_write(s, ring)),
+        Asked::Transfer(ring, prr) => in_ring(ring, may_transfer(s, ring, prr)),
         Asked::Call(ring, prr, word) => call_ring(s, ring, prr, false, word),
     }
 }
 
 #[test]
 fn references(rt: HostRuntime) {
-    for (brackets, gate, asked, expected) in REFERENCES {
-        let s = segment(brackets, gate);
-        assert!(rt; answer(&s, asked) == expected, "{asked:?} at {brackets:?}");
+    for (n, (brackets, gate, asked, expected)) in REFERENCES.iter().enumerate() {
+        let s = segment(*brackets, *gate);
+        assert!(rt; answer(&s, *asked) == *expected, "reference {n}");
     }
 }

@@ -3,8 +3,11 @@
 use m36_inst::*;
 use m36_word::Word;
 
-/// Operation codes with bit 27, and what their rows say: effect, register, operand, direct, privileged.
-const ROWS: [(u16, bool, (Effect, u8, Operand, bool, bool)); 18] = [
+/// What the row of an instruction says: effect, register, operand, direct, privileged.
+type Said = (Effect, u8, Operand, bool, bool);
+
+/// Operation codes with bit 27, and what their rows say.
+const ROWS: &[(u16, bool, Said)] = &[
     (0o235, false, (Effect::Lda, 0, Operand::R, true, false)),
     (0o317, false, (Effect::Canaq, 0, Operand::R2, false, false)),
     (0o745, false, (Effect::StxN, 5, Operand::Wl, false, false)),
@@ -29,71 +32,126 @@ const ROWS: [(u16, bool, (Effect, u8, Operand, bool, bool)); 18] = [
     (0o532, true, (Effect::Camp, 0, Operand::A, false, true)),
 ];
 
+/// Operation codes with bit 27 that have no row.
+const NO_ROWS: &[(u16, bool)] = &[(0o000, false), (0o235, true), (0o1235, false)];
+
+fn row_of(code: u16, bit27: bool) -> Option<Row> {
+    row(code, bit27)
+}
+
+fn has_row(code: u16, bit27: bool, said: Said) -> bool {
+    let (effect, reg, operand, direct, privileged) = said;
+    let expected = Row {
+        effect,
+        operand,
+        reg,
+        direct,
+        privileged,
+    };
+    row_of(code, bit27) == Some(expected)
+}
+
 #[test]
 fn rows_of_codes(rt: HostRuntime) {
     for (code, bit27, said) in ROWS {
-        let found = row(code, bit27).map(|r| (r.effect, r.reg, r.operand, r.direct, r.privileged));
-        assert!(rt; found == Some(said), "at {code:o}");
+        assert!(rt; has_row(*code, *bit27, *said), "at {code:o}");
     }
-    for (code, bit27) in [(0o000, false), (0o235, true), (0o1235, false)] {
-        assert!(rt; row(code, bit27) == None, "at {code:o}");
+}
+
+#[test]
+fn no_rows(rt: HostRuntime) {
+    for (code, bit27) in NO_ROWS {
+        assert!(rt; row_of(*code, *bit27) == None, "at {code:o}");
     }
+}
+
+/// How many rows a code has, by its bit 27.
+fn rows_at(code: u16) -> u32 {
+    row_of(code, false).is_some() as u32 + row_of(code, true).is_some() as u32
 }
 
 #[test]
 fn count_of_rows(rt: HostRuntime) {
     let mut rows = 0u32;
     for code in 0..512 {
-        if row(code, false).is_some() {
-            rows = rows.saturating_add(1);
-        }
-        if row(code, true).is_some() {
-            rows = rows.saturating_add(1);
-        }
+        rows = rows.saturating_add(rows_at(code));
     }
     assert_eq!(rt; rows, 333);
 }
 
+/// Operation codes with bit 27, and their names.
+const NAMES: &[(u16, bool, &str)] = &[
+    (0o235, false, "lda"),
+    (0o764, false, "lprp4"),
+    (0o604, true, "tmoz"),
+    (0o251, true, "spri1"),
+    (0o254, false, "spri"),
+];
+
+/// What names no instruction.
+const NO_NAMES: &[&str] = &["", "lda ", "LDA", "ldx8", "spri8", "call", "entrybound"];
+
+fn has_name(code: u16, bit27: bool, name: Option<&str>) -> bool {
+    match name_of(code, bit27) {
+        Some(found) => name == Some(found.as_str()),
+        None => name == None,
+    }
+}
+
+fn code_of(name: &str) -> Option<(u16, bool)> {
+    by_name(name.as_bytes())
+}
+
+fn is_named(code: u16, bit27: bool, name: &str) -> bool {
+    has_name(code, bit27, Some(name)) && code_of(name) == Some((code, bit27))
+}
+
 #[test]
 fn names_of_codes(rt: HostRuntime) {
-    for (code, bit27, name) in [
-        (0o235, false, "lda"),
-        (0o764, false, "lprp4"),
-        (0o604, true, "tmoz"),
-        (0o251, true, "spri1"),
-        (0o254, false, "spri"),
-    ] {
-        let found = name_of(code, bit27);
-        assert!(rt; found.is_some_and(|n| n.as_str() == name), "at {name}");
-        assert!(rt;
-            by_name(name.as_bytes()) == Some((code, bit27)),
-            "at {name}"
-        );
-    }
-    assert!(rt; name_of(0o400, false).is_none());
-    for name in ["", "lda ", "LDA", "ldx8", "spri8", "call", "entrybound"] {
-        assert!(rt; by_name(name.as_bytes()) == None, "at {name}");
+    for (code, bit27, name) in NAMES {
+        assert!(rt; is_named(*code, *bit27, name), "at {name}");
     }
 }
 
 #[test]
+fn no_names(rt: HostRuntime) {
+    assert!(rt; has_name(0o400, false, None));
+    for name in NO_NAMES {
+        assert!(rt; code_of(*name) == None, "at {name}");
+    }
+}
+
+/// Whether a word holds this instruction, and the instruction is written as the word.
+fn holds(bits: u64, inst: Inst) -> bool {
+    let word = Word::low(bits);
+    Inst::of_word(word) == inst && inst.to_word() == word
+}
+
+#[test]
 fn instruction_words(rt: HostRuntime) {
-    let through = Inst::of_word(Word::low(0o600005235120));
-    assert_eq!(rt;
-        (through.y, through.code, through.tag),
-        (0o600005, 0o235, 0o20)
-    );
-    assert_eq!(rt;
-        (through.bit27, through.inhibit, through.by_pr),
-        (false, false, true)
-    );
-    assert!(rt; through.to_word() == Word::low(0o600005235120));
+    let through = Inst {
+        y: 0o600005,
+        code: 0o235,
+        tag: 0o20,
+        bit27: false,
+        inhibit: false,
+        by_pr: true,
+    };
+    let base = Inst {
+        y: 0o12,
+        code: 0o604,
+        tag: 0o10,
+        bit27: true,
+        inhibit: true,
+        by_pr: false,
+    };
+    for (bits, inst) in [(0o600005235120, through), (0o000012604610, base)] {
+        assert!(rt; holds(bits, inst), "at {bits:o}");
+    }
+}
 
-    let base = Inst::of_word(Word::low(0o000012604610));
-    assert_eq!(rt; (base.y, base.code, base.tag), (0o12, 0o604, 0o10));
-    assert_eq!(rt; (base.bit27, base.inhibit, base.by_pr), (true, true, false));
-    assert!(rt; base.to_word() == Word::low(0o000012604610));
-
+#[test]
+fn laws() {
     instruction_laws();
     table_laws();
 }

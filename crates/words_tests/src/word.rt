@@ -3,7 +3,7 @@
 use m36_word::{Field, Half, NoMemory, Pair, Word, Words};
 
 /// Numbers, and the value of the word that is made of each.
-const WORDS: [(u64, Option<u64>); 4] = [
+const WORDS: &[(u64, Option<u64>)] = &[
     (0, Some(0)),
     (0o777777777777, Some(68_719_476_735)),
     (0o1000000000000, None),
@@ -11,10 +11,10 @@ const WORDS: [(u64, Option<u64>); 4] = [
 ];
 
 /// Numbers, and the value of the half that is made of each.
-const HALVES: [(u32, Option<u32>); 2] = [(0o777777, Some(262_143)), (0o1000000, None)];
+const HALVES: &[(u32, Option<u32>)] = &[(0o777777, Some(262_143)), (0o1000000, None)];
 
 /// The bits of a word, and the number that they stand for with a sign.
-const SIGNED: [(u64, i64); 5] = [
+const SIGNED: &[(u64, i64)] = &[
     (0, 0),
     (0o377777777777, 34_359_738_367),
     (0o400000000000, -34_359_738_368),
@@ -23,7 +23,7 @@ const SIGNED: [(u64, i64); 5] = [
 ];
 
 /// Numbers of any size, and the bits of the word that keeps their last 36.
-const LAST_BITS: [(i128, u64); 6] = [
+const LAST_BITS: &[(i128, u64)] = &[
     (34_359_738_367, 0o377777777777),
     (-34_359_738_368, 0o400000000000),
     (-3, 0o777777777775),
@@ -33,7 +33,7 @@ const LAST_BITS: [(i128, u64); 6] = [
 ];
 
 /// The words of a pair, and the number that they stand for without and with a sign.
-const PAIRS: [(u64, u64, u128, i128); 4] = [
+const PAIRS: &[(u64, u64, u128, i128)] = &[
     (0, 1, 1, 1),
     (1, 0, 1 << 36, 1 << 36),
     (0o400000000000, 0, 1 << 71, -(1 << 71)),
@@ -44,34 +44,63 @@ fn word(value: u64) -> Word {
     Word::low(value)
 }
 
+fn is_value(number: u64, value: Option<u64>) -> bool {
+    match Word::new(number) {
+        Some(word) => value == Some(word.value()),
+        None => value == None,
+    }
+}
+
 #[test]
-fn numbers(rt: HostRuntime) {
+fn values_of_words(rt: HostRuntime) {
     for (number, value) in WORDS {
-        assert!(rt;
-            Word::new(number).map(Word::value) == value,
-            "at {number:o}"
-        );
+        assert!(rt; is_value(*number, *value), "at {number:o}");
     }
+}
+
+fn is_value_of_half(number: u32, value: Option<u32>) -> bool {
+    match Half::new(number) {
+        Some(half) => value == Some(half.value()),
+        None => value == None,
+    }
+}
+
+#[test]
+fn values_of_halves(rt: HostRuntime) {
     for (number, value) in HALVES {
-        assert!(rt;
-            Half::new(number).map(Half::value) == value,
-            "at {number:o}"
-        );
+        assert!(rt; is_value_of_half(*number, *value), "at {number:o}");
     }
+}
+
+#[test]
+fn signed_numbers(rt: HostRuntime) {
     for (bits, number) in SIGNED {
-        assert!(rt; word(bits).signed() == number, "at {bits:o}");
+        assert!(rt; word(*bits).signed() == *number, "at {bits:o}");
     }
+}
+
+#[test]
+fn last_bits(rt: HostRuntime) {
     for (number, bits) in LAST_BITS {
-        assert!(rt; Word::of_signed(number) == word(bits), "at {bits:o}");
+        assert!(rt; Word::of_signed(*number) == word(*bits), "at {bits:o}");
     }
+}
+
+/// Whether a pair stands for these numbers, and is that of the first modulo 2 to the 72.
+fn stands_for(even: u64, odd: u64, value: u128, signed: i128) -> bool {
+    let pair = Pair {
+        even: word(even),
+        odd: word(odd),
+    };
+    pair.value() == value
+        && pair.signed() == signed
+        && Pair::of_value(value.wrapping_add(1 << 72)) == pair
+}
+
+#[test]
+fn pairs(rt: HostRuntime) {
     for (even, odd, value, signed) in PAIRS {
-        let pair = Pair {
-            even: word(even),
-            odd: word(odd),
-        };
-        assert!(rt; pair.value() == value, "at {even:o}");
-        assert!(rt; pair.signed() == signed, "at {even:o}");
-        assert!(rt; Pair::of_value(value + (1 << 72)) == pair, "at {even:o}");
+        assert!(rt; stands_for(*even, *odd, *value, *signed), "at {even:o}");
     }
 }
 
@@ -109,15 +138,25 @@ fn fields_of_a_descriptor(rt: HostRuntime) {
     }
 }
 
+fn are_kept(words: &mut Words) -> Result<bool, NoMemory> {
+    for bits in [0o123, 0o777777777777] {
+        words.push(word(bits))?;
+    }
+    Ok(words.slice() == [word(0o123), word(0o777777777777)].as_slice())
+}
+
 #[test]
 fn words_in_order(rt: HostRuntime) -> Result<(), NoMemory> {
     let mut words = Words::new(rt.alloc());
-    words.push(word(0o123))?;
-    words.push(word(0o777777777777))?;
-    assert!(rt; words.slice() == [word(0o123), word(0o777777777777)].as_slice());
-    assert!(rt; word(0o377777777777) < word(0o400000000000));
-    assert!(rt; Pair::of_value(1) < Pair::of_value(1 << 36));
-    assert!(rt; Half::new(1) < Half::new(0o777777));
-    assert!(rt; Word::default() == Word::ZERO);
+    let told = are_kept(&mut words);
+    // Dropped by a call: so the drop is proved once for its type.
+    drop(words);
+    assert!(rt; told?);
     Ok(())
+}
+
+#[test]
+fn order(rt: HostRuntime) {
+    assert!(rt; word(0o377777777777) < word(0o400000000000) && Word::default() == Word::ZERO);
+    assert!(rt; Pair::of_value(1) < Pair::of_value(1 << 36) && Half::new(1) < Half::new(0o777777));
 }

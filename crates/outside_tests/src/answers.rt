@@ -1,0 +1,38 @@
+//! What reads of a folder answer.
+
+use m36_outside::{Folder, ReadAnswer};
+use std::alloc::Global;
+
+/// What a read has to answer.
+#[derive(Clone, Copy)]
+pub enum Due<'a> {
+    Content(&'a [u8]),
+    Absent,
+    TooLarge,
+    Failed,
+}
+
+fn has_content(answer: &ReadAnswer, content: &[u8]) -> bool {
+    match answer {
+        ReadAnswer::Read(text) => text.bytes() == content,
+        _ => false,
+    }
+}
+
+pub fn is_due(answer: &ReadAnswer, due: Due) -> bool {
+    match due {
+        Due::Content(content) => has_content(answer, content),
+        Due::Absent => matches!(answer, ReadAnswer::Absent),
+        Due::TooLarge => matches!(answer, ReadAnswer::TooLarge),
+        Due::Failed => matches!(answer, ReadAnswer::Failed),
+    }
+}
+
+/// Whether a read of a file is answered so.
+pub fn reads<F: Folder>(folder: &mut F, alloc: Global, name: &[u8], due: Due) -> bool {
+    let answer = folder.read(alloc, name);
+    let told = is_due(&answer, due);
+    // Dropped by a call: so the drop is proved once for its type. So in the other files.
+    drop(answer);
+    told
+}
