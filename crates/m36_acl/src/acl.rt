@@ -21,7 +21,7 @@ use std::alloc::Global;
 use std::marker::Model;
 
 /// Access lists. They are seen as the segments in the order of their lines, each with its terms.
-#[derive(Debug, Drop)]
+#[derive(Drop)]
 pub struct Acl {
     segments: Vec<AclSegment>,
 }

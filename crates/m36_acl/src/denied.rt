@@ -9,7 +9,7 @@ use std::marker::Model;
 
 /// What is told of a user who lacks a right to a segment: a line for each segment of a catalog, or for none. It is seen as
 /// these lines.
-#[derive(Debug, Drop)]
+#[derive(Drop)]
 pub struct DeniedLines {
     items: Vec<Text>,
 }

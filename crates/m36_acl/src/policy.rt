@@ -13,7 +13,7 @@ use crate::user::User;
 
 /// What a user may do with a segment, and the term that says so: its place in the list of the segment, counted from 0.
 /// Where no term matches there is none, and no right.
-#[derive(Clone, Copy, Debug, PartialEq, Eq)]
+#[derive(Clone, Copy, PartialEq, Eq)]
 pub struct Decision {
     pub term: Option<usize>,
     pub readable: bool,

@@ -16,7 +16,7 @@ use std::alloc::Global;
 use std::marker::Model;
 
 /// A term of a list: whom it matches, and what he may do. It is seen as its fields.
-#[derive(Debug, Drop)]
+#[derive(Drop)]
 pub struct Term {
     text: ArrayVec<u8, 67>,
     mode: Mode,
@@ -73,7 +73,7 @@ impl Term {
 }
 
 /// A `segment` line, with the terms of the lines behind it. It is seen as its fields.
-#[derive(Debug, Drop)]
+#[derive(Drop)]
 pub struct AclSegment {
     /// The directory of the segment.
     pub dir: Text,

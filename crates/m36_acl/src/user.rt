@@ -9,7 +9,7 @@ use std::marker::Model;
 
 /// A user: `Person.Project.tag`, where Person and Project have 1 to 32 letters, digits and `_`, and the tag is a small
 /// letter. It is seen as its text, and takes no memory.
-#[derive(Debug, Drop)]
+#[derive(Drop)]
 pub struct User {
     text: ArrayVec<u8, 67>,
 }

@@ -11,7 +11,7 @@ use m36_word::{Pair, Word};
 use std::marker::Model;
 
 /// What a comparison tells.
-#[derive(Clone, Copy, PartialEq, Eq, Debug)]
+#[derive(Clone, Copy, PartialEq, Eq)]
 pub struct Compare {
     pub zero: bool,
     pub negative: bool,

@@ -8,7 +8,7 @@ use crate::signs::{differ, is_negative, magnitude, signed_word};
 use m36_word::Word;
 
 /// A division is refused: the second word is 0, or the quotient does not fit, as for the least number by -1.
-#[derive(Clone, Copy, PartialEq, Eq, Debug)]
+#[derive(Clone, Copy, PartialEq, Eq)]
 pub struct DivideCheck;
 
 #[tactic(auto, unfolding(m36_model::specs::Arithmetic::is_divide_check))]

@@ -10,7 +10,7 @@ use crate::{pair_shifts, word_shifts};
 use m36_word::{Pair, Word};
 
 /// The ways of shifting.
-#[derive(Clone, Copy, PartialEq, Eq, Debug)]
+#[derive(Clone, Copy, PartialEq, Eq)]
 pub enum Shift {
     /// To the left; zeros come in. Carry tells whether two of the bits differ that were or became the first bit.
     Left,

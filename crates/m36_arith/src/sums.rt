@@ -5,7 +5,7 @@ use m36_word::{Pair, Word};
 use std::marker::Model;
 
 /// What an operation on words gives.
-#[derive(Clone, Copy, PartialEq, Eq, Debug)]
+#[derive(Clone, Copy, PartialEq, Eq)]
 pub struct Sum36 {
     pub value: Word,
     pub zero: bool,
@@ -25,7 +25,7 @@ impl Model for Sum36 {
 }
 
 /// What an operation on pairs gives.
-#[derive(Clone, Copy, PartialEq, Eq, Debug)]
+#[derive(Clone, Copy, PartialEq, Eq)]
 pub struct Sum72 {
     pub value: Pair,
     pub zero: bool,
@@ -52,7 +52,7 @@ impl Model for Sum72 {
 }
 
 /// What an operation on halves gives.
-#[derive(Clone, Copy, PartialEq, Eq, Debug)]
+#[derive(Clone, Copy, PartialEq, Eq)]
 pub struct Sum18 {
     pub value: u32,
     pub zero: bool,

@@ -8,7 +8,7 @@ use std::alloc::Global;
 use std::marker::Model;
 
 /// A line of a bind file.
-#[derive(Debug, Drop)]
+#[derive(Drop)]
 pub enum BindLine {
     /// The bound object has version 2.
     Version,
@@ -19,7 +19,7 @@ pub enum BindLine {
 }
 
 /// A list of lines that grows at its end.
-#[derive(Debug, Drop)]
+#[derive(Drop)]
 pub struct BindLines {
     items: Vec<BindLine>,
 }

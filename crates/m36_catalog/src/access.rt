@@ -10,7 +10,7 @@ use std::alloc::Global;
 
 /// A catalog, and for each of its segments the line that is told where a run ends for want of a right to it; no lines where
 /// the rights are those of the boot text.
-#[derive(Debug, Drop)]
+#[derive(Drop)]
 pub struct Access {
     pub catalog: Catalog,
     pub denied: DeniedLines,

@@ -12,14 +12,14 @@ use m36_word::Pair;
 pub const GO_LIMIT: u32 = 100_000;
 
 /// A place where `go` stops.
-#[derive(Clone, Copy, PartialEq, Eq, Default, Debug)]
+#[derive(Clone, Copy, PartialEq, Eq, Default)]
 pub struct Break {
     pub word: u32,
     pub seg: u16,
 }
 
 /// A command that takes turns.
-#[derive(Clone, Copy, PartialEq, Eq, Debug)]
+#[derive(Clone, Copy, PartialEq, Eq)]
 pub enum Command {
     /// `step`: tells each turn.
     Step,
@@ -28,7 +28,7 @@ pub enum Command {
 }
 
 /// A command under way.
-#[derive(Clone, Copy, PartialEq, Eq, Debug)]
+#[derive(Clone, Copy, PartialEq, Eq)]
 pub struct Run {
     /// How many more steps it may take.
     pub left: u32,
@@ -36,7 +36,7 @@ pub struct Run {
 }
 
 /// What a command does after a turn.
-#[derive(Clone, Copy, PartialEq, Eq, Debug)]
+#[derive(Clone, Copy, PartialEq, Eq)]
 pub enum Further {
     /// It takes another turn.
     Runs(Run),

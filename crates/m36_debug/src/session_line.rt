@@ -13,7 +13,7 @@ const LONGEST_LINE: usize = 256;
 const MOST_STEPS: u64 = 1_000_000;
 
 /// What a line says.
-#[derive(Clone, Copy, PartialEq, Eq, Debug)]
+#[derive(Clone, Copy, PartialEq, Eq)]
 pub enum SessionLine {
     /// `step`, `step N`: takes so many steps.
     Step(u32),

@@ -16,7 +16,7 @@ use m36_outside::{Put, Sink};
 use m36_step::{Stepper, Turn};
 
 /// What a turn that a command takes came to. What it says is written but for the last case.
-#[derive(Clone, Copy, PartialEq, Eq, Debug)]
+#[derive(Clone, Copy, PartialEq, Eq)]
 pub enum Came {
     /// The command takes another turn; the flag says that this one was a service.
     Runs(Run, bool),
@@ -29,7 +29,7 @@ pub enum Came {
 }
 
 /// How a command, a line or several lines ended. What they say is written but for the last case.
-#[derive(Clone, Copy, PartialEq, Eq, Debug)]
+#[derive(Clone, Copy, PartialEq, Eq)]
 pub enum Ends {
     /// The next line is waited for.
     Line,

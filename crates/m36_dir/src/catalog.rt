@@ -24,7 +24,7 @@ use std::marker::Model;
 ///
 /// It has 1 to 8,192 pageable frames, 1 to 512 segments and at most 16 libraries; the working directory, each library and
 /// the directory of each segment are numbers of directories that it has.
-#[derive(Debug, Drop)]
+#[derive(Drop)]
 pub struct Catalog {
     directories: Vec<Directory>,
     libraries: Vec<u16>,

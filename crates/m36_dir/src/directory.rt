@@ -8,7 +8,7 @@ use arrayvec::ArrayVec;
 use std::marker::Model;
 
 // A text of at most 64 bytes, seen as a list of numbers. It takes no memory.
-#[derive(Debug, Drop)]
+#[derive(Drop)]
 pub(crate) struct Directory {
     items: ArrayVec<u8, 64>,
 }

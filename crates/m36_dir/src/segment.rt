@@ -6,7 +6,7 @@ use m36_text::{Name, Names};
 use std::marker::Model;
 
 /// What the file of a segment holds.
-#[derive(Clone, Copy, Debug, PartialEq, Eq)]
+#[derive(Clone, Copy, PartialEq, Eq)]
 pub enum SegKind {
     /// An object segment.
     Object,
@@ -17,7 +17,7 @@ pub enum SegKind {
 }
 
 /// What may be done with the words of a segment, within its ring brackets.
-#[derive(Clone, Copy, Debug, PartialEq, Eq)]
+#[derive(Clone, Copy, PartialEq, Eq)]
 pub struct Mode {
     pub readable: bool,
     pub executable: bool,
@@ -26,7 +26,7 @@ pub struct Mode {
 }
 
 /// A segment. It is seen as its fields.
-#[derive(Debug, Drop)]
+#[derive(Drop)]
 pub struct Segment {
     /// Its names in its directory; in a catalog 1 to 8.
     pub names: Names,
@@ -54,7 +54,7 @@ impl Model for Segment {
 }
 
 /// Where the machine starts: at an entry of a segment, in a ring. It is seen as its fields.
-#[derive(Debug, Drop)]
+#[derive(Drop)]
 pub struct Start {
     /// The name by which the segment is searched.
     pub name: Name,

@@ -9,14 +9,14 @@ use std::alloc::Global;
 use std::marker::Model;
 
 /// A file, by its name and all that it has.
-#[derive(Debug, Drop)]
+#[derive(Drop)]
 pub struct File {
     pub name: Name,
     pub content: Text,
 }
 
 /// A list of files that grows at its end.
-#[derive(Debug, Drop)]
+#[derive(Drop)]
 pub struct Files {
     items: Vec<File>,
 }

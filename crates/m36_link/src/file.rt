@@ -14,7 +14,7 @@ use std::marker::Model;
 pub const FIRST_SEGMENT: u16 = 64;
 
 /// The words of a segment's file, with the object that they are, or why they are none. It is seen as its words.
-#[derive(Debug, Drop)]
+#[derive(Drop)]
 pub struct File {
     words: Words,
     object: Result<Object, ObjectFault>,

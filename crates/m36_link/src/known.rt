@@ -23,7 +23,7 @@ use std::marker::Model;
 
 /// The names that are initiated in each ring, and the sections that are laid in it, both in the order in which they came.
 /// It is seen as these two lists.
-#[derive(Debug, Drop)]
+#[derive(Drop)]
 pub struct Known {
     names: IndexMap<RingName, u16>,
     laid: Vec<Laid>,

@@ -13,7 +13,7 @@ pub const FIRST_LINKAGE: u16 = 16;
 pub const LOT_WORDS: u32 = 1024;
 
 /// A section that is laid in the linkage segment of a ring. It is seen as its fields.
-#[derive(Clone, Copy, Debug, PartialEq, Eq)]
+#[derive(Clone, Copy, PartialEq, Eq)]
 pub struct Laid {
     /// Its first word, 18 bits.
     pub base: u32,
@@ -40,7 +40,7 @@ impl Model for Laid {
 }
 
 /// A section that is to be laid, with its words. It is seen as its fields.
-#[derive(Debug, Drop)]
+#[derive(Drop)]
 pub struct Lay {
     /// The words of the linkage section, and behind them those of the static section.
     pub words: Words,

@@ -17,7 +17,7 @@ use obj36_parts::names::has_its_entry;
 use std::marker::Model;
 
 /// Where a link leads: the pair, the number of the segment, and the section that has to be laid, if one has.
-#[derive(Clone, Copy, Debug)]
+#[derive(Clone, Copy)]
 pub(crate) struct Landing {
     pub(crate) pair: Pair,
     pub(crate) lay: Option<Laid>,

@@ -4,7 +4,7 @@ use m36_text::Name;
 use std::marker::Model;
 
 /// A reference name in a ring. It is seen as its fields.
-#[derive(PartialEq, Eq, Hash, Debug, Drop)]
+#[derive(PartialEq, Eq, Hash, Drop)]
 pub(crate) struct RingName {
     pub(crate) name: Name,
     /// 3 bits.

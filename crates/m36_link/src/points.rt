@@ -13,7 +13,7 @@ use obj36_parts::names::{has_its_entry, has_its_name};
 use obj36_parts::sections::later_section;
 
 /// A place of an object: a word that counts in a section.
-#[derive(Clone, Copy, Debug)]
+#[derive(Clone, Copy)]
 pub(crate) struct Point {
     pub(crate) value: u32,
     pub(crate) section: Section,

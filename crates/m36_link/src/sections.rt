@@ -11,7 +11,7 @@ use obj36::{Object, Section};
 use obj36_parts::sections::SEGMENT_LIMIT;
 
 /// The section of a segment in a ring, and whether it has to be laid.
-#[derive(Clone, Copy, Debug)]
+#[derive(Clone, Copy)]
 pub(crate) struct Home {
     pub(crate) section: Laid,
     pub(crate) is_new: bool,

@@ -9,7 +9,7 @@ use obj36::Link;
 use std::marker::Model;
 
 /// What takes the place of a link, and what has to be done beside. It is seen as its fields.
-#[derive(Debug, Drop)]
+#[derive(Drop)]
 pub struct Snap {
     /// The section that has to be laid, if one has.
     pub lay: Option<Lay>,

@@ -8,7 +8,7 @@ use crate::registers::Regs;
 use m36_word::{Pair, Word};
 
 /// Words of an operand.
-#[derive(Clone, Copy, PartialEq, Eq, Debug)]
+#[derive(Clone, Copy, PartialEq, Eq)]
 pub enum Held {
     Empty,
     One(Word),
@@ -56,7 +56,7 @@ impl Held {
 }
 
 /// The operand of an effect.
-#[derive(Clone, Copy, PartialEq, Eq, Debug)]
+#[derive(Clone, Copy, PartialEq, Eq)]
 pub struct Operand36 {
     /// The words that were read.
     pub got: Held,
@@ -69,7 +69,7 @@ pub struct Operand36 {
 }
 
 /// What an effect gives.
-#[derive(Clone, Copy, PartialEq, Eq, Debug)]
+#[derive(Clone, Copy, PartialEq, Eq)]
 pub struct Effect36 {
     /// The new registers.
     pub regs: Regs,
@@ -106,7 +106,7 @@ impl Effect36 {
 }
 
 /// A tally word that an address has counted: where it stands, and its new value.
-#[derive(Clone, Copy, PartialEq, Eq, Debug)]
+#[derive(Clone, Copy, PartialEq, Eq)]
 pub struct Tally {
     pub word: Word,
     pub at: At,
@@ -115,7 +115,7 @@ pub struct Tally {
 }
 
 /// A formed address.
-#[derive(Clone, Copy, PartialEq, Eq, Debug)]
+#[derive(Clone, Copy, PartialEq, Eq)]
 pub struct Formed {
     pub last: Final,
     pub tally: Option<Tally>,

@@ -21,7 +21,7 @@ pub enum LinkCode {
 }
 
 /// What ended a run.
-#[derive(Clone, Copy, PartialEq, Eq, Debug)]
+#[derive(Clone, Copy, PartialEq, Eq)]
 pub enum End {
     Fault(Fault),
     Stop(Stop),

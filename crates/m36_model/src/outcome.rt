@@ -5,7 +5,7 @@ use m36_word::Word;
 use std::marker::Model;
 
 /// Why a reference is refused, before it is said at which word.
-#[derive(Clone, Copy, PartialEq, Eq, Debug)]
+#[derive(Clone, Copy, PartialEq, Eq)]
 pub struct Refusal {
     /// The fault: 1 store, 16 to 19 directed faults 0 to 3, 20 access violation.
     pub number: u8,
@@ -14,7 +14,7 @@ pub struct Refusal {
 }
 
 /// A fault: its number, for an access violation (number 20) which one, and the word concerned.
-#[derive(Clone, Copy, PartialEq, Eq, Debug)]
+#[derive(Clone, Copy, PartialEq, Eq)]
 pub struct Fault {
     pub at: At,
     /// 1 store, 2 MME, 3 F1, 5 command, 6 derail, 7 lockup, 10 illegal procedure, 13 overflow, 14 divide check, 16 to
@@ -25,7 +25,7 @@ pub struct Fault {
 }
 
 /// Why the machine stopped of itself.
-#[derive(Clone, Copy, PartialEq, Eq, Debug)]
+#[derive(Clone, Copy, PartialEq, Eq)]
 pub enum Stop {
     /// The instruction DIS.
     Dis,
@@ -36,14 +36,14 @@ pub enum Stop {
 }
 
 /// What ends a step before its effect.
-#[derive(Clone, Copy, PartialEq, Eq, Debug)]
+#[derive(Clone, Copy, PartialEq, Eq)]
 pub enum Halt {
     Fault(Fault),
     Stop(Stop),
 }
 
 /// The outcome of a step.
-#[derive(Clone, Copy, PartialEq, Eq, Debug)]
+#[derive(Clone, Copy, PartialEq, Eq)]
 pub enum Outcome {
     /// The next instruction follows.
     Next,
@@ -52,7 +52,7 @@ pub enum Outcome {
 }
 
 /// The end of an address chain: a word and a bit of it, or a direct operand.
-#[derive(Clone, Copy, PartialEq, Eq, Debug)]
+#[derive(Clone, Copy, PartialEq, Eq)]
 pub struct Final {
     /// The operand that the address itself is, if it is one.
     pub direct: Option<Word>,

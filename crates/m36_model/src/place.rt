@@ -6,7 +6,7 @@ use arrayvec::ArrayVec;
 use std::marker::Model;
 
 /// A word of a segment, and the ring of the reference to it.
-#[derive(Clone, Copy, PartialEq, Eq, Debug)]
+#[derive(Clone, Copy, PartialEq, Eq)]
 pub struct At {
     /// Word number; 18 bits.
     pub word: u32,
@@ -30,7 +30,7 @@ impl Model for At {
 }
 
 /// What a reference was made for.
-#[derive(Clone, Copy, PartialEq, Eq, Debug)]
+#[derive(Clone, Copy, PartialEq, Eq)]
 pub enum Kind {
     /// The instruction.
     Fetch,
@@ -43,7 +43,7 @@ pub enum Kind {
 }
 
 /// A completed reference: its first word, and how many words it has.
-#[derive(Clone, Copy, PartialEq, Eq, Debug)]
+#[derive(Clone, Copy, PartialEq, Eq)]
 pub struct Reference {
     pub at: At,
     pub kind: Kind,

@@ -6,7 +6,7 @@ use crate::registers::{Ppr, Regs};
 use m36_word::Word;
 
 /// What one step did.
-#[derive(Debug, Drop)]
+#[derive(Drop)]
 pub struct StepRecord {
     /// The completed references, in order.
     pub refs: Refs,

@@ -9,7 +9,7 @@ use m36_word::Word;
 use std::marker::Model;
 
 /// The procedure pointer register: which instruction stands, and in which ring.
-#[derive(Clone, Copy, PartialEq, Eq, Debug)]
+#[derive(Clone, Copy, PartialEq, Eq)]
 pub struct Ppr {
     /// The instruction counter, a word number; 18 bits.
     pub ic: u32,
@@ -33,7 +33,7 @@ impl Model for Ppr {
 }
 
 /// The indicators.
-#[derive(Clone, Copy, PartialEq, Eq, Debug)]
+#[derive(Clone, Copy, PartialEq, Eq)]
 pub struct Ind {
     pub zero: bool,
     pub negative: bool,
@@ -46,7 +46,7 @@ pub struct Ind {
 }
 
 /// All registers of the processor.
-#[derive(Clone, Copy, PartialEq, Eq, Debug)]
+#[derive(Clone, Copy, PartialEq, Eq)]
 pub struct Regs {
     /// The accumulator.
     pub a: Word,

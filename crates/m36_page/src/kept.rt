@@ -14,7 +14,7 @@ const PAGE: usize = 1024;
 
 /// The words of whole pages, so many as there are, seen as the list of them. There is room for all of them from the start,
 /// but only those up to the last that was given or kept are written there: those behind are zero, and take no time.
-#[derive(Debug, Drop)]
+#[derive(Drop)]
 pub(crate) struct KeptWords {
     written: Vec<Word>,
     count: usize,

@@ -24,7 +24,7 @@ use std::marker::Model;
 const PAGE: u32 = 1024;
 
 /// The error of a page for which there is no frame: every frame holds a page that must stay.
-#[derive(Clone, Copy, Debug, PartialEq, Eq)]
+#[derive(Clone, Copy, PartialEq, Eq)]
 pub struct Pinned;
 
 /// The pages of segments: which pageable frame holds which page, and the words of the pages that are in none. It is seen as
@@ -33,7 +33,7 @@ pub struct Pinned;
 /// Each call that takes a core wants the pageable frames in it, and each but `lay` wants each page table word of the tables,
 /// but for its marks, as the last call left it; before the first call every page is in no frame. `lay` writes these words,
 /// as of pages in no frame, and wants that no frame holds a page yet.
-#[derive(Debug, Drop)]
+#[derive(Drop)]
 pub struct Pager {
     holders: Vec<Option<(u16, u16)>>,
     // Of each frame that holds a page the place of its page table word.

@@ -15,7 +15,7 @@ use std::alloc::Global;
 use std::marker::Model;
 
 /// The page table of a segment, and the words of its pages.
-#[derive(Debug, Drop)]
+#[derive(Drop)]
 pub struct PageTable {
     /// The words of the segment, at most 1,024 times `pages`; those that are lacking are zero.
     pub words: Words,
@@ -73,7 +73,7 @@ pub fn are_placed(first: u32, tables: &[PageTable]) -> bool
 }
 
 // A page table with the words that are kept, of every page of it.
-#[derive(Debug, Drop)]
+#[derive(Drop)]
 pub(crate) struct Table {
     pub(crate) words: KeptWords,
     pub(crate) at: u32,

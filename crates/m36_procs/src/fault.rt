@@ -8,7 +8,7 @@ ghost use Rattle.m36_procs.specs.ProcsSays.{fault_at, line_fault_at};
 use m36_word::NoMemory;
 
 /// The code of a line that is refused.
-#[derive(Clone, Copy, PartialEq, Eq, Debug)]
+#[derive(Clone, Copy, PartialEq, Eq)]
 pub enum Code {
     /// The line is not of its form, out of order or missing, has no line feed, has a number or an address against its
     /// rule, or makes too many events.
@@ -18,7 +18,7 @@ pub enum Code {
 }
 
 /// Why a line is not taken.
-#[derive(Clone, Copy, PartialEq, Eq, Debug)]
+#[derive(Clone, Copy, PartialEq, Eq)]
 pub(crate) enum LineFault {
     Refused(Code),
     NoMemory,
@@ -54,7 +54,7 @@ impl From<NoMemory> for LineFault {
 
 /// Why a text is not read: its first line that has a code, counted from 1, and the least code of that line. A missing
 /// line has the number that it would have.
-#[derive(Clone, Copy, PartialEq, Eq, Debug)]
+#[derive(Clone, Copy, PartialEq, Eq)]
 pub enum ProcsFault {
     /// The line is not of its form, out of order or missing, has no line feed, has a number or an address against its
     /// rule, or makes more than 10,000,000 events.
@@ -86,5 +86,5 @@ impl From<NoMemory> for ProcsFault {
 }
 
 /// A line of a run could not be written.
-#[derive(Clone, Copy, PartialEq, Eq, Debug)]
+#[derive(Clone, Copy, PartialEq, Eq)]
 pub struct WriteFault;

@@ -21,7 +21,7 @@ const MOST_PROCESSES: usize = 8;
 const MOST_EVENTS: u64 = 10_000_000;
 
 /// Which lines may follow.
-#[derive(Clone, Copy, PartialEq, Eq, Debug)]
+#[derive(Clone, Copy, PartialEq, Eq)]
 pub(crate) enum Stage {
     /// A further process, or words and turns once there is one.
     Naming,

@@ -15,7 +15,7 @@ const FAULT_TAG_2: u8 = 24;
 const MASTER_MODE_ENTRY: u8 = 2;
 
 /// What the next turn of a booted run is.
-#[derive(Clone, Copy, PartialEq, Eq, Debug)]
+#[derive(Clone, Copy, PartialEq, Eq)]
 pub enum Coming {
     /// A step.
     Step,
