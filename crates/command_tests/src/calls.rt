@@ -1,7 +1,9 @@
 //! Calls over files and output in memory. What is expected was worked out by hand.
 
-use crate::memory::{Asked, Due, SURE, come};
+use crate::memory::{Due, File, Place, SURE, comes_with};
+use m36_reading::Code;
 use m36_word::NoMemory;
+use std::alloc::Global;
 
 /// Loads the number 5, and halts.
 pub(crate) const LEAST: &[u8] = b"core 1
@@ -108,6 +110,16 @@ at 00000040 000004761000 000004235000 100000354100 000002710000 000002000000
 turns 3 0 1
 ";
 
+/// A process that there is not.
+const NO_PROCESS: &[u8] = b"core 1
+process 000000000000 000000200000 00001 4 000000
+process 000000200000 000000200000 00001 4 000000
+at 00000002 000000404444 000006300000 000000604444 000005300000
+at 00000022 000000404444 000006300000 000000604444 000005300000
+at 00000040 000004761000 000004235000 100000354100 000002710000 000002000000
+turns 3 0 2
+";
+
 /// The object of an empty source: 18 words, of which two fill nine bytes.
 const EMPTY: &[u8] = &[
     0, 0, 0, 0, 0, 0, 0, 0, 0, // two words of the definition section
@@ -129,169 +141,200 @@ symbol 000012 000001
 entrybound 000000
 ";
 
-/// Commands that write their output.
-const IMAGES: &[Asked] = &[
-    (b"bare f", (b"f", LEAST), SURE, Due::Writes(0, LEAST_OUTPUT)),
-    (b"bare f", (b"f", PAGED), SURE, Due::Writes(0, PAGED_OUTPUT)),
-    (
-        b"bare f",
-        (b"f", LAID),
-        SURE,
-        Due::Writes(5, b"audit no A3 00000100\n"),
-    ),
-    (
-        b"bare f --unaudited",
-        (b"f", LAID),
-        SURE,
-        Due::Writes(6, LAID_OUTPUT),
-    ),
-    (
-        b"audit f",
-        (b"f", LEAST),
-        SURE,
-        Due::Writes(0, b"audit yes\n"),
-    ),
-    (
-        b"audit f",
-        (b"f", LAID),
-        SURE,
-        Due::Writes(5, b"audit no A3 00000100\n"),
-    ),
-    (
-        b"audit f",
-        (b"f", SHARED_TABLE),
-        SURE,
-        Due::Writes(5, b"audit no A2 00000010\n"),
-    ),
-    (
-        b"audit f",
-        (b"f", SHARED_PAGE),
-        SURE,
-        Due::Writes(5, b"audit no A4 00004000\n"),
-    ),
-    (
-        b"audit f",
-        (b"f", SEGMENTS),
-        SURE,
-        Due::Writes(5, SEGMENTS_OUTPUT),
-    ),
-    (b"procs f", (b"f", LOCK), SURE, Due::Writes(0, LOCK_OUTPUT)),
-    (
-        b"procs f",
-        (b"f", LOOSE),
-        SURE,
-        Due::Writes(5, b"audit no J3 00000060\n"),
-    ),
+/// Commands over a folder with the file `f`: what that has, the number of the status, and what is written.
+const IMAGES: &[(&[u8], &[u8], u8, &[u8])] = &[
+    (b"bare f", LEAST, 0, LEAST_OUTPUT),
+    (b"bare f", PAGED, 0, PAGED_OUTPUT),
+    (b"bare f", LAID, 5, b"audit no A3 00000100\n"),
+    (b"bare f --unaudited", LAID, 6, LAID_OUTPUT),
+    (b"audit f", LEAST, 0, b"audit yes\n"),
+    (b"audit f", LAID, 5, b"audit no A3 00000100\n"),
+    (b"audit f", SHARED_TABLE, 5, b"audit no A2 00000010\n"),
+    (b"audit f", SHARED_PAGE, 5, b"audit no A4 00004000\n"),
+    (b"audit f", SEGMENTS, 5, SEGMENTS_OUTPUT),
+    (b"procs f", LOCK, 0, LOCK_OUTPUT),
+    (b"procs f", LOOSE, 5, b"audit no J3 00000060\n"),
 ];
 
 #[test]
 fn writes_outputs(rt: HostRuntime) -> Result<(), NoMemory> {
-    come(&rt, rt.alloc(), IMAGES)
+    for (command, image, number, output) in IMAGES {
+        let due = Due::Writes(*number, output);
+        assert!(rt;
+            comes_with(rt.alloc(), command, (b"f", image), SURE, due)?,
+            "{command:?}"
+        );
+    }
+    Ok(())
 }
 
-/// Commands that print the object `e`.
-const PRINTS: &[Asked] = &[
-    (b"print e", (b"e", EMPTY), SURE, Due::Writes(0, EMPTY_PRINT)),
-    (b"alm e", (b"e.alm", b""), SURE, Due::Writes(0, EMPTY_PRINT)),
-];
+/// Commands over a folder with one file, which print the object `e`.
+const PRINTS: &[(&[u8], File)] = &[(b"print e", (b"e", EMPTY)), (b"alm e", (b"e.alm", b""))];
 
 #[test]
 fn writes_prints(rt: HostRuntime) -> Result<(), NoMemory> {
-    come(&rt, rt.alloc(), PRINTS)
+    for (command, file) in PRINTS {
+        let due = Due::Writes(0, EMPTY_PRINT);
+        assert!(rt;
+            comes_with(rt.alloc(), command, *file, SURE, due)?,
+            "{command:?}"
+        );
+    }
+    Ok(())
 }
 
 const LIMIT_BEGIN: &[u8] = b"audit yes\n1 0 00001|000000 000000710000 0:00001|000000 ";
 
-/// A run that comes to no end.
-const LIMITED: &[Asked] = &[(
-    b"bare f",
-    (b"f", ENDLESS),
-    SURE,
-    Due::Begins(7, LIMIT_BEGIN, b"\nend limit 100000\n"),
-)];
-
 #[test]
 fn ends_at_the_limit(rt: HostRuntime) -> Result<(), NoMemory> {
-    come(&rt, rt.alloc(), LIMITED)
+    let due = Due::Begins(7, LIMIT_BEGIN, b"\nend limit 100000\n");
+    assert!(rt; comes_with(rt.alloc(), b"bare f", (b"f", ENDLESS), SURE, due)?);
+    Ok(())
 }
 
-/// Commands of which a read, a write or a put fails.
-const FAULTS: &[Asked] = &[
+/// Commands that refuse the file `f`: the one file that is there, and why.
+const IMAGES_REFUSED: &[(&[u8], File, Place)] = &[
+    (b"bare f", (b"e", LEAST), (Code::F1, 0, 0)),
+    (b"audit f", (b"f", b"core 0\n"), (Code::I2, 1, 0)),
+    (b"bare f", (b"f", b"core 1\n"), (Code::I1, 2, 0)),
+    (b"procs f", (b"f", NO_PROCESS), (Code::P2, 7, 0)),
+    (b"procs f", (b"f", b"core 1\n"), (Code::P1, 2, 0)),
+];
+
+/// What `e` has where `print e` refuses it, and why.
+const PRINTS_REFUSED: &[(&[u8], Place)] = &[
+    (b"", (Code::O1, 0, 0)),
+    (b"\0\0\0\0\x10", (Code::O1, 1, 0)),
+    (b"\0\0\0\0\x11", (Code::T4, 4, 0)),
+    (b"\0\0\0\0\0\0", (Code::T3, 6, 0)),
+];
+
+/// The one file that is there where `alm e` refuses `e.alm`, and why.
+const SOURCES_REFUSED: &[(File, Place)] = &[
+    ((b"e.alm", b"a: nop 0\na: nop 0\n"), (Code::E5, 2, 1)),
+    ((b"e.alm", b" lda b\n"), (Code::E6, 1, 6)),
+    ((b"e.alm", b" nop 0\n nup 0\n"), (Code::E3, 2, 2)),
+    ((b"e", b""), (Code::F1, 0, 0)),
+];
+
+/// The one file that is there where `bind e` refuses a file, which that is, and why.
+const BINDS_REFUSED: &[(File, &[u8], Place)] = &[
+    ((b"e", b""), b"e.bind", (Code::F1, 0, 0)),
+    ((b"e.bind", b"object e\nobject e\n"), b"e", (Code::F1, 0, 0)),
     (
-        b"bare f",
-        (b"f", LEAST),
-        (1, 0, 0, 0),
-        Due::Leaves(2, 0, (b"e", EMPTY), false),
-    ),
-    (
-        b"print e",
-        (b"e", EMPTY),
-        (1, 0, 0, 0),
-        Due::Leaves(2, 0, (b"e", EMPTY), true),
-    ),
-    (
-        b"alm e",
-        (b"e.alm", b""),
-        (1, 0, 0, 0),
-        Due::Leaves(2, 0, (b"e", EMPTY), false),
-    ),
-    (
-        b"alm e",
-        (b"e.alm", b""),
-        (0, 1, 0, 0),
-        Due::Leaves(3, 0, (b"e", EMPTY), false),
-    ),
-    (
-        b"alm e",
-        (b"e.alm", b""),
-        (0, 0, 1, 0),
-        Due::Leaves(3, 0, (b"e", EMPTY), true),
-    ),
-    (
-        b"alm e",
-        (b"e.alm", b""),
-        (0, 0, 3, 0),
-        Due::Leaves(3, 31, (b"e", EMPTY), true),
-    ),
-    (
-        b"print e",
-        (b"e", EMPTY),
-        (0, 0, 6, 0),
-        Due::Leaves(3, 99, (b"e", EMPTY), true),
-    ),
-    (
-        b"bare f",
-        (b"f", LEAST),
-        (0, 0, 1, 0),
-        Due::Leaves(3, 0, (b"e", EMPTY), false),
-    ),
-    (
-        b"bare f",
-        (b"f", LEAST),
-        (0, 0, 2, 0),
-        Due::Leaves(3, 10, (b"e", EMPTY), false),
-    ),
-    (
-        b"bare f",
-        (b"f", LEAST),
-        (0, 0, 3, 0),
-        Due::Leaves(3, 93, (b"e", EMPTY), false),
-    ),
-    (
-        b"bare f",
-        (b"f", LEAST),
-        (0, 0, 4, 0),
-        Due::Leaves(3, 162, (b"e", EMPTY), false),
-    ),
-    (
-        b"audit f",
-        (b"f", SEGMENTS),
-        (0, 0, 2, 0),
-        Due::Leaves(3, 18, (b"e", EMPTY), false),
+        (b"e.bind", b"object e\nversion 2\n"),
+        b"e.bind",
+        (Code::B1, 2, 0),
     ),
 ];
 
 #[test]
+fn refuses_images(rt: HostRuntime) -> Result<(), NoMemory> {
+    for (command, file, place) in IMAGES_REFUSED {
+        let due = Due::Refuses(b"f", *place);
+        assert!(rt;
+            comes_with(rt.alloc(), command, *file, SURE, due)?,
+            "{command:?}"
+        );
+    }
+    Ok(())
+}
+
+#[test]
+fn refuses_prints(rt: HostRuntime) -> Result<(), NoMemory> {
+    for (content, place) in PRINTS_REFUSED {
+        let due = Due::Refuses(b"e", *place);
+        assert!(rt;
+            comes_with(rt.alloc(), b"print e", (b"e", content), SURE, due)?,
+            "{content:?}"
+        );
+    }
+    Ok(())
+}
+
+#[test]
+fn refuses_sources(rt: HostRuntime) -> Result<(), NoMemory> {
+    for (file, place) in SOURCES_REFUSED {
+        let due = Due::Refuses(b"e.alm", *place);
+        assert!(rt;
+            comes_with(rt.alloc(), b"alm e", *file, SURE, due)?,
+            "{:?}",
+            file.1
+        );
+    }
+    Ok(())
+}
+
+#[test]
+fn refuses_binds(rt: HostRuntime) -> Result<(), NoMemory> {
+    for (file, name, place) in BINDS_REFUSED {
+        let due = Due::Refuses(name, *place);
+        assert!(rt;
+            comes_with(rt.alloc(), b"bind e", *file, SURE, due)?,
+            "{:?}",
+            file.1
+        );
+    }
+    Ok(())
+}
+
+/// The least length of a file that is too large, what it has, the command, the file's name, and the code.
+const LARGE: &[(usize, u8, &[u8], &[u8], Code)] = &[
+    (16_777_217, b'0', b"bare f", b"f", Code::F2),
+    (1_179_653, 0, b"print e", b"e", Code::F3),
+];
+
+// Whether a file of so many equal bytes is refused so.
+fn is_too_large(
+    alloc: Global,
+    (length, byte): (usize, u8),
+    command: &[u8],
+    name: &[u8],
+    code: Code,
+) -> Result<bool, NoMemory> {
+    let large = vec![in alloc; byte; length]?;
+    let due = Due::Refuses(name, (code, 0, 0));
+    comes_with(alloc, command, (name, large.as_slice()), SURE, due)
+}
+
+#[test]
+fn refuses_large_files(rt: HostRuntime) -> Result<(), NoMemory> {
+    for (length, byte, command, name, code) in LARGE {
+        assert!(rt;
+            is_too_large(rt.alloc(), (*length, *byte), command, name, *code)?,
+            "{command:?}"
+        );
+    }
+    Ok(())
+}
+
+/// Commands over a folder with one file: the read, the write and the put that fails, 0 for none; the number of the status, how
+/// much is written, and whether the object is there then.
+type Faulty<'a> = (&'a [u8], File<'a>, (u32, u32, u32), u8, usize, bool);
+
+const FAULTS: &[Faulty] = &[
+    (b"bare f", (b"f", LEAST), (1, 0, 0), 2, 0, false),
+    (b"print e", (b"e", EMPTY), (1, 0, 0), 2, 0, true),
+    (b"alm e", (b"e.alm", b""), (1, 0, 0), 2, 0, false),
+    (b"alm e", (b"e.alm", b""), (0, 1, 0), 3, 0, false),
+    (b"alm e", (b"e.alm", b""), (0, 0, 1), 3, 0, true),
+    (b"alm e", (b"e.alm", b""), (0, 0, 3), 3, 31, true),
+    (b"print e", (b"e", EMPTY), (0, 0, 6), 3, 99, true),
+    (b"bare f", (b"f", LEAST), (0, 0, 1), 3, 0, false),
+    (b"bare f", (b"f", LEAST), (0, 0, 2), 3, 10, false),
+    (b"bare f", (b"f", LEAST), (0, 0, 3), 3, 93, false),
+    (b"bare f", (b"f", LEAST), (0, 0, 4), 3, 162, false),
+    (b"audit f", (b"f", SEGMENTS), (0, 0, 2), 3, 18, false),
+];
+
+#[test]
 fn tells_faults(rt: HostRuntime) -> Result<(), NoMemory> {
-    come(&rt, rt.alloc(), FAULTS)
+    for (command, file, (read, write, put), number, length, is_there) in FAULTS {
+        let due = Due::Leaves(*number, *length, (b"e", EMPTY), *is_there);
+        assert!(rt;
+            comes_with(rt.alloc(), command, *file, (*read, *write, *put, 0), due)?,
+            "{command:?}"
+        );
+    }
+    Ok(())
 }

@@ -3,7 +3,6 @@
 use crate::memory::{Due, World, comes_to};
 use m36_word::NoMemory;
 use std::alloc::Global;
-use std::process::Abort;
 
 /// Writes `hello` through a gate, and stops through it.
 const MAIN: &[u8] = b" entry start
@@ -117,7 +116,10 @@ const ASSEMBLIES: &[&[u8]] = &[b"alm main", b"alm con_", b"alm changes"];
 // fail. The sources are read first, so the boot text is the fourth file.
 fn command_comes_to(
     alloc: Global,
-    (boot, command, (read, put), due): Asked,
+    boot: &[u8],
+    command: &[u8],
+    (read, put): (u32, u32),
+    due: Due,
 ) -> Result<bool, NoMemory> {
     let world = World {
         files: &[
@@ -133,76 +135,59 @@ fn command_comes_to(
     comes_to(alloc, command, &world, due)
 }
 
-/// The boot text, the command, the read and the put that fail, 0 for none, and what the command has to come to.
-type Asked<'a> = (&'a [u8], &'a [u8], (u32, u32), Due<'a>);
-
-// Each command comes to what is due.
-fn come(rt: &impl Abort, alloc: Global, rows: &[Asked]) -> Result<(), NoMemory> {
-    for (n, row) in rows.iter().enumerate() {
-        assert!(rt; command_comes_to(alloc, *row)?, "row {n}");
-    }
-    Ok(())
-}
-
-/// Commands of which none fails.
-const BOOTS: &[Asked] = &[
-    (
-        HELLO,
-        b"run",
-        (0, 0),
-        Due::Writes(0, b"audit yes\nhello\nend dis 13\n"),
-    ),
-    (HELLO, b"trace", (0, 0), Due::Writes(0, TRACE)),
-    (HELLO, b"audit", (0, 0), Due::Writes(0, b"audit yes\n")),
-    (
-        HELLO,
-        b"run --steps 0",
-        (0, 0),
-        Due::Writes(7, b"audit yes\nend limit 0\n"),
-    ),
+/// The boot text, the command, the number of the status, and what is written.
+const BOOTS: &[(&[u8], &[u8], u8, &[u8])] = &[
+    (HELLO, b"run", 0, b"audit yes\nhello\nend dis 13\n"),
+    (HELLO, b"trace", 0, TRACE),
+    (HELLO, b"audit", 0, b"audit yes\n"),
+    (HELLO, b"run --steps 0", 7, b"audit yes\nend limit 0\n"),
     (
         HELLO,
         b"run --steps=9",
-        (0, 0),
-        Due::Writes(7, b"audit yes\nhello\nend limit 9\n"),
+        7,
+        b"audit yes\nhello\nend limit 9\n",
     ),
-    (OPEN, b"run", (0, 0), Due::Writes(5, b"audit no A5 00101\n")),
-    (FEW, b"run", (0, 0), Due::Writes(4, b"")),
-    (
-        OTHER,
-        b"run",
-        (0, 0),
-        Due::Writes(6, b"audit yes\nend link L3 6\n"),
-    ),
-    (
-        NONE,
-        b"run",
-        (0, 0),
-        Due::Writes(6, b"audit yes\nend link L2 6\n"),
-    ),
+    (OPEN, b"run", 5, b"audit no A5 00101\n"),
+    (FEW, b"run", 4, b""),
+    (OTHER, b"run", 6, b"audit yes\nend link L3 6\n"),
+    (NONE, b"run", 6, b"audit yes\nend link L2 6\n"),
     (
         OPEN,
         b"run --unaudited",
-        (0, 0),
-        Due::Writes(0, b"audit no A5 00101\nhello\nend dis 13\n"),
+        0,
+        b"audit no A5 00101\nhello\nend dis 13\n",
     ),
-    (CHANGED, b"trace", (0, 0), Due::Writes(6, CHANGED_TRACE)),
+    (CHANGED, b"trace", 6, CHANGED_TRACE),
 ];
 
 #[test]
 fn boots_folders(rt: HostRuntime) -> Result<(), NoMemory> {
-    come(&rt, rt.alloc(), BOOTS)
+    for (boot, command, number, output) in BOOTS {
+        let due = Due::Writes(*number, output);
+        assert!(rt;
+            command_comes_to(rt.alloc(), boot, command, (0, 0), due)?,
+            "{command:?}"
+        );
+    }
+    Ok(())
 }
 
-/// Runs whose second read fails, or a put.
-const FAULTS: &[Asked] = &[
-    (HELLO, b"run", (5, 0), Due::Length(2, 0)),
-    (HELLO, b"run", (0, 1), Due::Length(3, 0)),
-    (HELLO, b"run", (0, 2), Due::Length(3, 10)),
-    (HELLO, b"run", (0, 3), Due::Length(3, 16)),
+/// A run whose second read fails, or a put, 0 for none: the number of the status, and how much is written.
+const FAULTS: &[(u32, u32, u8, usize)] = &[
+    (5, 0, 2, 0),
+    (0, 1, 3, 0),
+    (0, 2, 3, 10),
+    (0, 3, 3, 16),
 ];
 
 #[test]
 fn tells_faults_of_folders(rt: HostRuntime) -> Result<(), NoMemory> {
-    come(&rt, rt.alloc(), FAULTS)
+    for (read, put, number, length) in FAULTS {
+        let due = Due::Length(*number, *length);
+        assert!(rt;
+            command_comes_to(rt.alloc(), HELLO, b"run", (*read, *put), due)?,
+            "at {read} {put}"
+        );
+    }
+    Ok(())
 }

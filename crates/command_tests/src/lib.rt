@@ -14,8 +14,6 @@ mod makes;
 #[cfg(test)]
 mod memory;
 #[cfg(test)]
-mod refusals;
-#[cfg(test)]
 mod reports;
 #[cfg(test)]
 mod sessions;

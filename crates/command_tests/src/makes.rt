@@ -1,8 +1,9 @@
 //! Folders that are made. The lines, counts and words are those that another program gave.
 
-use crate::memory::{called, has_file, words};
+use crate::memory::{has_file, words};
 use m36_outside::{Folder, MemFolder, MemSink, ReadAnswer, SureLines, Text};
 use m36_text::decimal;
+use m36_top::top::m36;
 use m36_word::NoMemory;
 use std::alloc::Global;
 use std::test::Fail;
@@ -34,7 +35,7 @@ fn call(
     out: &mut MemSink,
 ) -> Result<u8, NoMemory> {
     let mut lines = SureLines::new(alloc, &[])?;
-    let status = called(alloc, words, folder, &mut lines, out);
+    let status = m36(alloc, words, folder, &mut lines, out);
     let number = status.number();
     // Dropped by calls: so the drops are proved once for their types. So below.
     drop(status);

@@ -1,14 +1,11 @@
 //! Commands over files, input and output in memory, and what they have to come to.
 
-use m36_outside::{
-    Folder, Lines, MemFolder, MemLines, MemSink, ReadAnswer, Sink, SureLines, SureSink, Text,
-};
+use m36_outside::{Folder, MemFolder, MemLines, MemSink, ReadAnswer, SureLines, SureSink, Text};
 use m36_reading::{Code, Status};
 use m36_top::report;
 use m36_top::top::m36;
 use m36_word::NoMemory;
 use std::alloc::Global;
-use std::process::Abort;
 
 /// A file: its name and what it has.
 pub(crate) type File<'a> = (&'a [u8], &'a [u8]);
@@ -20,9 +17,6 @@ pub(crate) const SURE: Failing = (0, 0, 0, 0);
 
 /// The code of a file that is refused, and its place and column.
 pub(crate) type Place = (Code, u32, u32);
-
-/// A command over a folder with one file: that file, the calls that fail, and what it has to come to.
-pub(crate) type Asked<'a> = (&'a [u8], File<'a>, Failing, Due<'a>);
 
 /// What a command is called over.
 #[derive(Clone, Copy)]
@@ -54,25 +48,13 @@ pub(crate) enum Due<'a> {
 /// The most bytes that are written here.
 const ROOM: usize = 10_000_000;
 
-/// Adds the words of a command: each stands behind one blank, but the first.
-fn add_words(alloc: Global, command: &[u8], words: &mut Vec<Text>) -> Result<(), NoMemory> {
+/// The words of a command: each stands behind one blank, but the first.
+pub(crate) fn words(alloc: Global, command: &[u8]) -> Result<Vec<Text>, NoMemory> {
+    let mut words = Vec::new(alloc);
     for word in command.split(|byte| *byte == b' ') {
         words.push(Text::from_bytes(alloc, word)?)?;
     }
-    Ok(())
-}
-
-/// The words of a command.
-pub(crate) fn words(alloc: Global, command: &[u8]) -> Result<Vec<Text>, NoMemory> {
-    let mut words = Vec::new(alloc);
-    match add_words(alloc, command, &mut words) {
-        Ok(()) => Ok(words),
-        Err(error) => {
-            // Dropped by a call: so the drop is proved once for its type. So below.
-            drop(words);
-            Err(error)
-        }
-    }
+    Ok(words)
 }
 
 /// Whether a file is there and has this content.
@@ -80,6 +62,7 @@ pub(crate) fn has_file(alloc: Global, folder: &mut MemFolder, name: &[u8], conte
     match folder.read(alloc, name) {
         ReadAnswer::Read(text) => {
             let told = text.bytes() == content;
+            // Dropped by a call: so the drop is proved once for its type. So below.
             drop(text);
             told
         }
@@ -116,32 +99,20 @@ fn is_met(
     folder: &mut MemFolder,
     written: &[u8],
 ) -> bool {
-    let ended = status.number();
     match due {
-        Due::Writes(number, text) => ended == number && written == text,
+        Due::Writes(number, text) => status.number() == number && written == text,
         Due::Begins(number, begin, end) => {
-            ended == number && written.starts_with(begin) && written.ends_with(end)
+            status.number() == number && written.starts_with(begin) && written.ends_with(end)
         }
-        Due::Length(number, length) => ended == number && written.len() == length,
+        Due::Length(number, length) => status.number() == number && written.len() == length,
         Due::Leaves(number, length, (name, content), is_there) => {
-            ended == number
+            status.number() == number
                 && written.len() == length
                 && has_file(alloc, folder, name, content) == is_there
         }
         Due::Refuses(name, place) => written.is_empty() && is_refusal(status, name, place),
         Due::Reports(line, text) => has_line(alloc, status, line) && written == text,
     }
-}
-
-/// Calls words over a folder, an input and an output of any kind.
-pub(crate) fn called<F: Folder, L: Lines, S: Sink>(
-    alloc: Global,
-    words: &[Text],
-    folder: &mut F,
-    lines: &mut L,
-    out: &mut S,
-) -> Status {
-    m36(alloc, words, folder, lines, out)
 }
 
 /// Calls words over the folder; what they put and come to is not kept.
@@ -151,10 +122,8 @@ fn call_words_before(
     folder: &mut MemFolder,
 ) -> Result<(), NoMemory> {
     let mut lines = SureLines::new(alloc, &[])?;
-    let mut out = SureSink::new();
-    let status = called(alloc, words, folder, &mut lines, &mut out);
+    let status = m36(alloc, words, folder, &mut lines, &mut SureSink::new());
     drop(status);
-    drop(out);
     drop(lines);
     Ok(())
 }
@@ -167,16 +136,10 @@ fn call_before(alloc: Global, command: &[u8], folder: &mut MemFolder) -> Result<
     told
 }
 
-fn add_files(folder: &mut MemFolder, files: &[File]) -> Result<(), NoMemory> {
-    for (name, content) in files {
+fn fill(alloc: Global, folder: &mut MemFolder, world: &World) -> Result<(), NoMemory> {
+    for (name, content) in world.files {
         folder.add(name, content)?;
     }
-    Ok(())
-}
-
-/// Puts the files into the folder, and calls what is called before.
-fn fill(alloc: Global, folder: &mut MemFolder, world: &World) -> Result<(), NoMemory> {
-    add_files(folder, world.files)?;
     for command in world.before {
         call_before(alloc, command, folder)?;
     }
@@ -194,7 +157,7 @@ fn call(
     fill(alloc, folder, world)?;
     let (_, _, _, piece) = world.failing;
     let mut lines = MemLines::new(alloc, world.input, &[piece])?;
-    let status = called(alloc, words, folder, &mut lines, out);
+    let status = m36(alloc, words, folder, &mut lines, out);
     drop(lines);
     Ok(status)
 }
@@ -259,7 +222,10 @@ pub(crate) fn comes_to(
 /// Whether a command comes to what is due over a folder with one file.
 pub(crate) fn comes_with(
     alloc: Global,
-    (command, file, failing, due): Asked,
+    command: &[u8],
+    file: File,
+    failing: Failing,
+    due: Due,
 ) -> Result<bool, NoMemory> {
     let world = World {
         files: &[file],
@@ -268,12 +234,4 @@ pub(crate) fn comes_with(
         failing,
     };
     comes_to(alloc, command, &world, due)
-}
-
-/// Each command comes to what is due.
-pub(crate) fn come(rt: &impl Abort, alloc: Global, rows: &[Asked]) -> Result<(), NoMemory> {
-    for (n, row) in rows.iter().enumerate() {
-        assert!(rt; comes_with(alloc, *row)?, "row {n}");
-    }
-    Ok(())
 }

@@ -47,27 +47,19 @@ fn holds_sessions(rt: HostRuntime) -> Result<(), NoMemory> {
     Ok(())
 }
 
-// Adds a line that is longer than a session takes.
-fn add_long_line(content: &mut Text) -> Result<(), NoMemory> {
+// Lines that are longer than a session takes.
+fn long_input(alloc: Global) -> Result<Text, NoMemory> {
+    let mut content = Text::from_bytes(alloc, b"where\n")?;
     for _ in 0..1025 {
         content.append(&[b' '; 1024])?;
     }
-    Ok(())
-}
-
-// Whether a session is refused where a line behind these is too long.
-fn refuses_behind(alloc: Global, content: &mut Text) -> Result<bool, NoMemory> {
-    add_long_line(content)?;
-    let due = Due::Reports(b"m36: BadFile stdin S1 0 0\n", b"0 00001|000000\n");
-    holds(alloc, content.bytes(), (0, 0), due)
+    Ok(content)
 }
 
 #[test]
 fn refuses_long_input(rt: HostRuntime) -> Result<(), NoMemory> {
-    let mut content = Text::from_bytes(rt.alloc(), b"where\n")?;
-    let told = refuses_behind(rt.alloc(), &mut content);
-    // Dropped by a call: so the drop is proved once for its type.
-    drop(content);
-    assert!(rt; told?);
+    let content = long_input(rt.alloc())?;
+    let due = Due::Reports(b"m36: BadFile stdin S1 0 0\n", b"0 00001|000000\n");
+    assert!(rt; holds(rt.alloc(), content.bytes(), (0, 0), due)?);
     Ok(())
 }

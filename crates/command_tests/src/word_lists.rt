@@ -4,7 +4,6 @@ use crate::calls::LEAST;
 use crate::memory::{Due, SURE, World, comes_with, words_come_to};
 use m36_word::NoMemory;
 use std::alloc::Global;
-use std::process::Abort;
 
 /// The words of a command, each behind one blank but the first; the number of the status, and how much is written.
 type Asked<'a> = (&'a [u8], u8, usize);
@@ -120,30 +119,31 @@ const OTHERS: &[Asked] = &[
 // Whether words come to this over the least image as the file `f`.
 fn answers(alloc: Global, (command, number, written): Asked) -> Result<bool, NoMemory> {
     let due = Due::Length(number, written);
-    comes_with(alloc, (command, (b"f", LEAST), SURE, due))
+    comes_with(alloc, command, (b"f", LEAST), SURE, due)
 }
 
-// Words come to these.
-fn are_answered(rt: &impl Abort, alloc: Global, rows: &[Asked]) -> Result<(), NoMemory> {
-    for row in rows {
-        assert!(rt; answers(alloc, *row)?, "{:?}", row.0);
+#[test]
+fn words_of_images(rt: HostRuntime) -> Result<(), NoMemory> {
+    for row in IMAGES {
+        assert!(rt; answers(rt.alloc(), *row)?, "{:?}", row.0);
     }
     Ok(())
 }
 
 #[test]
-fn words_of_images(rt: HostRuntime) -> Result<(), NoMemory> {
-    are_answered(&rt, rt.alloc(), IMAGES)
-}
-
-#[test]
 fn words_of_files(rt: HostRuntime) -> Result<(), NoMemory> {
-    are_answered(&rt, rt.alloc(), FILES)
+    for row in FILES {
+        assert!(rt; answers(rt.alloc(), *row)?, "{:?}", row.0);
+    }
+    Ok(())
 }
 
 #[test]
 fn other_words(rt: HostRuntime) -> Result<(), NoMemory> {
-    are_answered(&rt, rt.alloc(), OTHERS)
+    for row in OTHERS {
+        assert!(rt; answers(rt.alloc(), *row)?, "{:?}", row.0);
+    }
+    Ok(())
 }
 
 #[test]

@@ -1,12 +1,11 @@
 //! Small images that break a condition each, and some that break none. Findings are worked out by hand.
 
 use Segment::{Code, Disordered, Paged, Stack, Text, Whole};
-use m36_audit::{Finding, Verdict, audit};
+use m36_audit::{Verdict, audit};
 use m36_core::Core;
 use m36_desc::{Dbr, Ptw, Sdw};
 use m36_word::{NoMemory, Word};
 use std::alloc::Global;
-use std::process::Abort;
 
 /// A live segment: mostly its number, the address where it or its page table lies, and its bound in blocks of 16 words.
 #[derive(Clone, Copy)]
@@ -153,14 +152,10 @@ fn put_tables(core: &mut Core, unpaged: bool, segments: &[Segment], pages: &[(u3
     }
 }
 
-fn is_due(finding: &Finding, (condition, place): (u8, u32)) -> bool {
-    finding.condition == condition && finding.place == place
-}
-
 /// Whether these are found, each a condition and a place.
 fn are_found(verdict: &Verdict, expected: &[(u8, u32)]) -> bool {
-    for (finding, due) in verdict.findings.iter().zip(expected) {
-        if !is_due(finding, *due) {
+    for (finding, (condition, place)) in verdict.findings.iter().zip(expected) {
+        if finding.condition != *condition || finding.place != *place {
             return false;
         }
     }
@@ -289,20 +284,18 @@ fn is_found(alloc: Global, image: &Image) -> Result<bool, NoMemory> {
     told
 }
 
-/// The audit of each image finds what it is to find.
-fn are_right(rt: &impl Abort, alloc: Global, images: &[Image]) -> Result<(), NoMemory> {
-    for (n, image) in images.iter().enumerate() {
-        assert!(rt; is_found(alloc, image)?, "image {n}");
+#[test]
+fn findings_of_images(rt: HostRuntime) -> Result<(), NoMemory> {
+    for (n, image) in WHOLE_SEGMENTS.iter().enumerate() {
+        assert!(rt; is_found(rt.alloc(), image)?, "image {n}");
     }
     Ok(())
 }
 
 #[test]
-fn findings_of_images(rt: HostRuntime) -> Result<(), NoMemory> {
-    are_right(&rt, rt.alloc(), WHOLE_SEGMENTS)
-}
-
-#[test]
 fn findings_of_tables(rt: HostRuntime) -> Result<(), NoMemory> {
-    are_right(&rt, rt.alloc(), TABLES)
+    for (n, image) in TABLES.iter().enumerate() {
+        assert!(rt; is_found(rt.alloc(), image)?, "image {n}");
+    }
+    Ok(())
 }

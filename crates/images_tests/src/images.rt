@@ -96,43 +96,27 @@ const OF_WORDS: &[Refused] = &[
     ),
 ];
 
-/// What is told of an image.
-fn told_of(read: &Result<Image, ImageFault>) -> Result<Option<Refusal>, NoMemory> {
-    match read {
-        Ok(_) => Ok(None),
-        Err(ImageFault::Refused(refusal)) => Ok(Some(*refusal)),
-        Err(ImageFault::NoMemory) => Err(NoMemory),
-    }
-}
-
 // What is told of a text; of a long one, want of memory.
 fn refusal(alloc: Global, text: &[u8]) -> Result<Option<Refusal>, NoMemory> {
     if text.len() > 1000 {
         return Err(NoMemory);
     }
-    let read = read_image(alloc, text);
-    let told = told_of(&read);
-    // Dropped by a call: so the drop is proved once for its type. So below.
-    drop(read);
-    told
+    match read_image(alloc, text) {
+        Ok(_) => Ok(None),
+        Err(ImageFault::Refused(refusal)) => Ok(Some(refusal)),
+        Err(ImageFault::NoMemory) => Err(NoMemory),
+    }
 }
 
-/// Whether a text is refused so with these lines behind it.
-fn refuses_behind(alloc: Global, text: &mut Text, row: &Refused) -> Result<bool, NoMemory> {
+fn refuses(alloc: Global, front: &[u8], row: &Refused) -> Result<bool, NoMemory> {
     let (rest, code, line) = row;
     let expected = Refusal {
         line: *line,
         code: *code,
     };
+    let mut text = Text::from_bytes(alloc, front)?;
     text.append(rest)?;
     Ok(refusal(alloc, text.bytes())? == Some(expected))
-}
-
-fn refuses(alloc: Global, front: &[u8], row: &Refused) -> Result<bool, NoMemory> {
-    let mut text = Text::from_bytes(alloc, front)?;
-    let told = refuses_behind(alloc, &mut text, row);
-    drop(text);
-    told
 }
 
 fn refuse(rt: &impl Abort, alloc: Global, front: &[u8], rows: &[Refused]) -> Result<(), NoMemory> {
@@ -178,13 +162,10 @@ fn is_right(image: &Image) -> bool {
 }
 
 fn is_read(alloc: Global) -> bool {
-    let read = read_image(alloc, IMAGE);
-    let told = match &read {
-        Ok(image) => is_right(image),
+    match read_image(alloc, IMAGE) {
+        Ok(image) => is_right(&image),
         Err(_) => false,
-    };
-    drop(read);
-    told
+    }
 }
 
 #[test]
@@ -214,17 +195,14 @@ const ENDS: &[(u32, &[u8], Result<u32, ImageCode>)] = &[
     (0, b"at", Err(ImageCode::I1)),
 ];
 
-/// Each line ends so, behind the one before it.
-fn lines_end(rt: &impl Abort, core: &mut Core) {
-    for (next, line, end) in ENDS {
-        assert!(rt; put_line_into_core(core, *next, line) == *end, "{next}");
-    }
-}
-
 #[test]
 fn puts_single_lines(rt: HostRuntime) -> Result<(), NoMemory> {
     let mut core = Core::new(rt.alloc(), 1)?;
-    lines_end(&rt, &mut core);
-    drop(core);
+    for (next, line, end) in ENDS {
+        assert!(rt;
+            put_line_into_core(&mut core, *next, line) == *end,
+            "{next}"
+        );
+    }
     Ok(())
 }

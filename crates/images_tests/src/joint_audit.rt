@@ -53,29 +53,14 @@ fn are_found(joint: &Joint, expected: &[(Option<u8>, u8, u32)]) -> bool {
     joint.findings.len() == expected.len() && joint.yes() == expected.is_empty()
 }
 
-/// Whether the joint audit of core finds these, where the descriptors of the second process lie there.
-fn finds_in(
-    alloc: Global,
-    core: &Core,
-    second: u32,
-    expected: &[(Option<u8>, u8, u32)],
-) -> Result<bool, NoMemory> {
-    let joint = joint(alloc, core, &[dbr(0), dbr(second)])?;
-    let told = are_found(&joint, expected);
-    // Dropped by a call: so the drop is proved once for its type. So below.
-    drop(joint);
-    Ok(told)
-}
-
 /// Whether the joint audit of an image finds what it is to find.
 fn finds(alloc: Global, image: &Image) -> Result<bool, NoMemory> {
     let Image(words, second, expected) = image;
     let mut core = Core::new(alloc, 2)?;
     put(&mut core, &LOCK);
     put(&mut core, words);
-    let told = finds_in(alloc, &core, *second, expected);
-    drop(core);
-    told
+    let joint = joint(alloc, &core, &[dbr(0), dbr(*second)])?;
+    Ok(are_found(&joint, expected))
 }
 
 const IMAGES: &[Image] = &[

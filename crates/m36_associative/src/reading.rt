@@ -13,7 +13,7 @@ use crate::writing::with_mark;
 use m36_core::Core;
 use m36_desc::{Dbr, Ptw, Sdw};
 use m36_model::Refusal;
-use m36_tables::{descriptor_place, directory_at, in_frame, page_at, page_table_word, wrapped};
+use m36_tables::{directory_at, in_frame, page_at, page_table_word, wrapped};
 
 /// The descriptor that is kept of a segment, which becomes the one used last.
 fn recalled_descriptor(_core: &Core, _dbr: Dbr, memories: &mut Memories, seg: u16) -> Option<Sdw>
@@ -58,16 +58,16 @@ fn put_descriptor(_core: &Core, _dbr: Dbr, memories: &mut Memories, seg: u16, sd
     let _ = memories.sdws.put(seg, *sdw);
 }
 
-/// Keeps the descriptor of a segment. Where there is no memory for it, or no room to watch its words, it is not kept.
-fn keep_descriptor(core: &Core, dbr: Dbr, memories: &mut Memories, seg: u16, sdw: &Sdw)
+/// Keeps the descriptor of a segment, whose even word stands at a place. Where there is no memory for it, or no room to
+/// watch its words, it is not kept.
+fn keep_descriptor(core: &Core, dbr: Dbr, memories: &mut Memories, seg: u16, even: u32, sdw: &Sdw)
     requires seg { seg < 2 ^ 15 }
+    requires place { even < 2 ^ 24 }
+    requires even { sdw_place core.now dbr seg ≡ Ok even }
     requires found { core_sdw core.now dbr seg ≡ Ok sdw.now }
     requires right { AreRight core.now dbr memories.old }
     ensures { AreRight core.now dbr memories.new }
 {
-    let Ok(even) = descriptor_place(core, dbr, seg) else {
-        return;
-    };
     if !watch_descriptor(core, dbr, memories, seg, even) {
         memories.forget();
         return;
@@ -76,6 +76,7 @@ fn keep_descriptor(core: &Core, dbr: Dbr, memories: &mut Memories, seg: u16, sdw
 }
 
 /// The descriptor of a live segment, as the tables in core have it.
+#[tactic(auto, unfolding(m36_model::specs::Place::core_sdw))]
 pub fn descriptor(core: &Core, dbr: Dbr, memories: &mut Memories, seg: u16) -> Result<Sdw, Refusal>
     requires seg { seg < 2 ^ 15 }
     requires right { AreRight core.now dbr memories.old }
@@ -86,8 +87,9 @@ pub fn descriptor(core: &Core, dbr: Dbr, memories: &mut Memories, seg: u16) -> R
     if let Some(sdw) = recalled_descriptor(core, dbr, memories, seg) {
         return Ok(sdw);
     }
+    let even = m36_tables::descriptor_place(core, dbr, seg)?;
     let sdw = m36_tables::descriptor(core, dbr, seg)?;
-    keep_descriptor(core, dbr, memories, seg, &sdw);
+    keep_descriptor(core, dbr, memories, seg, even, &sdw);
     Ok(sdw)
 }
 

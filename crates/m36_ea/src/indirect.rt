@@ -118,23 +118,20 @@ pub(crate) fn follow(
     ensures len { length walk.new.core ≡ length walk.old.core }
     ensures count { length refs.new.items ≤ length refs.old.items + 1 }
 {
-    let (even, r1) = match indirect_word(walk, regs, tpr, word) {
-        Ok(read) => read,
-        Err(fault) => return Err(fault),
-    };
+    let (even, r1) = indirect_word(walk, regs, tpr, word)?;
     match format_of(word, even) {
         Format::Plain => {
             complete(refs, Kind::Indirect, tpr.at(word), 1);
             Ok(tpr.after_plain(word, held, even, r1))
         }
-        Format::Its => match odd_word(walk, regs, tpr, word, refs) {
-            Ok(odd) => Ok(tpr.after_its(word, held, Pair { even, odd }, r1)),
-            Err(fault) => Err(fault),
-        },
-        Format::Itp => match odd_word(walk, regs, tpr, word, refs) {
-            Ok(odd) => Ok(tpr.after_itp(regs, word, held, Pair { even, odd }, r1)),
-            Err(fault) => Err(fault),
-        },
+        Format::Its => {
+            let odd = odd_word(walk, regs, tpr, word, refs)?;
+            Ok(tpr.after_its(word, held, Pair { even, odd }, r1))
+        }
+        Format::Itp => {
+            let odd = odd_word(walk, regs, tpr, word, refs)?;
+            Ok(tpr.after_itp(regs, word, held, Pair { even, odd }, r1))
+        }
     }
 }
 
@@ -169,19 +166,13 @@ pub(crate) fn count(
 {
     let y = tpr.y;
     let td = tpr.tag % 16;
-    let (word, _) = match indirect_word(walk, regs, tpr, y) {
-        Ok(read) => read,
-        Err(fault) => return Err(fault),
-    };
+    let (word, _) = indirect_word(walk, regs, tpr, y)?;
     let at = tpr.at(y);
     complete(refs, Kind::Indirect, at, 1);
     if td == INDIRECT_ONLY {
         return Ok(formed(tpr.end_at(address(word))));
     }
-    let place = match walk.hold(at, 1) {
-        Ok(place) => place,
-        Err(fault) => return Err(fault),
-    };
+    let place = walk.hold(at, 1)?;
     complete(refs, Kind::Write, at, 1);
     let counted = tally(td, word);
     Ok(Formed {

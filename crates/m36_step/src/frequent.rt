@@ -4,10 +4,10 @@
 //! address, shifts or transfers, is done here: its effect is made in the registers, and its record is filled in place. The
 //! reference to a word or to the target of a transfer answers the word or the place without a fault beside it; where it is
 //! refused, or the instruction is another, nothing has changed since the address was formed, and `operated` goes on from
-//! there; only the Write of a word that was read is asked for again by itself. Pairs, CALL6 and RTCD are those of `paired`,
-//! which tells a refusal at once.
+//! there; only the Write of a word that was read is asked for again by itself. Pairs, shifts, CALL6 and RTCD are those of
+//! `paired`, which tells a refusal at once.
 
-ghost use Rattle.std.specs.Prelude.{◌≡◌, ◌≢◌, ◌<◌, ◌≤◌, None, Ok, IfSome, IfNone, length};
+ghost use Rattle.std.specs.Prelude.{◌≡◌, ◌≢◌, ◌<◌, ◌≤◌, Ok, IfSome, IfNone, length};
 ghost use Rattle.m36_inst.specs.Lookup.{IsRow};
 ghost use Rattle.m36_inst.specs.declared.operand.Operand.TheVariants as kind;
 ghost use Rattle.m36_ea.specs.Formed.{plain};
@@ -109,7 +109,6 @@ fn stored_operand(
     requires dbr { walk.old.dbr ≡ regs.old.dbr }
     requires row { IsRow row.now }
     requires kind { row.now.operand ≡ kind.W }
-    requires direct { last.now.direct ≡ None }
     requires room { length told.old.refs.items ≤ 38 }
     ensures ends { EndsFormed regs.old
         (operated row.now.effect row.now.reg regs.old word (chain_end_fields (plain last.now)))
@@ -122,13 +121,16 @@ fn stored_operand(
         return operated_else(walk, regs, word, row, last, told);
     }
     let at = regs.here();
-    match try_hold(walk, regs, last, &mut told.refs) {
-        Some(place) => {
-            let stored = m36_frequent::store_word(row, regs);
-            walk.store(place, stored);
-            tell_done(told, at, word, last, regs, false);
-        }
-        None => operated_else(walk, regs, word, row, last, told),
+    match last.direct {
+        Some(_) => operated_else(walk, regs, word, row, last, told),
+        None => match try_hold(walk, regs, last, &mut told.refs) {
+            Some(place) => {
+                let stored = m36_frequent::store_word(row, regs);
+                walk.store(place, stored);
+                tell_done(told, at, word, last, regs, false);
+            }
+            None => operated_else(walk, regs, word, row, last, told),
+        },
     }
 }
 
@@ -205,7 +207,6 @@ fn changed_operand(
     requires dbr { walk.old.dbr ≡ regs.old.dbr }
     requires row { IsRow row.now }
     requires kind { row.now.operand ≡ kind.Rw }
-    requires direct { last.now.direct ≡ None }
     requires room { length told.old.refs.items ≤ 38 }
     ensures ends { EndsFormed regs.old
         (operated row.now.effect row.now.reg regs.old word (chain_end_fields (plain last.now)))
@@ -218,15 +219,18 @@ fn changed_operand(
         return operated_else(walk, regs, word, row, last, told);
     }
     let at = regs.here();
-    match try_read(walk, regs, last, &mut told.refs) {
-        None => operated_else(walk, regs, word, row, last, told),
-        Some(operand) => match hold(walk, regs, word, last, told) {
-            Some(place) => {
-                let (changed, overflow) = m36_frequent::change_word(row, regs, operand);
-                walk.store(place, changed);
-                tell_done(told, at, word, last, regs, overflow);
-            }
-            None => {}
+    match last.direct {
+        Some(_) => operated_else(walk, regs, word, row, last, told),
+        None => match try_read(walk, regs, last, &mut told.refs) {
+            None => operated_else(walk, regs, word, row, last, told),
+            Some(operand) => match hold(walk, regs, word, last, told) {
+                Some(place) => {
+                    let (changed, overflow) = m36_frequent::change_word(row, regs, operand);
+                    walk.store(place, changed);
+                    tell_done(told, at, word, last, regs, overflow);
+                }
+                None => {}
+            },
         },
     }
 }
@@ -244,7 +248,6 @@ fn address_operand(
     requires dbr { walk.old.dbr ≡ regs.old.dbr }
     requires row { IsRow row.now }
     requires kind { row.now.operand ≡ kind.A }
-    requires direct { last.now.direct ≡ None }
     requires room { length told.old.refs.items ≤ 38 }
     ensures ends { EndsFormed regs.old
         (operated row.now.effect row.now.reg regs.old word (chain_end_fields (plain last.now)))
@@ -257,8 +260,13 @@ fn address_operand(
         return shift_operand(walk, regs, word, row, last, told);
     }
     let place = regs.here();
-    let overflow = m36_frequent::load_address(row, regs, last);
-    tell_done(told, place, word, last, regs, overflow);
+    match last.direct {
+        Some(_) => operated_else(walk, regs, word, row, last, told),
+        None => {
+            let overflow = m36_frequent::load_address(row, regs, last);
+            tell_done(told, place, word, last, regs, overflow);
+        }
+    }
 }
 
 /// A transfer.
@@ -274,7 +282,6 @@ fn target_operand(
     requires dbr { walk.old.dbr ≡ regs.old.dbr }
     requires row { IsRow row.now }
     requires kind { row.now.operand ≡ kind.T }
-    requires direct { last.now.direct ≡ None }
     requires room { length told.old.refs.items ≤ 38 }
     ensures ends { EndsFormed regs.old
         (operated row.now.effect row.now.reg regs.old word (chain_end_fields (plain last.now)))
@@ -287,48 +294,19 @@ fn target_operand(
         return operated_else(walk, regs, word, row, last, told);
     }
     let place = regs.here();
-    if !m36_xfer::is_taken(row.effect, regs) {
-        m36_xfer::transfer(row.effect, regs, last);
-        return tell_done(told, place, word, last, regs, false);
-    }
-    if !walk.try_transfer(final_at(last), place.ring) {
-        return operated_else(walk, regs, word, row, last, told);
-    }
-    m36_xfer::transfer(row.effect, regs, last);
-    tell_done(told, place, word, last, regs, false);
-}
-
-/// The operation of an instruction whose operand stands in a segment, or is its address.
-#[inline(always)]
-fn operated_there(
-    walk: &mut Walk,
-    regs: &mut Regs,
-    word: Word,
-    row: &Row,
-    last: &Final,
-    told: &mut StepRecord,
-)
-    requires dbr { walk.old.dbr ≡ regs.old.dbr }
-    requires row { IsRow row.now }
-    requires addressed { row.now.operand ≢ kind.N }
-    requires direct { last.now.direct ≡ None }
-    requires room { length told.old.refs.items ≤ 38 }
-    ensures ends { EndsFormed regs.old
-        (operated row.now.effect row.now.reg regs.old word (chain_end_fields (plain last.now)))
-        walk.old.core (plain last.now) told.old.refs.items walk.new.core told.new.refs.items
-        regs.new (ended_of told.new) }
-    ensures ppr { told.new.ppr ≡ told.old.ppr }
-    ensures dbr { walk.new.dbr ≡ regs.new.dbr }
-{
-    match row.operand {
-        Operand::W => stored_operand(walk, regs, word, row, last, told),
-        Operand::Rw => changed_operand(walk, regs, word, row, last, told),
-        Operand::A => address_operand(walk, regs, word, row, last, told),
-        Operand::T => target_operand(walk, regs, word, row, last, told),
-        Operand::R2 => pair_operand(walk, regs, word, row, last, told),
-        Operand::W2 => stored_pair(walk, regs, word, row, last, told),
-        Operand::Call6 => called(walk, regs, word, row, last, told),
-        _ => operated_else(walk, regs, word, row, last, told),
+    match last.direct {
+        Some(_) => operated_else(walk, regs, word, row, last, told),
+        None => {
+            if !m36_xfer::is_taken(row.effect, regs) {
+                m36_xfer::transfer(row.effect, regs, last);
+                return tell_done(told, place, word, last, regs, false);
+            }
+            if !walk.try_transfer(final_at(last), place.ring) {
+                return operated_else(walk, regs, word, row, last, told);
+            }
+            m36_xfer::transfer(row.effect, regs, last);
+            tell_done(told, place, word, last, regs, false);
+        }
     }
 }
 
@@ -355,9 +333,13 @@ pub(crate) fn operated_plain(
 {
     match row.operand {
         Operand::R => read_operand(walk, regs, word, row, last, told),
-        _ => match last.direct {
-            Some(_) => operated_else(walk, regs, word, row, last, told),
-            None => operated_there(walk, regs, word, row, last, told),
-        },
+        Operand::W => stored_operand(walk, regs, word, row, last, told),
+        Operand::Rw => changed_operand(walk, regs, word, row, last, told),
+        Operand::A => address_operand(walk, regs, word, row, last, told),
+        Operand::T => target_operand(walk, regs, word, row, last, told),
+        Operand::R2 => pair_operand(walk, regs, word, row, last, told),
+        Operand::W2 => stored_pair(walk, regs, word, row, last, told),
+        Operand::Call6 => called(walk, regs, word, row, last, told),
+        _ => operated_else(walk, regs, word, row, last, told),
     }
 }

@@ -3,7 +3,7 @@
 //! As the frequent instructions on words, they are done in the registers, and their record is filled in place. A pair that may
 //! not be read or written, and a target that may not be called, is told with its fault at once.
 
-ghost use Rattle.std.specs.Prelude.{ℕ, ◌≡◌, ◌+◌, ◌<◌, ◌≤◌, ◌^◌, None, IfOk, length};
+ghost use Rattle.std.specs.Prelude.{ℕ, ◌≡◌, ◌+◌, ◌<◌, ◌≤◌, ◌^◌, IfOk, length};
 ghost use Rattle.m36_word.specs.Pairs.{pair_words};
 ghost use Rattle.m36_inst.specs.Lookup.{IsRow};
 ghost use Rattle.m36_inst.specs.declared.operand.Operand.TheVariants as kind;
@@ -89,7 +89,6 @@ fn returned(
     requires dbr { walk.old.dbr ≡ regs.old.dbr }
     requires row { IsRow row.now }
     requires kind { row.now.operand ≡ kind.R2 }
-    requires direct { last.now.direct ≡ None }
     requires room { length told.old.refs.items ≤ 38 }
     ensures ends { EndsFormed regs.old
         (operated row.now.effect row.now.reg regs.old word (chain_end_fields (plain last.now)))
@@ -100,12 +99,15 @@ fn returned(
 {
     let place = regs.here();
     match row.effect {
-        Effect::Rtcd => match pair_read(walk, regs, last, &mut told.refs) {
-            Ok((pair, ring)) => {
-                m36_xfer::leave(regs, last, pair, ring);
-                tell_done(told, place, word, last, regs, false);
-            }
-            Err(fault) => tell_refused(told, word, last, fault),
+        Effect::Rtcd => match last.direct {
+            Some(_) => operated_else(walk, regs, word, row, last, told),
+            None => match pair_read(walk, regs, last, &mut told.refs) {
+                Ok((pair, ring)) => {
+                    m36_xfer::leave(regs, last, pair, ring);
+                    tell_done(told, place, word, last, regs, false);
+                }
+                Err(fault) => tell_refused(told, word, last, fault),
+            },
         },
         _ => operated_else(walk, regs, word, row, last, told),
     }
@@ -124,7 +126,6 @@ pub(crate) fn called(
     requires dbr { walk.old.dbr ≡ regs.old.dbr }
     requires row { IsRow row.now }
     requires kind { row.now.operand ≡ kind.Call6 }
-    requires direct { last.now.direct ≡ None }
     requires room { length told.old.refs.items ≤ 38 }
     ensures ends { EndsFormed regs.old
         (operated row.now.effect row.now.reg regs.old word (chain_end_fields (plain last.now)))
@@ -135,12 +136,15 @@ pub(crate) fn called(
 {
     let place = regs.here();
     match row.effect {
-        Effect::Call6 => match walk.call(final_at(last), regs.ppr) {
-            Ok(ring) => {
-                m36_xfer::enter(regs, last, ring);
-                tell_done(told, place, word, last, regs, false);
-            }
-            Err(fault) => tell_refused(told, word, last, fault),
+        Effect::Call6 => match last.direct {
+            Some(_) => operated_else(walk, regs, word, row, last, told),
+            None => match walk.call(final_at(last), regs.ppr) {
+                Ok(ring) => {
+                    m36_xfer::enter(regs, last, ring);
+                    tell_done(told, place, word, last, regs, false);
+                }
+                Err(fault) => tell_refused(told, word, last, fault),
+            },
         },
         _ => operated_else(walk, regs, word, row, last, told),
     }
@@ -159,7 +163,6 @@ pub(crate) fn pair_operand(
     requires dbr { walk.old.dbr ≡ regs.old.dbr }
     requires row { IsRow row.now }
     requires kind { row.now.operand ≡ kind.R2 }
-    requires direct { last.now.direct ≡ None }
     requires room { length told.old.refs.items ≤ 38 }
     ensures ends { EndsFormed regs.old
         (operated row.now.effect row.now.reg regs.old word (chain_end_fields (plain last.now)))
@@ -172,12 +175,15 @@ pub(crate) fn pair_operand(
         return returned(walk, regs, word, row, last, told);
     }
     let place = regs.here();
-    match pair_read(walk, regs, last, &mut told.refs) {
-        Ok((operand, _)) => {
-            let overflow = m36_frequent::read_pair(row, regs, operand);
-            tell_done(told, place, word, last, regs, overflow);
-        }
-        Err(fault) => tell_refused(told, word, last, fault),
+    match last.direct {
+        Some(_) => operated_else(walk, regs, word, row, last, told),
+        None => match pair_read(walk, regs, last, &mut told.refs) {
+            Ok((operand, _)) => {
+                let overflow = m36_frequent::read_pair(row, regs, operand);
+                tell_done(told, place, word, last, regs, overflow);
+            }
+            Err(fault) => tell_refused(told, word, last, fault),
+        },
     }
 }
 
@@ -194,7 +200,6 @@ pub(crate) fn stored_pair(
     requires dbr { walk.old.dbr ≡ regs.old.dbr }
     requires row { IsRow row.now }
     requires kind { row.now.operand ≡ kind.W2 }
-    requires direct { last.now.direct ≡ None }
     requires room { length told.old.refs.items ≤ 38 }
     ensures ends { EndsFormed regs.old
         (operated row.now.effect row.now.reg regs.old word (chain_end_fields (plain last.now)))
@@ -207,13 +212,16 @@ pub(crate) fn stored_pair(
         return operated_else(walk, regs, word, row, last, told);
     }
     let at = regs.here();
-    match pair_held(walk, regs, last, &mut told.refs) {
-        Ok(place) => {
-            let stored = m36_frequent::store_pair(row, regs);
-            walk.store_pair(place, stored);
-            tell_done(told, at, word, last, regs, false);
-        }
-        Err(fault) => tell_refused(told, word, last, fault),
+    match last.direct {
+        Some(_) => operated_else(walk, regs, word, row, last, told),
+        None => match pair_held(walk, regs, last, &mut told.refs) {
+            Ok(place) => {
+                let stored = m36_frequent::store_pair(row, regs);
+                walk.store_pair(place, stored);
+                tell_done(told, at, word, last, regs, false);
+            }
+            Err(fault) => tell_refused(told, word, last, fault),
+        },
     }
 }
 
@@ -230,7 +238,6 @@ pub(crate) fn shift_operand(
     requires dbr { walk.old.dbr ≡ regs.old.dbr }
     requires row { IsRow row.now }
     requires kind { row.now.operand ≡ kind.A }
-    requires direct { last.now.direct ≡ None }
     requires room { length told.old.refs.items ≤ 38 }
     ensures ends { EndsFormed regs.old
         (operated row.now.effect row.now.reg regs.old word (chain_end_fields (plain last.now)))
@@ -243,6 +250,11 @@ pub(crate) fn shift_operand(
         return operated_else(walk, regs, word, row, last, told);
     }
     let place = regs.here();
-    let overflow = m36_frequent::shift(row, regs, last);
-    tell_done(told, place, word, last, regs, overflow);
+    match last.direct {
+        Some(_) => operated_else(walk, regs, word, row, last, told),
+        None => {
+            let overflow = m36_frequent::shift(row, regs, last);
+            tell_done(told, place, word, last, regs, overflow);
+        }
+    }
 }

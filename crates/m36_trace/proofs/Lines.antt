@@ -2,32 +2,15 @@
 use Rattle.std.proofs.Common.{◌≡◌, ℕ, List, [], ◌∷◌, ◌++◌, append_assoc}
 use Rattle.std.specs.Prelude.{codes}
 use Rattle.std.specs.List.{join_with_byte}
-use Rattle.m36_trace.specs.TraceLine.{spaced}
 
--- five fields put one after the other, each with a space after it
-pub five_put :
-    (old a b c d e : List ℕ)
-    → (((((((((old ++ a) ++ (32 ∷ [])) ++ b) ++ (32 ∷ [])) ++ c) ++ (32 ∷ [])) ++ d) ++ (32 ∷ [])) ++ e) ++ (32 ∷ [])
-    ≡ old ++ spaced (a ∷ b ∷ c ∷ d ∷ e ∷ [])
-unfolding spaced
-five_put old a b c d e = simp append_assoc
-
--- and three
-pub three_put :
-    (old a b c : List ℕ)
-    → (((((old ++ a) ++ (32 ∷ [])) ++ b) ++ (32 ∷ [])) ++ c) ++ (32 ∷ []) ≡ old ++ spaced (a ∷ b ∷ c ∷ [])
-unfolding spaced
-three_put old a b c = simp append_assoc
-
--- those five, those three and a last field are the nine fields joined
+-- nine fields put one after the other, with a space after each but the last, are those fields joined
 pub put_in_turn :
     (a b c d e f g h i : List ℕ)
-    → (([] ++ spaced (a ∷ b ∷ c ∷ d ∷ e ∷ [])) ++ spaced (f ∷ g ∷ h ∷ [])) ++ i
+    → (((((((((((((((([] ++ a) ++ (32 ∷ [])) ++ b) ++ (32 ∷ [])) ++ c) ++ (32 ∷ [])) ++ d) ++ (32 ∷ [])) ++ e) ++ (32 ∷ [])) ++ f) ++ (32 ∷ [])) ++ g) ++ (32 ∷ [])) ++ h) ++ (32 ∷ [])) ++ i
     ≡ join_with_byte 32 (a ∷ b ∷ c ∷ d ∷ e ∷ f ∷ g ∷ h ∷ i ∷ [])
-unfolding spaced
 put_in_turn a b c d e f g h i = simp append_assoc
 
--- the fields of an end line, put one after the other, are joined
+-- the same of an end line
 pub ended_in_turn :
     (ending count : List ℕ)
     → ((codes "end " ++ ending) ++ (32 ∷ [])) ++ count ≡ join_with_byte 32 (codes "end" ∷ ending ∷ count ∷ [])

@@ -1,7 +1,6 @@
 -- The trace line of a step: its fields in order, parted by one space.
 use Rattle.std.specs.Prelude.{ℕ, Bool, List, [], ◌∷◌, ◌++◌, Option, Some, None, codes}
 use Rattle.std.specs.Prelude.{if◌then◌else◌, ◌==◌}
-use Rattle.std.specs.List.{flat_map}
 use Rattle.m36_text.specs.Digits.{octal_text, decimal_text, segment_digits, word_text, half_text}
 use Rattle.m36_text.specs.Lines.{joined_by_spaces}
 use Rattle.m36_model.specs.Faults.{access_violation}
@@ -81,10 +80,6 @@ fields n r =
     ∷ indicators_text r.after.ind
     ∷ outcome_text r.outcome
     ∷ []
-
--- fields that others follow: each has a space behind it
-unfoldable pub spaced : List (List ℕ) → List ℕ
-spaced texts = flat_map (λ text. text ++ codes " ") texts
 
 unfoldable pub line_of : ℕ → StepRecord → List ℕ
 line_of n r = joined_by_spaces (fields n r)

@@ -1,11 +1,24 @@
 //! The end line of a run.
 
-ghost use Rattle.std.specs.Prelude.{◌≡◌, ◌≤◌, length};
-ghost use Rattle.m36_trace.specs.EndLine.{end_line_of};
+ghost use Rattle.std.specs.Prelude.{◌≡◌, ◌≤◌, ◌+◌, ◌++◌, length};
+ghost use Rattle.m36_trace.specs.EndLine.{ending_text, end_line_of};
 
-use crate::fields::{put_decimal, put_outcome, put_space};
+use crate::fields::{put_decimal, put_fault, stop_name};
 use arrayvec::ArrayString;
 use m36_model::Outcome;
+
+// Puts how a run ended, by its last outcome.
+fn put_ending(line: &mut ArrayString<160>, last: Outcome)
+    requires room { length line.old.bytes + 47 ≤ 160 }
+    ensures text { line.new.bytes ≡ line.old.bytes ++ ending_text last }
+    ensures len { length line.new.bytes ≤ length line.old.bytes + 47 }
+{
+    match last {
+        Outcome::Next => line.push_str("limit"),
+        Outcome::Faulted(fault) => put_fault(line, fault),
+        Outcome::Stopped(stop) => line.push_str(stop_name(stop)),
+    }
+}
 
 /// The end line of a run of so many steps, without a line feed, by the last outcome. It has at most 72 bytes.
 #[tactic(auto, unfolding(crate::specs::EndLine::end_line_of), using(crate::proofs::Lines::ended_in_turn))]
@@ -15,8 +28,8 @@ pub fn end_line(last: Outcome, steps: u64) -> ArrayString<160>
 {
     let mut line = ArrayString::new();
     line.push_str("end ");
-    put_outcome(&mut line, "limit", last);
-    put_space(&mut line);
+    put_ending(&mut line, last);
+    line.push_str(" ");
     put_decimal(&mut line, steps);
     line
 }

@@ -1,10 +1,10 @@
 //! The fields of a trace line, each put at the end of a line that has room for it.
 
-ghost use Rattle.std.specs.Prelude.{[], ◌∷◌, ◌≡◌, ◌+◌, ◌≤◌, ◌<◌, ◌^◌, ◌++◌, length};
+ghost use Rattle.std.specs.Prelude.{◌≡◌, ◌+◌, ◌≤◌, ◌<◌, ◌^◌, ◌++◌, length};
 ghost use Rattle.m36_text.specs.Digits.{octal_text, decimal_text, word_text};
 ghost use Rattle.m36_trace.specs.TraceLine.{word_of_segment, instruction_text, address_text};
 ghost use Rattle.m36_trace.specs.TraceLine.{operand_text, final_text, letter, indicators_text, fault_text};
-ghost use Rattle.m36_trace.specs.TraceLine.{stop_text, outcome_with};
+ghost use Rattle.m36_trace.specs.TraceLine.{stop_text, outcome_text};
 
 use crate::digits::{place_digits, put_characters, ring_digit, word_digits};
 use arrayvec::ArrayString;
@@ -15,16 +15,8 @@ use m36_word::Word;
 /// The number of an access violation.
 const ACCESS_VIOLATION: u8 = 20;
 
-/// Puts the space that parts a field from the next.
-pub fn put_space(line: &mut ArrayString<160>)
-    requires room { length line.old.bytes < 160 }
-    ensures text { line.new.bytes ≡ line.old.bytes ++ 32 ∷ [] }
-    ensures len { length line.new.bytes ≡ length line.old.bytes + 1 }
-{
-    line.push_str(" ");
-}
-
 /// Puts a ring, which has one digit.
+#[tactic(auto, using(m36_text::proofs::DigitLaws::octal_ascii))]
 pub fn put_ring<const CAP: usize>(line: &mut ArrayString<CAP>, ring: u8)
     requires ring { ring < 2 ^ 3 }
     requires room { length line.old.bytes < CAP }
@@ -45,6 +37,7 @@ pub fn put_word(line: &mut ArrayString<160>, word: Word)
 }
 
 /// Puts a segment and a word of it, at the end of any text that has room for them.
+#[tactic(auto, using(crate::proofs::Ascii::place_is_ascii))]
 pub fn put_place<const CAP: usize>(line: &mut ArrayString<CAP>, seg: u16, word: u32)
     requires seg { seg < 2 ^ 15 }
     requires word { word < 2 ^ 18 }
@@ -153,7 +146,7 @@ pub fn put_fault(line: &mut ArrayString<160>, fault: Fault)
 }
 
 /// The name of a stop.
-fn stop_name(stop: Stop) -> &'static str
+pub fn stop_name(stop: Stop) -> &'static str
     ensures text { result.now ≡ stop_text stop }
     ensures len { length result.now ≤ 14 }
 {
@@ -164,15 +157,14 @@ fn stop_name(stop: Stop) -> &'static str
     }
 }
 
-/// Puts the outcome, with a text of its own for one that another step may follow.
-pub fn put_outcome(line: &mut ArrayString<160>, next: &str, outcome: Outcome)
-    requires next { length next.now ≤ 47 }
+/// Puts the outcome.
+pub fn put_outcome(line: &mut ArrayString<160>, outcome: Outcome)
     requires room { length line.old.bytes + 47 ≤ 160 }
-    ensures text { line.new.bytes ≡ line.old.bytes ++ outcome_with next.now outcome }
+    ensures text { line.new.bytes ≡ line.old.bytes ++ outcome_text outcome }
     ensures len { length line.new.bytes ≤ length line.old.bytes + 47 }
 {
     match outcome {
-        Outcome::Next => line.push_str(next),
+        Outcome::Next => line.push_str("next"),
         Outcome::Faulted(fault) => put_fault(line, fault),
         Outcome::Stopped(stop) => line.push_str(stop_name(stop)),
     }

@@ -1,9 +1,10 @@
-use Rattle.std.proofs.Common.{sym, ◌∙◌}
+use Rattle.std.proofs.Common.{ap, sym, ◌∙◌}
+use Rattle.m36_model.specs.Fields.{FinalFields}
 use Rattle.m36_step.specs.Ended.{ended_of}
 use Rattle.m36_step.proofs.Plain.{address_ends, shift_not_absa}
 use Rattle.m36_step.proofs.paired.shift_operand.Goals as goal
 
-pub returns-clause-ends : goal.returns-clause-ends
-returns-clause-ends c =
+pub returns-in-None-clause-ends : goal.returns-in-None-clause-ends
+returns-in-None-clause-ends c =
     let row = c.args.row.now in
-    rw c.tell_done.ensures.refs (address_ends row.effect row.reg c.args.word c.args.regs.now c.args.last.now c.args.walk.now.core c.args.told.now.refs.items c.shift-overflow.new.regs c.shift-overflow.result (ended_of c.tell_done.new.told) (c.tell_done.ensures.ended c.args.regs.now c.here-place.ensures) (sym c.requires.row.operand ∙ c.requires.kind) c.requires.direct (shift_not_absa row.effect (sym c.is_shift.ensures ∙ c.if-not-is_shift.false)) c.shift-overflow.ensures.value)
+    rw c.tell_done.ensures.refs (address_ends row.effect row.reg c.args.word c.args.regs.now c.args.last.now c.args.walk.now.core c.args.told.now.refs.items c.shift-overflow.new.regs c.shift-overflow.result (ended_of c.tell_done.new.told) (c.tell_done.ensures.ended c.args.regs.now c.here-place.ensures) (sym c.requires.row.operand ∙ c.requires.kind) (ap (λ (x : FinalFields). x.direct) (sym c.last.view_is) ∙ c.in-None.is) (shift_not_absa row.effect (sym c.is_shift.ensures ∙ c.if-not-is_shift.false)) c.shift-overflow.ensures.value)
