@@ -20,6 +20,14 @@ use Rattle.m36_text.specs.Results.{unless}
 use Rattle.alm_parse.specs.Refusals.{told, refused}
 use Rattle.alm_parse.specs.Bodies.{section_by}
 
+-- An operand of two parts has two members and is read by them; one that has fewer or more is not of
+-- its form.
+abbrev pub by_two :
+    (Piece → Piece → Result (List Arg) Refusal) → List ℕ → ℕ → List Piece
+    → Result (List Arg) Refusal
+by_two read text at (first ∷ second ∷ []) = read first second
+by_two read text at _ = Err (told text at E2)
+
 -- a symbol and an expression
 abbrev pub value_by : List ℕ → ℕ → Piece → List Piece → Result (List Arg) Refusal
 value_by text at name pieces =
@@ -28,8 +36,8 @@ value_by text at name pieces =
     (place_out Small text pieces)) (Symbol name.span ∷ Plain (map (term_of text) pieces) ∷ [])
 
 abbrev pub value_of_members : List ℕ → ℕ → List Piece → Result (List Arg) Refusal
-value_of_members text at (name ∷ value ∷ []) = value_by text at name (expression_pieces text value)
-value_of_members text at _ = Err (told text at E2)
+value_of_members text at pieces =
+    by_two (λ name value. value_by text at name (expression_pieces text value)) text at pieces
 
 unfoldable pub value_given : List ℕ → Span → Result (List Arg) Refusal
 value_given text operand = value_of_members text operand.from (members text operand)
@@ -43,9 +51,10 @@ halves_by text at left right =
     (Plain (map (term_of text) left) ∷ Plain (map (term_of text) right) ∷ [])
 
 abbrev pub halves_of_members : List ℕ → ℕ → List Piece → Result (List Arg) Refusal
-halves_of_members text at (left ∷ right ∷ []) =
-    halves_by text at (expression_pieces text left) (expression_pieces text right)
-halves_of_members text at _ = Err (told text at E2)
+halves_of_members text at pieces =
+    by_two
+    (λ left right. halves_by text at (expression_pieces text left) (expression_pieces text right))
+    text at pieces
 
 unfoldable pub halves_given : List ℕ → Span → Result (List Arg) Refusal
 halves_given text operand = halves_of_members text operand.from (members text operand)
@@ -58,8 +67,7 @@ block_by text at name count =
     (place_out Small text (count ∷ []))) (Symbol name.span ∷ number_arg Small text count ∷ [])
 
 abbrev pub block_of_members : List ℕ → ℕ → List Piece → Result (List Arg) Refusal
-block_of_members text at (name ∷ count ∷ []) = block_by text at name count
-block_of_members text at _ = Err (told text at E2)
+block_of_members text at pieces = by_two (block_by text at) text at pieces
 
 unfoldable pub block_given : List ℕ → Span → Result (List Arg) Refusal
 block_given text operand = block_of_members text operand.from (members text operand)

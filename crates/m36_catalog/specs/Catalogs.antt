@@ -16,7 +16,7 @@ use Rattle.m36_reading.specs.declared.status.Code.{Code}
 use Rattle.m36_reading.specs.declared.status.Code.TheVariants as code
 use Rattle.m36_reading.specs.declared.refusal.Refusal.{Refusal}
 use Rattle.m36_reading.specs.declared.refusal.Refusal.TheVariants.{NoMemory}
-use Rattle.m36_reading.specs.Reading.{Reading, decided, Early, then_with}
+use Rattle.m36_reading.specs.Reading.{Reading, decided, Early, then_with, mapped}
 use Rattle.m36_reading.specs.Readers.{refused, file_bytes}
 
 -- ---- the boot text: D1 to D6 at its line
@@ -81,8 +81,7 @@ for_user user catalog lists = record {
 
 unfoldable pub rights_read : Option (List ℕ) → CatalogFields → Reading (Early Access)
 rights_read None catalog = decided (Ok (as_given catalog))
-rights_read (Some user) catalog =
-    then_with (lists_reads catalog) (λ lists. decided (Ok (for_user user catalog lists)))
+rights_read (Some user) catalog = mapped (for_user user catalog) (lists_reads catalog)
 
 unfoldable pub access_reads : Option (List ℕ) → Reading (Early Access)
 access_reads user = then_with catalog_reads (λ catalog. rights_read user catalog)

@@ -45,13 +45,23 @@ in_frame (Some p) offset = in_frame_by p.f p offset
 abbrev pub ptw_at : List ℕ → ℕ → Option PtwFields
 ptw_at core a = option_map ptw_of (slice_get core a)
 
+-- The words of a segment, and those of the descriptor segment, lie in one piece or in pages. Their
+-- address is where the piece begins or the page table: where the PTW of a page stands,
+abbrev pub ptw_from : ℕ → ℕ → ℕ
+ptw_from addr page = wrapped (addr + page)
+
+-- and where a word lies, in one piece or by the PTW of its page.
+abbrev pub place_from : Bool → ℕ → ℕ → Option PtwFields → Result ℕ Refusal
+place_from true addr w p = Ok (wrapped (addr + w))
+place_from false addr w p = in_frame p (w % 1024)
+
 -- the address of the descriptor segment's PTW for a segment
 abbrev pub directory_at : DbrFields → ℕ → ℕ
-directory_at dbr seg = wrapped (dbr.addr + (2 * seg) / 1024)
+directory_at dbr seg = ptw_from dbr.addr ((2 * seg) / 1024)
 
 -- the address of a segment's PTW for a page
 abbrev pub page_at : SdwFields → ℕ → ℕ
-page_at d page = wrapped (d.addr + page)
+page_at d page = ptw_from d.addr page
 
 -- the last page that begins within the bound of a segment, and how many do
 abbrev pub last_page : SdwFields → ℕ
@@ -71,8 +81,7 @@ ring_stack dbr ring = 8 * dbr.stack + ring
 -- the address of the descriptor's even word
 abbrev pub sdw_place_by : Bool → Bool → DbrFields → ℕ → Option PtwFields → Result ℕ Refusal
 sdw_place_by false unpaged dbr seg p = Err (violation out_of_segment_bounds)
-sdw_place_by true true dbr seg p = Ok (wrapped (dbr.addr + 2 * seg))
-sdw_place_by true false dbr seg p = in_frame p ((2 * seg) % 1024)
+sdw_place_by true unpaged dbr seg p = place_from unpaged dbr.addr (2 * seg) p
 
 abbrev pub sdw_place : List ℕ → DbrFields → ℕ → Result ℕ Refusal
 sdw_place core dbr seg =
@@ -107,8 +116,7 @@ inside_core size (Err e) = Err e
 
 -- the place of a word within the bound, by the descriptor
 abbrev pub word_place_by : Bool → SdwFields → ℕ → Option PtwFields → Result ℕ Refusal
-word_place_by true d w p = Ok (wrapped (d.addr + w))
-word_place_by false d w p = in_frame p (w % 1024)
+word_place_by unpaged d w p = place_from unpaged d.addr w p
 
 -- the same by the tables in core; it may be past the end of core
 abbrev pub word_place : List ℕ → SdwFields → ℕ → Result ℕ Refusal
@@ -147,14 +155,18 @@ marked_word false w = with_used w
 abbrev pub is_write : RequestKind → Bool
 is_write kind = claims_words kind
 
+-- the mark of the PTW that a reference passes; there is none where the words lie in one piece
+abbrev pub marks_passed : Bool → ℕ → Bool → List Mark
+marks_passed unpaged a modified =
+    if unpaged then [] else record { address = a; modified = modified } ∷ []
+
 abbrev pub directory_marks : DbrFields → ℕ → List Mark
-directory_marks dbr seg =
-    if dbr.unpaged then [] else record { address = directory_at dbr seg; modified = false } ∷ []
+directory_marks dbr seg = marks_passed dbr.unpaged (directory_at dbr seg) false
 
 abbrev pub page_marks : Bool → ℕ → Result SdwFields Refusal → List Mark
 page_marks write w (Err e) = []
 page_marks write w (Ok d) =
-    if d.unpaged then [] else record { address = page_at d (w / 1024); modified = write } ∷ []
+    marks_passed d.unpaged (page_at d (w / 1024)) write
 
 -- the marks of a reference: one for each PTW that it passes
 abbrev pub marks_by : DbrFields → ℕ → Bool → ℕ → Result SdwFields Refusal → List Mark

@@ -9,8 +9,9 @@
 //!   named file alone, and where it failed no other file differs.
 //! - [`Lines`] are input that is taken in pieces, from the beginning on. The end is told exactly where nothing is left.
 //! - A [`Sink`] has what was written to it. A put adds the piece at the end, and where it failed a first part of the piece.
-//!   Many pieces are put at once in a [`Block`]: the standard output takes them in one call of the system, and every other
-//!   sink one by one. A block that gathers pieces is no sink: what is in it is not written until it is handed over.
+//!   Many pieces are put at once in a [`Block`]: the standard output takes them in one call of the system, or in as many as
+//!   it needs, and a sink in memory as though one by one. A block that gathers pieces is no sink: what is in it is not
+//!   written until it is handed over.
 //!
 //! A call answers Failed only where a count of faults rose in this call: it is greater after the call than before, or stands
 //! at 2^64 - 1, where every count ends. Counts never fall. Want of memory is the one answer that needs no cause; such a

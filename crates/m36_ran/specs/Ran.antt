@@ -17,8 +17,7 @@ use Rattle.m36_reading.specs.declared.status.Status.TheVariants.{Done, AuditNo}
 use Rattle.m36_reading.specs.Reading.{Reading, decided, Early, then_with}
 use Rattle.m36_reading.specs.Readers.{refused, file_bytes}
 use Rattle.m36_reading.specs.Answers.{Answer, answer_with}
-use Rattle.m36_reading.specs.Outside.{IsIdle}
-use Rattle.m36_reading.specs.Doing.{Kind, fails_never}
+use Rattle.m36_reading.specs.Doing.{Kind, idle_kind}
 use Rattle.m36_ran.specs.declared.command.ImageCommand.{ImageCommand}
 use Rattle.m36_ran.specs.declared.command.ImageCommand.TheVariants.{Bare, Audit}
 use Rattle.m36_ran.specs.Run.{run, last_outcome}
@@ -94,14 +93,8 @@ pub record IsStateDue (command : ImageCommand) (state : State (List ℕ))
   pub isolated : findings ≡ [] → IsIsolated state.store state.regs.dbr
   pub answer : due ≡ state_answer command state findings
 
--- Memory is wanted before anything is written.
 abbrev pub state_kind : ImageCommand → Kind (State (List ℕ))
-state_kind command = record {
-  IsDue = IsStateDue command;
-  IsBegun = IsStateDue command;
-  Wants = λ state. IsIdle;
-  Fails = fails_never;
-}
+state_kind command = idle_kind (IsStateDue command)
 
 -- ---- what `audit yes` promises
 

@@ -139,7 +139,7 @@ map_goes make read.NoMemory P Q asked c on goes = (goes.0, map_wanting make c go
 comes_mapped :
     {D E : Type 0} (make : D → E) (p : Reading (Early D)) (asked : List Asked) (c : Coming (Early D))
     → Comes p asked c → Comes (mapped make p) asked (map_coming make c)
-unfolding mapped then_with
+unfolding then_with
 comes_mapped make (decided (Ok d)) [] c came = map_decided make (Ok d) c came
 comes_mapped make (decided (Err r)) [] c came = map_decided make (Err r) c came
 comes_mapped make (decided (Ok d)) (ask ∷ asked) c came = absurd came

@@ -26,6 +26,16 @@ pub record Kind (D : Type 0) : Type 1 where
 abbrev pub fails_never : {D : Type 0} → D → Outside → Outside → Type 0
 fails_never d old new = ⊥
 
+-- for a kind that may put a first part of each answer that is due, and that wants memory, if at all,
+-- before anything is written
+abbrev pub idle_kind : {D : Type 0} → (D → Answer → Type 0) → Kind D
+idle_kind IsDue = record {
+  IsDue = IsDue;
+  IsBegun = IsDue;
+  Wants = λ d. IsIdle;
+  Fails = fails_never;
+}
+
 -- ---- reading
 
 abbrev pub ReadCause : {A : Type 0} → Result A Refusal → ℕ → ℕ → Type 0

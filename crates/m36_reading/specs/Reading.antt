@@ -29,7 +29,7 @@ then_with (decided (Err refusal)) next = decided (Err refusal)
 then_with (asks name go) next = asks name (λ found. then_with (go found) next)
 
 -- a reading by what it gives, made into something else
-unfoldable pub mapped : {A B : Type 0} → (A → B) → Reading (Early A) → Reading (Early B)
+abbrev pub mapped : {A B : Type 0} → (A → B) → Reading (Early A) → Reading (Early B)
 mapped make p = then_with p (λ a. decided (Ok (make a)))
 
 -- what a folder that tells its files has, by the file of a name

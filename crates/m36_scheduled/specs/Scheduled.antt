@@ -17,8 +17,7 @@ use Rattle.m36_reading.specs.declared.status.Status.TheVariants.{Done}
 use Rattle.m36_reading.specs.Reading.{Reading, decided, Early, then_with}
 use Rattle.m36_reading.specs.Readers.{refused, file_bytes}
 use Rattle.m36_reading.specs.Answers.{Answer, answer_with}
-use Rattle.m36_reading.specs.Outside.{IsIdle}
-use Rattle.m36_reading.specs.Doing.{Kind, fails_never}
+use Rattle.m36_reading.specs.Doing.{Kind, idle_kind}
 use Rattle.m36_ran.specs.Ran.{is_run, audit_status}
 use Rattle.m36_scheduled.specs.JointText.{joint_pieces}
 
@@ -75,14 +74,8 @@ pub record IsProcsDue (unaudited : Bool) (p : ProcsFields) (due : Answer) : Type
   pub isolated : findings ≡ [] → AreIsolated p.state
   pub answer : due ≡ procs_answer unaudited p findings
 
--- Memory is wanted before anything is written.
 abbrev pub procs_kind : Bool → Kind ProcsFields
-procs_kind unaudited = record {
-  IsDue = IsProcsDue unaudited;
-  IsBegun = IsProcsDue unaudited;
-  Wants = λ p. IsIdle;
-  Fails = fails_never;
-}
+procs_kind unaudited = idle_kind (IsProcsDue unaudited)
 
 -- ---- what `audit yes` promises
 

@@ -8,7 +8,7 @@ use Rattle.m36_list.specs.Listing.{listing_of}
 use Rattle.m36_reading.specs.declared.status.Code.TheVariants as code
 use Rattle.m36_reading.specs.declared.refusal.Refusal.{Refusal}
 use Rattle.m36_reading.specs.declared.refusal.Refusal.TheVariants.{NoMemory}
-use Rattle.m36_reading.specs.Reading.{Reading, decided, Early, then_with}
+use Rattle.m36_reading.specs.Reading.{Reading, decided, Early, then_with, mapped}
 use Rattle.m36_reading.specs.Readers.{refused_at, file_bytes, file_object}
 use Rattle.m36_told.specs.declared.assembling.AlmFiles.{AlmFiles}
 use Rattle.m36_told.specs.Told.{ToldFields}
@@ -20,7 +20,7 @@ abbrev pub printed : List ℕ → PartsFields → ToldFields
 printed name parts = record { sets = []; text = print_of name parts }
 
 unfoldable pub print_reads : List ℕ → Reading (Early ToldFields)
-print_reads name = then_with (file_object name) (λ parts. decided (Ok (printed name parts)))
+print_reads name = mapped (printed name) (file_object name)
 
 -- ---- `alm NAME`
 

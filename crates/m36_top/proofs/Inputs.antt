@@ -2,7 +2,7 @@
 use Rattle.std.proofs.Common.{◌≡◌, ℕ, Bool, true, false, List, Option, Ok, Err, inl, inr, refl}
 use Rattle.m36_outside.specs.Counts.{Rose}
 use Rattle.m36_reading.specs.declared.status.Status.{Status}
-use Rattle.m36_reading.specs.Reading.{Early, decided, mapped}
+use Rattle.m36_reading.specs.Reading.{Early, decided}
 use Rattle.m36_reading.specs.Asking.{Asked, Came, Comes}
 use Rattle.m36_reading.specs.Outside.{Outside}
 use Rattle.m36_reading.specs.Ends.{End, Answered, Cut, Unread, Starved, Unasked, end_of}
@@ -34,47 +34,47 @@ NoFails talk (Ok d) = (old new : Outside) → FailsOf talk d old new → ⊥
 NoFails talk (Err r) = Unit {0}
 
 bare_none : (talk : Talk) (file : List ℕ) (run : BareRun) → Always (NoFails talk) (reads (Bare file run))
-unfolding reads mapped
+unfolding reads
 bare_none talk file run =
     always_then (NoFails talk) (state_reads file) (λ state. decided (Ok (on_image (image.Bare run) state))) (λ state. λ old new f. f) (λ r. tt)
 
 audit_none : (talk : Talk) (file : List ℕ) → Always (NoFails talk) (reads (Audit file))
-unfolding reads mapped
+unfolding reads
 audit_none talk file =
     always_then (NoFails talk) (state_reads file) (λ state. decided (Ok (on_image image.Audit state))) (λ state. λ old new f. f) (λ r. tt)
 
 folder_none : (talk : Talk) (command : FolderCommand) (user : Option (List ℕ)) → Always (NoFails talk) (reads (Booted command user))
-unfolding reads mapped
+unfolding reads
 folder_none talk command user =
     always_then (NoFails talk) (folder_reads user) (λ given. decided (Ok (on_folder command given))) (λ given. λ old new f. f) (λ r. tt)
 
 procs_none : (talk : Talk) (file : List ℕ) (unaudited : Bool) → Always (NoFails talk) (reads (Procs file unaudited))
-unfolding reads mapped
+unfolding reads
 procs_none talk file unaudited =
     always_then (NoFails talk) (procs_reads file) (λ p. decided (Ok (on_procs unaudited p))) (λ p. λ old new f. f) (λ r. tt)
 
 access_none : (talk : Talk) (user : List ℕ) → Always (NoFails talk) (reads (Access user))
-unfolding reads mapped
+unfolding reads
 access_none talk user =
     always_then (NoFails talk) (user_reads user) (λ told. decided (Ok (Told told))) (λ told. λ old new f. f) (λ r. tt)
 
 print_none : (talk : Talk) (name : List ℕ) → Always (NoFails talk) (reads (Print name))
-unfolding reads mapped
+unfolding reads
 print_none talk name =
     always_then (NoFails talk) (print_reads name) (λ told. decided (Ok (Told told))) (λ told. λ old new f. f) (λ r. tt)
 
 alm_none : (talk : Talk) (files : AlmFiles) → Always (NoFails talk) (reads (Alm files))
-unfolding reads mapped
+unfolding reads
 alm_none talk files =
     always_then (NoFails talk) (alm_reads files) (λ told. decided (Ok (Told told))) (λ told. λ old new f. f) (λ r. tt)
 
 bind_none : (talk : Talk) (files : BindFiles) → Always (NoFails talk) (reads (Bind files))
-unfolding reads mapped
+unfolding reads
 bind_none talk files =
     always_then (NoFails talk) (bind_reads files) (λ told. decided (Ok (Told told))) (λ told. λ old new f. f) (λ r. tt)
 
 make_none : (talk : Talk) (seed : ℕ) → Always (NoFails talk) (reads (Make seed))
-unfolding reads mapped
+unfolding reads
 make_none talk seed =
     always_then (NoFails talk) (make_reads seed) (λ sets. decided (Ok (Made sets))) (λ sets. λ old new f. f) (λ r. tt)
 

@@ -72,7 +72,7 @@ always_then P (asks name go) next on stop = λ found. always_then P (go found) n
 always_mapped :
     {A B : Type 0} (P : Early A → Type 0) (Q : Early B → Type 0) (make : A → B) (p : Reading (Early A))
     → ((a : A) → P (Ok a) → Q (Ok (make a))) → ((r : Refusal) → Q (Err r)) → Always P p → Always Q (mapped make p)
-unfolding mapped then_with
+unfolding then_with
 always_mapped P Q make (decided (Ok a)) on stop always = on a always
 always_mapped P Q make (decided (Err r)) on stop always = stop r
 always_mapped P Q make (asks name go) on stop always = λ found. always_mapped P Q make (go found) on stop (always found)
@@ -99,7 +99,6 @@ state_sets (image.Bare bare) state findings = bare_sets _ bare.steps state findi
 state_sets image.Audit state findings = refl
 
 image_none : (talk : Talk) (command : ImageCommand) (file : List ℕ) → Always (NoSets talk) (mapped (on_image command) (state_reads file))
-unfolding mapped
 image_none talk command file =
     always_then (NoSets talk) (state_reads file) (λ state. decided (Ok (on_image command state)))
     (λ state. (
@@ -116,13 +115,13 @@ unfolding reads
 audit_none talk file = image_none talk image.Audit file
 
 folder_none : (talk : Talk) (command : FolderCommand) (user : Option (List ℕ)) → Always (NoSets talk) (reads (Booted command user))
-unfolding reads mapped
+unfolding reads
 folder_none talk command user =
     always_then (NoSets talk) (folder_reads user) (λ given. decided (Ok (on_folder command given)))
     (λ given. (λ due is. folder_sets Whole command given due is, λ due is. folder_sets Begun command given due is)) (λ r. tt)
 
 procs_none : (talk : Talk) (file : List ℕ) (unaudited : Bool) → Always (NoSets talk) (reads (Procs file unaudited))
-unfolding reads mapped
+unfolding reads
 procs_none talk file unaudited =
     always_then (NoSets talk) (procs_reads file) (λ p. decided (Ok (on_procs unaudited p)))
     (λ p. (λ due is. procs_sets unaudited p due is, λ due is. procs_sets unaudited p due is)) (λ r. tt)
@@ -151,13 +150,13 @@ session_sets Holds due (inl is) = ap (λ (d : Answer). d.sets) is.answer
 session_sets Holds due (inr is) = ap (λ (d : Answer). d.sets) is.answer
 
 debug_folder_none : (talk : Talk) → Always (NoSets talk) (reads DebugFolder)
-unfolding reads mapped
+unfolding reads
 debug_folder_none talk =
     always_then (NoSets talk) (folder_reads None) (λ given. decided (Ok (FolderSession given)))
     (λ given. (λ due is. session_sets (HoldsFolder talk given.lib) due is, λ due is. ap (λ (d : Answer). d.sets) is.answer)) (λ r. tt)
 
 debug_image_none : (talk : Talk) (file : List ℕ) → Always (NoSets talk) (reads (DebugImage file))
-unfolding reads mapped
+unfolding reads
 debug_image_none talk file =
     always_then (NoSets talk) (state_reads file) (λ state. decided (Ok (ImageSession state)))
     (λ state. (λ due is. session_sets (HoldsImage talk state) due is, λ due is. ap (λ (d : Answer). d.sets) is.answer)) (λ r. tt)
