@@ -15,7 +15,7 @@ use Rattle.m36_model.specs.Compares.{compare, test_word, test_and_clear, compare
 use Rattle.m36_model.specs.Logic.{and_register, or_register, xor_register, and_storage, or_storage, xor_storage}
 use Rattle.m36_model.specs.ShiftEffects.{shift_left, shift_right, shift_right_logical, rotate_left}
 use Rattle.m36_model.specs.Pointers.{with_pr, load_pointer, load_base_pointer, store_pointer, store_base_pointer, store_pointers, load_pointers, load_packed, load_packed_by, load_address_pair, store_control}
-use Rattle.m36_model.specs.Transfers.{gone_to, transfer_by, transfer_where, transfer_on_overflow_by, transfer_on_overflow, transfer_and_set_index, transfer_and_set_pointer}
+use Rattle.m36_model.specs.Transfers.{gone_to, transfer_by, transfer_where, without_overflow, transfer_on_overflow, transfer_and_set_index, transfer_and_set_pointer}
 use Rattle.m36_model.specs.Privileged.{store_dbr, load_absolute_address}
 use Rattle.m36_model.specs.Isolation.{HasPointers}
 
@@ -308,21 +308,17 @@ gone_plain f g h k = record { keeps = keeps_gone f g h k; count_is = refl }
 pub completes_plain : (g : RegsFields) → OfOk (IsPlain g 0) (completes g)
 completes_plain g = plain g g [] false 0 (keeps_self g) refl
 
-transfer_by_plain : (taken : Bool) (f : FinalFields) (g : RegsFields) → OfOk (IsPlain g 0) (transfer_by taken f g)
-transfer_by_plain true f g = gone_plain f g g (keeps_self g)
-transfer_by_plain false f g = completes_plain g
+transfer_by_plain : (taken : Bool) (f : FinalFields) (left g : RegsFields) → Keeps g left → OfOk (IsPlain g 0) (transfer_by taken f left g)
+transfer_by_plain true f left g keeps = gone_plain f g left keeps
+transfer_by_plain false f left g keeps = completes_plain g
 
 pub transfer_where_plain : (taken : Bool) (f : FinalFields) (g : RegsFields) → OfOk (IsPlain g 0) (transfer_where taken f g)
 unfolding transfer_where
-transfer_where_plain taken f g = transfer_by_plain taken f g
-
-transfer_on_overflow_by_plain : (taken : Bool) (f : FinalFields) (g : RegsFields) → OfOk (IsPlain g 0) (transfer_on_overflow_by taken f g)
-transfer_on_overflow_by_plain true f g = gone_plain f g _ (keeps_indicators _ g g (keeps_self g))
-transfer_on_overflow_by_plain false f g = completes_plain g
+transfer_where_plain taken f g = transfer_by_plain taken f g g (keeps_self g)
 
 pub transfer_on_overflow_plain : (taken : Bool) (f : FinalFields) (g : RegsFields) → OfOk (IsPlain g 0) (transfer_on_overflow taken f g)
 unfolding transfer_on_overflow
-transfer_on_overflow_plain taken f g = transfer_on_overflow_by_plain taken f g
+transfer_on_overflow_plain taken f g = transfer_by_plain taken f (without_overflow g) g (keeps_indicators _ g g (keeps_self g))
 
 pub transfer_and_set_index_plain : (n : ℕ) (f : FinalFields) (g : RegsFields) → OfOk (IsPlain g 0) (transfer_and_set_index n f g)
 unfolding transfer_and_set_index

@@ -90,9 +90,12 @@ unfolding denied
 transfer_rights d trr prr same word h =
     let k = none_hold (rows Transfer d trr prr same word) h in
     record {
-      low = ltb-false trr d.r1 k.1.0;
-      high = ltb-false d.r2 trr k.1.1.0;
-      executable = not-false d.executable k.1.1.1.0;
+      fetch =
+          record {
+            low = ltb-false trr d.r1 k.1.0;
+            high = ltb-false d.r2 trr k.1.1.0;
+            executable = not-false d.executable k.1.1.1.0;
+          };
       ring = eqb-true trr prr (not-false (trr == prr) k.1.1.1.1.0);
     }
 

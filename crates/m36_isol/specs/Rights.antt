@@ -26,11 +26,9 @@ pub record MayWrite (d : SdwFields) (trr : ℕ) : Type 0 where
   pub high : trr ≤ d.r1
   pub writable : d.writable ≡ true
 
--- a transfer stays in its ring, within the execute bracket
+-- a transfer is as a fetch in the ring of the reference, and stays in its ring
 pub record MayTransfer (d : SdwFields) (trr prr : ℕ) : Type 0 where
-  pub low : d.r1 ≤ trr
-  pub high : trr ≤ d.r2
-  pub executable : d.executable ≡ true
+  pub fetch : MayFetch d trr
   pub ring : trr ≡ prr
 
 -- a caller stands between the first and the third bracket, and enters the gate of another segment

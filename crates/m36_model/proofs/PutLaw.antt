@@ -10,7 +10,7 @@ use Rattle.m36_model.specs.Act.{Part, Whole, Put}
 use Rattle.m36_model.specs.Store.{Spot, Change, changes, change_of}
 use Rattle.m36_model.specs.Chain.{ChainEnd}
 use Rattle.m36_model.specs.Results.{OperandFields, EffectFields, word}
-use Rattle.m36_model.specs.Transfers.{transfer_by, transfer_on_overflow_by, is_taken}
+use Rattle.m36_model.specs.Transfers.{transfer_by, is_taken, without_overflow}
 use Rattle.m36_model.specs.Products.{divide_by}
 use Rattle.m36_model.specs.Arithmetic.{is_divide_check}
 use Rattle.m36_model.specs.Pointers.{load_packed_by}
@@ -25,13 +25,9 @@ abbrev pub PutsSo : ℕ → Result EffectFields ℕ → Type 0
 PutsSo n (Ok x) = length x.put ≡ n
 PutsSo n (Err number) = number < 16
 
-puts_of_transfer : (taken : Bool) (f : FinalFields) (g : RegsFields) → PutsSo 0 (transfer_by taken f g)
-puts_of_transfer true f g = refl
-puts_of_transfer false f g = refl
-
-puts_of_overflow_transfer : (taken : Bool) (f : FinalFields) (g : RegsFields) → PutsSo 0 (transfer_on_overflow_by taken f g)
-puts_of_overflow_transfer true f g = refl
-puts_of_overflow_transfer false f g = refl
+puts_of_transfer : (taken : Bool) (f : FinalFields) (left g : RegsFields) → PutsSo 0 (transfer_by taken f left g)
+puts_of_transfer true f left g = refl
+puts_of_transfer false f left g = refl
 
 puts_of_division : (check : Bool) (v : ℕ) (g : RegsFields) → PutsSo 0 (divide_by check v g)
 puts_of_division true v g = omega arith
@@ -43,17 +39,17 @@ puts_of_packed false n w g f = refl
 
 pub puts_so : (e : Effect) (n : ℕ) (g : RegsFields) (f : FinalFields) (o : OperandFields) → PutsSo (words_written (operand_of e)) (exec e n g f o)
 unfolding everything
-puts_so effect.Tra n g f o = puts_of_transfer (is_taken effect.Tra g) f g
-puts_so effect.Tze n g f o = puts_of_transfer (is_taken effect.Tze g) f g
-puts_so effect.Tnz n g f o = puts_of_transfer (is_taken effect.Tnz g) f g
-puts_so effect.Tmi n g f o = puts_of_transfer (is_taken effect.Tmi g) f g
-puts_so effect.Tpl n g f o = puts_of_transfer (is_taken effect.Tpl g) f g
-puts_so effect.Trc n g f o = puts_of_transfer (is_taken effect.Trc g) f g
-puts_so effect.Tnc n g f o = puts_of_transfer (is_taken effect.Tnc g) f g
-puts_so effect.Tmoz n g f o = puts_of_transfer (is_taken effect.Tmoz g) f g
-puts_so effect.Tpnz n g f o = puts_of_transfer (is_taken effect.Tpnz g) f g
-puts_so effect.Ttf n g f o = puts_of_transfer (is_taken effect.Ttf g) f g
-puts_so effect.Tov n g f o = puts_of_overflow_transfer (is_taken effect.Tov g) f g
+puts_so effect.Tra n g f o = puts_of_transfer (is_taken effect.Tra g) f g g
+puts_so effect.Tze n g f o = puts_of_transfer (is_taken effect.Tze g) f g g
+puts_so effect.Tnz n g f o = puts_of_transfer (is_taken effect.Tnz g) f g g
+puts_so effect.Tmi n g f o = puts_of_transfer (is_taken effect.Tmi g) f g g
+puts_so effect.Tpl n g f o = puts_of_transfer (is_taken effect.Tpl g) f g g
+puts_so effect.Trc n g f o = puts_of_transfer (is_taken effect.Trc g) f g g
+puts_so effect.Tnc n g f o = puts_of_transfer (is_taken effect.Tnc g) f g g
+puts_so effect.Tmoz n g f o = puts_of_transfer (is_taken effect.Tmoz g) f g g
+puts_so effect.Tpnz n g f o = puts_of_transfer (is_taken effect.Tpnz g) f g g
+puts_so effect.Ttf n g f o = puts_of_transfer (is_taken effect.Ttf g) f g g
+puts_so effect.Tov n g f o = puts_of_transfer (is_taken effect.Tov g) f (without_overflow g) g
 puts_so effect.Div n g f o = puts_of_division (is_divide_check g.q (word o)) (word o) g
 puts_so effect.LprpN n g f o = puts_of_packed (field (word o) 0 2 == 3) n (word o) g f
 puts_so _ n g f o = refl

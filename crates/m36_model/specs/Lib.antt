@@ -1,7 +1,7 @@
 -- The machine by the manual. Two modules tell the whole of it: `Step` has the program of one step,
 -- and `Store` says how a store serves what the program asks. `StepCases` says it as a relation.
 --
--- Letters stand for what lives for a line or two, and for the same in every module:
+-- Letters stand for what lives for a line or two, in the modules of a step mostly for these:
 --
 --   g  registers                        e  an instruction, and n the number in its name
 --   w  a word, or the number of one     f  a final address

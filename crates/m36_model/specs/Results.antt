@@ -154,18 +154,20 @@ with_zn_carry z n c i = record i { zero = z; negative = n; carry = c }
 unfoldable pub zn_carry : SumFields → Ind → Ind
 zn_carry s i = with_zn_carry s.zero s.negative s.carry i
 
-unfoldable pub zn_overflow : SumFields → Ind → Ind
-zn_overflow s i =
-    record i { zero = s.zero; negative = s.negative; overflow = i.overflow || s.overflow }
-
-unfoldable pub zn_carry_overflow : SumFields → Ind → Ind
-zn_carry_overflow s i =
+abbrev pub with_zn_overflow : SumFields → Bool → Ind → Ind
+with_zn_overflow s c i =
     record i {
       zero = s.zero;
       negative = s.negative;
-      carry = s.carry;
+      carry = c;
       overflow = i.overflow || s.overflow;
     }
+
+unfoldable pub zn_overflow : SumFields → Ind → Ind
+zn_overflow s i = with_zn_overflow s i.carry i
+
+unfoldable pub zn_carry_overflow : SumFields → Ind → Ind
+zn_carry_overflow s i = with_zn_overflow s s.carry i
 
 unfoldable pub compared : ComparisonFields → Ind → Ind
 compared c i = with_zn_carry c.zero c.negative c.carry i

@@ -31,24 +31,22 @@ gone_to f g = record g { ppr = record g.ppr { psr = f.at.seg; ic = f.at.word } }
 abbrev pub goes_to : FinalFields → RegsFields → Result EffectFields ℕ
 goes_to f g = leaves (gone_to f g)
 
--- TRA and the conditional transfers
-abbrev pub transfer_by : Bool → FinalFields → RegsFields → Result EffectFields ℕ
-transfer_by true f g = goes_to f g
-transfer_by false f g = completes g
+-- A transfer that is taken goes to its target, with registers as it leaves them; one that is not
+-- completes.
+abbrev pub transfer_by : Bool → FinalFields → RegsFields → RegsFields → Result EffectFields ℕ
+transfer_by true f left g = goes_to f left
+transfer_by false f left g = completes g
 
+-- TRA and the conditional transfers but TOV
 unfoldable pub transfer_where : Bool → FinalFields → RegsFields → Result EffectFields ℕ
-transfer_where taken f g = transfer_by taken f g
+transfer_where taken f g = transfer_by taken f g g
 
 -- TOV: overflow goes off when the transfer is taken
 abbrev pub without_overflow : RegsFields → RegsFields
 without_overflow g = record g { ind = record g.ind { overflow = false } }
 
-abbrev pub transfer_on_overflow_by : Bool → FinalFields → RegsFields → Result EffectFields ℕ
-transfer_on_overflow_by true f g = goes_to f (without_overflow g)
-transfer_on_overflow_by false f g = completes g
-
 unfoldable pub transfer_on_overflow : Bool → FinalFields → RegsFields → Result EffectFields ℕ
-transfer_on_overflow taken f g = transfer_on_overflow_by taken f g
+transfer_on_overflow taken f g = transfer_by taken f (without_overflow g) g
 
 -- TSX: the index register becomes the word of the next instruction
 unfoldable pub transfer_and_set_index : ℕ → FinalFields → RegsFields → Result EffectFields ℕ
