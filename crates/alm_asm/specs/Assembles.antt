@@ -22,11 +22,10 @@ use Rattle.alm_lines.specs.Arguments.{name_at, first_arg, symbol_in, section_in}
 use Rattle.alm_lines.specs.Spots.{start, count_in, here, end_of}
 use Rattle.alm_asm.specs.Links.{operand_args, link_in, links_from}
 use Rattle.alm_asm.specs.Words.{words_by}
-use Rattle.alm_asm.specs.Marks.{marks_from}
 use Rattle.alm_lines.specs.Layout.{own_symbol, own_sum, labelled, symbols_from}
 use Rattle.alm_asm.specs.Definitions.{definitions_from}
 use Rattle.alm_asm.specs.LineRefusals.{is_static}
-use Rattle.alm_asm.specs.Assembly.{tables_of, static_section}
+use Rattle.alm_asm.specs.Assembly.{tables_of, static_section, relocations_of}
 use Rattle.alm_lines.specs.declared.sum.Sum.{Sum}
 use Rattle.alm_lines.specs.SpotFields.{Spot}
 use Rattle.alm_asm.specs.declared.tables.Tables.{Tables}
@@ -95,14 +94,6 @@ is_entrybound line = is_bound line.deed
 
 -- ---- the relation
 
--- The words of a line of the text stand in the text behind those that the lines above
--- it place there.
-abbrev pub PlacesText : Source → PartsFields → Type 0
-PlacesText source parts =
-    (above : List Line36) (line : Line36) (others : List Line36) → IsSplit source above line others
-    → (spot_below source above).section ≡ Text
-    → StandsBehind (spot_below source above).text (words_placed source above line) parts.text
-
 -- Each line stands in the text or, in all of a source, in static words of one kind.
 abbrev pub SectionsStand : Source → Type 0
 SectionsStand source =
@@ -110,14 +101,23 @@ SectionsStand source =
     → ((spot_below source above).section ≡ Text) ⊎
     ((spot_below source above).section ≡ static_section (meaning_of source).uses_outer)
 
--- So do the words of a line of static words in the static words.
+-- The words of a line in a section stand in the words of the section, behind those that the lines
+-- above it place there.
+abbrev pub PlacesIn : Source → Section → List ℕ → Type 0
+PlacesIn source section words =
+    (above : List Line36) (line : Line36) (others : List Line36) → IsSplit source above line others
+    → (spot_below source above).section ≡ section
+    → StandsBehind (count_in section (spot_below source above)) (words_placed source above line)
+    words
+
+-- So they do in the text, ..
+abbrev pub PlacesText : Source → PartsFields → Type 0
+PlacesText source parts = PlacesIn source Text parts.text
+
+-- .. and in the static words.
 abbrev pub PlacesStatics : Source → PartsFields → Type 0
 PlacesStatics source parts =
-    (above : List Line36) (line : Line36) (others : List Line36) → IsSplit source above line others
-    → (spot_below source above).section ≡ static_section (meaning_of source).uses_outer
-    → StandsBehind
-    (count_in (static_section (meaning_of source).uses_outer) (spot_below source above))
-    (words_placed source above line) parts.statics
+    PlacesIn source (static_section (meaning_of source).uses_outer) parts.statics
 
 -- No other words stand there, but for one zero behind an odd count of static words in version 1:
 -- the evening word.
@@ -209,11 +209,7 @@ pub record Assembles (source : Source) (parts : PartsFields) : Type 0 where
       parts.definitions ≡ definitions_from source.text (meaning_of source).symbols [] source.lines
   pub distinct : are_distinct (definition_names parts.definitions) ≡ true
   pub relocations :
-      parts.relocations
-      ≡ marks_from source.text (meaning_of source).symbols
-      (static_section (meaning_of source).uses_outer)
-      (marks_from source.text (meaning_of source).symbols Text [] start source.lines) start
-      source.lines
+      parts.relocations ≡ relocations_of source.text (meaning_of source) source.lines
   pub rising : are_in_order parts.relocations ≡ true
   pub bound : BoundIs source parts
   pub unbound : list_any (is_entrybound) source.lines ≡ false → parts.entry_bound ≡ 0

@@ -8,6 +8,7 @@ use Rattle.alm_parse.specs.declared.fault.AlmFault.{AlmFault}
 use Rattle.alm_parse.specs.declared.fault.AlmFault.TheVariants.{E8}
 use Rattle.obj36_parts.specs.declared.section.Section.{Section}
 use Rattle.obj36_parts.specs.declared.section.Section.TheVariants.{Text, Linkage, Static}
+use Rattle.obj36_parts.specs.Fields.{RelocFields}
 use Rattle.obj36_parts.specs.PartsFields.{PartsFields}
 use Rattle.obj36_parts.specs.ObjectSegment.{evened_words}
 use Rattle.obj36_parts.specs.ObjectSegment.{evened as even_number, is_well_formed, first_link_by}
@@ -76,6 +77,12 @@ abbrev pub evened : Bool → List ℕ → List ℕ
 evened true words = words
 evened false words = evened_words words
 
+-- the relocations of lines: those of the text, and behind them those of the static words
+abbrev pub relocations_of : List ℕ → Tables → List Line36 → List RelocFields
+relocations_of text tables lines =
+    marks_from text tables.symbols (static_section tables.uses_outer)
+    (marks_from text tables.symbols Text [] start lines) start lines
+
 unfoldable pub parts_with : List ℕ → Tables → List Line36 → PartsFields
 parts_with text tables lines =
     parts_by tables
@@ -86,8 +93,7 @@ parts_with text tables lines =
     })
     (record {
       definitions = definitions_from text tables.symbols [] lines;
-      relocations = marks_from text tables.symbols (static_section tables.uses_outer)
-          (marks_from text tables.symbols Text [] start lines) start lines;
+      relocations = relocations_of text tables lines;
     })
     (bound_from text 0 start lines)
 

@@ -4,10 +4,9 @@ ghost use Rattle.std.specs.Prelude.{[], ◌≡◌, ◌^◌, ◌<◌, length, OnO
 ghost use Rattle.alm_lines.specs.Spots.{start};
 ghost use Rattle.obj36_parts.specs.declared.section.Section.TheVariants.{Text};
 ghost use Rattle.alm_asm.specs.Words.{words_from};
-ghost use Rattle.alm_asm.specs.Marks.{marks_from};
 ghost use Rattle.alm_asm.specs.Definitions.{definitions_from};
 ghost use Rattle.alm_asm.specs.Parts.{parts_by};
-ghost use Rattle.alm_asm.specs.Assembly.{bound_by, bound_from, static_section, evened, parts_with};
+ghost use Rattle.alm_asm.specs.Assembly.{bound_by, bound_from, static_section, relocations_of, evened, parts_with};
 
 use crate::definitions::definitions_of;
 use crate::marks::push_marks_in;
@@ -102,10 +101,7 @@ fn relocations_of(
     lines: &[Line36],
 ) -> Result<Relocs, NoMemory>
     requires { length lines.now < 2 ^ 32 }
-    ensures { IfOk result (λ marks.
-        marks
-        ≡ marks_from text.now tables.now.symbols (static_section tables.now.uses_outer)
-        (marks_from text.now tables.now.symbols Text [] start lines.now) start lines.now) }
+    ensures { IfOk result (λ marks. marks ≡ relocations_of text.now tables.now lines.now) }
 {
     let mut marks = Relocs::new(alloc);
     let section = static_section(tables.uses_outer);
@@ -168,9 +164,7 @@ fn noted_in(
     ensures definitions { IfOk result (λ noted.
         noted.definitions ≡ definitions_from text.now tables.now.symbols [] lines.now) }
     ensures relocations { IfOk result (λ noted.
-        noted.relocations
-        ≡ marks_from text.now tables.now.symbols (static_section tables.now.uses_outer)
-        (marks_from text.now tables.now.symbols Text [] start lines.now) start lines.now) }
+        noted.relocations ≡ relocations_of text.now tables.now lines.now) }
 {
     let definitions = definitions_of(alloc, text, &tables.symbols, lines)?;
     let relocations = relocations_of(alloc, text, tables, lines)?;

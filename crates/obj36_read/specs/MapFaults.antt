@@ -7,8 +7,8 @@ use Rattle.m36_text.specs.Lines.{first_met}
 use Rattle.obj36_parts.specs.Halves.{left, right}
 use Rattle.obj36_parts.specs.ObjectSegment.{is_newer_version, head_words}
 use Rattle.obj36_parts.specs.ObjectSegment.{definition_head, symbol_head}
-use Rattle.obj36_read.specs.Reading.{older_map, newer_map, map_place, version_in, told_length}
-use Rattle.obj36_read.specs.Reading.{text_index, definition_index, linkage_index, statics_index}
+use Rattle.obj36_read.specs.Reading.{older_map, newer_map, map_place, map_word, version_in}
+use Rattle.obj36_read.specs.Reading.{told_length, text_index, definition_index, linkage_index, statics_index}
 use Rattle.obj36_read.specs.Reading.{symbol_index, bound_index}
 use Rattle.obj36_read.specs.declared.map.Extent.{Extent}
 use Rattle.obj36_read.specs.declared.map.Extents.{Extents}
@@ -33,7 +33,7 @@ fixed_fault words version =
     first_met (
     (not (nat_eq (slice_index words (map_place words)) version), map_place words)
     ∷ (
-      not (is_bound words (slice_index words (map_place words + bound_index version))),
+      not (is_bound words (map_word words (bound_index version))),
       map_place words + bound_index version,
     )
     ∷ (not (nat_eq (right (slice_index words (length words - 1))) 0), length words - 1)
@@ -48,7 +48,7 @@ map_fault words =
 
 unfoldable pub extent_at : List ℕ → ℕ → Extent
 extent_at words i = record {
-  from = left (slice_index words (map_place words + i));
+  from = left (map_word words i);
   count = told_length words i;
 }
 

@@ -134,9 +134,13 @@ map_place words = left (slice_index words (length words - 1))
 unfoldable pub version_in : List ℕ → ℕ
 version_in words = version_of (nat_eq (map_place words + newer_map) (length words))
 
+-- a word of the map, counted from 0
+abbrev pub map_word : List ℕ → ℕ → ℕ
+map_word words i = slice_index words (map_place words + i)
+
 -- a length that a map word tells
 unfoldable pub told_length : List ℕ → ℕ → ℕ
-told_length words i = right (slice_index words (map_place words + i))
+told_length words i = right (map_word words i)
 
 -- a count of members, no more than there are words
 unfoldable pub told_count : List ℕ → List ℕ → ℕ → ℕ
@@ -172,7 +176,7 @@ statics_in words =
     else take (told_first words - head_words) (drop head_words (from_linkage words))
 
 unfoldable pub bound_in : List ℕ → ℕ
-bound_in words = left (slice_index words (map_place words + bound_index (version_in words)))
+bound_in words = left (map_word words (bound_index (version_in words)))
 
 unfoldable pub parts_of : List ℕ → PartsFields
 parts_of words =
