@@ -76,7 +76,7 @@ told_part findings denied output turns how old now new grew took stood puts = re
   part = record {
     text = grew_both_more old.written now.written new.written (audit_pieces findings) (run_pieces denied output turns how) grew puts.text;
     pieces = takes_lines_more old.taken now.taken new.taken (audit_pieces findings) (run_pieces denied output turns how) took puts.pieces;
-    cause = let P : ℕ → Type 0 = λ n. Rose n new.faults in subst P stood puts.cause;
+    faults = let P : ℕ → Type 0 = λ n. Rose n new.faults in subst P stood puts.faults;
   };
 }
 
@@ -162,7 +162,7 @@ text_part findings denied output limit system old new grew took rose = record {
     part = record {
       text = grew_both_longer old.written new.written (audit_pieces findings) (run_pieces denied output [] None) grew;
       pieces = takes_lines_longer old.taken new.taken (audit_pieces findings) (run_pieces denied output [] None) took;
-      cause = rose;
+      faults = rose;
     };
   };
 }

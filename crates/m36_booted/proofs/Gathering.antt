@@ -57,12 +57,12 @@ taken_of xs old new a = record { text = a.adds.grew; pieces = a.adds.took; fault
 pub lost_of :
     (xs : List (List ℕ)) (old new : BlockState)
     → AddsPieces put.Failed xs old new → PutsPieces put.Failed (old.pieces ++ xs) old.sink new.sink
-lost_of xs old new a = record { text = a.adds.grew; pieces = a.adds.took; cause = a.cause }
+lost_of xs old new a = record { text = a.adds.grew; pieces = a.adds.took; faults = a.cause }
 
 losing :
     (xs : List (List ℕ)) (old new : BlockState)
     → PutsPieces put.Failed (old.pieces ++ xs) old.sink new.sink → AddsPieces put.Failed xs old new
-losing xs old new puts = record { adds = record { grew = puts.text; took = puts.pieces }; cause = puts.cause }
+losing xs old new puts = record { adds = record { grew = puts.text; took = puts.pieces }; cause = puts.faults }
 
 -- what is due with more behind it, by what the sink took and what is in the block
 due_behind :
@@ -132,4 +132,4 @@ pub block_put :
     → PutSays answer old.written new.written (joined pieces) → TakesLines answer old.taken new.taken pieces
     → PutHasCause answer old.faults new.faults → PutsPieces answer pieces old new
 block_put put.Done pieces old new says through cause = record { text = says; pieces = through; faults = cause }
-block_put put.Failed pieces old new says through cause = record { text = says; pieces = through; cause = cause }
+block_put put.Failed pieces old new says through cause = record { text = says; pieces = through; faults = cause }

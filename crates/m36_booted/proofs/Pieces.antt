@@ -39,7 +39,7 @@ pieces_then put.Failed xs ys old now new one two = record {
       says_of put.Failed old.written new.written (joined xs ++ joined ys) (joined (xs ++ ys)) (sym (concat-append xs ys))
       (grew_more old.written now.written new.written (joined xs) (joined ys) one.text two.text);
   pieces = takes_lines_more old.taken now.taken new.taken xs ys one.pieces two.pieces;
-  cause = let P : ℕ → Type 0 = λ n. Rose n new.faults in subst P one.faults two.cause;
+  faults = let P : ℕ → Type 0 = λ n. Rose n new.faults in subst P one.faults two.faults;
 }
 
 -- a first part of some is one of more
@@ -51,5 +51,5 @@ pieces_longer xs ys old new cut = record {
       says_of put.Failed old.written new.written (joined xs ++ joined ys) (joined (xs ++ ys)) (sym (concat-append xs ys))
       (grew_longer old.written new.written (joined xs) (joined ys) cut.text);
   pieces = takes_lines_longer old.taken new.taken xs ys cut.pieces;
-  cause = cut.cause;
+  faults = cut.faults;
 }

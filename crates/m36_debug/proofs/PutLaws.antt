@@ -38,7 +38,7 @@ pub puts_more :
 puts_more old now new first second one two = record {
   text = subst (GrewWithin old.written new.written) (sym (concat-append first second)) (grew_more old.written now.written new.written (joined first) (joined second) one.text two.text);
   pieces = takes_lines_more old.taken now.taken new.taken first second one.pieces two.pieces;
-  cause = subst (λ n. Rose n new.faults) one.faults two.cause;
+  faults = subst (λ n. Rose n new.faults) one.faults two.faults;
 }
 
 -- a part of some lines is a part of more
@@ -48,7 +48,7 @@ pub puts_longer :
 puts_longer old new first second cut = record {
   text = subst (GrewWithin old.written new.written) (sym (concat-append first second)) (grew_longer old.written new.written (joined first) (joined second) cut.text);
   pieces = takes_lines_longer old.taken new.taken first second cut.pieces;
-  cause = cut.cause;
+  faults = cut.faults;
 }
 
 -- one line was put
@@ -64,7 +64,7 @@ puts_line Done written written' taken taken' faults faults' line says took cause
 puts_line Failed written written' taken taken' faults faults' line says took cause = record {
   text = subst (GrewWithin written written') (sym (append-nil line)) says;
   pieces = takes_some_of_line written written' taken taken' line took;
-  cause = cause;
+  faults = cause;
 }
 
 -- what was put is this line

@@ -24,7 +24,7 @@ line_put put.Done line old new says through cause = record {
 line_put put.Failed line old new says through cause = record {
   text = says_of put.Failed old.written new.written line (joined (line ∷ [])) (sym (append-nil line)) says;
   pieces = through;
-  cause = cause;
+  faults = cause;
 }
 
 -- the text of an audit was put
@@ -41,7 +41,7 @@ audit_put put.Done findings old new says through cause = record {
 audit_put put.Failed findings old new says through cause = record {
   text = says;
   pieces = through;
-  cause = cause;
+  faults = cause;
 }
 
 -- a line, and then others

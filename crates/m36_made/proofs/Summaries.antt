@@ -95,7 +95,7 @@ run_ended Cut result count system after findings how regs old now mid new head i
     record {
       due = run_answer count findings (Some how) (steps_in is.turns) is.last.state.regs;
       is = record { turns = is.turns; last = is.last; how = Some how; goes = is.goes; reaches = is.reaches; answer = refl };
-      puts = record { sets = refl; part = record { text = some.text; pieces = some.pieces; cause = some.cause } };
+      puts = record { sets = refl; part = record { text = some.text; pieces = some.pieces; faults = some.faults } };
     }
 run_ended Unread result count system after findings how regs old now mid new head is left sum = absurd sum
 run_ended ends.Starved result count system after findings how regs old now mid new head is left sum = absurd sum
@@ -126,7 +126,7 @@ run_cut count system after findings old now new head says =
     record {
       due = run_answer count findings says.0 (steps_in is.turns) is.last.state.regs;
       is = record { turns = is.turns; last = is.last; how = says.0; goes = is.goes; reaches = is.reaches; answer = refl };
-      puts = record { sets = refl; part = record { text = some.text; pieces = some.pieces; cause = some.cause } };
+      puts = record { sets = refl; part = record { text = some.text; pieces = some.pieces; faults = some.faults } };
     }
 
 pub run_starved :
@@ -163,7 +163,7 @@ head_part count system findings old new head =
         reaches = tt;
         answer = refl;
       };
-      puts = record { sets = refl; part = record { text = some.text; pieces = some.pieces; cause = some.cause } };
+      puts = record { sets = refl; part = record { text = some.text; pieces = some.pieces; faults = some.faults } };
     }
 
 -- ---- no run
@@ -191,7 +191,7 @@ unfolding unrun_answer
 unrun_part count findings old new head = record {
   due = unrun_answer count findings;
   is = refl;
-  puts = record { sets = refl; part = record { text = head.text; pieces = head.pieces; cause = head.cause } };
+  puts = record { sets = refl; part = record { text = head.text; pieces = head.pieces; faults = head.faults } };
 }
 
 pub ruleset unruns = (unrun_whole, unrun_part)

@@ -92,7 +92,7 @@ ends_told sets Cut result f f' s s' set unread p = record {
   begun = inl (record { told = p.due; is = p.is; answer = refl });
   cut = inr (record {
     set = set;
-    put = record { text = p.puts.part.text; pieces = p.puts.part.pieces; cause = p.puts.part.cause };
+    put = record { text = p.puts.part.text; pieces = p.puts.part.pieces; faults = p.puts.part.faults };
     read_faults = unread;
   });
 }

@@ -4,21 +4,16 @@ use Rattle.m36_outside.specs.Passing.{joined, TakesLines}
 use Rattle.m36_outside.specs.Put.{PutSays, PutHasCause}
 use Rattle.m36_outside.specs.SinkState.{SinkState}
 use Rattle.m36_outside.specs.declared.sink.Put.{Put}
-use Rattle.m36_outside.specs.declared.sink.Put.TheVariants.{Done, Failed}
 
--- It is put whole.
-pub record PutsAll (bytes : List ℕ) (due : List (List ℕ)) (old new : SinkState) : Type 0 where
-  pub text : PutSays Done old.written new.written bytes
-  pub pieces : TakesLines Done old.taken new.taken due
-  pub faults : PutHasCause Done old.faults new.faults
+-- It is put whole; or, where a put failed, a first part of it: pieces of it and a first part of the
+-- next.
+pub record PutsText
+    (answer : Put) (bytes : List ℕ) (due : List (List ℕ)) (old new : SinkState)
+    : Type 0 where
+  pub text : PutSays answer old.written new.written bytes
+  pub pieces : TakesLines answer old.taken new.taken due
+  pub faults : PutHasCause answer old.faults new.faults
 
--- A first part of it is put, pieces of it and a first part of the next, and then a put failed.
-pub record PutsFirst (bytes : List ℕ) (due : List (List ℕ)) (old new : SinkState) : Type 0 where
-  pub text : PutSays Failed old.written new.written bytes
-  pub pieces : TakesLines Failed old.taken new.taken due
-  pub cause : PutHasCause Failed old.faults new.faults
-
--- Pieces are put, or a first part of them where a put failed.
+-- the same of pieces
 abbrev pub PutsPieces : Put → List (List ℕ) → SinkState → SinkState → Type 0
-PutsPieces Done pieces old new = PutsAll (joined pieces) pieces old new
-PutsPieces Failed pieces old new = PutsFirst (joined pieces) pieces old new
+PutsPieces answer pieces old new = PutsText answer (joined pieces) pieces old new

@@ -55,18 +55,21 @@ abbrev pub refusal_of : ErrorKind → ReadAnswer
 refusal_of NotFound = read.Absent
 refusal_of _ = read.Failed
 
--- No file was read: a read gave up, or one error came by which no file was opened.
+-- One error came by which a file could not be opened, and the answer is that to it.
+abbrev pub IsRefused : ReadAnswer → List ErrorKind → List ErrorKind → Type 0
+IsRefused answer old new =
+    (kind : ErrorKind) × (refusal_of kind ≡ answer) × (new ≡ old ++ kind ∷ [])
+
+-- No file was read: a read gave up, or no file was opened.
 pub record ReadsNot (old new : List ErrorKind) : Type 0 where
-  pub why : GivesUp old new ⊎
-      ((kind : ErrorKind) × (refusal_of kind ≡ read.Failed) × (new ≡ old ++ kind ∷ []))
+  pub why : GivesUp old new ⊎ IsRefused read.Failed old new
 
 -- Absent was answered to a name of no file, or behind one error that is answered so, which is that
 -- there is no such file; Failed where no file was read, and the other answers as of an opened file.
 abbrev pub ReadHasError : ReadAnswer → List ℕ → List ErrorKind → List ErrorKind → Type 0
 ReadHasError (read.Read bytes) name old new = OpenHasError (read.Read bytes) old new
 ReadHasError read.Absent name old new =
-    NamesNoFile name
-    ⊎ ((kind : ErrorKind) × (refusal_of kind ≡ read.Absent) × (new ≡ old ++ kind ∷ []))
+    NamesNoFile name ⊎ IsRefused read.Absent old new
 ReadHasError read.TooLarge name old new = OpenHasError read.TooLarge old new
 ReadHasError read.Failed name old new = ReadsNot old new
 ReadHasError read.NoMemory name old new = OpenHasError read.NoMemory old new

@@ -4,10 +4,11 @@
 //! parts above know of the world. An object of these traits may tell what it holds, and whether it does never changes. What
 //! a contract says of content is said where the object tells it.
 //!
-//! - A [`Folder`] has files by their names. No read changes a file. A read gives the file's bytes; it answers Absent exactly
-//!   where there is no such file, and TooLarge exactly where the file has more than 16,777,216 bytes. A write sets the
-//!   named file alone, and where it failed no other file differs.
-//! - [`Lines`] are input that is taken in pieces, from the beginning on. The end is told exactly where nothing is left.
+//! - A [`Folder`] has files by their names. No read changes a file. A read that neither fails nor wants memory gives the
+//!   file's bytes, or answers Absent exactly where there is no such file, and TooLarge exactly where the file has more than
+//!   16,777,216 bytes. A write sets the named file alone, and where it failed no other file differs.
+//! - [`Lines`] are input that is taken in pieces, from the beginning on. A call that does not fail tells the end exactly
+//!   where nothing is left.
 //! - A [`Sink`] has what was written to it. A put adds the piece at the end, and where it failed a first part of the piece.
 //!   Many pieces are put at once in a [`Block`]: the standard output takes them in one call of the system, or in as many as
 //!   it needs, and a sink in memory as though one by one. A block that gathers pieces is no sink: what is in it is not

@@ -59,7 +59,7 @@ run_cut findings steps state old now new before took stood says takes rose = rec
   part = record {
     text = grew_both_more old.written now.written new.written (audit_pieces findings) (run_pieces steps state) before says;
     pieces = takes_lines_more old.taken now.taken new.taken (audit_pieces findings) (run_pieces steps state) took takes;
-    cause = let P : ℕ → Type 0 = λ n. Rose n new.faults in subst P stood rose;
+    faults = let P : ℕ → Type 0 = λ n. Rose n new.faults in subst P stood rose;
   };
 }
 
@@ -74,7 +74,7 @@ text_cut findings steps state old new cut takes rose = record {
   part = record {
     text = grew_both_longer old.written new.written (audit_pieces findings) (run_pieces steps state) cut;
     pieces = takes_lines_longer old.taken new.taken (audit_pieces findings) (run_pieces steps state) takes;
-    cause = rose;
+    faults = rose;
   };
 }
 
@@ -84,7 +84,7 @@ pub audit_cut :
     → GrewWithin old.written new.written (audit_text findings) → TakesSome old.taken new.taken (audit_pieces findings) → Rose old.faults new.faults
     → PutsBy (end_of WriteFault) WriteFault (audit_answer findings) old new
 unfolding audit_answer
-audit_cut findings old new cut takes rose = record { sets = refl; part = record { text = cut; pieces = takes; cause = rose } }
+audit_cut findings old new cut takes rose = record { sets = refl; part = record { text = cut; pieces = takes; faults = rose } }
 
 pub audit_done :
     (findings : List Finding) (old new : SinkState)

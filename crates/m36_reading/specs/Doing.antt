@@ -13,9 +13,9 @@ use Rattle.m36_reading.specs.Outside.{FolderState, Outside, IsKept, IsIdle, None
 use Rattle.m36_reading.specs.Ends.{End, Answered, Cut, Unread, Starved, Unasked, end_of}
 
 -- A kind of what is due: which answers are; of which a first part may be put where the output
--- cannot be written, which are those that are due, or what is told of a run as far as it has gone;
--- and what may be written where memory is wanted, and where input that is not of the folder could
--- not be read.
+-- cannot be written, which are those that are due, or what is told of a run, of a session or of the
+-- files of `make` as far as it has gone; and what may be written where memory is wanted, and where
+-- input that is not of the folder could not be read.
 pub record Kind (D : Type 0) : Type 1 where
   pub IsDue : D → Answer → Type 0
   pub IsBegun : D → Answer → Type 0

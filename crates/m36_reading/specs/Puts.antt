@@ -1,16 +1,17 @@
 -- What is said of a sink to which an answer is put, or nothing.
 use Rattle.std.specs.Prelude.{◌≡◌}
-use Rattle.m36_outside.specs.Putting.{PutsAll, PutsFirst}
+use Rattle.m36_outside.specs.Putting.{PutsText}
 use Rattle.m36_outside.specs.SinkState.{SinkState}
+use Rattle.m36_outside.specs.declared.sink.Put.TheVariants.{Done, Failed}
 use Rattle.m36_reading.specs.Answers.{Answer}
 
 -- Its text is put whole, in its pieces.
 abbrev pub IsPutWhole : Answer → SinkState → SinkState → Type 0
-IsPutWhole due old new = PutsAll due.text due.pieces old new
+IsPutWhole due old new = PutsText Done due.text due.pieces old new
 
 -- A first part of it is put: pieces of it, and then a first part of the next.
 abbrev pub IsPutPart : Answer → SinkState → SinkState → Type 0
-IsPutPart due old new = PutsFirst due.text due.pieces old new
+IsPutPart due old new = PutsText Failed due.text due.pieces old new
 
 -- Nothing is put, and no put failed.
 pub record IsNotPut (old new : SinkState) : Type 0 where

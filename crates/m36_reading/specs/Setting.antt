@@ -1,7 +1,6 @@
 -- What the writing of files, one after another, says.
 use Rattle.std.specs.Prelude.{◌≡◌, List, [], ◌∷◌, ◌++◌}
-use Rattle.m36_outside.specs.Counts.{Rose}
-use Rattle.m36_outside.specs.WriteAnswer.{DiffersAtMost}
+use Rattle.m36_outside.specs.WriteAnswer.{WriteSays, WriteHasCause}
 use Rattle.m36_outside.specs.declared.folder.WriteAnswer.{WriteAnswer}
 use Rattle.m36_outside.specs.declared.folder.WriteAnswer.TheVariants.{Written, Failed, NoMemory}
 use Rattle.m36_reading.specs.declared.setting.Set.{Set}
@@ -13,25 +12,23 @@ pub record AllSet (sets : List Set) (old new : FolderState) : Type 0 where
   pub wrote : new.wrote ≡ old.wrote ++ writes_of sets
   pub write_faults : new.write_faults ≡ old.write_faults
 
--- Those before the one whose write failed are written.
-pub record SetFailed (sets : List Set) (old new : FolderState) : Type 0 where
+-- Those before one are written, and what the answer to the write of that one says is so.
+pub record SetsUpTo (answer : WriteAnswer) (sets : List Set) (old new : FolderState) : Type 0 where
   pub before : List Set
-  pub failed : Set
+  pub last : Set
   pub others : List Set
-  pub are : sets ≡ before ++ (failed ∷ others)
-  pub files : DiffersAtMost (with_sets before old.files) new.files failed.name
-  pub wrote : new.wrote ≡ old.wrote ++ writes_of before ++ write_of Failed failed ∷ []
-  pub cause : Rose old.write_faults new.write_faults
+  pub are : sets ≡ before ++ (last ∷ others)
+  pub files : WriteSays answer (with_sets before old.files) new.files last.name last.content
+  pub wrote : new.wrote ≡ old.wrote ++ writes_of before ++ write_of answer last ∷ []
+  pub cause : WriteHasCause answer old.write_faults new.write_faults
 
--- Those before the one for which no memory was found are.
-pub record SetWanting (sets : List Set) (old new : FolderState) : Type 0 where
-  pub before : List Set
-  pub next : Set
-  pub others : List Set
-  pub are : sets ≡ before ++ (next ∷ others)
-  pub files : new.files ≡ with_sets before old.files
-  pub wrote : new.wrote ≡ old.wrote ++ writes_of before ++ write_of NoMemory next ∷ []
-  pub write_faults : new.write_faults ≡ old.write_faults
+-- The write of one failed.
+abbrev pub SetFailed : List Set → FolderState → FolderState → Type 0
+SetFailed sets old new = SetsUpTo Failed sets old new
+
+-- No memory was found for the write of one.
+abbrev pub SetWanting : List Set → FolderState → FolderState → Type 0
+SetWanting sets old new = SetsUpTo NoMemory sets old new
 
 abbrev pub SetsSay : WriteAnswer → List Set → FolderState → FolderState → Type 0
 SetsSay Written sets old new = AllSet sets old new

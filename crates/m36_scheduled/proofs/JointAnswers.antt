@@ -49,7 +49,7 @@ run_cut findings p old now new before took stood says takes rose = record {
   part = record {
     text = grew_both_more old.written now.written new.written (joint_pieces findings) (schedule_pieces p.schedule p.state) before says;
     pieces = takes_lines_more old.taken now.taken new.taken (joint_pieces findings) (schedule_pieces p.schedule p.state) took takes;
-    cause = let P : ℕ → Type 0 = λ n. Rose n new.faults in subst P stood rose;
+    faults = let P : ℕ → Type 0 = λ n. Rose n new.faults in subst P stood rose;
   };
 }
 
@@ -64,7 +64,7 @@ text_cut findings p old new cut takes rose = record {
   part = record {
     text = grew_both_longer old.written new.written (joint_pieces findings) (schedule_pieces p.schedule p.state) cut;
     pieces = takes_lines_longer old.taken new.taken (joint_pieces findings) (schedule_pieces p.schedule p.state) takes;
-    cause = rose;
+    faults = rose;
   };
 }
 
@@ -74,7 +74,7 @@ pub refused_cut :
     → GrewWithin old.written new.written (joint_text findings) → TakesSome old.taken new.taken (joint_pieces findings) → Rose old.faults new.faults
     → PutsBy (end_of WriteFault) WriteFault (refused_answer findings) old new
 unfolding refused_answer
-refused_cut findings old new cut takes rose = record { sets = refl; part = record { text = cut; pieces = takes; cause = rose } }
+refused_cut findings old new cut takes rose = record { sets = refl; part = record { text = cut; pieces = takes; faults = rose } }
 
 pub refused_whole :
     (findings : List JointFound) (old new : SinkState)

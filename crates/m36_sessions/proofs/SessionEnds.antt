@@ -164,7 +164,7 @@ ends_put Holds d Cut result talk f s s' p = record {
   begun = record { lines = p.lines; holds = p.holds; answer = refl };
   cut = inr (record {
     set = none_set f [] refl;
-    put = record { text = p.puts.text; pieces = p.puts.pieces; cause = p.puts.cause };
+    put = record { text = p.puts.text; pieces = p.puts.pieces; faults = p.puts.faults };
     read_faults = refl;
   });
 }

@@ -62,7 +62,7 @@ pub set_failed :
     → SetFailed sets old new
 set_failed sets i set name content now was count old new inside at so_far wrote_far counted named filled differs wrote rose = record {
   before = take i sets;
-  failed = set;
+  last = set;
   others = drop (i + 1) sets;
   are = parted sets i set inside at;
   files = subst (λ f. DiffersAtMost f new.files set.name) so_far (subst (λ n. DiffersAtMost now new.files n) named differs);
@@ -78,12 +78,12 @@ pub set_wanting :
     → SetWanting sets old new
 set_wanting sets i set name content now was count old new inside at so_far wrote_far counted named filled same wrote stands = record {
   before = take i sets;
-  next = set;
+  last = set;
   others = drop (i + 1) sets;
   are = parted sets i set inside at;
   files = same ∙ so_far;
   wrote = write_is NoMemory set name content old.wrote was new.wrote (writes_of (take i sets)) named filled wrote_far wrote;
-  write_faults = stands ∙ counted;
+  cause = stands ∙ counted;
 }
 
 pub ruleset setting = (sets_more, set_failed, set_wanting)

@@ -40,7 +40,7 @@ told_cut told f f' s s' set unread grew took rose = record {
   begun = refl;
   cut = inr (record {
     set = set;
-    put = record { text = grew; pieces = took; cause = rose };
+    put = record { text = grew; pieces = took; faults = rose };
     read_faults = unread;
   });
 }

@@ -184,29 +184,29 @@ empty_parts [] set others e = cc
 empty_parts (first ∷ before) set others e = cc
 
 none_unset : (due : Answer) (old new : Outside) → due.sets ≡ [] → IsUnset due old new → ⊥
-none_unset due old new none is = empty_parts is.set.before is.set.failed is.set.others (sym none ∙ is.set.are)
+none_unset due old new none is = empty_parts is.set.before is.set.last is.set.others (sym none ∙ is.set.are)
 
 cut_rose :
     (writes : Bool) (due : Answer) (old new : Outside) → (writes ≡ false → due.sets ≡ [])
     → IsUnset due old new ⊎ IsUnput due old new → WriteRose writes old new
 cut_rose true due old new none (inl is) = inr is.set.cause
-cut_rose true due old new none (inr is) = inl is.put.cause
+cut_rose true due old new none (inr is) = inl is.put.faults
 cut_rose false due old new none (inl is) = absurd (none_unset due old new (none refl) is)
-cut_rose false due old new none (inr is) = is.put.cause
+cut_rose false due old new none (inr is) = is.put.faults
 
 session_stands : (Holds : Holding) (talk : Talk) (old new : Outside) → SessionWants Holds talk old new → WritesStand old new
 session_stands Holds talk old new (inl w) = (w.idle.none_put.faults, w.idle.write_faults)
 session_stands Holds talk old new (inr w) = (w.whole.put.faults, w.whole.set.write_faults)
 
 wants_stand : (talk : Talk) (d : Due) (old new : Outside) → WantsOf talk d old new → WritesStand old new
-wants_stand talk (Told told) old new w = (w.none_put.faults, w.set.write_faults)
+wants_stand talk (Told told) old new w = (w.none_put.faults, w.set.cause)
 wants_stand talk (Image image) old new w = (w.none_put.faults, w.write_faults)
 wants_stand talk (Folder folder) old new (inl w) = (w.none_put.faults, w.write_faults)
 wants_stand talk (Folder folder) old new (inr w) = (w.whole.put.faults, w.whole.set.write_faults)
 wants_stand talk (Schedule s) old new w = (w.none_put.faults, w.write_faults)
 wants_stand talk (ImageSession state) old new w = session_stands (HoldsImage talk state) talk old new w
 wants_stand talk (FolderSession given) old new w = session_stands (HoldsFolder talk given.lib) talk old new w
-wants_stand talk (Made sets) old new (inl w) = (w.none_put.faults, w.set.write_faults)
+wants_stand talk (Made sets) old new (inl w) = (w.none_put.faults, w.set.cause)
 wants_stand talk (Made sets) old new (inr (inl w)) = (w.put.faults, w.set.write_faults)
 wants_stand talk (Made sets) old new (inr (inr w)) = (w.whole.put.faults, w.whole.set.write_faults)
 
@@ -266,7 +266,7 @@ session_keeps Holds talk old new (inr w) =
     unset_keeps w.due.sets old new (ap (λ (d : Answer). d.sets) w.is.answer) w.whole.set.files w.whole.set.wrote
 
 wants_keeps : (talk : Talk) (d : Due) (old new : Outside) → NoSets talk (Ok d) → WantsOf talk d old new → IsKept old.folder new.folder
-wants_keeps talk (Told told) old new none w = absurd (empty_parts w.set.before w.set.next w.set.others (sym (none.0 (told_answer told) refl) ∙ w.set.are))
+wants_keeps talk (Told told) old new none w = absurd (empty_parts w.set.before w.set.last w.set.others (sym (none.0 (told_answer told) refl) ∙ w.set.are))
 wants_keeps talk (Image image) old new none w = idle_keeps old new w
 wants_keeps talk (Folder folder) old new none (inl w) = idle_keeps old new w
 wants_keeps talk (Folder folder) old new none (inr w) =
@@ -275,7 +275,7 @@ wants_keeps talk (Schedule s) old new none w = idle_keeps old new w
 wants_keeps talk (ImageSession state) old new none w = session_keeps (HoldsImage talk state) talk old new w
 wants_keeps talk (FolderSession given) old new none w = session_keeps (HoldsFolder talk given.lib) talk old new w
 wants_keeps talk (Made sets) old new none (inl w) =
-    absurd (empty_parts w.set.before w.set.next w.set.others (sym (none.1 (files_alone sets) (inr refl)) ∙ w.set.are))
+    absurd (empty_parts w.set.before w.set.last w.set.others (sym (none.1 (files_alone sets) (inr refl)) ∙ w.set.are))
 wants_keeps talk (Made sets) old new none (inr (inl w)) = unset_keeps sets old new (none.1 (files_alone sets) (inr refl)) w.set.files w.set.wrote
 wants_keeps talk (Made sets) old new none (inr (inr w)) =
     unset_keeps w.due.sets old new (ap (λ (d : Answer). d.sets) w.is.answer ∙ none.1 (files_alone sets) (inr refl)) w.whole.set.files w.whole.set.wrote

@@ -31,7 +31,7 @@ details NoMemory = []
 abbrev pub status_line : Status → List ℕ
 status_line status = as_line ((codes "m36: " ++ status_name status) ++ details status)
 
--- what the program prints to standard error: nothing where the call answered Done
+-- the line of the status on standard error: none where the call answered Done
 abbrev pub report_of : Status → List ℕ
 report_of Done = []
 report_of Usage = status_line Usage

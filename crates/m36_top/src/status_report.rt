@@ -54,7 +54,7 @@ fn status_line(alloc: Global, status: &Status) -> Result<Text, NoMemory>
     Ok(line)
 }
 
-/// What the program prints to standard error: the line of the status, and nothing where it is Done. The error is want of
+/// What the program prints to standard error of the status: its line, and nothing where it is Done. The error is want of
 /// memory alone.
 pub fn report(alloc: Global, status: &Status) -> Result<Text, NoMemory>
     ensures { IfOk result (λ text. text ≡ report_of status.now) }
