@@ -23,7 +23,7 @@ use alm_tokens::span::{Span, bytes_of};
 use alm_tokens::tokens::is_symbol;
 use std::alloc::Global;
 
-// Whether an operation may stand without an operand.
+// The refusal of an operation that may not stand without an operand.
 fn missing(operation: Operation, at: u32) -> Option<Refusal>
     ensures value { result ≡ missing operation at }
     ensures place { IfSome result (λ refusal. refusal.place ≡ at) }

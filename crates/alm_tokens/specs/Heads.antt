@@ -25,7 +25,7 @@ token from to = if from == to then None else Some (span_at from to)
 abbrev pub head_at : List Span → ℕ → ℕ → Head
 head_at marks from at = record { labels = marks; op = token from at }
 
--- what the line is behind a label, behind a blank, and behind a byte of the token
+-- what the line is behind a label, behind a blank, where the tokens end, and behind a byte of the token
 abbrev pub head_by : Turn → Head → Head → Head → Head → Head
 head_by Label label skip stop go = label
 head_by Skip label skip stop go = skip

@@ -1,13 +1,15 @@
 //! Arithmetic of words, pairs and halves.
 //!
-//! Words have 36 bits, pairs 72 and halves 18; the name of a call ends in the number of its bits. Signed numbers are in two's
-//! complement. Each call takes no memory and has no refusal but that of a division.
+//! Words have 36 bits, pairs 72 and halves 18; the name of a call ends in the number of its bits, but for `mul` and `div`,
+//! which are of words. Signed numbers are in two's complement. Each call takes no memory and has no refusal but that of a
+//! division.
 //!
 //! What is promised: each call gives what the definitions of `m36_model` say, which speak of whole numbers: a sum or a
 //! difference is the true result modulo two to the number of bits, with carry by the unsigned and overflow by the signed
 //! true result; a product is exact; a quotient is cut toward zero; a Boolean operation goes bit by bit; a shift is a product
-//! or a quotient by a power of two. A `Sum36`, `Sum72` or `Sum18` is seen by contracts as the numbers and tests of such a
-//! result, and `DivideCheck` comes exactly where the divisor is 0 or the quotient does not fit, which is a law.
+//! or a quotient by a power of two, and a rotation the sum of both. A `Sum36`, `Sum72` or `Sum18` is seen by contracts as the
+//! numbers and tests of such a result, and `DivideCheck` comes exactly where the divisor is 0 or the quotient does not fit,
+//! which is a law.
 //!
 //! Source: Multics Processor Manual AL39, "Number representation" and the fixed point, Boolean and shift instructions.
 #![tactic(auto)]

@@ -2,9 +2,9 @@
 //!
 //! It lays two loops into core, a simple one of six instructions and a mixed one of fourteen, once in an unpaged segment and
 //! once in a paged one. It takes steps of a loop without and with trace lines, which are made and measured but not written, and
-//! prints a line for each run. A number among the words of the command line is the count of steps, in decimal: then the simple loop is
-//! run, or with the word `mixed` the mixed one, and the line has the steps a second. With no word it takes 1,000 steps of each,
-//! and prints the same every time.
+//! prints a line for each run. The last word of the command line but `mixed` is the count of steps, in decimal: then the simple
+//! loop is run, or with the word `mixed` the mixed one, and the line has the steps a second. With no word it takes 1,000 steps of
+//! each, and prints the same every time.
 #![tactic(auto)]
 
 mod image;
@@ -18,7 +18,7 @@ use std::rt::{Clock, Env};
 use std::time::Instant;
 use std::{env, io};
 
-/// What the words ask for: the steps, None where no word is a number, and the mixed loop.
+/// What the words ask for: the steps, None where the last word but `mixed` is no number, and the mixed loop.
 #[derive(Clone, Copy)]
 struct Asked {
     steps: Option<u64>,

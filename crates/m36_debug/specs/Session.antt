@@ -161,7 +161,7 @@ went s n (back.Before taken) = standing s Waiting
 went s n back.Unable = standing s Waiting
 went s n back.NoMemory = standing s Starved
 
--- whoever has not gone back is told so as by an unknown line
+-- A session that has not gone back tells so as of an unknown line, and for want of memory nothing.
 abbrev pub back_says : RegsFields → List ℕ → BackAnswer → List (List ℕ)
 back_says g line back.Done = where_line g.ppr ∷ []
 back_says g line (back.Before taken) = unknown_line line ∷ []

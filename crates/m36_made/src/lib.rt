@@ -2,8 +2,8 @@
 //!
 //! What is written is, in this order: the sources that the generator draws from the seed, the object of each, and the data
 //! and the boot text. What was made is then booted, without reading any of it again; its core is audited; and where the
-//! audit passes, the system is run for at most 100,000 steps. Four lines tell of it: the count of segments, what the audit
-//! finds, how the run ended, and the index register 1 that it left, in which the programs have summed.
+//! audit passes, the system is run for at most 100,000 steps. Lines tell of it: the count of segments, what the audit finds,
+//! and of a run how it ended and the index register 1 that it left, in which the programs have summed.
 //!
 //! `specs/Making.antt` says which files a seed makes, `specs/Summary.antt` what is told of the folder that they are, and
 //! `specs/Made.antt` what is due to the command. It asks the folder for nothing. A file that could not be written ends it:

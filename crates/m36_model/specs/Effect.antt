@@ -5,7 +5,8 @@
 -- faults and the stop are told by `at_once` in `Step`. Indicators and registers that an
 -- instruction's equations do not name stay; which indicators it sets is this project's choice.
 --
--- Beside each line, but those of MME, DRL and DIS, stands what the manual says of the instruction.
+-- Beside each line, but those of MME, DRL and DIS, stands what the instruction does here, in the
+-- signs of the manual.
 -- C(..) is the content of a register or of the operand Y, of which digits are bits, and the arrow
 -- says where a number goes; `::` compares; `&`, `|`, `⊕` and `~` go bit by bit. TSR, TRR, CA and
 -- TBR are segment, ring, word and bit number of the final address, PSR, PRR and IC segment, ring

@@ -2,7 +2,7 @@
 //!
 //! [`exec`] gives exactly the effect that the instruction's equations say: the new registers and the words to write, or the
 //! fault 14, divide check, where DIV is given 0 or its quotient does not fit. [`exec_in_place`] does the same in the
-//! registers as they are. What A, Q and the indicators become is of `m36_arith`.
+//! registers as they are. The arithmetic is that of `m36_arith`.
 //!
 //! The frequent instructions have a quicker form in `m36_frequent`.
 //!
