@@ -1,4 +1,5 @@
 # Completion of m36 for bash: commands, options, and the files of the folder that a command reads.
+# For the value of an option it offers nothing.
 
 _m36_commands="
     bare
@@ -35,7 +36,7 @@ _m36() {
             alm) choices=$(_m36_names .alm) ;;
             bind) choices=$(_m36_names .bind) ;;
         esac
-        [ "${COMP_WORDS[COMP_CWORD - 1]}" = --steps ] && choices=
+        case ${COMP_WORDS[COMP_CWORD - 1]} in --steps | --user) choices= ;; esac
     fi
     mapfile -t COMPREPLY < <(compgen -W "$choices" -- "$word")
 }
