@@ -129,16 +129,31 @@ def form_differences(found, expected):
                 for form in sorted(found - expected, key=shown_form))
 
 
+ENTRY_NAMES = {
+    "values": "the value of {}",
+    "numbers": "{}",
+    "statuses": "the name of status {}",
+    "lines": "the line of {}",
+    "offers": "what is offered after `m36 {}`",
+}
+
+
 def entry_differences(part, found, expected):
     """The entries that differ. Of numbers a place has only some."""
-    names = found if part == "numbers" else found.keys() | expected.keys()
-    for name in sorted(names, key=str):
-        if name not in found:
-            yield f"lacks {part} {name}"
-        elif name not in expected:
-            yield f"has {part} {name}, which the table of commands has not"
-        elif found[name] != expected[name]:
-            yield f"{part} {name}: {found[name]}, expected {expected[name]}"
+    keys = found if part == "numbers" else found.keys() | expected.keys()
+    for key in sorted(keys, key=str):
+        name = ENTRY_NAMES[part].format(key)
+        if key not in found:
+            yield f"lacks {name}"
+        elif key not in expected:
+            yield f"has {name}, which the table of commands has not"
+        elif found[key] != expected[key]:
+            yield f"{name} is {shown_entry(found[key])}, expected {shown_entry(expected[key])}"
+
+
+def shown_entry(entry):
+    """An entry as a message shows it."""
+    return (" ".join(sorted(entry)) or "nothing") if isinstance(entry, set) else repr(entry)
 
 
 def differences(found, expected):
