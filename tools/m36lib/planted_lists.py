@@ -1,7 +1,8 @@
-"""Differences to plant in the places that list commands, options and statuses.
+"""Faults for `docs/check --planted`, each of which docs/check must report.
 
-Each row of `PLANTED` is a file, a text that is in it, and what to put in its place, once. The
-comparison of the lists must report each.
+Each row of `PLANTED` is a file that lists commands, options or statuses, a text that is in it, and
+what to put in its place, once. Each row of `PLANTED_WORDS` is a page, what to put at its end, and
+what is reported.
 """
 
 HELP = "crates/m36_help/src/lib.rt"
@@ -89,4 +90,18 @@ PLANTED = (
     (HELP, 'USAGE: &str = "m36 COMMAND [FILE', 'USAGE: &str = "m36 COMMAND [IMAGE'),
     (HELP, "Simulate the Honeywell 6180", "Simulate the Honeywell 6080"),
     (HELP, "--user=Smith.Demo.a", "--user=Smith.Demo"),
+)
+
+PLANTED_WORDS = (
+    ("docs/BOOT.md", "[x](nowhere.md)", "no file nowhere.md"),
+    ("docs/BOOT.md", "`docs/none.md`", "no path docs/none.md"),
+    ("docs/BOOT.md", "`m36_nothing`", "no crate m36_nothing"),
+    ("docs/BOOT.md", "`m36_top:Nowhere`", "no module m36_top:Nowhere"),
+    ("docs/BOOT.md", "`m36_top:nowhere`", "no module m36_top:nowhere"),
+    ("docs/BOOT.md", "`m36_top::none_here`", "no none_here of m36_top::none_here"),
+    ("docs/BOOT.md", "`law_none`", "no law_none of law_none"),
+    ("docs/BOOT.md", "clause `no_clause`", "no clause no_clause"),
+    ("docs/PROOFS.md", "`Nowhere_at_all`", "no Nowhere_at_all"),
+    ("docs/PROOFS.md", "`none.rt`", "no none.rt"),
+    ("docs/PROOFS.md", "| `m36_word` | x | `is_read` |", "`m36_word`: no is_read"),
 )
