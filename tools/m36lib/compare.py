@@ -1,0 +1,68 @@
+"""Holds the account of a step against what the machine did."""
+
+from .registers import LETTERS
+
+UNKNOWN = "unknown"
+FIELDS = ("number", "ring", "place", "instruction", "final", "a", "q", "indicators", "outcome")
+
+
+def fields_of(trace):
+    """The fields of a trace line, by their names."""
+    return dict(zip(FIELDS, trace.split(" ", 8)))
+
+
+def trace_differences(account, trace):
+    """Where the trace line is not what the account comes to: the instruction, the final address and
+    the outcome."""
+    if account.outcome.kind == UNKNOWN:
+        return []
+    fields = fields_of(trace)
+    word = "-" if account.word is None else f"{account.word:012o}"
+    pairs = (
+        ("instruction", word, fields["instruction"]),
+        ("final address", account.final_text(), fields["final"]),
+        ("outcome", account.outcome.trace_text(), fields["outcome"]),
+    )
+    return [f"{what} {found}, not {told}" for what, told, found in pairs if told != found]
+
+
+def register_pairs(told, found):
+    """Each register with what the account says and what the machine has."""
+    yield "A", told.a, found.a
+    yield "Q", told.q, found.q
+    for number in range(8):
+        yield f"X{number}", told.x[number], found.x[number]
+        yield f"PR{number}", told.pr[number].text(), found.pr[number].text()
+    for letter, one, other in zip(LETTERS, told.indicators, found.indicators):
+        yield f"indicator {letter}", one, other
+    yield "ring", told.ring, found.ring
+    yield "segment", told.segment, found.segment
+    yield "word", told.word, found.word
+
+
+def register_differences(account, after):
+    """Where the registers after the step are not those of the account."""
+    told = account.after
+    if account.outcome.kind == UNKNOWN:
+        return []
+    if account.unknown:
+        told = told.but(a=after.a, indicators=after.indicators)
+    if told == after:
+        return []
+    found = register_pairs(told, after)
+    return [f"{name} {shown(value)}, not {shown(said)}" for name, said, value in found if said != value]
+
+
+def shown(value):
+    return f"{value:o}" if isinstance(value, int) else str(value)
+
+
+def word_differences(account, contents):
+    """Where the words after the step are not those of the account. A word that is not to be seen
+    after the step counts as none."""
+    found = []
+    for change, content in zip(account.words, contents):
+        if content is not None and content != change.after:
+            place = f"{change.segment:05o}|{change.word:06o}"
+            found.append(f"word {place} {content:012o}, not {change.after:012o}")
+    return found

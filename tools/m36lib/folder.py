@@ -1,0 +1,228 @@
+"""Folders that boot: the boot text, files, sources and names (docs/BOOT.md).
+
+The program has accepted the folder before it is read here: nothing of it is checked again. Names of
+places come from the program's own prints, and lines of sources from its listings."""
+
+import pathlib
+import shutil
+import subprocess
+import tempfile
+
+from .fields import Dbr, Sdw, upper
+from .names import Names
+
+FIRST_STACK, FIRST_LINKAGE, FIRST_CATALOG = 8, 16, 64
+BOOTED_DBR = Dbr(address=0, bound=127, unpaged=True, stack=1)
+STACK_BLOCKS, LINKAGE_BLOCKS = 64 * 16, 64 * 256
+KINDS = ("object", "gate", "data")
+
+
+class BootSegment:
+    """A segment line of a boot text with its name lines."""
+
+    def __init__(self, number, words):
+        directory, name, file, kind, mode, *rings = words
+        self.number = number
+        self.directory = directory
+        self.names = [name]
+        self.file = file
+        self.kind = kind
+        self.mode = "" if mode == "null" else mode
+        self.r1, self.r2, self.r3 = (int(ring) for ring in rings)
+
+    @property
+    def name(self):
+        return self.names[0]
+
+
+class Boot:
+    """What a boot text says."""
+
+    def __init__(self, text):
+        self.segments = []
+        self.libraries = []
+        self.frames = 0
+        self.work = None
+        self.start = None
+        for line in text.splitlines():
+            self.take(line.split(" "))
+
+    def take(self, words):
+        kind, *rest = words
+        if kind == "frames":
+            self.frames = int(rest[0])
+        elif kind == "work":
+            self.work = rest[0]
+        elif kind == "library":
+            self.libraries.append(rest[0])
+        elif kind == "segment":
+            self.segments.append(BootSegment(FIRST_CATALOG + len(self.segments), rest))
+        elif kind == "name":
+            self.segments[-1].names.append(rest[0])
+        elif kind == "start":
+            self.start = (int(rest[0]), rest[1])
+
+
+def words_of_file(data):
+    """The words of a file: two in nine bytes."""
+    words = []
+    for at in range(0, len(data) - 8, 9):
+        both = int.from_bytes(data[at : at + 9], "big")
+        words += [both >> 36, both & (1 << 36) - 1]
+    if len(data) % 9:
+        words.append(int.from_bytes(data[-5:], "big") >> 4)
+    return words
+
+
+def ring_segment(ring, blocks):
+    """The descriptor of a stack or a linkage segment."""
+    return Sdw(0, ring, ring, ring, True, 0, blocks - 1, True, False, True, False, False, True, 0)
+
+
+def catalog_segment(segment, words):
+    """The descriptor of a segment of the catalog."""
+    mode = segment.mode
+    gate = segment.kind == "gate"
+    return Sdw(
+        address=0,
+        r1=segment.r1,
+        r2=segment.r2,
+        r3=segment.r3,
+        present=True,
+        fault=0,
+        bound=max(len(words) - 1, 0) // 16,
+        read="r" in mode,
+        execute="e" in mode,
+        write="w" in mode,
+        privileged="p" in mode,
+        unpaged=False,
+        no_gate=not gate,
+        limit=upper(words[-2]) if gate else 0,
+    )
+
+
+class Folder:
+    """A folder that boots."""
+
+    def __init__(self, path):
+        self.path = pathlib.Path(path)
+        self.boot = Boot((self.path / "boot").read_text(encoding="ascii"))
+        self.files = {}
+        for segment in self.boot.segments:
+            if segment.file not in self.files:
+                data = (self.path / segment.file).read_bytes()
+                self.files[segment.file] = words_of_file(data)
+
+    def descriptors(self):
+        """The descriptors of the booted system by segment number."""
+        found = {}
+        for ring in range(8):
+            found[FIRST_STACK + ring] = ring_segment(ring, STACK_BLOCKS)
+            found[FIRST_LINKAGE + ring] = ring_segment(ring, LINKAGE_BLOCKS)
+        for segment in self.boot.segments:
+            found[segment.number] = catalog_segment(segment, self.files[segment.file])
+        return found
+
+
+def printed(program, folder, name):
+    """The lines of `m36 print NAME`, or none where it is no object."""
+    done = subprocess.run([program, "print", name], cwd=folder, capture_output=True)
+    return done.stdout.decode("ascii").splitlines() if done.returncode == 0 else []
+
+
+def definitions(lines):
+    """The definitions of the text in a print: pairs of a place and a name, in order."""
+    found = []
+    for line in lines:
+        words = line.split(" ")
+        if words[0] == "def" and words[2] == "text":
+            found.append((int(words[3], 8), words[1]))
+    return sorted(found, key=lambda pair: pair[0])
+
+
+class Source:
+    """The source of an object: its lines, and the line of each word of the text. `problem` says why
+    the object is not of this source, and is None where it is."""
+
+    def __init__(self, file, lines, places, problem):
+        self.file = file
+        self.lines = lines
+        self.places = places
+        self.problem = problem
+
+
+def listing_places(lines):
+    """The line of each word of the text, by a listing."""
+    places = {}
+    for line in lines:
+        words = line.split(" ")
+        if words[0] == "text" and len(words) == 4:
+            places[int(words[1], 8)] = int(words[3])
+    return places
+
+
+def assembled(program, folder, name):
+    """The object that the source NAME.alm is assembled to, and its listing; or None and what the
+    program says. Nothing is written in the folder."""
+    with tempfile.TemporaryDirectory() as copy:
+        shutil.copy(pathlib.Path(folder) / f"{name}.alm", copy)
+        done = subprocess.run([program, "alm", name], cwd=copy, capture_output=True)
+        if done.returncode:
+            return None, done.stderr.decode("utf-8", "replace").splitlines()[:1]
+        made = (pathlib.Path(copy) / name).read_bytes()
+    return made, done.stdout.decode("ascii").splitlines()
+
+
+def source_of(program, folder, name):
+    """The source of an object of the folder, or None where there is none."""
+    path = pathlib.Path(folder) / f"{name}.alm"
+    if not path.is_file():
+        return None
+    lines = path.read_bytes().decode("utf-8", "replace").split("\n")
+    made, said = assembled(program, folder, name)
+    if made is None:
+        problem = f"{name}.alm does not assemble ({said[0] if said else 'no reason given'})"
+        return Source(path.name, lines, {}, problem)
+    if made != (pathlib.Path(folder) / name).read_bytes():
+        return Source(path.name, lines, {}, f"{name} is not what {name}.alm assembles to")
+    return Source(path.name, lines, listing_places(said), None)
+
+
+class FolderNames(Names):
+    """Names of segments and words: `gate_$fetch+1`, `main|12`, `stack_4|100`, `linkage_4|2010`."""
+
+    def __init__(self, program, folder):
+        self.segments = {}
+        self.entries = {}
+        for ring in range(8):
+            self.segments[FIRST_STACK + ring] = f"stack_{ring}"
+            self.segments[FIRST_LINKAGE + ring] = f"linkage_{ring}"
+        printed_files = {}
+        for segment in folder.boot.segments:
+            self.segments[segment.number] = segment.name
+            if segment.kind == "data":
+                continue
+            if segment.file not in printed_files:
+                lines = printed(program, folder.path, segment.file)
+                printed_files[segment.file] = definitions(lines)
+            self.entries[segment.number] = printed_files[segment.file]
+        self.known = {}
+
+    def segment(self, number):
+        return self.segments.get(number) or super().segment(number)
+
+    def word(self, segment, word):
+        found = self.known.get((segment, word))
+        if found is None:
+            found = self.known[segment, word] = self.find(segment, word)
+        return found
+
+    def find(self, segment, word):
+        name = self.segments.get(segment)
+        if name is None:
+            return super().word(segment, word)
+        before = [(place, entry) for place, entry in self.entries.get(segment, ()) if place <= word]
+        if not before:
+            return f"{name}|{word:o}"
+        place, entry = before[-1]
+        return f"{name}${entry}" + (f"+{word - place:o}" if word > place else "")

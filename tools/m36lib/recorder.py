@@ -1,0 +1,286 @@
+"""Records a run: see record.py for what it yields."""
+
+import pathlib
+
+from .compare import register_differences, trace_differences, word_differences
+from .explain import explain
+from .folder import BOOTED_DBR, Folder, FolderNames, source_of
+from .image import read_image
+from .machine import Machine, seg_line, word_in
+from .memory import FlatMemory, LoadedMemory
+from .names import Names
+from .record import (
+    ConsoleTurn, EndTurn, Header, LinkTurn, PageTurn, RegisterChange, SegmentHeader, Spot, Step,
+    WordSeen,
+)
+from .registers import registers_of
+
+LINKAGE_SEGMENTS = range(16, 24)
+
+
+class Recorder:
+    """A run that is recorded, of a folder that boots or of a bare image. A context manager.
+
+    Raises machine.Refusal where the program refuses the folder or the image."""
+
+    def __init__(self, program, folder, image=None):
+        self.program = str(pathlib.Path(program).resolve())
+        self.path = pathlib.Path(folder)
+        self.image = image
+        self.machine = Machine(self.program, str(self.path), image)
+        self.sources = {}
+        self.notes = []
+        self.pages = set()
+        if image:
+            self.open_image()
+        else:
+            self.open_folder()
+        self.registers = self.read_registers()
+        self.header = self.make_header()
+
+    def __enter__(self):
+        return self
+
+    def __exit__(self, *_):
+        self.machine.close()
+
+    def open_image(self):
+        read = read_image(self.path / self.image)
+        self.dbr = read.dbr
+        self.memory = read.memory()
+        self.names = Names()
+        self.segments = [header_of(number, sdw) for number, sdw in read.segments()]
+        self.frames = read.frames
+
+    def open_folder(self):
+        folder = Folder(self.path)
+        self.dbr = BOOTED_DBR
+        self.names = FolderNames(self.program, folder)
+        self.memory = FlatMemory(folder.descriptors(), self.look)
+        self.frames = folder.boot.frames
+        listed = {segment.number: segment for segment in folder.boot.segments}
+        self.segments = []
+        for number, sdw in folder.descriptors().items():
+            header = header_of(number, sdw)
+            header.name = self.names.segment(number)
+            if number in listed:
+                self.describe(header, listed[number])
+            self.segments.append(header)
+
+    def describe(self, header, segment):
+        """The parts of a segment's header that its boot line and its file have."""
+        header.names = segment.names
+        header.file = segment.file
+        header.kind = segment.kind
+        if segment.kind != "data" and segment.file not in self.sources:
+            source = source_of(self.program, self.path, segment.file)
+            self.sources[segment.file] = source
+            if source and source.problem:
+                self.notes.append(source.problem)
+
+    def look(self, segment, word):
+        """The word that the machine has now, or None."""
+        (answer,) = self.machine.ask(seg_line(segment, word))
+        return word_in(answer)
+
+    def read_registers(self):
+        lines, where = self.machine.ask("regs", "where")
+        return registers_of(lines, where[0], self.dbr)
+
+    def make_header(self):
+        sources = {source.file: source.lines for source in self.sources.values() if source}
+        registers = self.registers
+        return Header(
+            kind="image" if self.image else "folder",
+            name=self.image or self.path.resolve().name,
+            segments=self.segments,
+            sources=sources,
+            start=self.spot(registers.ring, registers.segment, registers.word),
+            frames=self.frames,
+            notes=self.notes,
+        )
+
+    def spot(self, ring, segment, word):
+        file, line = self.source_line(segment, word)
+        return Spot(ring, segment, word, self.names.word(segment, word), file, line)
+
+    def source_line(self, segment, word):
+        """The file and the line of a word of a segment's text, where there is one."""
+        header = self.headers().get(segment)
+        source = self.sources.get(header.file) if header else None
+        if source is None or word not in source.places:
+            return None, None
+        return source.file, source.places[word]
+
+    def headers(self):
+        if not hasattr(self, "by_number"):
+            self.by_number = {header.number: header for header in self.segments}
+        return self.by_number
+
+    # Turns.
+
+    def turns(self, steps=2000):
+        """The turns of at most so many steps, and at last the end."""
+        for number in range(1, steps + 1):
+            ended = yield from self.step(number)
+            if ended:
+                return
+        yield EndTurn(steps, None, f"The recording ends after {steps} steps; the run goes on.")
+
+    def step(self, number):
+        """The turns of one step and of what follows it. True where the run has ended."""
+        before = self.registers
+        account = explain(before, self.memory, self.names)
+        asked = [seg_line(word.segment, word.word) for word in account.words]
+        told, lines, where, *contents = self.machine.ask("step", "regs", "where", *asked)
+        if told[0].startswith("end "):
+            yield self.end(told[0])
+            return True
+        after = registers_of(lines, where[0], account.after.dbr)
+        contents = [word_in(content) for content in contents]
+        yield from self.page_turns(number, account)
+        yield self.finish(number, before, account, told, after, contents)
+        return (yield from self.services(number, told[1:]))
+
+    def finish(self, number, before, account, told, after, contents):
+        """The step, with what it changed; memory and registers are those after it."""
+        settled = after
+        if any(line.startswith("console ") for line in told):
+            settled = after.but(word=before.word)
+        differences = trace_differences(account, told[0])
+        differences += register_differences(account, settled)
+        differences += word_differences(account, contents)
+        words = [self.word_seen(*both) for both in zip(account.words, contents)]
+        self.memory.commit(account.commits)
+        if self.memory.booted:
+            self.settle(account, differences)
+        self.registers = after
+        return Step(
+            number=number,
+            at=self.spot(before.ring, before.segment, before.word),
+            instruction=account.instruction,
+            account=account,
+            trace=told[0],
+            before=before,
+            after=after,
+            registers=list(changes(before, settled)),
+            words=words,
+            differences=differences,
+        )
+
+    def word_seen(self, change, content):
+        name = self.names.word(change.segment, change.word)
+        after = change.after if content is None else content
+        return WordSeen(change.segment, change.word, name, change.before, after)
+
+    def settle(self, account, differences):
+        """Words that are kept are dropped where the account was not right; after an LDBR another
+        memory is in force."""
+        if differences or account.unknown:
+            self.memory.forget()
+        if account.after.dbr is not account.at and self.has_loaded(account):
+            self.memory = LoadedMemory(self.memory.sdws, self.look)
+
+    def has_loaded(self, account):
+        return (account.instruction or "").startswith("ldbr ") and account.outcome.kind == "next"
+
+    def page_turns(self, number, account):
+        if self.image or isinstance(self.memory, LoadedMemory):
+            return
+        for segment, page in account.pages:
+            if (segment, page) not in self.pages:
+                self.pages.add((segment, page))
+                name = self.names.segment(segment)
+                text = f"Page {page} of {name} is referred to for the first time, and is brought in."
+                yield PageTurn(number, segment, page, text)
+
+    def services(self, number, lines):
+        for line in lines:
+            if line.startswith("link "):
+                self.memory.forget(LINKAGE_SEGMENTS)
+                yield self.link_turn(number, line)
+            elif line.startswith("console "):
+                yield console_turn(number, line)
+            else:
+                yield self.end(line)
+                return True
+        return False
+
+    def link_turn(self, number, line):
+        _, ring, place, link, *answer = line.split(" ")
+        segment, word = (int(part, 8) for part in place.split("|"))
+        name = self.names.word(segment, word)
+        pair, target, code = (), None, None
+        if len(answer) == 2:
+            pair = tuple(int(part, 8) for part in answer)
+            target = self.names.word(pair[0] >> 18, pair[1] >> 18)
+            text = f"The linker answers the link {link} at {name}: it becomes a pointer to {target}."
+        else:
+            code = answer[0]
+            text = f"The linker refuses the link {link} at {name} with the code {code}."
+        return LinkTurn(
+            number, int(ring), segment, word, name, link, pair, target, code, text, line
+        )
+
+    def end(self, line):
+        return EndTurn(int(line.rpartition(" ")[2]), line, end_text(line))
+
+
+def end_text(line):
+    _, how, *rest = line.split(" ")
+    steps = int(rest[-1])
+    counted = "1 step" if steps == 1 else f"{steps} steps"
+    if how == "dis":
+        return f"The run ends by DIS after {counted}."
+    return f"The run ends after {counted}: {' '.join([how, *rest[:-1]])}."
+
+
+def console_turn(number, line):
+    written, rest = "", line[len("console ") :]
+    while rest:
+        if rest[0] == "\\":
+            written, rest = written + chr(int(rest[1:4], 8)), rest[4:]
+        else:
+            written, rest = written + rest[0], rest[1:]
+    counted = "1 character" if len(written) == 1 else f"{len(written)} characters"
+    return ConsoleTurn(number, written, f"The console writes {counted}.", line)
+
+
+def header_of(number, sdw):
+    return SegmentHeader(
+        number=number,
+        name=f"{number:05o}",
+        names=[],
+        file=None,
+        kind=None,
+        r1=sdw.r1,
+        r2=sdw.r2,
+        r3=sdw.r3,
+        read=sdw.read,
+        execute=sdw.execute,
+        write=sdw.write,
+        privileged=sdw.privileged,
+        gate=not sdw.no_gate,
+        entries=sdw.limit,
+        words=16 * (sdw.bound + 1),
+        paged=not sdw.unpaged,
+    )
+
+
+def changes(before, after):
+    """The registers that differ, with their values as `regs` writes them."""
+    old, new = before.as_json(), after.as_json()
+    for name in ("a", "q", "indicators", "ring", "segment", "word"):
+        if old[name] != new[name]:
+            yield RegisterChange(name, str(old[name]), str(new[name]))
+    for name in ("x", "pr"):
+        for number in range(8):
+            if old[name][number] != new[name][number]:
+                yield RegisterChange(f"{name}{number}", old[name][number], new[name][number])
+    if before.dbr != after.dbr:
+        yield RegisterChange("dbr", dbr_text(before.dbr), dbr_text(after.dbr))
+
+
+def dbr_text(dbr):
+    unpaged = "unpaged" if dbr.unpaged else "paged"
+    return f"{dbr.address:08o} bound {dbr.bound:05o} {unpaged} stack {dbr.stack:04o}"
