@@ -21,13 +21,14 @@ LINKAGE_SEGMENTS = range(16, 24)
 class Recorder:
     """A run that is recorded, of a folder that boots or of a bare image. A context manager.
 
-    Raises machine.Refusal where the program refuses the folder or the image."""
+    Raises machine.Refusal where the program refuses the folder or the image. `machine` is one that
+    answers in place of the program."""
 
-    def __init__(self, program, folder, image=None):
+    def __init__(self, program, folder, image=None, machine=None):
         self.program = str(pathlib.Path(program).resolve())
         self.path = pathlib.Path(folder)
         self.image = image
-        self.machine = Machine(self.program, str(self.path), image)
+        self.machine = machine or Machine(self.program, str(self.path), image)
         self.sources = {}
         self.notes = []
         self.pages = set()
