@@ -189,24 +189,24 @@ def source_of(program, folder, name):
 
 
 class FolderNames(Names):
-    """Names of segments and words: `gate_$fetch+1`, `main|12`, `stack_4|100`, `linkage_4|2010`."""
+    """Names of segments and words: `gate_$fetch+1`, `main|12`, `stack_4|100`, `linkage_4|2010`.
+
+    The definitions of a file are printed when the first word of it is named."""
 
     def __init__(self, program, folder):
+        self.program = program
+        self.path = folder.path
         self.segments = {}
-        self.entries = {}
+        self.files = {}
+        self.printed = {}
+        self.known = {}
         for ring in range(8):
             self.segments[FIRST_STACK + ring] = f"stack_{ring}"
             self.segments[FIRST_LINKAGE + ring] = f"linkage_{ring}"
-        printed_files = {}
         for segment in folder.boot.segments:
             self.segments[segment.number] = segment.name
-            if segment.kind == "data":
-                continue
-            if segment.file not in printed_files:
-                lines = printed(program, folder.path, segment.file)
-                printed_files[segment.file] = definitions(lines)
-            self.entries[segment.number] = printed_files[segment.file]
-        self.known = {}
+            if segment.kind != "data":
+                self.files[segment.number] = segment.file
 
     def segment(self, number):
         return self.segments.get(number) or super().segment(number)
@@ -217,12 +217,63 @@ class FolderNames(Names):
             found = self.known[segment, word] = self.find(segment, word)
         return found
 
+    def entries(self, segment):
+        """The definitions of a segment's text: pairs of a place and a name, in order."""
+        file = self.files.get(segment)
+        if file is None:
+            return []
+        if file not in self.printed:
+            self.printed[file] = definitions(printed(self.program, self.path, file))
+        return self.printed[file]
+
     def find(self, segment, word):
         name = self.segments.get(segment)
         if name is None:
             return super().word(segment, word)
-        before = [(place, entry) for place, entry in self.entries.get(segment, ()) if place <= word]
+        before = [(place, entry) for place, entry in self.entries(segment) if place <= word]
         if not before:
             return f"{name}|{word:o}"
         place, entry = before[-1]
         return f"{name}${entry}" + (f"+{word - place:o}" if word > place else "")
+
+
+class Sources:
+    """The sources of a folder's objects. One is assembled when it is first asked for."""
+
+    def __init__(self, program, folder):
+        self.program = program
+        self.path = folder.path
+        self.files = {s.number: s.file for s in folder.boot.segments if s.kind != "data"}
+        self.found = {}
+
+    def of(self, segment):
+        """The source of a segment, or None."""
+        file = self.files.get(segment)
+        if file is None:
+            return None
+        if file not in self.found:
+            self.found[file] = source_of(self.program, self.path, file)
+        return self.found[file]
+
+    def line(self, segment, word):
+        """The file and the line of a word of a segment's text; None and None where there is none."""
+        source = self.of(segment)
+        if source is None or word not in source.places:
+            return None, None
+        return source.file, source.places[word]
+
+    def all(self):
+        """All sources, each once."""
+        for segment in self.files:
+            self.of(segment)
+        return [source for source in self.found.values() if source]
+
+
+class NoSources:
+    """Where there is no source, as of a bare image."""
+
+    def line(self, segment, word):
+        return None, None
+
+    def all(self):
+        return []

@@ -17,6 +17,7 @@ from .disassemble import row_of
 MOST_INPUT = 1_000_000
 MOST_AT_ONCE = 32_000
 MOST_STEPS = 1_000_000
+STEPS_OF_GO = 100_001
 END = b"? ~\n"
 STEP_LINES = "0123456789"
 UNSURE = ("Absa", "Ldbr")
@@ -128,7 +129,7 @@ class Machine:
         self.session = Session(self.program, self.folder, self.image)
         self.taken = 0
         try:
-            self.session.ask([""] + [break_line(place) for place in self.breaks])
+            self.session.ask([""])
         except Refusal:
             self.close()
             raise
@@ -178,14 +179,20 @@ class Machine:
         """A new session at the same step."""
         self.go_to(self.count())
 
-    def go_to(self, taken):
-        """A new session that has taken so many steps."""
+    def go_to(self, taken, quick=False):
+        """A new session that has taken so many steps. A quick one does not look at each step, so
+        that `sure` stays as it is."""
         self.begin()
+        while quick and taken - self.taken > STEPS_OF_GO:
+            self.session.ask(["go"])
+            self.session_steps(1)
         while self.taken < taken:
             before = self.taken
             self.session_steps(min(taken - before, MOST_STEPS))
             if self.taken == before:
                 break
+        if self.breaks:
+            self.session.ask([break_line(place) for place in self.breaks])
 
     def session_steps(self, count):
         (answer,) = self.session.ask([f"step {count}"])

@@ -142,6 +142,19 @@ class CoreMemory:
             self.words[spot] = word
 
 
+class SeenCore(CoreMemory):
+    """The core of a bare image that has run, where its tables are those of the start: the words of
+    segments are asked of the machine by `ask(segment, word)`."""
+
+    def __init__(self, size, words, ask):
+        super().__init__(size, words)
+        self.ask = ask
+
+    def content(self, spot, segment, word):
+        found = self.ask(segment, word)
+        return super().content(spot, segment, word) if found is None else found
+
+
 class FlatMemory:
     """The memory of a booted folder. `sdws` has the descriptors by segment number, and `ask(segment,
     word)` gives a word from the machine. Words are kept until they change."""

@@ -1,17 +1,18 @@
 """Records a run: see record.py for what it yields."""
 
 import pathlib
+from functools import cached_property
 
 from .compare import register_differences, trace_differences, word_differences
 from .explain import explain
-from .folder import BOOTED_DBR, Folder, FolderNames, source_of
+from .folder import BOOTED_DBR, Folder, FolderNames, NoSources, Sources
+from .headers import folder_segments, image_segments
 from .image import read_image
 from .machine import Machine, seg_line, word_in
-from .memory import FlatMemory, LoadedMemory
+from .memory import FlatMemory, LoadedMemory, SeenCore
 from .names import Names
 from .record import (
-    ConsoleTurn, EndTurn, Header, LinkTurn, PageTurn, RegisterChange, SegmentHeader, Spot, Step,
-    WordSeen,
+    ConsoleTurn, EndTurn, Header, LinkTurn, PageTurn, RegisterChange, Spot, Step, WordSeen,
 )
 from .registers import registers_of
 
@@ -29,15 +30,14 @@ class Recorder:
         self.path = pathlib.Path(folder)
         self.image = image
         self.machine = machine or Machine(self.program, str(self.path), image)
-        self.sources = {}
-        self.notes = []
         self.pages = set()
+        self.number = 0
         if image:
             self.open_image()
         else:
             self.open_folder()
         self.registers = self.read_registers()
-        self.header = self.make_header()
+        self.first = self.registers
 
     def __enter__(self):
         return self
@@ -46,38 +46,18 @@ class Recorder:
         self.machine.close()
 
     def open_image(self):
-        read = read_image(self.path / self.image)
-        self.dbr = read.dbr
-        self.memory = read.memory()
+        self.read = read_image(self.path / self.image)
+        self.dbr = self.read.dbr
+        self.memory = self.read.memory()
         self.names = Names()
-        self.segments = [header_of(number, sdw) for number, sdw in read.segments()]
-        self.frames = read.frames
+        self.sources = NoSources()
 
     def open_folder(self):
-        folder = Folder(self.path)
+        self.read = Folder(self.path)
         self.dbr = BOOTED_DBR
-        self.names = FolderNames(self.program, folder)
-        self.memory = FlatMemory(folder.descriptors(), self.look)
-        self.frames = folder.boot.frames
-        listed = {segment.number: segment for segment in folder.boot.segments}
-        self.segments = []
-        for number, sdw in folder.descriptors().items():
-            header = header_of(number, sdw)
-            header.name = self.names.segment(number)
-            if number in listed:
-                self.describe(header, listed[number])
-            self.segments.append(header)
-
-    def describe(self, header, segment):
-        """The parts of a segment's header that its boot line and its file have."""
-        header.names = segment.names
-        header.file = segment.file
-        header.kind = segment.kind
-        if segment.kind != "data" and segment.file not in self.sources:
-            source = source_of(self.program, self.path, segment.file)
-            self.sources[segment.file] = source
-            if source and source.problem:
-                self.notes.append(source.problem)
+        self.names = FolderNames(self.program, self.read)
+        self.sources = Sources(self.program, self.read)
+        self.memory = FlatMemory(self.read.descriptors(), self.look)
 
     def look(self, segment, word):
         """The word that the machine has now, or None."""
@@ -88,41 +68,48 @@ class Recorder:
         lines, where = self.machine.ask("regs", "where")
         return registers_of(lines, where[0], self.dbr)
 
-    def make_header(self):
-        sources = {source.file: source.lines for source in self.sources.values() if source}
-        registers = self.registers
+    @cached_property
+    def header(self):
+        """What is known before the first step."""
+        sources = self.sources.all()
+        first = self.first
         return Header(
             kind="image" if self.image else "folder",
             name=self.image or self.path.resolve().name,
-            segments=self.segments,
-            sources=sources,
-            start=self.spot(registers.ring, registers.segment, registers.word),
-            frames=self.frames,
-            notes=self.notes,
+            segments=image_segments(self.read) if self.image else folder_segments(self.read),
+            sources={source.file: source.lines for source in sources},
+            start=self.spot(first.ring, first.segment, first.word),
+            frames=self.read.frames if self.image else self.read.boot.frames,
+            notes=[source.problem for source in sources if source.problem],
         )
 
     def spot(self, ring, segment, word):
-        file, line = self.source_line(segment, word)
+        file, line = self.sources.line(segment, word)
         return Spot(ring, segment, word, self.names.word(segment, word), file, line)
 
-    def source_line(self, segment, word):
-        """The file and the line of a word of a segment's text, where there is one."""
-        header = self.headers().get(segment)
-        source = self.sources.get(header.file) if header else None
-        if source is None or word not in source.places:
-            return None, None
-        return source.file, source.places[word]
+    def go_to(self, taken, quick=False):
+        """Goes to where the run has taken so many steps, of which nothing is recorded.
 
-    def headers(self):
-        if not hasattr(self, "by_number"):
-            self.by_number = {header.number: header for header in self.segments}
-        return self.by_number
+        Over an image the steps are worked out by the account, since core is not to be seen whole. A
+        quick way is there where the audit passes, so that tables stay: core is then as the machine
+        shows it. It is only right where no LDBR has been executed."""
+        if self.image and quick:
+            self.memory = SeenCore(self.memory.size, self.memory.words, self.look)
+        elif self.image:
+            for _ in range(taken - self.number):
+                account = explain(self.registers, self.memory, self.names)
+                self.memory.commit(account.commits)
+                self.registers = account.after
+            self.dbr = self.registers.dbr
+        self.machine.go_to(taken, quick)
+        self.number = taken
+        self.registers = self.read_registers()
 
     # Turns.
 
     def turns(self, steps=2000):
         """The turns of at most so many steps, and at last the end."""
-        for number in range(1, steps + 1):
+        for number in range(self.number + 1, self.number + steps + 1):
             ended = yield from self.step(number)
             if ended:
                 return
@@ -156,6 +143,7 @@ class Recorder:
         if self.memory.booted:
             self.settle(account, differences)
         self.registers = after
+        self.number = number
         return Step(
             number=number,
             at=self.spot(before.ring, before.segment, before.word),
@@ -245,27 +233,6 @@ def console_turn(number, line):
             written, rest = written + rest[0], rest[1:]
     counted = "1 character" if len(written) == 1 else f"{len(written)} characters"
     return ConsoleTurn(number, written, f"The console writes {counted}.", line)
-
-
-def header_of(number, sdw):
-    return SegmentHeader(
-        number=number,
-        name=f"{number:05o}",
-        names=[],
-        file=None,
-        kind=None,
-        r1=sdw.r1,
-        r2=sdw.r2,
-        r3=sdw.r3,
-        read=sdw.read,
-        execute=sdw.execute,
-        write=sdw.write,
-        privileged=sdw.privileged,
-        gate=not sdw.no_gate,
-        entries=sdw.limit,
-        words=16 * (sdw.bound + 1),
-        paged=not sdw.unpaged,
-    )
 
 
 def changes(before, after):

@@ -1,0 +1,203 @@
+"""The end of a run in words, and objects that are older than their sources.
+
+    end_in_words(program, words, folder)     sentences about the end of the run that `m36 WORDS` was
+    stale_objects(program, folder)           a line for each object that is not of its source
+
+The run is made again by `m36 debug`. Both are meant for the script, after a run that did not end by
+DIS and before a run."""
+
+import pathlib
+import shutil
+import subprocess
+import tempfile
+
+from .folder import Boot, source_of
+from .machine import Refusal
+from .recorder import Recorder, end_text
+
+DEFAULT_STEPS = 100_000
+MOST_WORKED_OUT = 2_000
+MOST_LINKS = 4
+VALUE_OPTIONS = ("--steps", "--user")
+
+
+class Words:
+    """The words of a call of m36, as far as they are about a run."""
+
+    def __init__(self, words):
+        self.command = words[0] if words else None
+        self.options = {}
+        self.operands = []
+        rest = list(words[1:])
+        while rest:
+            word = rest.pop(0)
+            name, equals, value = word.partition("=")
+            if word == "--":
+                self.operands += rest
+                rest = []
+            elif name in VALUE_OPTIONS:
+                self.options[name] = value if equals else rest.pop(0) if rest else ""
+            elif not word.startswith("--"):
+                self.operands.append(word)
+
+    def steps(self):
+        text = self.options.get("--steps", "")
+        return int(text) if text.isdigit() else DEFAULT_STEPS
+
+    def image(self):
+        return self.operands[0] if self.command == "bare" and self.operands else None
+
+    def is_run(self):
+        return self.command in ("run", "trace") or self.image() is not None
+
+
+def end_in_words(program, words, folder="."):
+    """Sentences that say how the run ended that `m36 WORDS` made: the instruction, its place, the
+    ring, what was asked of which word in which ring, and the rule that refused it.
+
+    None are given where the run ends by DIS or at its limit, where the words make no run, and where
+    the program refuses the folder."""
+    program = str(pathlib.Path(program).resolve())
+    call = Words(words)
+    if not call.is_run():
+        return []
+    try:
+        if "--user" in call.options:
+            with granted_folder(program, call.options["--user"], folder) as granted:
+                return sentences_of_end(program, granted, None, call.steps()) if granted else []
+        return sentences_of_end(program, folder, call.image(), call.steps())
+    except Refusal:
+        return []
+
+
+def sentences_of_end(program, folder, image, limit):
+    with Recorder(program, folder, image) as recorder:
+        line = run_to_end(recorder.machine, limit)
+        if line is None or line.startswith("end dis "):
+            return []
+        taken = recorder.machine.taken - 1
+        recorder.go_to(taken, quick=taken > MOST_WORKED_OUT)
+        step, *rest = [turn for turn in recorder.turns(1) if not hasattr(turn, "page")]
+        services = [turn for turn in rest if hasattr(turn, "link")]
+        return [*step_sentences(step), *(turn.text for turn in services), end_text(line)]
+
+
+def run_to_end(machine, limit):
+    """The end line of the run, or None where it meets the limit of steps first."""
+    while True:
+        (answer,) = machine.ask("go")
+        if answer[0].startswith("end "):
+            return answer[0] if machine.taken <= limit else None
+        if machine.count() >= limit:
+            return None
+
+
+def step_sentences(step):
+    """What the step did that ended the run."""
+    at, account = step.at, step.account
+    source = f" ({at.file}, line {at.line})" if at.file else ""
+    if account.instruction is None:
+        what = f"Step {step.number}: ring {at.ring} is to execute the word at {at.name}."
+    else:
+        what = f"Step {step.number}: ring {at.ring} executes {account.instruction} at {at.name}"
+        what += f"{source}."
+    if step.differences:
+        return [what, f"The machine did otherwise than the account of it: {step.trace}"]
+    return [what, *chain_sentences(account), *refusal_sentences(account)]
+
+
+def chain_sentences(account):
+    """The links of the address chain, the last ones where there are many."""
+    links = account.chain
+    if len(links) == 1 and links[0].point.ring == account.at.ring:
+        return []
+    shown = links[-MOST_LINKS:]
+    left_out = len(links) - len(shown)
+    found = [f"The address chain has {len(links)} links; these are the last."] if left_out else []
+    return found + [link.text for link in shown]
+
+
+def refusal_sentences(account):
+    refused = [reference for reference in account.references if not reference.allowed]
+    found = []
+    for reference in refused:
+        where = ""
+        if reference.link is not None:
+            where = f" This is link {reference.link + 1} of the address chain."
+        rule = f" (docs/MANUAL.md, section {reference.rule})"
+        found.append(f"{reference.question} {reference.answer}{where}{rule}")
+    if not refused:
+        outcome = account.outcome
+        found.append(f"{outcome.text} (docs/MANUAL.md, section {outcome.rule})")
+    return found
+
+
+# Rights of a user.
+
+
+class granted_folder:
+    """A copy of a folder in which the boot text has the rights that access lists give to a user.
+    Its value is the path of the copy, or None where the program does not say the rights."""
+
+    def __init__(self, program, user, folder):
+        self.program, self.user, self.folder = program, user, pathlib.Path(folder)
+        self.copy = tempfile.TemporaryDirectory()
+
+    def __enter__(self):
+        done = subprocess.run(
+            [self.program, "access", self.user], cwd=self.folder, capture_output=True
+        )
+        if done.returncode:
+            return None
+        modes = [line.split(" ")[2] for line in done.stdout.decode("ascii").splitlines()]
+        lines = (self.folder / "boot").read_text(encoding="ascii").splitlines()
+        copy = pathlib.Path(self.copy.name)
+        given = iter(modes)
+        for number, line in enumerate(lines):
+            words = line.split(" ")
+            if words[0] == "segment":
+                words[5] = with_privilege(next(given), words[5])
+                lines[number] = " ".join(words)
+                copy_file(self.folder, copy, words[3])
+                copy_file(self.folder, copy, words[3] + ".alm")
+        (copy / "boot").write_text("\n".join(lines) + "\n", encoding="ascii")
+        return copy
+
+    def __exit__(self, *_):
+        self.copy.cleanup()
+
+
+def with_privilege(given, of_boot):
+    """The mode that a user has: whether a segment is privileged stays."""
+    mode = ("" if given == "null" else given) + ("p" if "p" in of_boot else "")
+    return mode or "null"
+
+
+def copy_file(folder, copy, name):
+    if (folder / name).is_file() and not (copy / name).exists():
+        shutil.copy2(folder / name, copy / name)
+
+
+# Objects that are older than their sources.
+
+
+def stale_objects(program, folder="."):
+    """A line for each object of the boot text that is not what its source assembles to."""
+    program, folder = str(pathlib.Path(program).resolve()), pathlib.Path(folder)
+    found = []
+    for name in object_files(folder):
+        if not (folder / f"{name}.bind").exists() and (folder / name).is_file():
+            source = source_of(program, folder, name)
+            if source and source.problem:
+                found.append(f"{source.problem}: `m36 alm {name}` makes it anew")
+    return found
+
+
+def object_files(folder):
+    """The files of the objects and gates of a boot text, as far as it can be read."""
+    try:
+        boot = Boot((folder / "boot").read_text(encoding="ascii"))
+    except (OSError, ValueError, IndexError):
+        return []
+    files = [segment.file for segment in boot.segments if segment.kind != "data"]
+    return list(dict.fromkeys(files))
