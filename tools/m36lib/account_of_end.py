@@ -84,12 +84,12 @@ def sentences_of_end(program, folder, image, limit):
 
 def run_to_end(machine, limit):
     """The end line of the run, or None where it meets the limit of steps first."""
-    while True:
-        (answer,) = machine.ask("go")
-        if answer[0].startswith("end "):
-            return answer[0] if machine.taken <= limit else None
-        if machine.count() >= limit:
-            return None
+    while machine.taken < limit:
+        for line in ("go", "step"):
+            (answer,) = machine.ask(line)
+            if answer[-1].startswith("end "):
+                return answer[-1] if machine.taken <= limit else None
+    return None
 
 
 def step_sentences(step):

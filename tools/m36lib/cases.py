@@ -9,11 +9,14 @@ import shutil
 import subprocess
 from dataclasses import dataclass
 
+from .made_images import all_images
+
 ROOT = pathlib.Path(__file__).resolve().parents[2]
 EXAMPLES = ROOT / "examples"
 PROGRAM_WORD = re.compile(r"(\.\./)*m36")
 MOST_STEPS = 200_000
 VIEW = 7
+MOST_FRAMES_VIEWED = 8
 
 
 @dataclass
@@ -28,6 +31,13 @@ class Case:
     core: int = None
 
 
+def run(program, folder, words):
+    """Runs the program with these words, which must end well."""
+    done = subprocess.run([program, *words], cwd=folder, capture_output=True)
+    if done.returncode:
+        raise RuntimeError(f"{folder}: {' '.join(words)}: {done.stderr.decode()}")
+
+
 def prepare(program, folder):
     """Runs those lines of a folder's `commands` that make files."""
     for line in (folder / "commands").read_text().splitlines():
@@ -36,9 +46,7 @@ def prepare(program, folder):
             for name in words[1:-1]:
                 shutil.copy(folder / name, folder / words[-1])
         elif PROGRAM_WORD.fullmatch(words[0]) and words[1] in ("alm", "bind"):
-            done = subprocess.run([program, *words[1:]], cwd=folder, capture_output=True)
-            if done.returncode:
-                raise RuntimeError(f"{folder}: {line}: {done.stderr.decode()}")
+            run(program, folder, words[1:])
 
 
 def is_image(path):
@@ -94,8 +102,9 @@ def vector_steps(program, work):
     for number, line in enumerate(line for line in lines if not line.startswith("#")):
         word, before, after = check.read_line(line)
         image, loads = check.step_image(word, before.v, [], after.v)
+        image, size = viewed(check, image)
         (folder / f"step{number}").write_text(image)
-        yield Case(f"vectors/steps: {line}", folder, f"step{number}", steps=loads + 1)
+        yield Case(f"vectors/steps: {line}", folder, f"step{number}", loads + 1, size)
 
 
 def vector_references(program, work):
@@ -105,10 +114,57 @@ def vector_references(program, work):
     folder.mkdir()
     cases = check.read_cases((ROOT / "vectors/references").read_text())
     for number, (name, lines) in enumerate(cases):
-        image, _, size = check.with_view(check.image_lines(lines))
+        image, size = viewed(check, "\n".join(check.image_lines(lines)) + "\n")
         (folder / f"case{number}").write_text(image)
-        steps = len(check.of_kind(lines, "step")) + 1
+        steps = len(check.of_kind(lines, "step"))
         yield Case(f"vectors/references: {name}", folder, f"case{number}", steps, size)
+
+
+def image_cases(program, work):
+    """Images for rules that the others don't reach."""
+    check = vectors_check()
+    folder = work / "images"
+    folder.mkdir()
+    for number, (name, image, steps) in enumerate(all_images()):
+        image, size = viewed(check, image)
+        (folder / f"image{number}").write_text(image)
+        yield Case(f"images: {name}", folder, f"image{number}", steps, size)
+
+
+RIGHTS_BOOT = """frames 24
+work >u
+segment >u main main object e 4 4 4
+segment >u data data data rw 4 4 4
+start 4 main$start
+"""
+RIGHTS_SOURCE = """        entry   start
+start:  lda     data$+17
+        sta     data$+18
+        lda     data$+32
+"""
+
+
+def folder_cases(program, work):
+    """A segment that may be executed and not read, and one of 20 words, up to its bound."""
+    folder = work / "rights"
+    folder.mkdir()
+    (folder / "boot").write_text(RIGHTS_BOOT)
+    (folder / "main.alm").write_text(RIGHTS_SOURCE)
+    (folder / "data").write_bytes(bytes(90))
+    run(program, folder, ["alm", "main"])
+    yield Case("folders: rights and a bound", folder)
+
+
+def viewed(check, image):
+    """The image with a segment over all of core, and the size of core; the image as it is, and None,
+    where there is no room for the segment's descriptor."""
+    lines = image.splitlines()
+    frames = int(lines[0].split()[1])
+    if frames <= MOST_FRAMES_VIEWED:
+        found, words, size = check.with_view(lines)
+        if max(words) < size:
+            return found, size
+    return image, None
 
 
 def made(program, work, seeds):
@@ -116,9 +172,7 @@ def made(program, work, seeds):
     for seed in seeds:
         folder = work / f"made{seed}"
         folder.mkdir()
-        done = subprocess.run([program, "make", str(seed)], cwd=folder, capture_output=True)
-        if done.returncode:
-            raise RuntimeError(f"make {seed}: {done.stderr.decode()}")
+        run(program, folder, ["make", str(seed)])
         yield Case(f"make {seed}", folder)
 
 
@@ -130,6 +184,6 @@ def twenty_made(program, work):
     return made(program, work, range(1, 21))
 
 
-SMALL = (vector_steps, vector_references, examples, sessions)
+SMALL = (vector_references, image_cases, folder_cases, vector_steps, examples, sessions)
 GATE = (*SMALL, first_made)
 LONG = (twenty_made,)

@@ -43,6 +43,18 @@ def core_differences(recorder, size):
     return found
 
 
+def flat_differences(recorder):
+    """Where words that the account has kept are not those of the machine after a run."""
+    kept = sorted(recorder.memory.words.items())
+    answers = recorder.machine.ask(*(seg_line(*spot) for spot, _ in kept))
+    found = []
+    for ((segment, word), told), answer in zip(kept, answers):
+        content = word_in(answer)
+        if content is not None and content != told:
+            found.append(f"word {segment:05o}|{word:06o} {content:012o}, not {told:012o}")
+    return found
+
+
 def differences(program, case, reached, machine=None):
     """What differs in a run, as lines of text."""
     found = []
@@ -55,6 +67,8 @@ def differences(program, case, reached, machine=None):
                 found.append(f"{turn.trace}: {'; '.join(turn.differences)}")
         if case.core:
             found += core_differences(recorder, case.core)
+        elif case.image is None:
+            found += flat_differences(recorder)
     return found
 
 
