@@ -1,5 +1,7 @@
 """The text of an instruction word, as a source has it and as `m36 print` prints it."""
 
+from functools import lru_cache
+
 from .fields import instruction_of, is_on
 from .table import TABLE
 
@@ -18,6 +20,7 @@ def tag_text(tag):
     return "*" + (REGISTERS[tag & 0o17] or "n")
 
 
+@lru_cache(maxsize=65536)
 def row_of(word):
     """The row of the instruction table, or None."""
     instruction = instruction_of(word)
@@ -30,6 +33,7 @@ def address_text(instruction):
     return str(instruction.address)
 
 
+@lru_cache(maxsize=65536)
 def disassemble(word):
     """The instruction that a word is, or `oct` and its digits."""
     row = row_of(word)

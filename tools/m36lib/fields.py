@@ -1,5 +1,6 @@
 """Words, fields, descriptors and pairs (docs/MANUAL.md, sections 1 and 3)."""
 
+from functools import lru_cache
 from typing import NamedTuple
 
 from .registers import Dbr, Pointer
@@ -53,6 +54,7 @@ class Sdw(NamedTuple):
     limit: int
 
 
+@lru_cache(maxsize=4096)
 def sdw_of(even, odd):
     return Sdw(
         address=bits(even, 0, 24),
@@ -145,6 +147,7 @@ class Instruction(NamedTuple):
         return signed(self.address & 0o77777, 15)
 
 
+@lru_cache(maxsize=65536)
 def instruction_of(word):
     return Instruction(
         address=bits(word, 0, 18),

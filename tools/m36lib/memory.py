@@ -156,14 +156,15 @@ class SeenCore(CoreMemory):
 
 
 class FlatMemory:
-    """The memory of a booted folder. `sdws` has the descriptors by segment number, and `ask(segment,
-    word)` gives a word from the machine. Words are kept until they change."""
+    """The memory of a booted folder. `sdws` has the descriptors by segment number, and
+    `look(segment, word)` gives words from the machine, this one among them, by their spots; None
+    for one that has no place. Words are kept until they change."""
 
     booted = True
 
-    def __init__(self, sdws, ask):
+    def __init__(self, sdws, look):
         self.sdws = sdws
-        self.ask = ask
+        self.look = look
         self.words = {}
 
     def begin(self):
@@ -180,11 +181,18 @@ class FlatMemory:
         return segment, word
 
     def content(self, spot, segment, word):
-        found = self.words.get(spot)
+        found = self.seen(segment, word)
         if found is None:
-            found = self.words[spot] = self.ask(segment, word)
-            if found is None:
-                raise NotKnown(f"the machine shows no word at {segment:05o}|{word:06o}")
+            raise NotKnown(f"the machine shows no word at {segment:05o}|{word:06o}")
+        return found
+
+    def seen(self, segment, word):
+        """A word that is kept, or else one from the machine."""
+        found = self.words.get((segment, word))
+        if found is None:
+            looked = self.look(segment, word)
+            self.words.update({spot: told for spot, told in looked.items() if told is not None})
+            found = looked[segment, word]
         return found
 
     def mark(self, dbr, sdw, segment, word, modified):
@@ -214,6 +222,6 @@ class LoadedMemory(FlatMemory):
         return super().descriptor(dbr, segment)
 
     def spot(self, sdw, segment, word):
-        if self.ask(segment, word) is None:
+        if self.seen(segment, word) is None:
             raise directed(1, f"the page table word of its page {word // PAGE}")
         return segment, word

@@ -3,6 +3,7 @@
 import pathlib
 from functools import cached_property
 
+from .account import word_text
 from .compare import register_differences, trace_differences, word_differences
 from .explain import explain
 from .folder import BOOTED_DBR, Folder, FolderNames, NoSources, Sources
@@ -17,6 +18,7 @@ from .record import (
 from .registers import registers_of
 
 LINKAGE_SEGMENTS = range(16, 24)
+LOOKED_AT = 16
 
 
 class Recorder:
@@ -57,12 +59,19 @@ class Recorder:
         self.dbr = BOOTED_DBR
         self.names = FolderNames(self.program, self.read)
         self.sources = Sources(self.program, self.read)
-        self.memory = FlatMemory(self.read.descriptors(), self.look)
+        self.memory = FlatMemory(self.read.descriptors(), self.look_around)
 
     def look(self, segment, word):
         """The word that the machine has now, or None."""
         (answer,) = self.machine.ask(seg_line(segment, word))
         return word_in(answer)
+
+    def look_around(self, segment, word):
+        """The words of a block that the machine has now, by their spots."""
+        first = word - word % LOOKED_AT
+        spots = [(segment, first + offset) for offset in range(LOOKED_AT)]
+        answers = self.machine.ask(*(seg_line(*spot) for spot in spots))
+        return {spot: word_in(answer) for spot, answer in zip(spots, answers)}
 
     def read_registers(self):
         lines, where = self.machine.ask("regs", "where")
@@ -168,7 +177,7 @@ class Recorder:
         if differences or account.unknown:
             self.memory.forget()
         if account.after.dbr is not account.at and self.has_loaded(account):
-            self.memory = LoadedMemory(self.memory.sdws, self.look)
+            self.memory = LoadedMemory(self.memory.sdws, self.look_around)
 
     def has_loaded(self, account):
         return (account.instruction or "").startswith("ldbr ") and account.outcome.kind == "next"
@@ -237,14 +246,27 @@ def console_turn(number, line):
 
 def changes(before, after):
     """The registers that differ, with their values as `regs` writes them."""
-    old, new = before.as_json(), after.as_json()
-    for name in ("a", "q", "indicators", "ring", "segment", "word"):
-        if old[name] != new[name]:
-            yield RegisterChange(name, str(old[name]), str(new[name]))
-    for name in ("x", "pr"):
-        for number in range(8):
-            if old[name][number] != new[name][number]:
-                yield RegisterChange(f"{name}{number}", old[name][number], new[name][number])
+    if before.a != after.a:
+        yield RegisterChange("a", word_text(before.a), word_text(after.a))
+    if before.q != after.q:
+        yield RegisterChange("q", word_text(before.q), word_text(after.q))
+    if before.x != after.x:
+        for number, (old, new) in enumerate(zip(before.x, after.x)):
+            if old != new:
+                yield RegisterChange(f"x{number}", f"{old:06o}", f"{new:06o}")
+    if before.pr != after.pr:
+        for number, (old, new) in enumerate(zip(before.pr, after.pr)):
+            if old != new:
+                yield RegisterChange(f"pr{number}", old.text(), new.text())
+    if before.indicators != after.indicators:
+        old, new = before.indicators.text(), after.indicators.text()
+        yield RegisterChange("indicators", old, new)
+    if before.ring != after.ring:
+        yield RegisterChange("ring", str(before.ring), str(after.ring))
+    if before.segment != after.segment:
+        yield RegisterChange("segment", f"{before.segment:05o}", f"{after.segment:05o}")
+    if before.word != after.word:
+        yield RegisterChange("word", f"{before.word:06o}", f"{after.word:06o}")
     if before.dbr != after.dbr:
         yield RegisterChange("dbr", dbr_text(before.dbr), dbr_text(after.dbr))
 

@@ -2,6 +2,7 @@
 
 import re
 from dataclasses import dataclass, replace
+from functools import lru_cache
 from typing import NamedTuple
 
 LETTERS = "zncomt"
@@ -81,6 +82,7 @@ class Registers:
         }
 
 
+@lru_cache(maxsize=64)
 def indicators_of(text):
     return Indicators(*(letter != "." for letter in text))
 
@@ -90,19 +92,27 @@ def place_of(line):
     return tuple(int(part, 8) for part in PLACE_LINE.fullmatch(line).groups())
 
 
+@lru_cache(maxsize=4096)
+def pointer_in(line):
+    """The pointer register of a line of `regs`."""
+    ring, segment, word, bit = POINTER_LINE.fullmatch(line).groups()
+    return Pointer(int(segment, 8), int(ring, 8), int(word, 8), int(bit, 8))
+
+
+@lru_cache(maxsize=4096)
+def index_registers_in(line):
+    return tuple(int(text, 8) for text in line.split(" ")[1:])
+
+
 def registers_of(lines, place_line, dbr):
     """The registers of the ten lines of `regs` and the line of `where`."""
     _, a, _, q, _, indicators = lines[0].split(" ")
-    pointers = []
-    for line in lines[2:10]:
-        ring, segment, word, bit = POINTER_LINE.fullmatch(line).groups()
-        pointers.append(Pointer(int(segment, 8), int(ring, 8), int(word, 8), int(bit, 8)))
     ring, segment, word = place_of(place_line)
     return Registers(
         a=int(a, 8),
         q=int(q, 8),
-        x=tuple(int(text, 8) for text in lines[1].split(" ")[1:]),
-        pr=tuple(pointers),
+        x=index_registers_in(lines[1]),
+        pr=tuple(pointer_in(line) for line in lines[2:10]),
         indicators=indicators_of(indicators),
         ring=ring,
         segment=segment,
