@@ -17,6 +17,7 @@ RULE = "7"
 MOST_INDIRECT_WORDS = 16
 DU, DL = 3, 7
 FAULT_TAGS = {0o40: 3, 0o46: 24, 0o47: 25}
+LINK_FAULT = 24
 LOCKUP, ILLEGAL_PROCEDURE = 7, 10
 
 
@@ -205,9 +206,10 @@ class Chain:
         number = FAULT_TAGS.get(point.tag)
         if number is not None:
             where = self.names.word(point.carrier.segment, point.carrier.word)
-            self.fail(
-                number, point.carrier, f"The word at {where} has the fault tag {point.tag:02o}."
-            )
+            text = f"The word at {where} has the tag {point.tag:02o}, which gives fault {number}."
+            if number == LINK_FAULT:
+                text += " A link has it until it is snapped."
+            self.fail(number, point.carrier, text)
         if point.tag in (ITS_TAG, ITP_TAG):
             self.fail(
                 ILLEGAL_PROCEDURE,

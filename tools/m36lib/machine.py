@@ -102,10 +102,11 @@ class Machine:
     executed ABSA or LDBR over a folder: what it then does depends on frames, so that going back is
     not sure to come to the same place."""
 
-    def __init__(self, program, folder, image=None):
+    def __init__(self, program, folder, image=None, most_input=MOST_INPUT):
         self.program = os.path.abspath(program)
         self.folder = folder
         self.image = image
+        self.most_input = most_input
         self.session = None
         self.breaks = []
         self.taken = 0
@@ -138,7 +139,7 @@ class Machine:
         """The answer to each line, a list of lines."""
         answers = []
         for group in groups(lines):
-            if self.session.written + size_of(group) > MOST_INPUT:
+            if self.session.written + size_of(group) > self.most_input:
                 self.renew()
             found = self.session.ask(group)
             for line, answer in zip(group, found):
