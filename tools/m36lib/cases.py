@@ -144,15 +144,42 @@ start:  lda     data$+17
 """
 
 
+LOADED_BOOT = """frames 24
+work >u
+segment >u main main object rewp 0 0 0
+segment >u data data data rw 4 4 4
+start 0 main$start
+"""
+LOADED_SOURCE = """        entry   start
+start:  absa    0,ic
+        lda     data$
+        ldbr    dbr
+        lda     cell
+        sta     cell
+        lda     data$+3
+        lda     2000
+        even
+dbr:    oct     0,000376200001
+cell:   dec     0
+        bss     more,3000
+"""
+
+
 def folder_cases(program, work):
-    """A segment that may be executed and not read, and one of 20 words, up to its bound."""
-    folder = work / "rights"
-    folder.mkdir()
-    (folder / "boot").write_text(RIGHTS_BOOT)
-    (folder / "main.alm").write_text(RIGHTS_SOURCE)
-    (folder / "data").write_bytes(bytes(90))
-    run(program, folder, ["alm", "main"])
-    yield Case("folders: rights and a bound", folder)
+    """A segment that may be executed and not read, and one of 20 words, up to its bound; and a
+    program that loads the descriptor segment base register, and meets a page that is in no frame."""
+    made = (
+        ("rights and a bound", RIGHTS_BOOT, RIGHTS_SOURCE),
+        ("ABSA and LDBR", LOADED_BOOT, LOADED_SOURCE),
+    )
+    for number, (name, boot, source) in enumerate(made):
+        folder = work / f"folder{number}"
+        folder.mkdir()
+        (folder / "boot").write_text(boot)
+        (folder / "main.alm").write_text(source)
+        (folder / "data").write_bytes(bytes(90))
+        run(program, folder, ["alm", "main"])
+        yield Case(f"folders: {name}", folder)
 
 
 def viewed(check, image):

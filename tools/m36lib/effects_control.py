@@ -190,6 +190,10 @@ def store_dbr(given):
 
 
 def load_absolute_address(given):
+    """ABSA. In a booted system the place in core is not known."""
+    if given.core is None:
+        text = "A becomes the place in core, in bits 0-23; in which frame the page is, is free."
+        return Effect(given.registers, text)
     value = given.core << 12
     indicators = given.registers.indicators._replace(
         zero=value == 0, negative=bool(value >> 35)

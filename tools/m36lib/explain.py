@@ -210,7 +210,7 @@ class Explanation:
             _, (core,) = self.references.ask("locate", end.place)
             if self.memory.booted:
                 self.told.unknown = "in which frame of a booted system a page is, is free"
-                core = 0
+                core = None
         self.perform(registers, end, core=core)
 
     # The effect.
