@@ -145,8 +145,8 @@ class WordChange:
 
 @dataclass(frozen=True)
 class Outcome:
-    """How a step ends: kind `next`, `fault`, `stop` or `unknown`; of a fault its number, that of its access
-    violation and its place; of a stop its name (`dis`, `operation`, `tag`)."""
+    """How a step ends: kind `next`, `fault`, `stop` or `unknown`; of a fault its number, that of its
+    access violation and its place; of a stop its name (`dis`, `operation`, `tag`)."""
 
     kind: str
     text: str
@@ -183,8 +183,9 @@ class Account:
     """The account of one step.
 
     `final` is the end of the address chain, `direct` a direct operand; both None where no address
-    was formed. `after` are the registers after the step, `words` those that it writes, `commits` the
-    same by their spots in memory, and `pages` the segment and page of each page that it refers to.
+    was formed. `after` are the registers after the step, `words` those that it writes, `commits`
+    the same by their spots in memory, and `pages` the segment and page of each page that it refers
+    to.
     `unknown` says why the account is not sure of its answer, and is None where it is."""
 
     at: Place

@@ -180,8 +180,8 @@ class Chain:
             operand = point.address << 18 if td == DU else point.address
             half = "left" if td == DU else "right"
             self.say(
-                f"Tag {tag_text(point.tag)}: the operand is the address itself, in the {half} half: "
-                f"{operand:012o}."
+                f"Tag {tag_text(point.tag)}: the operand is the address itself, in the {half} "
+                f"half: {operand:012o}."
             )
             place = Place(point.ring, point.segment, point.address)
             return ChainEnd(place, point.bit, operand, (), None)

@@ -167,7 +167,7 @@ cell:   dec     0
 
 def folder_cases(program, work):
     """A segment that may be executed and not read, and one of 20 words, up to its bound; and a
-    program that loads the descriptor segment base register, and meets a page that is in no frame."""
+    program that loads the descriptor segment base register, and meets a page in no frame."""
     made = (
         ("rights and a bound", RIGHTS_BOOT, RIGHTS_SOURCE),
         ("ABSA and LDBR", LOADED_BOOT, LOADED_SOURCE),
@@ -183,8 +183,8 @@ def folder_cases(program, work):
 
 
 def viewed(check, image):
-    """The image with a segment over all of core, and the size of core; the image as it is, and None,
-    where there is no room for the segment's descriptor."""
+    """The image with a segment over all of core, and the size of core; the image as it is, and
+    None, where there is no room for the segment's descriptor."""
     lines = image.splitlines()
     frames = int(lines[0].split()[1])
     if frames <= MOST_FRAMES_VIEWED:

@@ -33,13 +33,14 @@ class Reached:
 
 
 def core_differences(recorder, size):
-    """Where core after a run is not as the account has it, seen through a segment over all of it."""
+    """Where core after a run is not as the account has it, seen through a segment over all of
+    it."""
     lines = [seg_line(VIEW, word) for word in range(size)]
     found = []
     for word, answer in enumerate(recorder.machine.ask(*lines)):
-        content = word_in(answer)
-        if content is not None and content != recorder.memory.core(word):
-            found.append(f"core word {word:08o} {content:012o}, not {recorder.memory.core(word):012o}")
+        content, told = word_in(answer), recorder.memory.core(word)
+        if content is not None and content != told:
+            found.append(f"core word {word:08o} {content:012o}, not {told:012o}")
     return found
 
 

@@ -59,8 +59,10 @@ ENDS = (
 
 def are_told(parts, sentences):
     """The parts are in sentences in this order; where there are none, there are no sentences."""
+    if not parts:
+        return not sentences
     rest = iter(sentences)
-    return all(any(part in text for text in rest) for part in parts) and bool(parts or not sentences)
+    return all(any(part in text for text in rest) for part in parts)
 
 
 def check_ends(program, top):

@@ -1,5 +1,5 @@
-"""Checks of the machine through a pipe: sessions that begin again, going back, refusals, and that no
-process is left."""
+"""Checks of the machine through a pipe: sessions that begin again, going back, refusals, and that
+no process is left."""
 
 import os
 import pathlib

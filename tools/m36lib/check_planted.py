@@ -41,7 +41,7 @@ def turned_copy(edit, folder, name):
 
 
 def notice(numbered):
-    """Where the turned copy first differs, or None. Any error of the copy counts as a difference."""
+    """Where the turned copy first differs, or None. An error of the copy counts as a difference."""
     number, edit, program = numbered
     name = f"turned{number}"
     with tempfile.TemporaryDirectory() as folder:

@@ -49,8 +49,11 @@ def register_differences(account, after):
         told = told.but(a=after.a, indicators=after.indicators)
     if told == after:
         return []
-    found = register_pairs(told, after)
-    return [f"{name} {shown(value)}, not {shown(said)}" for name, said, value in found if said != value]
+    return [
+        f"{name} {shown(found)}, not {shown(said)}"
+        for name, said, found in register_pairs(told, after)
+        if said != found
+    ]
 
 
 def shown(value):

@@ -53,6 +53,10 @@ class Effect(NamedTuple):
     goes: bool = False
 
 
+def do_nothing(given):
+    return Effect(given.registers, "Nothing changes.")
+
+
 class EffectRefused(Exception):
     """An effect that ends in a fault of this number at the instruction."""
 

@@ -1,7 +1,7 @@
 """What pointer register instructions, transfers, calls, returns and privileged instructions do
 (docs/MANUAL.md, sections 9 and 10)."""
 
-from .effect import Effect, EffectRefused
+from .effect import Effect, EffectRefused, do_nothing
 from .fields import HALF_WORD, bits, dbr_of, dbr_words, packed_pointer_of, pair_of, pointer_of
 from .registers import Pointer
 
@@ -170,13 +170,13 @@ def return_to(given):
     )
     text = (
         f"Control goes to {given.names.word(pair.segment, pair.word)} in ring {ring}: the ring is "
-        f"the greatest of {given.final.ring} so far, {pair.ring} in the pair, and R1 = {given.ring} of the "
-        f"segment that holds the pair. Each pointer register gets ring {ring}."
+        f"the greatest of {given.final.ring} so far, {pair.ring} in the pair, and R1 = {given.ring} "
+        f"of the segment that holds the pair. Each pointer register gets ring {ring}."
     )
     return Effect(registers, text, goes=True)
 
 
-# Privileged instructions, and those that do nothing.
+# Privileged instructions.
 
 
 def load_dbr(given):
@@ -200,10 +200,6 @@ def load_absolute_address(given):
     )
     registers = given.registers.but(a=value, indicators=indicators)
     return Effect(registers, f"A becomes the place in core, {given.core:08o}, in bits 0-23.")
-
-
-def do_nothing(given):
-    return Effect(given.registers, "Nothing changes.")
 
 
 CONTROL = {
@@ -231,7 +227,6 @@ CONTROL = {
     "TspN": transfer_and_set_pointer,
     "Call6": call,
     "Rtcd": return_to,
-    "Nop": do_nothing,
     "Ldbr": load_dbr,
     "Sdbr": store_dbr,
     "Cams": do_nothing,

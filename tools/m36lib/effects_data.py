@@ -1,5 +1,5 @@
-"""What data instructions do (docs/MANUAL.md, section 9): loads, stores, sums, products, comparisons,
-boolean operations and shifts.
+"""What data instructions do (docs/MANUAL.md, section 9): loads, stores, sums, products,
+comparisons, boolean operations and shifts.
 
 Each effect has an operation, the register that it works on, and the form of its operand."""
 

@@ -1,5 +1,6 @@
 """Which operation each data instruction is, on which register, with which form of operand."""
 
+from .effect import do_nothing
 from .effects_data import (
     add, add_logical, add_one_to_storage, add_to_storage, add_with_carry, address,
     address_in_upper, and_register, and_storage, compare, compare_masked, divide, load,
@@ -115,4 +116,5 @@ DATA = {
     "Llr": (rotate_left, "AQ", nothing),
     "Stac": (store_where_zero, "A", word),
     "Stacq": (store_where_equal, "A", word),
+    "Nop": (do_nothing, "A", nothing),
 }

@@ -133,7 +133,8 @@ class Explanation:
         if sdw.privileged and self.registers.ring == 0:
             self.told.say(f"May it execute {name}? Yes: P is on, in ring 0.", STEP, "decode")
             return
-        why = "P is off" if self.registers.ring == 0 else f"ring {self.registers.ring} is not ring 0"
+        ring = self.registers.ring
+        why = "P is off" if ring == 0 else f"ring {ring} is not ring 0"
         text = f"May it execute {name}, which is privileged? No, illegal procedure: {why}."
         self.fault_here(ILLEGAL_PROCEDURE, text, STEP)
 

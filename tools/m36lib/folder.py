@@ -256,7 +256,7 @@ class Sources:
         return self.found[file]
 
     def line(self, segment, word):
-        """The file and the line of a word of a segment's text; None and None where there is none."""
+        """The file and the line of a word of a segment's text; None twice where there is none."""
         source = self.of(segment)
         if source is None or word not in source.places:
             return None, None

@@ -5,8 +5,8 @@
         answers = machine.ask("step", "regs", "where")
 
 Each line is written with a line `~` after it, whose answer `? ~` ends its own. A session takes at
-most 1 MiB of input: before that a new one is begun and taken to the same step, which the caller does
-not see. A machine whose caller dies ends, since its input ends."""
+most 1 MiB of input: before that a new one is begun and taken to the same step, which the caller
+does not see. A machine whose caller dies ends, since its input ends."""
 
 import os
 import subprocess
@@ -98,9 +98,9 @@ def end_of_answer(text, start):
 class Machine:
     """A machine that steps, and goes back.
 
-    `taken` is how many steps the run has taken, or None after `go`. `sure` is false once the run has
-    executed ABSA or LDBR over a folder: what it then does depends on frames, so that going back is
-    not sure to come to the same place."""
+    `taken` is how many steps the run has taken, or None after `go`. `sure` is false once the run
+    has executed ABSA or LDBR over a folder: what it then does depends on frames, so that going back
+    is not sure to come to the same place."""
 
     def __init__(self, program, folder, image=None, most_input=MOST_INPUT):
         self.program = os.path.abspath(program)
@@ -170,7 +170,7 @@ class Machine:
                 self.sure = False
 
     def count(self):
-        """How many steps the run has taken. After `go` a step is taken to see it, and taken back."""
+        """How many steps the run has taken. After `go` a step shows it, and is taken back."""
         if self.taken is None:
             self.session_steps(1)
             self.go_to(self.taken - 1)

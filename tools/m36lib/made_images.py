@@ -81,7 +81,8 @@ def places():
     long = sdw(DATA, bound=0o37777)
     yield "a long segment", by_pair("lda", second=long, pair=its(2, 0o400000)), 1
     yield "a segment of 15 bits", by_pair("lda", pair=its(0o40002, 0)), 1
-    yield "a call limiter of 14 bits", by_pair("call6", second=GATE, pair=its(2, 0o10000), ring=4), 1
+    limiter = by_pair("call6", second=GATE, pair=its(2, 0o10000), ring=4)
+    yield "a call limiter of 14 bits", limiter, 1
     gate = by_pair("call6", second=GATE, ring=4, dbr=(0, 15, 0o4001))
     yield "a stack of 12 bits", gate, 1
     for name in ("tra", "call6"):

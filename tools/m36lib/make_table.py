@@ -60,9 +60,8 @@ def table_text():
         unknown = set(marks.split()) - {"direct", "privileged"}
         if unknown:
             raise ValueError(f"{name}: unknown mark {unknown.pop()}")
-        row = (name, effect, int(register), operand)
-        flags = ("direct" in marks, "privileged" in marks)
-        values = ", ".join([f'"{name}"', f'"{effect}"', str(row[2]), f'"{operand}"', *map(str, flags)])
+        flags = f"{'direct' in marks}, {'privileged' in marks}"
+        values = f'"{name}", "{effect}", {register}, "{operand}", {flags}'
         lines.append(f"    (0o{code:03o}, {bit_27}): Row({values}),\n")
     return HEAD + "".join(lines) + "}\n"
 

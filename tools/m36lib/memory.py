@@ -33,7 +33,8 @@ class NotKnown(Exception):
 
 
 def directed(code, what):
-    return NoAccess(FIRST_DIRECTED + code, None, f"{what} has F off and names directed fault {code}")
+    why = f"{what} has F off and names directed fault {code}"
+    return NoAccess(FIRST_DIRECTED + code, None, why)
 
 
 def past_core(what):
@@ -47,9 +48,8 @@ def in_bounds(dbr, segment):
 
 def check_bounds(dbr, segment):
     if not in_bounds(dbr, segment):
-        raise NoAccess(
-            ACCESS, OUT_OF_BOUNDS, f"segment {segment:05o} is past the end of the descriptor segment"
-        )
+        why = f"segment {segment:05o} is past the end of the descriptor segment"
+        raise NoAccess(ACCESS, OUT_OF_BOUNDS, why)
 
 
 def check_bound(sdw, word):

@@ -1,396 +1,43 @@
-"""The edits of the account that must be noticed: a file, a text that it has once, and what is put in
-its place."""
+"""The edits of the account that must be noticed.
+
+Each file of `planted` has those of the module of its name. An edit is lines with `-` before them, a
+text that the module has once, and lines with `+` before them, what is put in its place; an empty
+line is between two edits. Besides, each instruction of the tables of effects does nothing."""
 
 import pathlib
 import re
 
 HERE = pathlib.Path(__file__).resolve().parent
-NOTHING = "(lambda given: __import__('sys').modules[__package__ + '.effect'].Effect(given.registers, ''))"
-
-RIGHTS = (
-    ("sdw.r1 <= sdw.r2 <= sdw.r3", "sdw.r1 <= sdw.r2"),
-    ("sdw.r1 <= sdw.r2 <= sdw.r3", "sdw.r2 <= sdw.r3"),
-    ("    if ring < sdw.r1:\n        return 1,", "    if ring <= sdw.r1:\n        return 1,"),
-    ("    if ring < sdw.r1:\n        return 1,", "    if False:\n        return 1,"),
-    ("    if ring > sdw.r2:\n        return 1,", "    if ring >= sdw.r2:\n        return 1,"),
-    ("    if ring > sdw.r2:\n        return 1,", "    if False:\n        return 1,"),
-    ("    if not sdw.execute:\n        return 2, \"E is off\"\n    return None, f\"ring {ring} is within",
-     "    return None, f\"ring {ring} is within"),
-    ("    if ring > sdw.r2:\n        return 3,", "    if ring >= sdw.r2:\n        return 3,"),
-    ("    if ring > sdw.r2:\n        return 3,", "    if ring > sdw.r1:\n        return 3,"),
-    ("    if ring > sdw.r2:\n        return 3,", "    if False:\n        return 3,"),
-    ("    if not sdw.read and not same:", "    if not sdw.read:"),
-    ("    if not sdw.read and not same:", "    if False:"),
-    ("    if ring > sdw.r1:\n        return 5,", "    if ring >= sdw.r1:\n        return 5,"),
-    ("    if ring > sdw.r1:\n        return 5,", "    if ring > sdw.r2:\n        return 5,"),
-    ("    if not sdw.write:\n        return 6,", "    if False:\n        return 6,"),
-    ("    if ring != executing:\n        return 12,", "    if False:\n        return 12,"),
-    ("    refused, why = execute(sdw, ring)", "    refused, why = execute(sdw, executing)"),
-    ("    if not sdw.execute:\n        return 2, \"E is off\"\n    if not sdw.no_gate",
-     "    if not sdw.no_gate"),
-    ("not sdw.no_gate and not same and word >= sdw.limit", "not same and word >= sdw.limit"),
-    ("not sdw.no_gate and not same and word >= sdw.limit", "not sdw.no_gate and word >= sdw.limit"),
-    ("not sdw.no_gate and not same and word >= sdw.limit",
-     "not sdw.no_gate and not same and word > sdw.limit"),
-    ("    if ring > sdw.r3:\n        return 8,", "    if ring >= sdw.r3:\n        return 8,"),
-    ("    if ring > sdw.r3:\n        return 8,", "    if False:\n        return 8,"),
-    ("    if ring < sdw.r1:\n        return 9,", "    if ring <= sdw.r1:\n        return 9,"),
-    ("    if ring < sdw.r1:\n        return 9,", "    if False:\n        return 9,"),
-    ("ring > executing and executing < sdw.r2", "ring > executing and executing <= sdw.r2"),
-    ("ring > executing and executing < sdw.r2", "ring > executing"),
-    ("ring > executing and executing < sdw.r2", "False"),
-    ("return execute(sdw, executing)", "return execute(sdw, 0)"),
-    ("return min(ring, sdw.r2)", "return ring"),
-    ("return min(ring, sdw.r2)", "return sdw.r2"),
-    ("    if not in_order(sdw):\n", "    if kind != 'locate' and not in_order(sdw):\n"),
-    ("return None, \"no right is needed\"", "return read(sdw, ring, same)"),
+DOES_NOTHING = "do_nothing"
+TABLES = (
+    ("effects_table.py", re.compile(r'    "\w+": \((\w+), .*\),')),
+    ("effects_control.py", re.compile(r'    "\w+": (\w+),')),
 )
 
-MEMORY = (
-    ("2 * segment < BLOCK * (dbr.bound + 1) and", "2 * segment < BLOCK * dbr.bound and"),
-    ("2 * segment < BLOCK * (dbr.bound + 1) and", "2 * segment <= BLOCK * (dbr.bound + 1) and"),
-    ("word // BLOCK > sdw.bound", "word // BLOCK >= sdw.bound"),
-    ("word // BLOCK > sdw.bound", "word // BLOCK > sdw.bound + 1"),
-    ("OUT_OF_BOUNDS = 15", "OUT_OF_BOUNDS = 14"),
-    ("STORE = 1\n", "STORE = 2\n"),
-    ("FIRST_DIRECTED = 16", "FIRST_DIRECTED = 17"),
-    ("        if address >= self.size:\n            return None", "        if address > self.size:\n            return None"),
-    ("        if address >= self.size:\n            raise past_core", "        if address > self.size:\n            raise past_core"),
-    ("        if word is None:\n            raise past_core(f\"the page", "        if word is None and 0:\n            raise past_core(f\"the page"),
-    ("        if not ptw.present:\n            raise directed(ptw.fault, f\"the page",
-     "        if not ptw.present:\n            raise directed(0, f\"the page"),
-    ("        if not ptw.present:\n            raise directed(ptw.fault, f\"the page",
-     "        if False:\n            raise directed(0, f\"the page"),
-    ("ptw.address // 16 * PAGE", "ptw.address * 64"),
-    ("return (dbr.address + 2 * segment) % CORE_ADDRESSES", "return dbr.address + 2 * segment"),
-    ("page, offset = divmod(2 * segment, PAGE)", "page, offset = divmod(segment, PAGE)"),
-    ("self.core((address + 1) % CORE_ADDRESSES)", "self.core(address + 1)"),
-    ("        if even is None or odd is None:", "        if even is None:"),
-    ("        if not sdw.present:\n            raise directed(sdw.fault, \"its desc",
-     "        if not sdw.present:\n            raise directed(0, \"its desc"),
-    ("        if not sdw.present:\n            raise directed(sdw.fault, \"its desc",
-     "        if False:\n            raise directed(sdw.fault, \"its desc"),
-    ("            address = (sdw.address + word) % CORE_ADDRESSES", "            address = sdw.address + word"),
-    ("page, offset = divmod(word, PAGE)", "page, offset = divmod(word, PAGE - 1)"),
-    ("frame = self.frame(sdw.address + page, f\"its", "frame = self.frame(sdw.address, f\"its"),
-    ("            self.mark_at((dbr.address + 2", "            None and self.mark_at((dbr.address + 2"),
-    ("            self.mark_at((sdw.address + word // PAGE) % CORE_ADDRESSES, modified)",
-     "            self.mark_at((sdw.address + word // PAGE) % CORE_ADDRESSES, False)"),
-    ("            self.mark_at((sdw.address + word // PAGE) % CORE_ADDRESSES, modified)",
-     "            self.mark_at((sdw.address + word // PAGE) % CORE_ADDRESSES, True)"),
-    ("            self.mark_at((sdw.address + word // PAGE) % CORE_ADDRESSES, modified)",
-     "            pass"),
-    ("        self.words.update(self.marks)\n", "        pass\n"),
-    ("mark if mark is not None else self.words.get(address, 0)", "self.words.get(address, 0)"),
-)
 
-FIELDS = (
-    ("address=bits(even, 0, 24),\n        r1=bits(even, 24, 3)", "address=bits(even, 1, 23),\n        r1=bits(even, 24, 3)"),
-    ("r1=bits(even, 24, 3)", "r1=bits(even, 25, 3)"),
-    ("r2=bits(even, 27, 3)", "r2=bits(even, 28, 3)"),
-    ("r3=bits(even, 30, 3)", "r3=bits(even, 27, 3)"),
-    ("present=is_on(even, 33)", "present=is_on(even, 32)"),
-    ("fault=bits(even, 34, 2)", "fault=bits(even, 35, 1)"),
-    ("bound=bits(odd, 1, 14),\n        read", "bound=bits(odd, 2, 13),\n        read"),
-    ("read=is_on(odd, 15)", "read=is_on(odd, 16)"),
-    ("execute=is_on(odd, 16)", "execute=is_on(odd, 15)"),
-    ("write=is_on(odd, 17)", "write=is_on(odd, 15)"),
-    ("privileged=is_on(odd, 18)", "privileged=is_on(odd, 17)"),
-    ("unpaged=is_on(odd, 19),\n        no", "unpaged=is_on(odd, 20),\n        no"),
-    ("no_gate=is_on(odd, 20)", "no_gate=is_on(odd, 19)"),
-    ("limit=bits(odd, 22, 14)", "limit=bits(odd, 23, 13)"),
-    ("Ptw(address=bits(word, 0, 18), present=is_on(word, 33)", "Ptw(address=bits(word, 0, 17), present=is_on(word, 33)"),
-    ("present=is_on(word, 33), fault=bits(word, 34, 2)", "present=is_on(word, 33), fault=bits(word, 35, 1)"),
-    ("word |= 1 << (35 - 26)", "word |= 1 << (35 - 27)"),
-    ("word | 1 << (35 - 29) if", "word | 1 << (35 - 30) if"),
-    ("stack=bits(odd, 24, 12)", "stack=bits(odd, 25, 11)"),
-    ("dbr.bound << 21 | dbr.unpaged << 16 | dbr.stack", "dbr.bound << 21 | dbr.stack"),
-    ("Pointer(bits(even, 3, 15), bits(even, 18, 3)", "Pointer(bits(even, 4, 14), bits(even, 18, 3)"),
-    ("bits(even, 18, 3), bits(odd, 0, 18)", "bits(even, 19, 3), bits(odd, 0, 18)"),
-    ("bits(odd, 0, 18), bits(odd, 21, 6))", "bits(odd, 0, 18), bits(odd, 22, 6))"),
-    ("pointer.segment << 18 | pointer.ring << 15 | ITS_TAG", "pointer.segment << 18 | pointer.ring << 15"),
-    ("return even, pointer.word << 18 | pointer.bit << 9", "return even, pointer.word << 18"),
-    ("full = 0o77777 if segment == 0o7777 else segment", "full = segment"),
-    ("Pointer(full, ring, bits(word, 18, 18), bits(word, 0, 6))", "Pointer(full, ring, bits(word, 18, 18), 0)"),
-    ("return signed(self.address & 0o77777, 15)", "return self.address & 0o77777"),
-    ("ITS_TAG = 0o43", "ITS_TAG = 0o42"),
-    ("ITP_TAG = 0o41", "ITP_TAG = 0o42"),
-)
+def text_of(lines, mark):
+    return "\n".join(line[1:] for line in lines if line.startswith(mark))
 
-REFERENCES = (
-    ("same = place.segment == registers.segment", "same = False"),
-    ("number, why = rights.answer(kind, sdw, place.ring, registers.ring",
-     "number, why = rights.answer(kind, sdw, registers.ring, registers.ring"),
-    ("            why = self.allow(kind, sdw, place)\n            spots = []\n",
-     "            spots = []\n            check_bound(sdw, place.word)\n            why = self.allow(kind, sdw, place)\n"),
-    ("                check_bound(sdw, number)\n", ""),
-    ("modified=kind == \"write\"", "modified=False"),
-    ("            word = later.get(spot)\n", "            word = None\n"),
-    ("        if kind in READERS or kind == \"write\":", "        if kind in READERS:"),
-    ("        if kind in READERS or kind == \"write\":", "        if kind != \"locate\":"),
-    ("READERS = (\"fetch\", \"indirect\", \"read\")", "READERS = (\"fetch\", \"indirect\", \"read\", \"transfer\")"),
-    ("TARGETS = (\"transfer\", \"call\")", "TARGETS = (\"call\",)"),
-    ("TARGETS = (\"transfer\", \"call\")", "TARGETS = (\"transfer\",)"),
-)
 
-ADDRESS = (
-    ("MOST_INDIRECT_WORDS = 16", "MOST_INDIRECT_WORDS = 15"),
-    ("MOST_INDIRECT_WORDS = 16", "MOST_INDIRECT_WORDS = 17"),
-    ("FAULT_TAGS = {0o40: 3,", "FAULT_TAGS = {0o40: 24,"),
-    ("0o46: 24,", "0o46: 25,"),
-    ("0o47: 25}", "0o47: 24}"),
-    ("LOCKUP, ILLEGAL_PROCEDURE = 7, 10", "LOCKUP, ILLEGAL_PROCEDURE = 8, 10"),
-    ("LOCKUP, ILLEGAL_PROCEDURE = 7, 10", "LOCKUP, ILLEGAL_PROCEDURE = 7, 11"),
-    ("    if td == 1:\n        return upper(registers.a)", "    if td == 1:\n        return upper(registers.q)"),
-    ("    if td == 2:\n        return upper(registers.q)", "    if td == 2:\n        return upper(registers.a)"),
-    ("    if td == 4:\n        return registers.word", "    if td == 4:\n        return registers.word + 1"),
-    ("    if td == 5:\n        return lower(registers.a)", "    if td == 5:\n        return lower(registers.q)"),
-    ("    if td == 6:\n        return lower(registers.q)", "    if td == 6:\n        return lower(registers.a)"),
-    ("return registers.x[td - 8]", "return registers.x[7 - (td - 8)]"),
-    ("        ring = greatest(candidates)\n        point = Point(\n            pointer.segment",
-     "        ring = registers.ring\n        point = Point(\n            pointer.segment"),
-    ("        ring = greatest(candidates)\n        point = Point(\n            pointer.segment",
-     "        ring = pointer.ring\n        point = Point(\n            pointer.segment"),
-    ("            (pointer.word + instruction.offset) % HALF_WORD", "            (pointer.word - instruction.offset) % HALF_WORD"),
-    ("            pointer.bit,\n", "            0,\n"),
-    ("        if td in (DU, DL):\n            self.fail(", "        if td in (DL,):\n            self.fail("),
-    ("            address = (point.address + index_of(self.registers, td)) % HALF_WORD\n            self.say_index(point, td, address)\n            return None",
-     "            address = point.address\n            self.say_index(point, td, address)\n            return None"),
-    ("return None, address, point.held", "return None, address, None"),
-    ("return None, point.address, index_of(self.registers, td)", "return None, point.address, None"),
-    ("return None, point.address, index_of(self.registers, td)", "return None, point.address, point.held"),
-    ("            address = (point.address + point.held) % HALF_WORD", "            address = point.address"),
-    ("        if point.held is not None:\n            address", "        if point.held:\n            address"),
-    ("operand = point.address << 18 if td == DU else point.address", "operand = point.address << 18"),
-    ("operand = point.address << 18 if td == DU else point.address", "operand = point.address"),
-    ("        address = (point.address + index_of(self.registers, td)) % HALF_WORD\n        self.say_index(point, td, address)\n        return self.end_at",
-     "        address = point.address\n        self.say_index(point, td, address)\n        return self.end_at"),
-    ("        if point.tag in (ITS_TAG, ITP_TAG):\n", "        if point.tag in (ITS_TAG,):\n"),
-    ("        if point.tag in (ITS_TAG, ITP_TAG):\n", "        if point.tag in (ITP_TAG,):\n"),
-    ("if address % 2 == 0 and tag in", "if tag in"),
-    ("            upper(words[0]),\n            point.bit,", "            upper(words[0]),\n            0,"),
-    ("            upper(words[0]),\n            point.bit,\n            tag,", "            upper(words[0]),\n            point.bit,\n            0,"),
-    ("            tag,\n            held,", "            tag,\n            None,"),
-    ("named, address = of_pair.ring, of_pair.word", "named, address = 0, of_pair.word"),
-    ("named, address = pointer.ring, (pointer.word", "named, address = 0, (pointer.word"),
-    ("(pointer.word + of_pair.word) % HALF_WORD", "of_pair.word"),
-    ("            Candidate(point.ring, f\"{point.ring} so far\"),\n            Candidate(named", "            Candidate(named"),
-    ("            Candidate(sdw.r1, f\"R1 = {sdw.r1} of the segment that holds the pair\"),\n", ""),
-    ("after = Point(segment, ring, address, of_pair.bit,", "after = Point(segment, ring, address, point.bit,"),
-    ("of_pair.bit, tag_of(odd), held", "of_pair.bit, 0, held"),
-    ("of_pair.bit, tag_of(odd), held", "of_pair.bit, tag_of(odd), None"),
-    ("number = bits(even, 0, 3)", "number = bits(even, 1, 3)"),
-    ("        if new_word is not None:\n            _, (spot,) = self.references.ask(\"write\", place)\n            pending = ((spot, new_word),)",
-     "        if new_word is not None:\n            _, (spot,) = self.references.ask(\"read\", place)\n            pending = ()"),
-    ("point.bit, None, pending, runout\n", "0, None, pending, runout\n"),
-    ("point.bit, None, pending, runout\n", "point.bit, None, pending, None\n"),
-    ("            Place(point.ring, point.segment, address), point.bit", "            Place(0, point.segment, address), point.bit"),
-)
-
-TALLIES = (
-    ("I, ID, DI, AD, SD = 0o51, 0o56, 0o54", "I, ID, DI, AD, SD = 0o52, 0o56, 0o54"),
-    ("I, ID, DI, AD, SD = 0o51, 0o56, 0o54", "I, ID, DI, AD, SD = 0o51, 0o54, 0o56"),
-    ("0o53, 0o44\n", "0o44, 0o53\n"),
-    ("by = step if tag in (AD, SD) else 1", "by = 1"),
-    ("by = step if tag in (AD, SD) else 1", "by = step"),
-    ("        final, after, tally = address, (address + by)", "        final, after, tally = (address + by), (address + by)"),
-    ("(tally - 1) % TALLIES", "(tally + 1) % TALLIES"),
-    ("(tally - 1) % TALLIES", "max(tally - 1, 0)"),
-    ("final = after = (address - by) % HALF_WORD", "final, after = address, (address - by) % HALF_WORD"),
-    ("tally = (tally + 1) % TALLIES", "tally = tally + 1"),
-    ("after << 18 | tally << 6 | step, tally == 0", "after << 18 | tally << 6 | step, tally != 0"),
-    ("after << 18 | tally << 6 | step, tally == 0", "after << 18 | tally << 6, tally == 0"),
-    ("address, tally, step = upper(word), bits(word, 18, 12), word & 0o77", "address, tally, step = upper(word), bits(word, 18, 12), word & 0o37"),
-)
-
-ARITHMETIC = (
-    ("    carry = x + y + carry_in >= 1 << width", "    carry = x + y + carry_in > 1 << width"),
-    ("    carry = x + y + carry_in >= 1 << width", "    carry = x + y >= 1 << width"),
-    ("true = signed(x, width) + signed(y, width) + carry_in", "true = signed(x, width) + signed(y, width)"),
-    ("return Result(true % (1 << width), carry, not in_range(true, width))", "return Result(true % (1 << width), carry, carry)"),
-    ("-(1 << width - 1) <= number <", "-(1 << width - 1) < number <"),
-    ("<= number < 1 << width - 1", "<= number <= 1 << width - 1"),
-    ("x >= y + borrow, not", "x > y + borrow, not"),
-    ("x >= y + borrow, not", "x >= y, not"),
-    ("true = signed(x, width) - signed(y, width) - borrow", "true = signed(x, width) - signed(y, width)"),
-    ("x >= y + borrow, not in_range(true, width)", "x >= y + borrow, False"),
-    ("return signed(x, 36) * signed(y, 36) % (1 << 72)", "return x * y % (1 << 72)"),
-    ("return divisor == 0 or (", "return False or ("),
-    ("(dividend == 1 << 35 and divisor == (1 << 36) - 1)", "False"),
-    ("    cut = abs(x) // abs(y)\n", "    cut = abs(x // y)\n"),
-    ("cut if (x < 0) == (y < 0) else -cut", "cut"),
-    ("return cut % (1 << 36), (x - cut * y) % (1 << 36)", "return cut % (1 << 36), abs(x - cut * y) % (1 << 36)"),
-    ("return (value << count) % (1 << width)", "return (value << count - 1) % (1 << width)"),
-    ("passed = (value << count + 1) >> width", "passed = (value << count) >> width"),
-    ("return passed not in (0, (1 << count + 1) - 1)", "return passed != 0"),
-    ("return passed not in (0, (1 << count + 1) - 1)", "return False"),
-    ("return (signed(value, width) >> count)", "return (value >> count)"),
-    ("    count %= width\n", ""),
-    ("value << count | value >> width - count", "value >> count | value << width - count"),
-)
-
-EFFECTS = (
-    ("SHIFTS = 128", "SHIFTS = 64"),
-    ("DIVIDE_CHECK = 14", "DIVIDE_CHECK = 13"),
-    ("words[0] if words[0] < 1 << 35 else words[0] + (1 << 72) - (1 << 36)", "words[0]"),
-    ("zero=value == 0, negative=bool(value >> width - 1)", "zero=value == 0"),
-    ("zero=value == 0, negative=bool(value >> width - 1)", "negative=bool(value >> width - 1)"),
-    ("overflow=indicators.overflow or result.overflow", "overflow=result.overflow"),
-    ("overflow=indicators.overflow or result.overflow", "overflow=indicators.overflow"),
-    ("    indicators = tested(given.registers.indicators, width_of(given), value)\n    return Effect(with_indicators(given.becoming(value), indicators), text)",
-     "    indicators = given.registers.indicators\n    return Effect(with_indicators(given.becoming(value), indicators), text)"),
-    ("    indicators = indicators._replace(carry=result.carry)\n    if has", "    if has"),
-    ("overflow=has_overflow and result.overflow)", "overflow=result.overflow)"),
-    ("overflow=has_overflow and result.overflow)", "overflow=False)"),
-    ("overflowed(indicators._replace(carry=result.carry), result)", "overflowed(indicators, result)"),
-    ("        overflow=result.overflow,\n    )", "    )"),
-    ("(is_on(given.operand, bit) for bit in (18, 19, 20, 21, 24, 25))", "(is_on(given.operand, bit) for bit in (18, 19, 20, 21, 22, 25))"),
-    ("zip(on, (17, 16, 15, 14, 11, 10))", "zip(on, (17, 16, 15, 14, 11, 9))"),
-    ("indicators = given.registers.indicators._replace(zero=holds)", "indicators = given.registers.indicators"),
-    ("value = given.registers.a if holds else given.operand", "value = given.registers.a"),
-    ("return store_where(given, given.operand == 0, \"0\")", "return store_where(given, True, \"0\")"),
-    ("given.operand == given.registers.q, \"equal", "given.operand == given.registers.a, \"equal"),
-    ("given.own(), given.operand, carry)", "given.own(), given.operand, 0)"),
-    ("borrow = 1 - given.registers.indicators.carry", "borrow = 0"),
-    ("arithmetic.total(36, given.operand, 1)", "arithmetic.total(36, given.operand, 2)"),
-    ("given.registers.but(a=rest, q=value", "given.registers.but(a=value, q=rest"),
-    ("        zero=x == y,\n", ""),
-    ("negative=arithmetic.signed(x, width) < arithmetic.signed(y, width)", "negative=x < y"),
-    ("        carry=arithmetic.difference(width, x, y).carry,\n", ""),
-    ("(given.registers.a ^ given.operand) & ~given.registers.q", "(given.registers.a ^ given.operand) & given.registers.q"),
-    ("value = given.own() & given.operand\n", "value = given.own() | given.operand\n"),
-    ("value = given.own() & ~given.operand\n", "value = ~given.own() & given.operand\n"),
-    ("return bit_by_bit(given, given.own() & given.operand", "return bit_by_bit(given, given.own() | given.operand"),
-    ("return bit_by_bit(given, given.own() | given.operand", "return bit_by_bit(given, given.own() ^ given.operand"),
-    ("return bit_by_bit(given, given.own() ^ given.operand", "return bit_by_bit(given, given.own() | given.operand"),
-    ("return bits_to_storage(given, given.own() & given.operand", "return bits_to_storage(given, given.own() | given.operand"),
-    ("return bits_to_storage(given, given.own() | given.operand", "return bits_to_storage(given, given.own() ^ given.operand"),
-    ("return bits_to_storage(given, given.own() ^ given.operand", "return bits_to_storage(given, given.own() | given.operand"),
-    ("    return effect._replace(registers=with_indicators(effect.registers, indicators))", "    return effect"),
-)
-
-CONTROL = (
-    ("Pointer(final.segment, final.ring, final.word, given.bit)", "Pointer(final.segment, final.ring, final.word, 0)"),
-    ("Pointer(final.segment, final.ring, final.word, given.bit)", "Pointer(final.segment, 0, final.word, given.bit)"),
-    ("Pointer(given.final.segment, given.final.ring, 0, 0)", "Pointer(given.final.segment, given.final.ring, given.final.word, 0)"),
-    ("return Effect(given.registers, text, put=(even, 0))", "return Effect(given.registers, text, put=(even, _))"),
-    ("ring = max(given.final.ring, given.ring, pointer.ring)", "ring = max(given.final.ring, pointer.ring)"),
-    ("ring = max(given.final.ring, given.ring, pointer.ring)", "ring = max(given.ring, pointer.ring)"),
-    ("ring = max(given.final.ring, given.ring, pointer.ring)", "ring = max(given.final.ring, given.ring)"),
-    ("    if bits(given.words[0], 0, 2) == 3:", "    if False:"),
-    ("    if bits(given.words[0], 0, 2) == 3:", "    if bits(given.words[0], 0, 1):"),
-    ("COMMAND = 5", "COMMAND = 6"),
-    ("packed_pointer_of(given.words[0], given.final.ring)", "packed_pointer_of(given.words[0], given.registers.ring)"),
-    ("a = given.final.segment << 18 | given.final.ring", "a = given.final.segment << 18"),
-    ("q = given.final.word << 18 | given.bit", "q = given.final.word << 18"),
-    ("_replace(zero=a == 0 and q == 0)", "_replace(zero=a == 0)"),
-    ("word = (registers.word + 2) % HALF_WORD", "word = (registers.word + 1) % HALF_WORD"),
-    ("return on.negative or on.zero", "return on.negative"),
-    ("return not (on.negative or on.zero)", "return not on.negative"),
-    ("return on.overflow", "return not on.overflow"),
-    ("return not on.tally", "return on.tally"),
-    ("_replace(overflow=False)", "_replace(carry=False)"),
-    ("registers.but(segment=given.final.segment, word=given.final.word)", "registers.but(word=given.final.word)"),
-    ("with_x(given.number, given.next_word())", "with_x(given.number, given.registers.word)"),
-    ("Pointer(registers.segment, registers.ring, given.next_word(), 0)", "Pointer(registers.segment, registers.ring, registers.word, 0)"),
-    ("    if ring == registers.ring:\n        stack", "    if False:\n        stack"),
-    ("stack = registers.pr[6].segment", "stack = registers.pr[7].segment"),
-    ("stack = 8 * registers.dbr.stack + ring", "stack = 8 * registers.dbr.stack"),
-    (".but(ring=ring)\n    return goes_to", "\n    return goes_to"),
-    ("ring = max(given.final.ring, given.ring, pair.ring)", "ring = max(given.final.ring, pair.ring)"),
-    ("ring = max(given.final.ring, given.ring, pair.ring)", "ring = max(given.ring, pair.ring)"),
-    ("ring = max(given.final.ring, given.ring, pair.ring)", "ring = max(given.final.ring, given.ring)"),
-    ("pointers = tuple(pointer._replace(ring=ring) for", "pointers = tuple(pointer for"),
-    ("value = given.core << 12", "value = given.core << 11"),
-    ("zero=value == 0, negative=bool(value >> 35)", "zero=value == 0"),
-    ("zero=value == 0, negative=bool(value >> 35)", "negative=bool(value >> 35)"),
-    ("return on.zero\n    if effect == \"Tnz\"", "return True\n    if effect == \"Tnz\""),
-    ("return not on.zero\n", "return on.zero\n"),
-    ("return on.negative\n    if effect == \"Tpl\"", "return True\n    if effect == \"Tpl\""),
-    ("return not on.negative\n", "return True\n"),
-    ("return on.carry\n    if effect == \"Tnc\"", "return True\n    if effect == \"Tnc\""),
-    ("return not on.carry\n", "return True\n"),
-)
-
-STEP = (
-    ("MASTER_MODE_ENTRY, DERAIL, ILLEGAL_PROCEDURE, OVERFLOW = 2, 6, 10, 13", "MASTER_MODE_ENTRY, DERAIL, ILLEGAL_PROCEDURE, OVERFLOW = 3, 6, 10, 13"),
-    ("MASTER_MODE_ENTRY, DERAIL, ILLEGAL_PROCEDURE, OVERFLOW = 2, 6, 10, 13", "MASTER_MODE_ENTRY, DERAIL, ILLEGAL_PROCEDURE, OVERFLOW = 2, 5, 10, 13"),
-    ("MASTER_MODE_ENTRY, DERAIL, ILLEGAL_PROCEDURE, OVERFLOW = 2, 6, 10, 13", "MASTER_MODE_ENTRY, DERAIL, ILLEGAL_PROCEDURE, OVERFLOW = 2, 6, 11, 13"),
-    ("MASTER_MODE_ENTRY, DERAIL, ILLEGAL_PROCEDURE, OVERFLOW = 2, 6, 10, 13", "MASTER_MODE_ENTRY, DERAIL, ILLEGAL_PROCEDURE, OVERFLOW = 2, 6, 10, 14"),
-    ("READS = {\"R\": 1, \"R2\": 2, \"R16\": 16}", "READS = {\"R\": 1, \"R2\": 1, \"R16\": 16}"),
-    ("\"W2\": (2, \"whole\")", "\"W2\": (1, \"whole\")"),
-    ("\"W16\": (16, \"whole\")", "\"W16\": (8, \"whole\")"),
-    ("\"Wl\": (1, \"left\")", "\"Wl\": (1, \"right\")"),
-    ("WRITES[\"Wr\"] = (1, \"right\")", "WRITES[\"Wr\"] = (1, \"left\")"),
-    ("CHANGES = {\"Rw\": \"whole\", \"Rwl\": \"left\"}", "CHANGES = {\"Rw\": \"whole\", \"Rwl\": \"whole\"}"),
-    ("return value << 18 | old % HALF_WORD", "return value << 18"),
-    ("return old >> 18 << 18 | value", "return value"),
-    ("        if self.row.privileged:\n            self.check_privilege(sdw)\n", ""),
-    ("if sdw.privileged and self.registers.ring == 0:", "if sdw.privileged:"),
-    ("if sdw.privileged and self.registers.ring == 0:", "if self.registers.ring == 0:"),
-    ("        if self.row.privileged:\n            self.check_privilege(sdw)\n        if self.row.operand == \"N\":\n            self.without_address()\n",
-     "        if self.row.operand == \"N\":\n            self.without_address()\n        if self.row.privileged:\n            self.check_privilege(sdw)\n"),
-    ("        if self.row.operand == \"N\":\n            self.without_address()\n", ""),
-    ("_replace(tally=end.runout)", "_replace(zero=end.runout)"),
-    ("        if not self.row.direct:\n", "        if False:\n"),
-    ("return Place(place.ring, place.segment, place.word - place.word % count)", "return place"),
-    ("self.references.ask(\"read\", place, count, end.pending)", "self.references.ask(\"read\", place, count)"),
-    ("self.references.ask(\"read\", end.place, 1, end.pending)", "self.references.ask(\"read\", end.place, 1)"),
-    ("        _, spots = self.references.ask(\"write\", end.place)\n", "        _, spots = self.references.ask(\"read\", end.place)\n"),
-    ("        if not is_taken(self.row.effect, registers):", "        if not is_taken(self.row.effect, self.registers):"),
-    ("        self.references.ask(\"transfer\", end.place)\n", ""),
-    ("sdw, _ = self.references.ask(\"call\", end.place)", "sdw, _ = self.references.ask(\"transfer\", end.place)"),
-    ("words=tuple(words), ring=sdw.r1)", "words=tuple(words))"),
-    ("            after = after.but(word=given.next_word())\n", "            pass\n"),
-    ("        if overflow and not after.indicators.mask:", "        if overflow:"),
-    ("        if overflow and not after.indicators.mask:", "        if False:"),
-    ("        for (spot, word), (_, segment, number) in zip(end.pending, self.references.claims):\n", "        for (spot, word), (_, segment, number) in ():\n"),
-    ("                written[spot][3] = merged(part, written[spot][3], value)", "                written[spot][3] = merged(part, written[spot][2], value)"),
-)
-
-FOLDER = (
-    ("FIRST_STACK, FIRST_LINKAGE, FIRST_CATALOG = 8, 16, 64", "FIRST_STACK, FIRST_LINKAGE, FIRST_CATALOG = 8, 16, 65"),
-    ("FIRST_STACK, FIRST_LINKAGE, FIRST_CATALOG = 8, 16, 64", "FIRST_STACK, FIRST_LINKAGE, FIRST_CATALOG = 9, 16, 64"),
-    ("FIRST_STACK, FIRST_LINKAGE, FIRST_CATALOG = 8, 16, 64", "FIRST_STACK, FIRST_LINKAGE, FIRST_CATALOG = 8, 17, 64"),
-    ("bound=127, unpaged=True, stack=1", "bound=127, unpaged=True, stack=2"),
-    ("Sdw(0, ring, ring, ring, True", "Sdw(0, 0, ring, ring, True"),
-    ("Sdw(0, ring, ring, ring, True", "Sdw(0, ring, 0, ring, True"),
-    ("bound=max(len(words) - 1, 0) // 16", "bound=max(len(words) - 1, 0) // 32"),
-    ("limit=upper(words[-2]) if gate else 0", "limit=0"),
-    ("read=\"r\" in mode", "read=\"e\" in mode"),
-    ("execute=\"e\" in mode", "execute=\"r\" in mode"),
-    ("write=\"w\" in mode", "write=False"),
-    ("privileged=\"p\" in mode", "privileged=False"),
-    ("no_gate=not gate", "no_gate=True"),
-)
-
-BY_FILE = (
-    ("rights.py", RIGHTS),
-    ("memory.py", MEMORY),
-    ("fields.py", FIELDS),
-    ("references.py", REFERENCES),
-    ("address.py", ADDRESS),
-    ("tally.py", TALLIES),
-    ("arithmetic.py", ARITHMETIC),
-    ("effects_data.py", EFFECTS),
-    ("effects_control.py", CONTROL),
-    ("explain.py", STEP),
-    ("folder.py", FOLDER),
-)
+def written_edits():
+    for path in sorted((HERE / "planted").glob("*.txt")):
+        for block in path.read_text().split("\n\n"):
+            lines = block.splitlines()
+            if not all(line[:1] in ("-", "+") for line in lines):
+                raise ValueError(f"{path.name}: neither - nor + in {block!r}")
+            yield f"{path.stem}.py", text_of(lines, "-"), text_of(lines, "+")
 
 
 def table_edits():
-    """Each instruction of the tables of effects does nothing in its place."""
-    for line in (HERE / "effects_table.py").read_text().splitlines():
-        found = re.fullmatch(r'    "(\w+)": \((\w+), (.*)\),', line)
-        if found:
-            yield "effects_table.py", line, f'    "{found[1]}": ({NOTHING}, {found[3]}),'
-    for line in (HERE / "effects_control.py").read_text().splitlines():
-        found = re.fullmatch(r'    "(\w+)": (\w+),', line)
-        if found and found[2] != "do_nothing":
-            yield "effects_control.py", line, f'    "{found[1]}": do_nothing,'
+    """Each instruction does nothing in place of what it does."""
+    for file, row in TABLES:
+        for line in (HERE / file).read_text().splitlines():
+            found = row.fullmatch(line)
+            if found and found[1] != DOES_NOTHING:
+                start, end = found.span(1)
+                yield file, line, line[:start] + DOES_NOTHING + line[end:]
 
 
 def edits():
-    """All edits."""
-    return [(file, *pair) for file, pairs in BY_FILE for pair in pairs] + list(table_edits())
+    """All edits: file, text and what is put in its place."""
+    return [*written_edits(), *table_edits()]

@@ -189,7 +189,7 @@ class Recorder:
             if (segment, page) not in self.pages:
                 self.pages.add((segment, page))
                 name = self.names.segment(segment)
-                text = f"Page {page} of {name} is referred to for the first time, and is brought in."
+                text = f"Page {page} of {name} is referred to for the first time: it is brought in."
                 yield PageTurn(number, segment, page, text)
 
     def services(self, number, lines):
@@ -212,7 +212,7 @@ class Recorder:
         if len(answer) == 2:
             pair = tuple(int(part, 8) for part in answer)
             target = self.names.word(pair[0] >> 18, pair[1] >> 18)
-            text = f"The linker answers the link {link} at {name}: it becomes a pointer to {target}."
+            text = f"The linker answers the link {link} at {name}: it now points to {target}."
         else:
             code = answer[0]
             text = f"The linker refuses the link {link} at {name} with the code {code}."

@@ -1,5 +1,5 @@
-"""Tally words (docs/MANUAL.md, section 7): an address in bits 0-17, a tally in 18-29 and an increment
-in 30-35."""
+"""Tally words (docs/MANUAL.md, section 7): an address in bits 0-17, a tally in 18-29 and an
+increment in 30-35."""
 
 from .fields import HALF_WORD, bits, upper
 
