@@ -145,8 +145,8 @@ class WordChange:
 
 @dataclass(frozen=True)
 class Outcome:
-    """How a step ends: kind `next`, `fault`, `stop` or `unknown`; of a fault its number, that of its
-    access violation and its place; of a stop its name (`dis`, `operation`, `tag`)."""
+    """How a step ends: kind `next`, `fault`, `stop` or `unknown`; of a fault its number, that of
+    its access violation and its place; of a stop its name (`dis`, `operation`, `tag`)."""
 
     kind: str
     text: str

@@ -38,9 +38,9 @@ def core_differences(recorder, size):
     lines = [seg_line(VIEW, word) for word in range(size)]
     found = []
     for word, answer in enumerate(recorder.machine.ask(*lines)):
-        content, told = word_in(answer), recorder.memory.core(word)
-        if content is not None and content != told:
-            found.append(f"core word {word:08o} {content:012o}, not {told:012o}")
+        content, expected = word_in(answer), recorder.memory.core(word)
+        if content is not None and content != expected:
+            found.append(f"core word {word:08o} {content:012o}, not {expected:012o}")
     return found
 
 
@@ -49,10 +49,10 @@ def flat_differences(recorder):
     kept = sorted(recorder.memory.words.items())
     answers = recorder.machine.ask(*(seg_line(*spot) for spot, _ in kept))
     found = []
-    for ((segment, word), told), answer in zip(kept, answers):
+    for ((segment, word), expected), answer in zip(kept, answers):
         content = word_in(answer)
-        if content is not None and content != told:
-            found.append(f"word {segment:05o}|{word:06o} {content:012o}, not {told:012o}")
+        if content is not None and content != expected:
+            found.append(f"word {segment:05o}|{word:06o} {content:012o}, not {expected:012o}")
     return found
 
 

@@ -57,7 +57,7 @@ ENDS = (
 )
 
 
-def are_told(parts, sentences):
+def appear_in_order(parts, sentences):
     """The parts are in sentences in this order; where there are none, there are no sentences."""
     if not parts:
         return not sentences
@@ -68,8 +68,8 @@ def are_told(parts, sentences):
 def check_ends(program, top):
     for name, words, parts in ENDS:
         found = end_in_words(program, words, top / name)
-        if not are_told(parts, found):
-            yield f"the end of {name} {' '.join(words)} is told as {found}"
+        if not appear_in_order(parts, found):
+            yield f"the end of {name} {' '.join(words)} is {found}"
 
 
 USER_LISTS = """segment >udd>demo main
@@ -86,8 +86,8 @@ def check_user(program, top):
     folder = top / "servant"
     (folder / "acl").write_text(USER_LISTS)
     found = end_in_words(program, ["run", "--user", "Ann.Demo.a"], folder)
-    if not are_told(("Step 8: ring 1", "access violation 4: R is off", "20.4"), found):
-        yield f"the end for a user is told as {found}"
+    if not appear_in_order(("Step 8: ring 1", "access violation 4: R is off", "20.4"), found):
+        yield f"the end for a user is {found}"
     (folder / "acl").unlink()
 
 
@@ -126,7 +126,7 @@ def check_names(program, top):
 
 
 def check_stale(program, top):
-    """A source that is changed, and one that does not assemble, are told; else nothing is."""
+    """A source that is changed, and one that does not assemble, are reported, and nothing else."""
     folder = top / "servant"
     if stale_objects(program, folder):
         yield "an object is called stale that is not"
@@ -140,7 +140,7 @@ def check_stale(program, top):
         source.write_text(changed)
         found = stale_objects(program, folder)
         if len(found) != 1 or part not in found[0]:
-            yield f"a stale object is told as {found}"
+            yield f"a stale object is {found}"
         with Recorder(program, folder) as recorder:
             if len(recorder.header.notes) != 1:
                 yield f"a stale object gives the notes {recorder.header.notes}"

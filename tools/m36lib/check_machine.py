@@ -110,7 +110,7 @@ def is_gone(process):
 
 
 def check_killed(program, folder):
-    """A caller that is killed leaves no process; and a machine that is killed is told."""
+    """A caller that is killed leaves no process; and a machine that is killed is reported."""
     tools = str(pathlib.Path(__file__).resolve().parents[1])
     words = [sys.executable, "-c", HOLDER, tools, program, str(folder)]
     with subprocess.Popen(words, stdout=subprocess.PIPE) as holder:

@@ -23,35 +23,35 @@ def trace_differences(account, trace):
         ("final address", account.final_text(), fields["final"]),
         ("outcome", account.outcome.trace_text(), fields["outcome"]),
     )
-    return [f"{what} {found}, not {told}" for what, told, found in pairs if told != found]
+    return [f"{what} {found}, not {expected}" for what, expected, found in pairs if expected != found]
 
 
-def register_pairs(told, found):
+def register_pairs(expected, found):
     """Each register with what the account says and what the machine has."""
-    yield "A", told.a, found.a
-    yield "Q", told.q, found.q
+    yield "A", expected.a, found.a
+    yield "Q", expected.q, found.q
     for number in range(8):
-        yield f"X{number}", told.x[number], found.x[number]
-        yield f"PR{number}", told.pr[number].text(), found.pr[number].text()
-    for letter, one, other in zip(LETTERS, told.indicators, found.indicators):
+        yield f"X{number}", expected.x[number], found.x[number]
+        yield f"PR{number}", expected.pr[number].text(), found.pr[number].text()
+    for letter, one, other in zip(LETTERS, expected.indicators, found.indicators):
         yield f"indicator {letter}", one, other
-    yield "ring", told.ring, found.ring
-    yield "segment", told.segment, found.segment
-    yield "word", told.word, found.word
+    yield "ring", expected.ring, found.ring
+    yield "segment", expected.segment, found.segment
+    yield "word", expected.word, found.word
 
 
 def register_differences(account, after):
     """Where the registers after the step are not those of the account."""
-    told = account.after
+    expected = account.after
     if account.outcome.kind == UNKNOWN:
         return []
     if account.unknown:
-        told = told.but(a=after.a, indicators=after.indicators)
-    if told == after:
+        expected = expected.but(a=after.a, indicators=after.indicators)
+    if expected == after:
         return []
     return [
         f"{name} {shown(found)}, not {shown(said)}"
-        for name, said, found in register_pairs(told, after)
+        for name, said, found in register_pairs(expected, after)
         if said != found
     ]
 

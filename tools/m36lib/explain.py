@@ -61,8 +61,8 @@ class Explanation:
         self.memory = memory
         self.names = names
         self.here = Place(registers.ring, registers.segment, registers.word)
-        self.told = Account(at=self.here, after=registers)
-        self.references = References(registers, memory, self.told, names)
+        self.result = Account(at=self.here, after=registers)
+        self.references = References(registers, memory, self.result, names)
         self.row = None
 
     def account(self):
@@ -74,16 +74,16 @@ class Explanation:
         except NoAccess as refusal:
             self.end(self.refusal_outcome(refusal))
         except NotKnown as why:
-            self.told.unknown = str(why)
+            self.result.unknown = str(why)
             self.end(Outcome("unknown", f"What happens is not known here: {why}.", STEP))
-        return self.told
+        return self.result
 
     def end(self, outcome):
         """The step ends in a fault or a stop, and changes no register and no word."""
-        self.told.outcome = outcome
-        self.told.say(outcome.text, outcome.rule, "end")
+        self.result.outcome = outcome
+        self.result.say(outcome.text, outcome.rule, "end")
         if outcome.kind != "unknown":
-            self.told.say("Registers and words stay as they were.", STEP, "end")
+            self.result.say("Registers and words stay as they were.", STEP, "end")
 
     def refusal_outcome(self, refusal):
         place = refusal.place
@@ -106,14 +106,14 @@ class Explanation:
 
     def step(self):
         sdw, (word,) = self.references.ask("fetch", self.here)
-        self.told.word = word
-        self.told.instruction = disassemble(word)
+        self.result.word = word
+        self.result.instruction = disassemble(word)
         self.row = row_of(word)
         if self.row is None:
             text = f"The code of {word:012o} has no instruction: the machine stops."
             raise Refused(Outcome("stop", text, STEP, stop="operation"))
-        self.told.say(
-            f"Ring {self.registers.ring} executes {self.told.instruction} at "
+        self.result.say(
+            f"Ring {self.registers.ring} executes {self.result.instruction} at "
             f"{self.names.word(self.here.segment, self.here.word)}.",
             STEP,
             "decode",
@@ -122,16 +122,16 @@ class Explanation:
             self.check_privilege(sdw)
         if self.row.operand == "N":
             self.without_address()
-        end = Chain(self.registers, self.references, self.told, self.names).form(
+        end = Chain(self.registers, self.references, self.result, self.names).form(
             instruction_of(word)
         )
-        self.told.final, self.told.bit, self.told.direct = end.place, end.bit, end.direct
+        self.result.final, self.result.bit, self.result.direct = end.place, end.bit, end.direct
         self.operate(end)
 
     def check_privilege(self, sdw):
         name = self.row.name
         if sdw.privileged and self.registers.ring == 0:
-            self.told.say(f"May it execute {name}? Yes: P is on, in ring 0.", STEP, "decode")
+            self.result.say(f"May it execute {name}? Yes: P is on, in ring 0.", STEP, "decode")
             return
         ring = self.registers.ring
         why = "P is off" if ring == 0 else f"ring {ring} is not ring 0"
@@ -199,7 +199,7 @@ class Explanation:
     def transferring(self, registers, end):
         if not is_taken(self.row.effect, registers):
             text = "The condition does not hold, so the transfer is not taken."
-            self.told.say(text, EFFECTS, "effect")
+            self.result.say(text, EFFECTS, "effect")
             self.finish(registers.but(word=(registers.word + 1) % HALF_WORD), end, None, (), False)
             return
         self.references.ask("transfer", end.place)
@@ -210,7 +210,7 @@ class Explanation:
         if self.row.effect == "Absa":
             _, (core,) = self.references.ask("locate", end.place)
             if self.memory.booted:
-                self.told.unknown = "in which frame of a booted system a page is, is free"
+                self.result.unknown = "in which frame of a booted system a page is, is free"
                 core = None
         self.perform(registers, end, core=core)
 
@@ -238,7 +238,7 @@ class Explanation:
             name = FAULT_NAMES[refused.number]
             self.fault_here(refused.number, f"{refused.text} The fault is {name}.", EFFECTS)
         rule = CALLS if effect_name in ("Call6", "Rtcd") else EFFECTS
-        self.told.say(effect.text, rule, "effect")
+        self.result.say(effect.text, rule, "effect")
         after = effect.registers
         if not effect.goes:
             after = after.but(word=given.next_word())
@@ -246,15 +246,15 @@ class Explanation:
 
     def finish(self, after, end, put, values, overflow):
         """The registers after the step, the words that it writes, and how it ends."""
-        self.told.after = after
+        self.result.after = after
         self.say_indicators(after)
         self.write_words(end, put, values)
         if overflow and not after.indicators.mask:
             text = "Overflow is put on and the mask is off: the step ends in the overflow fault."
-            self.told.outcome = Outcome("fault", text, STEP, number=OVERFLOW, place=self.here)
+            self.result.outcome = Outcome("fault", text, STEP, number=OVERFLOW, place=self.here)
         else:
-            self.told.outcome = Outcome("next", "The machine goes on.", STEP)
-        self.told.say(self.told.outcome.text, STEP, "end")
+            self.result.outcome = Outcome("next", "The machine goes on.", STEP)
+        self.result.say(self.result.outcome.text, STEP, "end")
 
     def say_indicators(self, after):
         before = self.registers.indicators
@@ -263,7 +263,7 @@ class Explanation:
         off = [name for name in now._fields if getattr(before, name) and not getattr(now, name)]
         parts = [f"{listed(names)} {how}" for names, how in ((on, "on"), (off, "off")) if names]
         if parts:
-            self.told.say(f"Indicators: {', '.join(parts)}.", EFFECTS, "effect")
+            self.result.say(f"Indicators: {', '.join(parts)}.", EFFECTS, "effect")
 
     def write_words(self, end, put, values):
         """Writes the tally word first, and then the words of the operand."""
@@ -278,11 +278,11 @@ class Explanation:
                     old = self.memory.content(spot, place.segment, number)
                     written[spot] = [place.segment, number, old, old]
                 written[spot][3] = merged(part, written[spot][3], value)
-        self.told.commits = [(spot, entry[3]) for spot, entry in written.items()]
+        self.result.commits = [(spot, entry[3]) for spot, entry in written.items()]
         for segment, number, before, now in written.values():
-            self.told.words.append(WordChange(segment, number, before, now))
+            self.result.words.append(WordChange(segment, number, before, now))
             where = self.names.word(segment, number)
-            self.told.say(f"{where} becomes {now:012o}; it was {before:012o}.", STEP, "effect")
+            self.result.say(f"{where} becomes {now:012o}; it was {before:012o}.", STEP, "effect")
 
 
 def listed(names):

@@ -191,7 +191,7 @@ class FlatMemory:
         found = self.words.get((segment, word))
         if found is None:
             looked = self.look(segment, word)
-            self.words.update({spot: told for spot, told in looked.items() if told is not None})
+            self.words.update({spot: one for spot, one in looked.items() if one is not None})
             found = looked[segment, word]
         return found
 

@@ -5,6 +5,7 @@ from functools import cached_property
 
 from .account import word_text
 from .compare import register_differences, trace_differences, word_differences
+from .disassemble import row_of
 from .explain import explain
 from .folder import BOOTED_DBR, Folder, FolderNames, NoSources, Sources
 from .headers import folder_segments, image_segments
@@ -129,22 +130,23 @@ class Recorder:
         before = self.registers
         account = explain(before, self.memory, self.names)
         asked = [seg_line(word.segment, word.word) for word in account.words]
-        told, lines, where, *contents = self.machine.ask("step", "regs", "where", *asked)
-        if told[0].startswith("end "):
-            yield self.end(told[0])
+        lines, regs, where, *contents = self.machine.ask("step", "regs", "where", *asked)
+        if lines[0].startswith("end "):
+            yield self.end(lines[0])
             return True
-        after = registers_of(lines, where[0], account.after.dbr)
+        after = registers_of(regs, where[0], account.after.dbr)
         contents = [word_in(content) for content in contents]
         yield from self.page_turns(number, account)
-        yield self.finish(number, before, account, told, after, contents)
-        return (yield from self.services(number, told[1:]))
+        yield self.finish(number, before, account, lines, after, contents)
+        return (yield from self.services(number, lines[1:]))
 
-    def finish(self, number, before, account, told, after, contents):
-        """The step, with what it changed; memory and registers are those after it."""
+    def finish(self, number, before, account, lines, after, contents):
+        """The step, by the lines that the machine wrote of it; memory and registers are those
+        after it."""
         settled = after
-        if any(line.startswith("console ") for line in told):
+        if any(line.startswith("console ") for line in lines):
             settled = after.but(word=before.word)
-        differences = trace_differences(account, told[0])
+        differences = trace_differences(account, lines[0])
         differences += register_differences(account, settled)
         differences += word_differences(account, contents)
         words = [self.word_seen(*both) for both in zip(account.words, contents)]
@@ -158,7 +160,7 @@ class Recorder:
             at=self.spot(before.ring, before.segment, before.word),
             instruction=account.instruction,
             account=account,
-            trace=told[0],
+            trace=lines[0],
             before=before,
             after=after,
             registers=list(changes(before, settled)),
@@ -176,11 +178,8 @@ class Recorder:
         memory is in force."""
         if differences or account.unknown:
             self.memory.forget()
-        if account.after.dbr is not account.at and self.has_loaded(account):
+        if has_loaded(account):
             self.memory = LoadedMemory(self.memory.sdws, self.look_around)
-
-    def has_loaded(self, account):
-        return (account.instruction or "").startswith("ldbr ") and account.outcome.kind == "next"
 
     def page_turns(self, number, account):
         if self.image or isinstance(self.memory, LoadedMemory):
@@ -222,6 +221,14 @@ class Recorder:
 
     def end(self, line):
         return EndTurn(int(line.rpartition(" ")[2]), line, end_text(line))
+
+
+def has_loaded(account):
+    """An LDBR has been executed."""
+    if account.word is None or account.outcome.kind != "next":
+        return False
+    row = row_of(account.word)
+    return row is not None and row.effect == "Ldbr"
 
 
 def end_text(line):
