@@ -206,7 +206,7 @@ class Chain:
         number = FAULT_TAGS.get(point.tag)
         if number is not None:
             where = self.names.word(point.carrier.segment, point.carrier.word)
-            text = f"The word at {where} has the tag {point.tag:02o}, which gives fault {number}."
+            text = f"The word at {where} has the tag {point.tag:02o}, which is a fault tag."
             if number == LINK_FAULT:
                 text += " A link has it until it is snapped."
             self.fail(number, point.carrier, text)
@@ -304,7 +304,7 @@ class Chain:
         candidates = (Candidate(point.ring, f"{point.ring} so far"),)
         self.link("tally", end, candidates, text, place, (word,))
         if runout is not None:
-            self.say(f"The new tally is {'0' if runout else 'not 0'}: tally runout.")
+            self.say("The new tally is " + ("0: runout is on." if runout else "not 0: runout is off."))
         self.references.link = None
         return ChainEnd(
             Place(point.ring, point.segment, address), point.bit, None, pending, runout

@@ -24,7 +24,7 @@ ENDS = (
             "and R1 = 4 of the segment that holds the pair.",
             "May ring 4 read secret|0? No, access violation 3: ring 4 is above R2 = 1. "
             "(docs/MANUAL.md, section 6)",
-            "after 14 steps: fault 20.3.",
+            "after 14 steps: fault 20.3, access violation 3.",
         ),
     ),
     ("hello", ["run"], ()),
@@ -35,7 +35,7 @@ ENDS = (
         (
             "Step 1: ring 4 executes lda pr4|8,* at main$start (main.alm, line 2).",
             "points to linkage_4|2010, in ring 4",
-            "has the tag 46, which gives fault 24. A link has it until it is snapped.",
+            "has the tag 46, which is a fault tag. A link has it until it is snapped.",
             "refuses the link secret$ at linkage_4|2010 with the code L4.",
             "after 1 step: link L4.",
         ),
@@ -48,7 +48,7 @@ ENDS = (
             "points to 00002|20, in ring 0",
             "No, access violation 15: word 20 is past the bound, and the last word is 17. "
             "(docs/MANUAL.md, section 5)",
-            "fault 20.15.",
+            "fault 20.15, access violation 15.",
         ),
     ),
     ("lists", ["run", "--user", "Smith.Demo.a"], ()),
@@ -86,7 +86,7 @@ def check_user(program, top):
     folder = top / "servant"
     (folder / "acl").write_text(USER_LISTS)
     found = end_in_words(program, ["run", "--user", "Ann.Demo.a"], folder)
-    if not appear_in_order(("Step 8: ring 1", "access violation 4: R is off", "20.4"), found):
+    if not appear_in_order(("Step 8: ring 1", "access violation 4: R is off", "fault 20.4, access"), found):
         yield f"the end for a user is {found}"
     (folder / "acl").unlink()
 

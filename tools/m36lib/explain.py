@@ -24,19 +24,6 @@ READS = {"R": 1, "R2": 2, "R16": 16}
 WRITES = {"W": (1, "whole"), "W2": (2, "whole"), "W16": (16, "whole"), "Wl": (1, "left")}
 WRITES["Wr"] = (1, "right")
 CHANGES = {"Rw": "whole", "Rwl": "left"}
-FAULT_NAMES = {
-    1: "store fault",
-    2: "MME",
-    3: "fault tag 1",
-    5: "command",
-    6: "DRL",
-    7: "lockup",
-    10: "illegal procedure",
-    13: "overflow",
-    14: "divide check",
-    24: "fault tag 2",
-    25: "fault tag 3",
-}
 
 
 def explain(registers, memory, names=PLAIN):
@@ -82,20 +69,26 @@ class Explanation:
         """The step ends in a fault or a stop, and changes no register and no word."""
         self.result.outcome = outcome
         self.result.say(outcome.text, outcome.rule, "end")
+        if outcome.kind == "fault" and outcome.rule != FAULTS:
+            self.result.say(self.fault_text(outcome), FAULTS, "end")
         if outcome.kind != "unknown":
             self.result.say("Registers and words stay as they were.", STEP, "end")
 
+    def fault_text(self, fault):
+        """In which fault the step ends, and where: of an outcome or a refusal."""
+        name = fault_name(fault.number, fault.violation)
+        where = self.names.word(fault.place.segment, fault.place.word)
+        ring = fault.place.ring
+        return f"The step ends in fault {fault.number}, {name}, at {where} in ring {ring}."
+
     def refusal_outcome(self, refusal):
-        place = refusal.place
-        name = fault_name(refusal.number, refusal.violation)
-        fault = f"fault {refusal.number}, {name}" if refusal.number != 1 else "the store fault"
-        text = (
-            f"The step ends in {fault}, at {self.names.word(place.segment, place.word)} "
-            f"in ring {place.ring}."
-        )
-        number = refusal.number
         return Outcome(
-            "fault", text, FAULTS, number=number, violation=refusal.violation, place=place
+            "fault",
+            self.fault_text(refusal),
+            FAULTS,
+            number=refusal.number,
+            violation=refusal.violation,
+            place=refusal.place,
         )
 
     def fault_here(self, number, text, rule):
@@ -235,8 +228,7 @@ class Explanation:
         try:
             effect = operation(given)
         except EffectRefused as refused:
-            name = FAULT_NAMES[refused.number]
-            self.fault_here(refused.number, f"{refused.text} The fault is {name}.", EFFECTS)
+            self.fault_here(refused.number, refused.text, EFFECTS)
         rule = CALLS if effect_name in ("Call6", "Rtcd") else EFFECTS
         self.result.say(effect.text, rule, "effect")
         after = effect.registers
@@ -250,7 +242,7 @@ class Explanation:
         self.say_indicators(after)
         self.write_words(end, put, values)
         if overflow and not after.indicators.mask:
-            text = "Overflow is put on and the mask is off: the step ends in the overflow fault."
+            text = "Overflow is put on and the mask is off: the step ends in fault 13, overflow."
             self.result.outcome = Outcome("fault", text, STEP, number=OVERFLOW, place=self.here)
         else:
             self.result.outcome = Outcome("next", "The machine goes on.", STEP)

@@ -121,6 +121,9 @@ class CoreMemory:
             raise past_core(f"its place, core word {address:08o},")
         return address
 
+    def place_text(self, spot):
+        return f"At core word {spot:08o}; no right is needed"
+
     def content(self, spot, segment, word):
         return self.core(spot)
 
@@ -179,6 +182,9 @@ class FlatMemory:
 
     def spot(self, sdw, segment, word):
         return segment, word
+
+    def place_text(self, spot):
+        return "In the frame of its page; no right is needed"
 
     def content(self, spot, segment, word):
         found = self.seen(segment, word)

@@ -16,6 +16,7 @@ from .names import Names
 from .record import (
     ConsoleTurn, EndTurn, Header, LinkTurn, PageTurn, RegisterChange, Spot, Step, WordSeen,
 )
+from .references import fault_name
 from .registers import registers_of
 
 LINKAGE_SEGMENTS = range(16, 24)
@@ -237,7 +238,12 @@ def end_text(line):
     counted = "1 step" if steps == 1 else f"{steps} steps"
     if how == "dis":
         return f"The run ends by DIS after {counted}."
-    return f"The run ends after {counted}: {' '.join([how, *rest[:-1]])}."
+    if how == "fault":
+        number, _, violation = rest[0].partition(".")
+        how = f"fault {rest[0]}, {fault_name(int(number), violation)}"
+    else:
+        how = " ".join([how, *rest[:-1]])
+    return f"The run ends after {counted}: {how}."
 
 
 def console_turn(number, line):

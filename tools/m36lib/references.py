@@ -3,7 +3,7 @@ sections 5 and 6)."""
 
 from . import rights
 from .account import Place, Reference
-from .memory import ACCESS, NoAccess, check_bound
+from .memory import ACCESS, FIRST_DIRECTED, NoAccess, check_bound
 
 VERBS = {
     "fetch": "execute",
@@ -15,6 +15,19 @@ VERBS = {
 }
 TARGETS = ("transfer", "call")
 READERS = ("fetch", "indirect", "read")
+FAULT_NAMES = {
+    1: "store fault",
+    2: "MME",
+    3: "fault tag 1",
+    5: "command",
+    6: "DRL",
+    7: "lockup",
+    10: "illegal procedure",
+    13: "overflow",
+    14: "divide check",
+    24: "fault tag 2",
+    25: "fault tag 3",
+}
 
 
 class Refused(Exception):
@@ -56,6 +69,8 @@ class References:
             refusal.place = asked
             self.write(kind, place, count, refusal.why, refusal)
             raise
+        if kind == "locate":
+            why = self.memory.place_text(spots[0])
         self.write(kind, place, count, why, None, silent)
         if kind in READERS or kind == "write":
             self.touch(kind, sdw, place)
@@ -98,7 +113,7 @@ class References:
             place=place,
             count=count,
             question=self.question(kind, place, count),
-            answer=answer_text(why, refusal),
+            answer=answer_text(kind, why, refusal),
             allowed=refusal is None,
             rule=refusal.rule if refusal else rights.RULE if kind != "locate" else "5",
             link=self.link,
@@ -123,15 +138,13 @@ class References:
         return f"May ring {place.ring} {VERBS[kind]} {what}?"
 
 
-def answer_text(why, refusal):
+def answer_text(kind, why, refusal):
     if refusal is None:
-        return f"Yes: {why}."
+        return f"{why}." if kind == "locate" else f"Yes: {why}."
     return f"No, {fault_name(refusal.number, refusal.violation)}: {refusal.why}."
 
 
 def fault_name(number, violation):
     if number == ACCESS:
         return f"access violation {violation}"
-    if number == 1:
-        return "store fault"
-    return f"directed fault {number - 16}"
+    return FAULT_NAMES.get(number) or f"directed fault {number - FIRST_DIRECTED}"
