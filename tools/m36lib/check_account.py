@@ -3,32 +3,54 @@
 from collections import Counter
 
 from .cases import VIEW
+from .disassemble import row_of
 from .machine import seg_line, word_in
 from .recorder import Recorder
+from .table import TABLE
 
 MOST_SHOWN = 4
+FAULTS = (1, 2, 3, 5, 6, 7, 10, 13, 14, 16, 17, 18, 19, 24, 25)
+VIOLATIONS = (0, 1, 2, 3, 4, 5, 6, 7, 8, 9, 10, 12, 15)
+STOPS = ("next", "dis", "stop operation", "stop tag")
+ENDS = (
+    *STOPS,
+    *(f"fault {number}" for number in FAULTS),
+    *(f"fault 20.{number}" for number in VIOLATIONS),
+)
 
 
 class Reached:
-    """What the runs reached: instructions, tags, faults and access violations."""
+    """What runs reached: instructions, tags, and how steps ended."""
 
     def __init__(self):
         self.steps = 0
         self.unknown = 0
-        self.outcomes = Counter()
+        self.ends = Counter()
         self.instructions = Counter()
+        self.tags = Counter()
 
     def add(self, step):
+        account = step.account
         self.steps += 1
-        self.unknown += bool(step.account.unknown)
-        self.outcomes[step.account.outcome.trace_text()] += 1
-        if step.account.instruction:
-            self.instructions[step.account.instruction.split(" ")[0]] += 1
+        self.unknown += bool(account.unknown)
+        self.ends[account.outcome.trace_text()] += 1
+        row = row_of(account.word) if account.word is not None else None
+        if row is not None:
+            self.instructions[row.name] += 1
+            self.tags.update(link.tag for link in account.chain if link.kind != "tally")
+
+    def missing(self):
+        """What was not reached, in words."""
+        names = {row.name for row in TABLE.values()}
+        found = [f"instruction {name}" for name in sorted(names - self.instructions.keys())]
+        found += [f"tag {tag:02o}" for tag in sorted(set(range(64)) - self.tags.keys())]
+        return found + [f"end {end}" for end in ENDS if end not in self.ends]
 
     def text(self):
         return (
-            f"{self.steps} steps, {len(self.instructions)} instructions, "
-            f"{len(self.outcomes)} kinds of ends, {self.unknown} steps not known"
+            f"{self.steps} steps, {len(self.instructions)} of {len(TABLE)} instructions, "
+            f"{len(self.tags)} of 64 tags, {len(self.ends)} of {len(ENDS)} ends of a step, "
+            f"{self.unknown} steps not known"
         )
 
 
@@ -73,8 +95,9 @@ def differences(program, case, reached, machine=None):
     return found
 
 
-def check_cases(program, work, kinds, show=print):
-    """Holds the account against the machine in all runs. The number of runs that differ."""
+def check_cases(program, work, kinds, all_reached=False, show=print):
+    """Holds the account against the machine in all runs. The number of runs that differ, and with
+    `all_reached` of what none of them reached."""
     reached, wrong, runs = Reached(), 0, 0
     for kind in kinds:
         for case in kind(program, work):
@@ -83,5 +106,8 @@ def check_cases(program, work, kinds, show=print):
             wrong += bool(found)
             for line in found[:MOST_SHOWN]:
                 show(f"{case.name}: {line}")
+    missing = reached.missing() if all_reached else []
+    for what in missing:
+        show(f"account: no step of {what}")
     show(f"account: {runs} runs, {reached.text()}, {wrong} runs wrong")
-    return wrong
+    return wrong + len(missing)

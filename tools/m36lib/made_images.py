@@ -124,6 +124,18 @@ def effects():
     yield "an address of segment 0", image([op("epaq", 5, pr=0)]), 1
 
 
+def tags():
+    """Each tag, with another value in each register: name, image, steps."""
+    values = [0o11 << 18 | 0o22, 0o33 << 18 | 0o44] + [0o50 + number << 18 for number in range(8)]
+    loads = ["lda", "ldq"] + [f"ldx{number}" for number in range(8)]
+    code = [op(name, 0o140 + number) for number, name in enumerate(loads)]
+    data = words_at(CODE + 0o140, values)
+    data |= words_at(CODE + 0o200, [0o400 + number << 18 for number in range(0o100)])
+    data |= words_at(CODE + 0o400, range(1, 0o101))
+    for tag in range(64):
+        yield f"tag {tag:02o}", image([*code, op("lda", 0o200, tag)], data=data), len(code) + 1
+
+
 def large():
     """An image of the largest core, whose first descriptor begins at the last word."""
     last = (1 << 24) - 1
@@ -136,5 +148,5 @@ def large():
 
 
 def all_images():
-    for kind in (places, chains, effects, large):
+    for kind in (places, chains, effects, tags, large):
         yield from kind()
