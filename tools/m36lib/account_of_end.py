@@ -78,7 +78,7 @@ def sentences_of_end(program, folder, image, limit):
         taken = recorder.machine.taken - 1
         recorder.go_to(taken, quick=taken > MOST_WORKED_OUT)
         step, *rest = [turn for turn in recorder.turns(1) if not hasattr(turn, "page")]
-        services = [turn for turn in rest if hasattr(turn, "link")]
+        services = [turn for turn in rest if hasattr(turn, "after_step")]
         return [*step_sentences(step), *(turn.text for turn in services), end_text(line)]
 
 

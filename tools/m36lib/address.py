@@ -304,7 +304,8 @@ class Chain:
         candidates = (Candidate(point.ring, f"{point.ring} so far"),)
         self.link("tally", end, candidates, text, place, (word,))
         if runout is not None:
-            self.say("The new tally is " + ("0: runout is on." if runout else "not 0: runout is off."))
+            what = "0: tally runout is on" if runout else "not 0: tally runout is off"
+            self.say(f"The new tally is {what}.")
         self.references.link = None
         return ChainEnd(
             Place(point.ring, point.segment, address), point.bit, None, pending, runout

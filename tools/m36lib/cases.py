@@ -9,6 +9,7 @@ import shutil
 import subprocess
 from dataclasses import dataclass
 
+from .made_folders import FOLDERS, WORDS_OF_DATA
 from .made_images import all_images
 
 ROOT = pathlib.Path(__file__).resolve().parents[2]
@@ -131,55 +132,21 @@ def image_cases(program, work):
         yield Case(f"images: {name}", folder, f"image{number}", steps, size)
 
 
-RIGHTS_BOOT = """frames 24
-work >u
-segment >u main main object e 4 4 4
-segment >u data data data rw 4 4 4
-start 4 main$start
-"""
-RIGHTS_SOURCE = """        entry   start
-start:  lda     data$+17
-        sta     data$+18
-        lda     data$+32
-"""
-
-
-LOADED_BOOT = """frames 24
-work >u
-segment >u main main object rewp 0 0 0
-segment >u data data data rw 4 4 4
-start 0 main$start
-"""
-LOADED_SOURCE = """        entry   start
-start:  absa    0,ic
-        lda     data$
-        ldbr    dbr
-        lda     cell
-        sta     cell
-        lda     data$+3
-        lda     2000
-        even
-dbr:    oct     0,000376200001
-cell:   dec     0
-        bss     more,3000
-"""
+def make_folder(program, folder, made):
+    """Writes one of the made folders."""
+    folder.mkdir()
+    (folder / "boot").write_text(made.boot)
+    (folder / "main.alm").write_text(made.source)
+    (folder / "data").write_bytes(bytes(WORDS_OF_DATA // 2 * 9))
+    run(program, folder, ["alm", "main"])
 
 
 def folder_cases(program, work):
-    """A segment that may be executed and not read, and one of 20 words, up to its bound; and a
-    program that loads the descriptor segment base register, and meets a page in no frame."""
-    made = (
-        ("rights and a bound", RIGHTS_BOOT, RIGHTS_SOURCE),
-        ("ABSA and LDBR", LOADED_BOOT, LOADED_SOURCE),
-    )
-    for number, (name, boot, source) in enumerate(made):
+    """Folders for rules that the examples don't reach."""
+    for number, made in enumerate(FOLDERS):
         folder = work / f"folder{number}"
-        folder.mkdir()
-        (folder / "boot").write_text(boot)
-        (folder / "main.alm").write_text(source)
-        (folder / "data").write_bytes(bytes(90))
-        run(program, folder, ["alm", "main"])
-        yield Case(f"folders: {name}", folder)
+        make_folder(program, folder, made)
+        yield Case(f"folders: {made.name}", folder)
 
 
 def viewed(check, image):

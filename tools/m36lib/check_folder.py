@@ -8,6 +8,7 @@ from . import cases, make_table
 from .account_of_end import end_in_words, stale_objects
 from .disassemble import disassemble
 from .folder import Folder, FolderNames, Sources
+from .made_folders import FOLDERS
 from .recorder import Recorder
 
 # The ends of examples as the guide tells them, worked out by hand: the example, the words of the
@@ -72,6 +73,14 @@ def check_ends(program, top):
             yield f"the end of {name} {' '.join(words)} is {found}"
 
 
+def check_made(program, work):
+    """The ends of the made folders."""
+    for made, case in zip(FOLDERS, cases.folder_cases(program, work)):
+        found = end_in_words(program, ["run", "--unaudited"], case.folder)
+        if not appear_in_order(made.end, found):
+            yield f"the end of {case.name} is {found}"
+
+
 USER_LISTS = """segment >udd>demo main
 term *.*.* e
 segment >sss gate_
@@ -86,7 +95,8 @@ def check_user(program, top):
     folder = top / "servant"
     (folder / "acl").write_text(USER_LISTS)
     found = end_in_words(program, ["run", "--user", "Ann.Demo.a"], folder)
-    if not appear_in_order(("Step 8: ring 1", "access violation 4: R is off", "fault 20.4, access"), found):
+    parts = ("Step 8: ring 1", "access violation 4: R is off", "fault 20.4, access")
+    if not appear_in_order(parts, found):
         yield f"the end for a user is {found}"
     (folder / "acl").unlink()
 
@@ -153,10 +163,11 @@ def check_folder(program, work, show=print):
     top = work / "examples"
     wrong = ["table.py is not the table"] if make_table.main(["--check"]) else []
     wrong += [*check_ends(program, top), *check_names(program, top), *check_user(program, top)]
+    wrong += check_made(program, work)
     for folder in ("servant", "hello", "pages", "search", "borrowed"):
         wrong += check_disassembly(program, top / folder)
     wrong += check_stale(program, top)
     for line in wrong:
         show(line)
-    show(f"folders: {len(ENDS)} ends in words, {len(wrong)} things wrong")
+    show(f"folders: {len(ENDS) + len(FOLDERS)} ends in words, {len(wrong)} things wrong")
     return len(wrong)

@@ -23,7 +23,7 @@ def trace_differences(account, trace):
         ("final address", account.final_text(), fields["final"]),
         ("outcome", account.outcome.trace_text(), fields["outcome"]),
     )
-    return [f"{what} {found}, not {expected}" for what, expected, found in pairs if expected != found]
+    return [f"{what} {found}, not {said}" for what, said, found in pairs if said != found]
 
 
 def register_pairs(expected, found):
@@ -69,3 +69,11 @@ def word_differences(account, contents):
             place = f"{change.segment:05o}|{change.word:06o}"
             found.append(f"word {place} {content:012o}, not {change.after:012o}")
     return found
+
+
+def console_differences(service, written):
+    """Where what the console wrote is not what the account says; None for nothing."""
+    expected = service.written if service else None
+    if service and service.written is None and service.refusal is None:
+        return []
+    return [] if written == expected else [f"console {written!r}, not {expected!r}"]

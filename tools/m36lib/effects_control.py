@@ -171,7 +171,8 @@ def return_to(given):
     text = (
         f"Control goes to {given.names.word(pair.segment, pair.word)} in ring {ring}: the ring is "
         f"the greatest of {given.final.ring} so far, {pair.ring} in the pair, and "
-        f"R1 = {given.ring} of the segment that holds the pair. Each pointer register gets ring {ring}."
+        f"R1 = {given.ring} of the segment that holds the pair. Each pointer register gets ring "
+        f"{ring}."
     )
     return Effect(registers, text, goes=True)
 

@@ -65,7 +65,7 @@ class CoreMemory:
 
     During a step the marks of its references are kept apart until `commit`."""
 
-    booted = False
+    booted = serves = False
 
     def __init__(self, size, words):
         self.size = size
@@ -163,7 +163,7 @@ class FlatMemory:
     `look(segment, word)` gives words from the machine, this one among them, by their spots; None
     for one that has no place. Words are kept until they change."""
 
-    booted = True
+    booted = serves = True
 
     def __init__(self, sdws, look):
         self.sdws = sdws
@@ -219,6 +219,7 @@ class LoadedMemory(FlatMemory):
     """The memory of a booted folder after an LDBR: no page is brought in any more. It is known as
     long as the descriptor segment is that of the boot."""
 
+    serves = False
     WORDS = 2048
 
     def descriptor(self, dbr, segment):

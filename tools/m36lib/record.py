@@ -140,7 +140,8 @@ class LinkTurn:
 
 @dataclass(frozen=True)
 class ConsoleTurn:
-    """The console writes characters. `written` has each byte as the character of that number."""
+    """The console writes characters, or refuses to: then `line` is None and `text` says why.
+    `written` has each byte as the character of that number."""
 
     after_step: int
     written: str

@@ -1,10 +1,14 @@
 """Records a run: see record.py for what it yields."""
 
 import pathlib
+import re
 from functools import cached_property
 
 from .account import word_text
-from .compare import register_differences, trace_differences, word_differences
+from .compare import (
+    console_differences, register_differences, trace_differences, word_differences,
+)
+from .console import console, is_called
 from .disassemble import row_of
 from .explain import explain
 from .folder import BOOTED_DBR, Folder, FolderNames, NoSources, Sources
@@ -21,6 +25,7 @@ from .registers import registers_of
 
 LINKAGE_SEGMENTS = range(16, 24)
 LOOKED_AT = 16
+ESCAPED = re.compile(r"\\([0-7]{3})")
 
 
 class Recorder:
@@ -99,7 +104,8 @@ class Recorder:
         return Spot(ring, segment, word, self.names.word(segment, word), file, line)
 
     def go_to(self, taken, quick=False):
-        """Goes to where the run has taken so many steps, of which nothing is recorded.
+        """Goes from the start to where the run has taken so many steps, of which nothing is
+        recorded.
 
         Over an image the steps are worked out by the account, since core is not to be seen whole. A
         quick way is there where the audit passes, so that tables stay: core is then as the machine
@@ -107,14 +113,22 @@ class Recorder:
         if self.image and quick:
             self.memory = SeenCore(self.memory.size, self.memory.words, self.look)
         elif self.image:
-            for _ in range(taken - self.number):
-                account = explain(self.registers, self.memory, self.names)
-                self.memory.commit(account.commits)
-                self.registers = account.after
-            self.dbr = self.registers.dbr
+            self.work_out(taken)
         self.machine.go_to(taken, quick)
+        if not self.machine.sure:
+            self.machine.go_to(0)
+            for _ in self.turns(taken):
+                pass
         self.number = taken
         self.registers = self.read_registers()
+
+    def work_out(self, taken):
+        """Makes so many steps of an image by the account alone."""
+        for _ in range(taken):
+            account = explain(self.registers, self.memory, self.names)
+            self.memory.commit(account.commits)
+            self.registers = account.after
+        self.dbr = self.registers.dbr
 
     # Turns.
 
@@ -138,23 +152,27 @@ class Recorder:
         after = registers_of(regs, where[0], account.after.dbr)
         contents = [word_in(content) for content in contents]
         yield from self.page_turns(number, account)
-        yield self.finish(number, before, account, lines, after, contents)
-        return (yield from self.services(number, lines[1:]))
+        service = None
+        if is_called(account, before, self.memory):
+            service = console(before, self.memory, self.names)
+        yield self.finish(number, before, account, lines, after, contents, service)
+        return (yield from self.services(number, lines[1:], service))
 
-    def finish(self, number, before, account, lines, after, contents):
+    def finish(self, number, before, account, lines, after, contents, service):
         """The step, by the lines that the machine wrote of it; memory and registers are those
-        after it."""
-        settled = after
-        if any(line.startswith("console ") for line in lines):
+        after it. `service` is the console service that it calls for, or None."""
+        settled, written = after, console_written(lines)
+        if written is not None:
             settled = after.but(word=before.word)
         differences = trace_differences(account, lines[0])
+        differences += console_differences(service, written)
         differences += register_differences(account, settled)
         differences += word_differences(account, contents)
         words = [self.word_seen(*both) for both in zip(account.words, contents)]
         self.memory.commit(account.commits)
         if self.memory.booted:
             self.settle(account, differences)
-        self.registers = after
+        self.registers, self.dbr = after, after.dbr
         self.number = number
         return Step(
             number=number,
@@ -192,7 +210,9 @@ class Recorder:
                 text = f"Page {page} of {name} is referred to for the first time: it is brought in."
                 yield PageTurn(number, segment, page, text)
 
-    def services(self, number, lines):
+    def services(self, number, lines, service):
+        if service and service.refusal:
+            yield ConsoleTurn(number, "", service.refusal, None)
         for line in lines:
             if line.startswith("link "):
                 self.memory.forget(LINKAGE_SEGMENTS)
@@ -246,13 +266,17 @@ def end_text(line):
     return f"The run ends after {counted}: {how}."
 
 
+def console_written(lines):
+    """What the lines of a step say that the console wrote, or None."""
+    for line in lines:
+        if line.startswith("console "):
+            text = line[len("console ") :]
+            return ESCAPED.sub(lambda found: chr(int(found[1], 8)), text)
+    return None
+
+
 def console_turn(number, line):
-    written, rest = "", line[len("console ") :]
-    while rest:
-        if rest[0] == "\\":
-            written, rest = written + chr(int(rest[1:4], 8)), rest[4:]
-        else:
-            written, rest = written + rest[0], rest[1:]
+    written = console_written([line])
     counted = "1 character" if len(written) == 1 else f"{len(written)} characters"
     return ConsoleTurn(number, written, f"The console writes {counted}.", line)
 
