@@ -12,11 +12,12 @@ import subprocess
 import tempfile
 
 from .folder import Boot, source_of
-from .machine import Refusal
+from .machine import Machine, Refusal
 from .recorder import Recorder, end_text
 
 DEFAULT_STEPS = 100_000
 MOST_WORKED_OUT = 2_000
+MOST_AGAIN = 20_000
 MOST_LINKS = 4
 VALUE_OPTIONS = ("--steps", "--user")
 
@@ -71,15 +72,27 @@ def end_in_words(program, words, folder="."):
 
 
 def sentences_of_end(program, folder, image, limit):
-    with Recorder(program, folder, image) as recorder:
-        line = run_to_end(recorder.machine, limit)
-        if line is None or line.startswith("end dis "):
-            return []
-        taken = recorder.machine.taken - 1
-        recorder.go_to(taken, quick=taken > MOST_WORKED_OUT)
-        step, *rest = [turn for turn in recorder.turns(1) if not hasattr(turn, "page")]
-        services = [turn for turn in rest if hasattr(turn, "after_step")]
-        return [*step_sentences(step), *(turn.text for turn in services), end_text(line)]
+    with Machine(program, folder, image) as machine:
+        line = run_to_end(machine, limit)
+        taken = machine.taken - 1
+    if line is None or line.startswith("end dis "):
+        return []
+    turns = last_turns(program, folder, image, taken)
+    services = [turn for turn in turns[1:] if hasattr(turn, "after_step")]
+    return [*step_sentences(turns[0]), *(turn.text for turn in services), end_text(line)]
+
+
+def last_turns(program, folder, image, taken):
+    """The last step, after so many others, and what follows it. Where there are many, the quick way
+    is tried first."""
+    ways = (False,) if taken <= MOST_WORKED_OUT else (True, False)
+    for quick in ways:
+        with Recorder(program, folder, image) as recorder:
+            recorder.go_to(taken, quick)
+            turns = [turn for turn in recorder.turns(1) if not hasattr(turn, "page")]
+        if not turns[0].differences or taken > MOST_AGAIN:
+            break
+    return turns
 
 
 def run_to_end(machine, limit):

@@ -13,7 +13,6 @@ from .made_folders import FOLDERS, WORDS_OF_DATA
 from .made_images import all_images
 
 ROOT = pathlib.Path(__file__).resolve().parents[2]
-EXAMPLES = ROOT / "examples"
 PROGRAM_WORD = re.compile(r"(\.\./)*m36")
 MOST_STEPS = 200_000
 VIEW = 7
@@ -30,6 +29,12 @@ class Case:
     image: str = None
     steps: int = MOST_STEPS
     core: int = None
+
+
+def set_root(root):
+    """Takes the examples and the vectors of another checkout."""
+    global ROOT
+    ROOT = root
 
 
 def run(program, folder, words):
@@ -67,7 +72,7 @@ def is_refused(folder):
 def examples(program, work):
     """Each example: its folder booted, and its images."""
     top = work / "examples"
-    shutil.copytree(EXAMPLES, top)
+    shutil.copytree(ROOT / "examples", top)
     for commands in sorted(top.rglob("commands")):
         folder = commands.parent
         name = str(folder.relative_to(top))

@@ -54,6 +54,7 @@ ENDS = (
     ),
     ("lists", ["run", "--user", "Smith.Demo.a"], ()),
     ("least", ["bare", "least"], ()),
+    ("servant", ["trace", "--steps", "13"], ()),
     ("servant", ["audit"], ()),
 )
 
@@ -76,6 +77,7 @@ def check_ends(program, top):
 def check_made(program, work):
     """The ends of the made folders."""
     for made, case in zip(FOLDERS, cases.folder_cases(program, work)):
+        yield from check_disassembly(program, case.folder)
         found = end_in_words(program, ["run", "--unaudited"], case.folder)
         if not appear_in_order(made.end, found):
             yield f"the end of {case.name} is {found}"
@@ -157,12 +159,18 @@ def check_stale(program, top):
     source.write_text(text)
 
 
+def check_table():
+    """table.py is what is made of the program's table."""
+    text = make_table.table_text(cases.ROOT / "crates/m36_inst")
+    if text != (make_table.HERE / "table.py").read_text():
+        yield "table.py is not what make_table.py writes"
+
+
 def check_folder(program, work, show=print):
     """The number of things that are not as they should be."""
     list(cases.examples(program, work))
     top = work / "examples"
-    wrong = ["table.py is not the table"] if make_table.main(["--check"]) else []
-    wrong += [*check_ends(program, top), *check_names(program, top), *check_user(program, top)]
+    wrong = [*check_table(), *check_ends(program, top), *check_names(program, top), *check_user(program, top)]
     wrong += check_made(program, work)
     for folder in ("servant", "hello", "pages", "search", "borrowed"):
         wrong += check_disassembly(program, top / folder)

@@ -14,10 +14,10 @@ from .machine import Machine, Refusal, seg_line
 STEPS_GONE_BACK = 150
 SMALL_INPUT = 300
 WAIT = 10
-HOLDER = """
+HOLDER = f"""
 import sys, time
 sys.path.insert(0, sys.argv[1])
-from m36lib.machine import Machine
+from {__package__}.machine import Machine
 machine = Machine(sys.argv[2], sys.argv[3])
 print(machine.session.process.pid, flush=True)
 time.sleep(60)

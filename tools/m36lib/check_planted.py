@@ -14,6 +14,13 @@ from .tape import Recording
 
 HERE = pathlib.Path(__file__).resolve().parent
 RUNS = []
+CHECKED_BY = {
+    "machine.py": "check_machine",
+    "account_of_end.py": "check_folder",
+    "disassemble.py": "check_folder",
+    "recorder.py": "check_folder",
+    "table.py": "check_folder",
+}
 
 
 def record(program, work):
@@ -48,18 +55,39 @@ def notice(numbered):
         turned_copy(edit, folder, name)
         sys.path.insert(0, folder)
         try:
-            check = importlib.import_module(f"{name}.check_account")
-            tape = importlib.import_module(f"{name}.tape")
-            for case, answers in RUNS:
-                machine = tape.Tape(answers)
-                found = check.differences(program, case, check.Reached(), machine=machine)
-                if found:
-                    return number, f"{case.name}: {found[0]}"
-        except Exception as error:  # an account that breaks is noticed too
-            return number, f"{case.name}: {type(error).__name__}: {error}"
+            if edit[0] in CHECKED_BY:
+                return number, fails(name, CHECKED_BY[edit[0]], program)
+            return number, differs(name, program)
         finally:
             sys.path.remove(folder)
-    return number, None
+
+
+def differs(name, program):
+    """Where the account of a copy differs from the recorded runs, or None."""
+    check = importlib.import_module(f"{name}.check_account")
+    tape = importlib.import_module(f"{name}.tape")
+    for case, answers in RUNS:
+        try:
+            machine = tape.Tape(answers)
+            found = check.differences(program, case, check.Reached(), machine=machine)
+        except Exception as error:  # an account that breaks is noticed too
+            return f"{case.name}: {type(error).__name__}: {error}"
+        if found:
+            return f"{case.name}: {found[0]}"
+    return None
+
+
+def fails(name, check_name, program):
+    """What a check of a copy reports first, or None."""
+    reported = []
+    importlib.import_module(f"{name}.cases").set_root(cases.ROOT)
+    check = getattr(importlib.import_module(f"{name}.{check_name}"), check_name)
+    with tempfile.TemporaryDirectory() as work:
+        try:
+            wrong = check(program, pathlib.Path(work), show=reported.append)
+        except Exception as error:  # a check that breaks has noticed it too
+            return f"{type(error).__name__}: {error}"
+    return reported[0] if wrong else None
 
 
 def check_planted(program, show=print):

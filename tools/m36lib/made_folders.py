@@ -3,6 +3,8 @@ each sentence about the end of its run, in order. Each has a file `data` of 20 w
 
 from typing import NamedTuple
 
+from .table import TABLE
+
 WORDS_OF_DATA = 20
 BOOT = """frames 24
 work >u
@@ -75,8 +77,10 @@ TOO_MUCH = MadeFolder(
     "a console that is asked for too much",
     boot("re 0 0 0", "rw 4 4 4", 0),
     """        entry   start
-start:  lda     257,dl
+start:  epp2    text
+        lda     257,dl
         mme     0
+        bss     text,65
 """,
     ("MME gives its fault", "asked for 257 characters, and writes at most 256.", "console."),
 )
@@ -132,5 +136,32 @@ pair:   oct     000101400043,0
 """,
     ("May ring 4 read data|0? No, access violation 3: ring 4 is above R2 = 0.", "fault 20.3"),
 )
+MASTER = MadeFolder(
+    "MME in an outer ring",
+    boot("re 4 4 4", "rw 4 4 4", 4),
+    """        entry   start
+start:  mme     0
+""",
+    ("Step 1: ring 4 executes mme 0", "MME gives its fault.", "fault 2, MME."),
+)
 
-FOLDERS = (RIGHTS, LOADED, ABSENT, TOO_MUCH, UNREAD, STRANGE, MOST, OUTER)
+
+def each_line():
+    """A source line for each instruction, and one for each modifier."""
+    registers = ["au", "qu", "du", "ic", "al", "ql", "dl"] + [f"x{number}" for number in range(8)]
+    modifiers = ["*", "*n", "i", "id", "di", "ad", "sd", *registers]
+    modifiers += [f"{register}*" for register in registers]
+    modifiers += [f"*{register}" for register in registers]
+    lines = [f"        {row.name} 5\n" for row in TABLE.values()]
+    lines += [f"        lda     {number},{text}\n" for number, text in enumerate(modifiers)]
+    return "".join(lines) + "        lda     pr3|-7,*x1\n"
+
+
+EACH = MadeFolder(
+    "each instruction and each modifier",
+    boot("re 4 4 4", "rw 4 4 4", 4),
+    "        entry   start\nstart:  drl     0\n" + each_line(),
+    ("Step 1: ring 4 executes drl 0", "DRL gives its fault.", "fault 6, DRL."),
+)
+
+FOLDERS = (EACH, RIGHTS, LOADED, ABSENT, TOO_MUCH, UNREAD, STRANGE, MOST, OUTER, MASTER)

@@ -50,9 +50,10 @@ def rows_of(text):
                 yield int(start, 8) + offset, bool(on), cell.groups()
 
 
-def table_text():
+def table_text(crate=CRATE):
+    """The text of table.py, from the sources of m36_inst."""
     found = {}
-    for path in sorted((CRATE / "src/codes").glob("*.rt")):
+    for path in sorted((crate / "src/codes").glob("*.rt")):
         for code, bit_27, cells in rows_of(path.read_text()):
             found[code, bit_27] = cells
     lines = []
