@@ -41,11 +41,15 @@ class Recorder:
         self.machine = machine or Machine(self.program, str(self.path), image)
         self.pages = set()
         self.number = 0
-        if image:
-            self.open_image()
-        else:
-            self.open_folder()
-        self.registers = self.read_registers()
+        try:
+            if image:
+                self.open_image()
+            else:
+                self.open_folder()
+            self.registers = self.read_registers()
+        except BaseException:
+            self.machine.close()
+            raise
         self.first = self.registers
 
     def __enter__(self):
