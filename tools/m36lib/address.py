@@ -9,7 +9,6 @@ from typing import NamedTuple
 from .account import Candidate, Link, Outcome, Place
 from .disassemble import REGISTERS, tag_text
 from .fields import HALF_WORD, ITP_TAG, ITS_TAG, bits, lower, pointer_of, tag_of, upper
-from .memory import NoAccess
 from .references import Refused
 from .tally import TALLY_TAGS, counted
 

@@ -83,6 +83,14 @@ def check_input(program, folder):
             yield "after 1 MiB of input the break is gone"
         if machine.count() != 9:
             yield f"after go {machine.count()} steps are counted, not 9"
+        machine.drop_break(1, 0)
+        machine.add_break(1, 1)
+        if machine.breaks != [(1, 1)] or machine.count() != 9:
+            yield f"after a break is dropped there are {machine.breaks} at {machine.count()}"
+        for word in range(2, 17):
+            machine.add_break(1, word)
+        if machine.add_break(1, 17) or len(machine.breaks) != 16:
+            yield "a seventeenth break is taken"
 
 
 def check_refusals(program, work):

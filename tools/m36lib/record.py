@@ -11,7 +11,7 @@
 
 from dataclasses import dataclass, field
 
-from .account import Account, place_text, word_text
+from .account import Account, word_text
 from .registers import Registers
 
 FORMAT = 1
