@@ -5,6 +5,7 @@ import fcntl
 import os
 import signal
 import subprocess
+import time
 
 ENDING = (signal.SIGHUP, signal.SIGINT, signal.SIGTERM)
 
@@ -25,17 +26,49 @@ def end_by_signal():
         signal.signal(number, ended)
 
 
+def children(parent):
+    """Returns the words of each process that a process started, by its number."""
+    found = {}
+    for name in os.listdir("/proc"):
+        if not name.isdigit():
+            continue
+        try:
+            with open(f"/proc/{name}/stat", encoding="utf-8", errors="replace") as it:
+                of = int(it.read().rpartition(")")[2].split()[1])
+            if of == parent:
+                with open(f"/proc/{name}/cmdline", encoding="utf-8", errors="replace") as it:
+                    found[int(name)] = it.read().split("\0")
+        except (OSError, ValueError, IndexError):
+            # (it has ended)
+            continue
+    return found
+
+
+def wait_for(numbers):
+    """Waits until processes have ended, for some seconds at most."""
+    for _ in range(50):
+        numbers = [it for it in numbers if os.path.exists(f"/proc/{it}")]
+        if not numbers:
+            return
+        time.sleep(0.1)
+
+
 @contextlib.contextmanager
 def started(words, **how):
-    """Starts a command in a process group of its own, which is killed when the caller is done."""
-    # (a signal that a shell had ignored for a command in the background counts here)
-    unblock = {"restore_signals": True, "start_new_session": True, "stdin": subprocess.DEVNULL}
-    with subprocess.Popen(words, **unblock, **how) as ran:
-        try:
-            yield ran
-        finally:
-            with contextlib.suppress(ProcessLookupError):
-                os.killpg(ran.pid, signal.SIGKILL)
+    """Starts a command in a process group of its own, which is killed when the caller is done.
+    rt starts its commands in another group, and ends that one itself, when it ends."""
+    left = []
+    try:
+        with subprocess.Popen(words, stdin=subprocess.DEVNULL, start_new_session=True,
+                              **how) as ran:
+            try:
+                yield ran
+            finally:
+                left = list(children(ran.pid))
+                with contextlib.suppress(ProcessLookupError):
+                    os.killpg(ran.pid, signal.SIGKILL)
+    finally:
+        wait_for(left)
 
 
 @contextlib.contextmanager
