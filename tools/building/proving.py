@@ -25,10 +25,11 @@ def at_once():
 
 
 def crates_in(commands):
-    """Returns the names of the crates that some commands of the kit work on."""
+    """Returns the names of the crates that some commands of the kit prove."""
     names = []
     for words in commands:
-        if "--crate-name" in words[:-1]:
+        # (with this word nothing is proved: it is the quick pass over all sources)
+        if "--crate-name" in words[:-1] and "--only" not in words:
             names.append(words[words.index("--crate-name") + 1])
     return sorted(set(names))
 
