@@ -85,9 +85,8 @@ def case_installed(folder, program):
     expect((ran.status, ran.errors) == (0, "") and ran.output.endswith("end dis 2\n"), f"{ran}")
     ran = run([prefix / "bin/m36", "bare", "absent"], work)
     expect((ran.status, ran.output, ran.errors) == (4, "", "m36: BadFile absent F1 0 0\n"), f"{ran}")
-    ran = run(["sh", "commands"], share / "examples/servant")
-    expected = (share / "examples/servant/expected").read_text()
-    expect(ran.output == expected, f"examples/servant where it is installed: {ran}")
+    ran = run([share / "docs/guide/check", prefix / "bin/m36"], work)
+    expect(ran.status == 0, f"the examples and the guide where they are installed: {ran}")
     for command in sorted((prefix / "bin").glob("m36-*")):
         ran = run([command, "--help"], work)
         expect(ran.status == 0 and len(ran.output) > 100, f"{command.name} --help: {ran}")
