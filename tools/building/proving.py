@@ -73,6 +73,13 @@ class Estimate:
         return max([0.0, *ends.values()]) + OF_BUILD
 
 
+def is_refused(said):
+    """Returns whether what the log says of a crate that is done is a refusal. Of one that was
+    proved before it has no line but rt's own."""
+    lines = [line for line in said.split("\n") if line and not line.startswith("rt: ")]
+    return bool(lines) and not any(line.startswith("logic=proved") for line in lines)
+
+
 class Run:
     """What the log of `rt all check` says so far. A crate has its heading there once it is done."""
 
@@ -94,7 +101,7 @@ class Run:
             if name not in self.done:
                 self.done.append(name)
                 new.append((name, now - self.begun.get(name, now)))
-                if re.search(r"^logic=not", said, re.M):
+                if is_refused(said):
                     self.refused = self.refused or name
         last = text.rstrip().rpartition("\n")[2]
         self.waiting = last if re.search(r"^rt: .*waiting", last) else ""

@@ -44,10 +44,18 @@ def children(parent):
     return found
 
 
+def is_running(number):
+    try:
+        with open(f"/proc/{number}/stat", encoding="utf-8", errors="replace") as it:
+            return it.read().rpartition(")")[2].split()[0] not in "ZX"
+    except OSError:
+        return False
+
+
 def wait_for(numbers):
     """Waits until processes have ended, for some seconds at most."""
     for _ in range(50):
-        numbers = [it for it in numbers if os.path.exists(f"/proc/{it}")]
+        numbers = [it for it in numbers if is_running(it)]
         if not numbers:
             return
         time.sleep(0.1)
