@@ -84,13 +84,15 @@ def case_installed(folder, program):
     ran = run([prefix / "bin/m36", "bare", "least"], work)
     expect((ran.status, ran.errors) == (0, "") and ran.output.endswith("end dis 2\n"), f"{ran}")
     ran = run([prefix / "bin/m36", "bare", "absent"], work)
-    expect((ran.status, ran.output, ran.errors) == (4, "", "m36: BadFile absent F1 0 0\n"), f"{ran}")
+    found = ran.status, ran.output, ran.errors
+    expect(found == (4, "", "m36: BadFile absent F1 0 0\n"), f"{ran}")
     ran = run([share / "docs/guide/check", prefix / "bin/m36"], work)
     expect(ran.status == 0, f"the examples and the guide where they are installed: {ran}")
     for command in sorted((prefix / "bin").glob("m36-*")):
         ran = run([command, "--help"], work)
         expect(ran.status == 0 and len(ran.output) > 100, f"{command.name} --help: {ran}")
-        expect((prefix / f"share/man/man1/{command.name}.1").is_file(), f"no page of {command.name}")
+        page = prefix / f"share/man/man1/{command.name}.1"
+        expect(page.is_file(), f"no page of {command.name}")
     expect((prefix / "bin/m36-rings").exists(), "there is no m36-rings")
 
 
@@ -143,7 +145,8 @@ def case_package(folder, program):
     run([copy / "tools/package", folder], copy)
     expect(package.read_bytes() == first, "a second package differs")
     said = run(["dpkg-deb", "-I", package], folder).output
-    for field in ("Package: m36", "Version: 0", "Architecture: amd64", "Maintainer: ", "Depends: libc6 (>= 2."):
+    for field in ("Package: m36", "Version: 0", "Architecture: amd64", "Maintainer: ",
+                  "Depends: libc6 (>= 2."):
         expect(re.search(rf"^ {re.escape(field)}", said, re.M), f"no {field!r} in {said}")
     listed = run(["dpkg-deb", "-c", package], folder).output
     for name in ("bin/m36", "lib/m36/m36", "share/man/man1/m36.1.gz", "share/m36/docs/MANUAL.md",

@@ -28,8 +28,8 @@ def case_does_not_compile(folder):
     """A crate that does not compile is named, with the place; one that was proved before is not."""
     copy = copy_of(folder, ("crates", "tools"))
     does = ("printf '== m36_word\\nrt: m36_word: begins with what is kept\\n== m36_text\\n"
-            "src/lib.rt:3:4: error[unknown-method]: no method\\n== summary\\nm36_text: failed (1)\\n'; "
-            "exit 1")
+            "src/lib.rt:3:4: error[unknown-method]: no method\\n"
+            "== summary\\nm36_text: failed (1)\\n'; exit 1")
     ran = run([copy / "prove"], copy, PATH=path_with(folder, kit.VERSION, does))
     expect(ran.status == 1 and "prove: m36_text is not proved" in ran.errors, f"{ran}")
     expect("m36_text is proved" not in ran.errors and "m36_word is proved" in ran.errors, f"{ran}")
@@ -95,4 +95,5 @@ def case_estimate(_folder):
     expect(estimate.left(["low"], {}) == 3 * each + build, "on one processor")
 
 
-CASES = (case_refused, case_does_not_compile, case_not_built, case_changed_meanwhile, case_progress, case_estimate)
+CASES = (case_refused, case_does_not_compile, case_not_built, case_changed_meanwhile,
+         case_progress, case_estimate)
