@@ -12,16 +12,19 @@ from . import crates, running
 OF_EACH, OF_A_LINE = 6.0, 0.03
 # The compilation of the proved program.
 OF_BUILD = 90.0
-# The memory that one check may take, in kB.
-MEMORY = 3_000_000
+# The pass over all sources with which `rt all check` begins.
+OF_PASS = 160.0
+# The memory that one check may take, in kB, and that which that pass takes with some to spare.
+MEMORY, MEMORY_OF_PASS = 3_000_000, 10_000_000
 
 
 def at_once():
     """Returns how many crates are proved side by side: one a processor that has the memory."""
     with open("/proc/meminfo", encoding="ascii") as lines:
         found = re.search(r"^MemAvailable: +(\d+)", lines.read(), re.M)
-    fits = int(found[1]) // MEMORY if found else 1
-    return max(1, min(len(os.sched_getaffinity(0)), fits))
+    if not found or int(found[1]) < MEMORY_OF_PASS:
+        return 1
+    return max(1, min(len(os.sched_getaffinity(0)), int(found[1]) // MEMORY))
 
 
 def crates_in(commands):
@@ -70,7 +73,8 @@ class Estimate:
             begin = max([free[lane], *(ends.get(it, 0.0) for it in self.below[name])])
             rest = self.seconds_of(name) - running.get(name, 0.0)
             ends[name] = free[lane] = begin + max(rest, 5.0)
-        return max([0.0, *ends.values()]) + OF_BUILD
+        begins = OF_PASS if self.lanes > 1 and not done and not running else 0.0
+        return begins + max([0.0, *ends.values()]) + OF_BUILD
 
 
 def is_refused(said):
@@ -91,7 +95,7 @@ class Run:
         """Reads the log anew, notes what is being proved, and returns the crates that are done
         since the last look with the seconds that each took."""
         now = time.monotonic()
-        for name in crates_in(running.children(parent).values()):
+        for name in crates_in(running.children(parent).values() if parent else ()):
             self.begun.setdefault(name, now)
         with open(self.log, encoding="utf-8", errors="replace") as it:
             text = it.read().partition("== summary\n")[0]

@@ -36,6 +36,20 @@ def case_does_not_compile(folder):
     expect("src/lib.rt:3:4: error[unknown-method]" in ran.errors, f"{ran}")
 
 
+def case_in_turn(folder):
+    """With one at a time each crate is proved by a command of its own, lowest first."""
+    copy = copy_of(folder, ("crates", "tools"))
+    (copy / "crates.txt").write_text("m36_text: m36_word\nm36_word:\nm36: m36_text\n")
+    ran = run([copy / "prove", "--jobs", "1"], copy, PATH=path_with(folder, kit.VERSION))
+    expect(ran.status == 1 and "m36_word is not proved" in ran.errors, f"an rt without lib: {ran}")
+    path = path_with(folder, kit.VERSION, "exit 9 ;;\n    lib | check) echo logic=proved; "
+                     "basename $PWD >> ../../order")
+    ran = run([copy / "prove", "--jobs", "1"], copy, PATH=path)
+    expect(ran.status == 0 and "m36 is proved (3 of 3)" in ran.errors, f"{ran}")
+    order = (copy / "order").read_text().split()
+    expect(order == ["m36_word", "m36_text", "m36"], f"the order is {order}")
+
+
 def case_not_built(folder):
     """A program that is not built is no success, nor is an rt that fails."""
     copy = copy_of(folder, ("crates", "tools"))
@@ -87,7 +101,9 @@ def case_estimate(_folder):
     estimate.order, estimate.lines = list(known), dict.fromkeys(known, 1000)
     estimate.measured = [(100.0, 1000)]
     each, build = 100.0 + proving.OF_EACH, proving.OF_BUILD
-    expect(estimate.left([], {}) == 3 * each + build, f"from nothing {estimate.left([], {})}")
+    left = estimate.left([], {})
+    expect(left == proving.OF_PASS + 3 * each + build, f"from nothing {left}")
+    expect(estimate.left([], {"low": 0.0}) == 3 * each + build, "when the first is begun")
     expect(estimate.left(["low"], {}) == 2 * each + build, "with one of four done")
     expect(estimate.left(["low", "left"], {"right": 50.0}) == 2 * each - 50 + build, "half way")
     expect(estimate.left(list(known), {}) == build, "all done")
@@ -95,5 +111,5 @@ def case_estimate(_folder):
     expect(estimate.left(["low"], {}) == 3 * each + build, "on one processor")
 
 
-CASES = (case_refused, case_does_not_compile, case_not_built, case_changed_meanwhile,
-         case_progress, case_estimate)
+CASES = (case_refused, case_does_not_compile, case_in_turn, case_not_built,
+         case_changed_meanwhile, case_progress, case_estimate)
