@@ -27,7 +27,7 @@ fn main(rt: HostRuntime) -> io::Result<()> {
 }
 """
 # An edit after which each line of a trace adds up to more than a byte holds.
-PLANTED = ("crates/m36_trace/src/digits.rt", "[b'0' + ring]", "[b'0' + ring + 208]")
+OVERFLOW = ("crates/m36_trace/src/digits.rt", "[b'0' + ring]", "[b'0' + ring + 208]")
 
 
 def case_checks(_folder):
@@ -54,10 +54,10 @@ def case_traps(folder):
     expect(ran.status < 0 and ran.output == "", f"a sum that wraps goes on: {ran}")
 
 
-def case_planted(folder):
+def case_overflow(folder):
     """An overflow that is planted in m36 stops the unproved build of it."""
     copy = copy_of(folder, ("crates", "examples", "tools"))
-    name, old, new = PLANTED
+    name, old, new = OVERFLOW
     text = (copy / name).read_text()
     expect(text.count(old) == 1, f"{name} has {old!r} {text.count(old)} times")
     (copy / name).write_text(text.replace(old, new))
@@ -69,4 +69,4 @@ def case_planted(folder):
 
 CASES = (case_checks, case_traps)
 # These build the program once more, and are not in the gate.
-PLANTED_CASES = (case_planted,)
+PLANTED_CASES = (case_overflow,)
