@@ -37,7 +37,7 @@ FAULTS = (
     ("installed.refused", "install", "        see_proved()\n", ""),
     ("installed.refused", "install", " or kept.get(\"program\") != stamps.checksum(PROGRAM)", ""),
     ("installed.installed", "install", "    linked(folder)\n", ""),
-    ("installed.installed", "install", "return made or path.name", "return path.name"),
+    ("installed.installed", "install", "path not in without and ", ""),
     ("installed.again", "install", "        replace(part, base)\n    fin", "        pass\n    fin"),
     ("installed.package", "tools/package", "Architecture: amd64", "Architecture: any"),
     ("installed.package", "tools/package", "mtime=0", "mtime=None"),
