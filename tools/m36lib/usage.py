@@ -2,7 +2,7 @@
 
 `wrong_word(words)` returns None where the words are a command, and else a `Wrong`: the word, and
 one sentence with the reason and what the command takes. The words are taken from left to right by
-the rules of `m36lib.commands`; the first that can't stand is named. Names that are not known are
+the rules of `m36lib.commands`; the first wrong one is named. Names that are not known are
 refused without a hint.
 """
 
@@ -40,7 +40,7 @@ def no_command(word):
 
 
 class Reader:
-    """Reads the words behind a command, and keeps the first that is wrong."""
+    """Reads the words after a command, and keeps the first that is wrong."""
 
     def __init__(self, command):
         self.command = command
@@ -91,7 +91,7 @@ class Reader:
             form = option.value
             return self.wrong(
                 word,
-                f"{quoted(value)} is not of the form of {form.name} behind {option.word}: "
+                f"{quoted(value)} is not of the form of {form.name} after {option.word}: "
                 f"{form.words}",
             )
         self.options[option.word] = value
@@ -110,7 +110,7 @@ class Reader:
         return self.folder_only(word)
 
     def folder_only(self, word):
-        """Whether an option of the folder stands beside an operand."""
+        """Whether an option of the folder and an operand are both given."""
         for option in self.options:
             if self.operand is not None and (self.command.word, option) in FOLDER_ONLY:
                 return self.wrong(
@@ -121,11 +121,11 @@ class Reader:
         return None
 
     def end(self):
-        """What is missing behind the last word, or None."""
+        """What is missing after the last word, or None."""
         if self.awaited:
             form = self.awaited.value
             return self.wrong(
-                None, f"{form.name} is missing behind {self.awaited.word}: {form.words}"
+                None, f"{form.name} is missing after {self.awaited.word}: {form.words}"
             )
         form = self.command.operand
         if form and not self.command.is_optional and self.operand is None:
