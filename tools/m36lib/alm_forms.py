@@ -86,7 +86,8 @@ def no_address(operand):
         return found
     if parts.modifier and not MODIFIER.fullmatch(parts.modifier.text):
         return Finding(
-            f"{parts.modifier} after the comma of {operand} is no modifier, which is {MODIFIER_WORDS}",
+            f"{parts.modifier} after the comma of {operand} is no modifier, which is "
+            f"{MODIFIER_WORDS}",
             parts.modifier.column,
         )
     return None
@@ -128,7 +129,8 @@ def no_pair(operand, first, second):
     """What is wrong with two members, each by its reader, or None."""
     members = operand.split(",")
     if len(members) != 2:
-        return Finding(f"{operand} has {len(members)} parts between commas, and not 2", operand.column)
+        count = len(members)
+        return Finding(f"{operand} has {count} parts between commas, and not 2", operand.column)
     return first(members[0]) or second(members[1])
 
 
@@ -137,8 +139,8 @@ def no_text(operand):
     end = text_end(operand)
     if end < 0:
         return Finding(
-            f"the text {operand} is not closed: its delimiter {quoted(operand.text[0])} does not come "
-            "a second time",
+            f"the text {operand} is not closed: its delimiter {quoted(operand.text[0])} does not "
+            "come a second time",
             operand.column,
         )
     rest = operand.after(end + 1)
@@ -205,8 +207,8 @@ def character_refused(line, raw, column):
 def operation_refused(line, _raw, column):
     """E3."""
     return Finding(
-        f"{line.operation}; expected an instruction of MANUAL.md, section 9, in small letters, or one "
-        "of " + " ".join(OPERANDS),
+        f"{line.operation}; expected an instruction of MANUAL.md, section 9, in small letters, or "
+        "one of " + " ".join(OPERANDS),
         column,
     )
 

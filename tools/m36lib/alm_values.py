@@ -36,8 +36,8 @@ def undefined(layout, line, raw, column):
             column,
         )
     return Finding(
-        f"{symbol}; expected a label of this source, or a symbol of equ or bss; one of another segment "
-        "is written SEGMENT$NAME",
+        f"{symbol}; expected a label of this source, or a symbol of equ or bss; one of another "
+        "segment is written SEGMENT$NAME",
         column,
     )
 

@@ -74,7 +74,7 @@ def name_refused(text, number):
 
 
 def later_malformed(text, number):
-    """The first malformed line after a line, with what is wrong with it: (line, finding) or None."""
+    """The first malformed line after a line, and what is wrong with it; None where none is."""
     for later in range(number + 1, len(text.lines) + 1):
         found = malformed(text.line(later), BOOT, text.has_line_feed(later))
         if found:
@@ -163,8 +163,8 @@ def object_refused(text, number):
             f"the start is in {quoted(words[2])}, which is data; expected an object or a gate"
         )
     return Finding(
-        f"{quoted(words[3])}, the file of {quoted(words[2])}; expected an object that alm or bind has "
-        "written"
+        f"{quoted(words[3])}, the file of {quoted(words[2])}; expected an object that alm or bind "
+        "has written"
     )
 
 
@@ -192,8 +192,8 @@ def start_refused(text, _number):
     found = found_by_name(text, name)
     if not found:
         return Finding(
-            f"{quoted(name)} of the start {quoted(target)} is not found; expected a segment of that "
-            "name in the working directory or a library"
+            f"{quoted(name)} of the start {quoted(target)} is not found; expected a segment of "
+            "that name in the working directory or a library"
         )
     mode, one, two = found[5:8]
     if not one <= ring <= two:
@@ -207,8 +207,8 @@ def start_refused(text, _number):
             "start executes there"
         )
     return Finding(
-        f"the object {quoted(found[3])} does not define {quoted(entry)}, or the access lists deny the "
-        "user to execute it; expected an entry or segdef of that name, and the right e"
+        f"the object {quoted(found[3])} does not define {quoted(entry)}, or the access lists deny "
+        "the user to execute it; expected an entry or segdef of that name, and the right e"
     )
 
 

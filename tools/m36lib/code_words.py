@@ -276,7 +276,7 @@ CODE_GROUPS = (
         (
             "L4",
             "the ring of the program may not use the segment that was found",
-            "look at the brackets of the segment; a call from outside needs a gate",
+            "look at its brackets: the ring is above R3, or above R2 of a segment without `e`",
         ),
         (
             "L5",

@@ -15,7 +15,8 @@ MADE_NAME_LIMIT = 27
 
 @dataclass(frozen=True)
 class Form:
-    """The form of an operand or of the value of an option: a pattern, a most, and the words for it."""
+    """The form of an operand or of the value of an option: a pattern, the words for it, and the
+    greatest number."""
 
     name: str
     pattern: str

@@ -26,7 +26,8 @@ def packed_word(data, number):
 
 def absent(name, _place):
     """F1."""
-    return Finding(f"{quoted(name)}; expected a file of this name in the folder {quoted(os.getcwd())}")
+    folder = quoted(os.getcwd())
+    return Finding(f"{quoted(name)}; expected a file of this name in the folder {folder}")
 
 
 def too_large(name, _place):
@@ -43,7 +44,9 @@ def no_words(name, place):
 
 def not_padded(name, place):
     """T4."""
-    return Finding(f"the last byte of {quoted(name)}, byte {place:,}; expected four zero bits at its end")
+    return Finding(
+        f"the last byte of {quoted(name)}, byte {place:,}; expected four zero bits at its end"
+    )
 
 
 def too_many_words(name, _place):

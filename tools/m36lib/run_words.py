@@ -214,7 +214,7 @@ VIOLATION_GROUP = group(
     ),
     (
         "20.4",
-        "the segment may not be read: R is off",
+        "the segment may not be read: R is off, and it is not the one that executes",
         "give it the mode `r`, in the boot text or the access list",
     ),
     (
@@ -229,8 +229,8 @@ VIOLATION_GROUP = group(
     ),
     (
         "20.7",
-        "the call does not go to an entry of the gate",
-        "call a word below the call limiter: the entries before `entrybound`",
+        "the word that is called is no entry of the gate: it is not below the call limiter",
+        "call an entry that its source has before `entrybound`",
     ),
     (
         "20.8",

@@ -25,10 +25,14 @@ def quoted(text):
     return f'"{shown}"'
 
 
-def paragraph(text, width=WIDTH):
+def paragraph(text, width=WIDTH, indent="  "):
     """The text in lines of at most this width, the further ones indented."""
-    return "\n".join(
-        textwrap.wrap(
-            text, width, subsequent_indent="  ", break_long_words=False, break_on_hyphens=False
-        )
+    return textwrap.fill(
+        text,
+        width,
+        subsequent_indent=indent,
+        break_long_words=False,
+        break_on_hyphens=False,
+        replace_whitespace=False,
+        drop_whitespace=True,
     )

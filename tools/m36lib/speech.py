@@ -31,7 +31,9 @@ def end_lines(said, program, words, status):
     if USAGE in lines or not status:
         return []
     for line in lines:
-        parts = refusal_in_words(line.decode("ascii", "replace")) if line.startswith(STATUS) else None
+        if not line.startswith(STATUS):
+            continue
+        parts = refusal_in_words(line.decode("ascii", "replace"))
         if parts:
             return [row for shown, told in parts for row in rows_of(shown, told)]
     sentence = end_in_words(program, words, status)

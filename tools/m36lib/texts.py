@@ -7,7 +7,7 @@ LIMIT = 16 * 1024 * 1024
 
 
 class Text:
-    """The lines of a file. A byte that is no UTF-8 becomes a lone surrogate, which is shown as `?`."""
+    """The lines of a file. A byte that is no UTF-8 is a lone surrogate, which is shown as `?`."""
 
     def __init__(self, data):
         parts = data.split(b"\n")

@@ -76,7 +76,7 @@ class Reader:
         if option.word in self.options:
             return self.wrong(word, f"the option {option.word} is given twice")
         if not option.value and equals:
-            return self.wrong(word, f"the option {option.word} takes no value, but has {quoted(value)}")
+            return self.wrong(word, f"the option {option.word} takes no value, as {quoted(value)}")
         if not option.value:
             self.options[option.word] = word
         elif equals:
@@ -91,8 +91,7 @@ class Reader:
             form = option.value
             return self.wrong(
                 word,
-                f"{quoted(value)} is not of the form of {form.name} after {option.word}: "
-                f"{form.words}",
+                f"{quoted(value)} after {option.word} is no {form.name}, which is {form.words}",
             )
         self.options[option.word] = value
         return self.folder_only(word)
@@ -105,7 +104,7 @@ class Reader:
         if self.operand is not None:
             return self.wrong(word, f"{quoted(word)} is one operand too many")
         if not form.fits(word):
-            return self.wrong(word, f"{quoted(word)} is not of the form of {form.name}: {form.words}")
+            return self.wrong(word, f"{quoted(word)} is no {form.name}, which is {form.words}")
         self.operand = word
         return self.folder_only(word)
 
@@ -125,11 +124,11 @@ class Reader:
         if self.awaited:
             form = self.awaited.value
             return self.wrong(
-                None, f"{form.name} is missing after {self.awaited.word}: {form.words}"
+                None, f"{form.name} is missing after {self.awaited.word}; it is {form.words}"
             )
         form = self.command.operand
         if form and not self.command.is_optional and self.operand is None:
-            return self.wrong(None, f"{form.name} is missing: {form.words}")
+            return self.wrong(None, f"{form.name} is missing, which is {form.words}")
         return None
 
 

@@ -44,7 +44,8 @@ def entries_of(text):
     text = " ".join(text.split())
     short = re.sub(r" \d+$", "", text) if text.startswith("end ") else text
     bare = LEADING.sub("", short).removeprefix("link ") or short
-    found = [e for g in GROUPS for e in g if any(same(n, w) for n in names(e) for w in (text, bare))]
+    wanted = (text, bare)
+    found = [e for g in GROUPS for e in g if any(same(n, w) for n in names(e) for w in wanted)]
     if text.isdigit() and status_entry(int(text)):
         found.insert(0, status_entry(int(text)))
     return found
