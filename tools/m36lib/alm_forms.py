@@ -32,12 +32,12 @@ def takes(name):
     return f"expected after {name}: {OPERANDS.get(name, ADDRESS_WORDS)}"
 
 
-def no_symbol(piece, what):
-    """What is wrong with a symbol, or None."""
+def no_symbol(piece, what, whole):
+    """What is wrong with a symbol that is a part of this whole, or None."""
     if SYMBOL.fullmatch(piece.text):
         return None
     if not piece.text:
-        why = f"{what} is empty"
+        why = f"{what} is missing in {whole}"
     elif LONG_SYMBOL.fullmatch(piece.text):
         why = f"{what} {piece} has {len(piece.text)} characters"
     else:
@@ -46,12 +46,12 @@ def no_symbol(piece, what):
 
 
 def no_term(piece, whole):
-    """What is wrong with a term of an expression, or None."""
+    """What is wrong with a term of an expression in this whole, or None."""
     text = piece.text
     if text == "*" or NUMBER.fullmatch(text) or SYMBOL.fullmatch(text):
         return None
     if not text:
-        why = f"a term is missing in {whole}" if whole.text else "the expression is empty"
+        why = f"a term is missing in {whole}"
     elif re.search(r"[ \t]", text):
         why = f"{piece} has a blank in it"
     elif text.isdigit():
@@ -63,9 +63,9 @@ def no_term(piece, whole):
     return Finding(f"{why}; {TERM_WORDS}", piece.column)
 
 
-def no_expression(expression):
-    """What is wrong with an expression, or None."""
-    found = (no_term(piece, expression) for _minus, piece in terms(expression))
+def no_expression(expression, whole):
+    """What is wrong with an expression that is a part of this whole, or None."""
+    found = (no_term(piece, whole) for _minus, piece in terms(expression))
     return next(filter(None, found), None)
 
 
@@ -79,9 +79,9 @@ def no_address(operand):
             parts.pointer.column,
         )
     if parts.segment:
-        found = no_external(parts)
+        found = no_external(parts, operand)
     else:
-        found = no_expression(parts.expression)
+        found = no_expression(parts.expression, operand)
     if found:
         return found
     if parts.modifier and not MODIFIER.fullmatch(parts.modifier.text):
@@ -93,36 +93,36 @@ def no_address(operand):
     return None
 
 
-def no_external(parts):
+def no_external(parts, operand):
     """What is wrong with a segment, an entry and what follows them, or None."""
     if not OWN.fullmatch(parts.segment.text):
-        found = no_symbol(parts.segment, "the segment before the $")
+        found = no_symbol(parts.segment, "the segment before the $", operand)
         if found:
             return Finding(found.sentence + ", or *text, *link, *static", found.column)
-    if parts.entry.text and no_symbol(parts.entry, ""):
-        return no_symbol(parts.entry, "the entry after the $")
-    if not parts.expression.text:
-        return None
+    found = parts.entry.text and no_symbol(parts.entry, "the entry after the $", operand)
+    if found or not parts.expression.text:
+        return found or None
     if parts.expression.text[0] not in "+-":
         return Finding(
             f"{parts.expression} follows the entry; only + or - and an expression may follow it",
             parts.expression.column,
         )
-    return no_expression(parts.expression.after(1))
+    return no_expression(parts.expression.after(1), operand)
 
 
-def no_member(members, pattern, what):
+def no_member(members, pattern, what, whole):
     """The first member of a list that does not have its form, or None."""
     for member in members:
         if not pattern.fullmatch(member.text):
-            shown = f"{member} is no {what}" if member.text else f"a {what} is missing"
+            shown = f"{member} is no {what}" if member.text else f"a {what} is missing in {whole}"
             return Finding(shown, member.column)
     return None
 
 
 def no_names(operand):
     """What is wrong with the names of entry or segdef, or None."""
-    return next(filter(None, (no_symbol(m, "the name") for m in operand.split(","))), None)
+    found = (no_symbol(member, "the name", operand) for member in operand.split(","))
+    return next(filter(None, found), None)
 
 
 def no_pair(operand, first, second):
@@ -131,7 +131,12 @@ def no_pair(operand, first, second):
     if len(members) != 2:
         count = len(members)
         return Finding(f"{operand} has {count} parts between commas, and not 2", operand.column)
-    return first(members[0]) or second(members[1])
+    return first(members[0], operand) or second(members[1], operand)
+
+
+def no_name(member, operand):
+    """What is wrong with the symbol that equ or bss defines, or None."""
+    return no_symbol(member, "the symbol", operand)
 
 
 def no_text(operand):
@@ -147,35 +152,35 @@ def no_text(operand):
     return Finding(f"{Piece(rest.text.strip(), rest.at)} follows the text", rest.column)
 
 
-def count_refused(member):
+def no_count(member, operand):
     """What is wrong with the count of bss, or None."""
-    return no_member([member], NUMBER, "number without a leading zero")
+    return no_member([member], NUMBER, "number without a leading zero", operand)
 
 
 def not_numbers(pattern, what):
     """A reader of the numbers of dec or oct."""
-    return lambda operand: no_member(operand.split(","), pattern, what)
+    return lambda operand: no_member(operand.split(","), pattern, what, operand)
 
 
 READERS = {
     "entry": no_names,
     "segdef": no_names,
-    "equ": lambda operand: no_pair(operand, lambda m: no_symbol(m, "the name"), no_expression),
-    "use": lambda operand: no_member([operand], SECTION, "section"),
+    "equ": lambda operand: no_pair(operand, no_name, no_expression),
+    "use": lambda operand: no_member([operand], SECTION, "section", operand),
     "dec": not_numbers(SIGNED, "decimal number without a leading zero"),
     "oct": not_numbers(OCTAL, "octal number"),
     "aci": no_text,
     "zero": lambda operand: no_pair(operand, no_expression, no_expression),
-    "bss": lambda operand: no_pair(operand, lambda m: no_symbol(m, "the name"), count_refused),
+    "bss": lambda operand: no_pair(operand, no_name, no_count),
     "even": lambda operand: Finding(f"{operand} is too much", operand.column),
     "entrybound": lambda operand: Finding(f"{operand} is too much", operand.column),
 }
 
 
-def form_refused(line, _raw, column):
+def form_refused(line, raw, column):
     """E2: a label or an operand."""
     for label in line.labels:
-        found = no_symbol(label, "the label")
+        found = no_symbol(label, "the label", quoted(raw.encode("latin-1")))
         if found and label.column == column:
             return found
     if not line.operation:

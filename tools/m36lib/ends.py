@@ -2,13 +2,30 @@
 
 from m36lib.words import status_entry
 
+# The statuses of a run that ended by a fault, a stop or a refused service.
+STOPPED = 6
 
-def end_in_words(_program, _words, status):
-    """The sentence for an exit status, or None where m36 has none for it.
 
-    Standard output is not read here, so what the end line says is not known. An account of the end
-    of a run (the instruction, the place, the ring, the rule that refused) belongs here: it may ask
-    the program again by its words.
-    """
+def account_of_end(program, words):
+    """The account of the end of a run: the instruction, the place, the ring, and the rule that
+    refused it, as sentences. It asks the program again by its words; there is none where the
+    library has no such account."""
+    try:
+        from m36lib import account_of_end as account  # a part of the library that may be absent
+    except ImportError:
+        return []
+    return account.end_in_words(program, words)
+
+
+def end_in_words(program, words, status):
+    """The sentences for an exit status; none where m36 has no such status."""
     entry = status_entry(status)
-    return f"{entry.word}: {entry.sentence}; {entry.advice}" if entry else None
+    if not entry:
+        return []
+    try:
+        account = account_of_end(program, words) if status == STOPPED else []
+    except Exception:  # pylint: disable=broad-except
+        account = []
+    if account:
+        return [f"{entry.word}: {entry.sentence}", *account]
+    return [f"{entry.word}: {entry.sentence}; {entry.advice}"]

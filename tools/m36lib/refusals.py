@@ -51,14 +51,15 @@ def source_finding(code, text, number, column):
 
 
 def finding_of(name, code, number, column, text):
-    """What is wrong, or None where it can't be found."""
+    """What is wrong, or None where it can't be found: the file may be another one by now, and is
+    then not refused for this code at this place."""
     try:
         if code in file_refusals.FINDERS:
             return file_refusals.find(code, name, number)
         if code[0] == "E":
             return source_finding(code, text, number, column)
         return LINE_FINDERS[code[0]](code, text, number)
-    except (ArithmeticError, AttributeError, LookupError, OSError, TypeError, ValueError):
+    except Exception:  # pylint: disable=broad-except
         return None
 
 

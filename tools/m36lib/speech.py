@@ -4,7 +4,7 @@ import os
 
 from m36lib.ends import end_in_words
 from m36lib.refusals import refusal_in_words
-from m36lib.shown import WIDTH, paragraph
+from m36lib.shown import WIDTH, paragraph, plain
 from m36lib.usage import wrong_word
 
 STATUS = b"m36: "
@@ -14,15 +14,16 @@ USAGE = b"m36: Usage"
 def width():
     """The width of the terminal, as far as a paragraph uses it."""
     try:
-        return max(40, min(WIDTH, os.get_terminal_size(2).columns - 1))
+        columns = os.get_terminal_size(2).columns
     except (OSError, ValueError):
         return WIDTH
+    return max(40, min(WIDTH, columns - 1)) if columns else WIDTH
 
 
 def usage_lines(words):
     """What is wrong with a command line, for after the line of Usage."""
     wrong = wrong_word(words)
-    return [paragraph(f"Usage: {wrong.sentence}", width())] if wrong else []
+    return rows_of([], [f"Usage: {wrong.sentence}"]) if wrong else []
 
 
 def end_lines(said, program, words, status):
@@ -36,10 +37,9 @@ def end_lines(said, program, words, status):
         parts = refusal_in_words(line.decode("ascii", "replace"))
         if parts:
             return [row for shown, told in parts for row in rows_of(shown, told)]
-    sentence = end_in_words(program, words, status)
-    return [paragraph(sentence, width())] if sentence else []
+    return rows_of([], end_in_words(program, words, status))
 
 
 def rows_of(shown, sentences):
     """Lines as they are, and then sentences as paragraphs."""
-    return [*shown, *(paragraph(sentence, width()) for sentence in sentences)]
+    return [*shown, *(paragraph(plain(sentence), width()) for sentence in sentences)]

@@ -72,11 +72,11 @@ class Reader:
         if option is None:
             return self.wrong(word, f"there is no option {quoted(name)}")
         if option not in self.command.options():
-            return self.wrong(word, f"{self.command.word} does not take the option {option.word}")
+            return self.wrong(word, f"{self.command.word} does not take {quoted(option.word)}")
         if option.word in self.options:
-            return self.wrong(word, f"the option {option.word} is given twice")
+            return self.wrong(word, f"{quoted(option.word)} is given twice")
         if not option.value and equals:
-            return self.wrong(word, f"the option {option.word} takes no value, as {quoted(value)}")
+            return self.wrong(word, f"{option.word} takes no value, and is {quoted(word)}")
         if not option.value:
             self.options[option.word] = word
         elif equals:
