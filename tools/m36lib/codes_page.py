@@ -8,9 +8,9 @@ HEAD = """\
 # Codes
 
 What each code says, the smallest input that gives it, and what to do; and after the codes the
-statuses, the ends of a run, the faults and the access violations. `tools/explain E2` prints the
-entry of one of them, and on a terminal `m36` says it after the line on standard error, with the
-text that is wrong and the form that is expected.
+statuses, the ends of a run, the faults and the access violations. `tools/explain E2`, installed
+as `m36-explain`, prints the entry of one of them. On a terminal `m36` says it after the line on
+standard error, with the text that is wrong and the form that is expected.
 
 `tools/explain --page` makes this page from its table. An input is a line for a shell in an empty
 folder, where `m36` is the program and `words` is [tools/words](../tools/words). `BadFile` goes to

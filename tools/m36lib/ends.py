@@ -1,9 +1,9 @@
 """How a call of m36 ended, in words, where its status line names no place in a file."""
 
+from m36lib.unreadable import unreadable, unwritable
 from m36lib.words import status_entry
 
-# The statuses of a run that ended by a fault, a stop or a refused service.
-STOPPED = 6
+READ_FAULT, WRITE_FAULT, MACHINE_STOP = 2, 3, 6
 
 
 def account_of_end(program, words):
@@ -17,15 +17,26 @@ def account_of_end(program, words):
     return account.end_in_words(program, words)
 
 
+def causes(program, words, status):
+    """What is known beyond the status, as sentences; none where looking for it fails."""
+    try:
+        if status == MACHINE_STOP:
+            return account_of_end(program, words)
+        finders = {READ_FAULT: unreadable, WRITE_FAULT: unwritable}
+        found = finders[status](words) if status in finders else None
+        return [found] if found else []
+    except Exception:  # pylint: disable=broad-except
+        return []
+
+
 def end_in_words(program, words, status):
     """The sentences for an exit status; none where m36 has no such status."""
     entry = status_entry(status)
     if not entry:
         return []
-    try:
-        account = account_of_end(program, words) if status == STOPPED else []
-    except Exception:  # pylint: disable=broad-except
-        account = []
-    if account:
-        return [f"{entry.word}: {entry.sentence}", *account]
-    return [f"{entry.word}: {entry.sentence}; {entry.advice}"]
+    found = causes(program, words, status)
+    if not found:
+        return [f"{entry.word}: {entry.sentence}; {entry.advice}"]
+    if status == MACHINE_STOP:
+        return [f"{entry.word}: {entry.sentence}", *found]
+    return [f"{entry.word}: {entry.sentence}: {found[0]}"]

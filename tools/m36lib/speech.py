@@ -6,6 +6,7 @@ from m36lib.ends import end_in_words
 from m36lib.refusals import refusal_in_words
 from m36lib.shown import WIDTH, paragraph, plain
 from m36lib.usage import wrong_word
+from m36lib.words import with_explain
 
 STATUS = b"m36: "
 USAGE = b"m36: Usage"
@@ -21,9 +22,9 @@ def width():
 
 
 def usage_lines(words):
-    """What is wrong with a command line, for after the line of Usage."""
+    """What is wrong with a command line, for after the line of Usage and before the help."""
     wrong = wrong_word(words)
-    return rows_of([], [f"Usage: {wrong.sentence}"]) if wrong else []
+    return [*rows_of([], [f"Usage: {wrong.sentence}"]), ""] if wrong else []
 
 
 def end_lines(said, program, words, status):
@@ -42,4 +43,5 @@ def end_lines(said, program, words, status):
 
 def rows_of(shown, sentences):
     """Lines as they are, and then sentences as paragraphs."""
-    return [*shown, *(paragraph(plain(sentence), width()) for sentence in sentences)]
+    texts = [plain(with_explain(sentence)) for sentence in sentences]
+    return [*shown, *(paragraph(text, width()) for text in texts)]

@@ -5,7 +5,10 @@ This is the one table of these sentences; its rows are in `m36lib.code_words` an
 up, and docs/CODES.md is made from them (`m36lib.codes_page`).
 """
 
+import os
+import pathlib
 import re
+import shutil
 
 from m36lib.code_words import CODE_GROUPS, INNER_GROUP
 from m36lib.commands import status_numbered
@@ -13,8 +16,19 @@ from m36lib.run_words import END_GROUP, FAULT_GROUP, STATUS_GROUP, VIOLATION_GRO
 
 GROUPS = (STATUS_GROUP, END_GROUP, FAULT_GROUP, VIOLATION_GROUP, *CODE_GROUPS, INNER_GROUP)
 
+# The name of tools/explain once it is installed, as the sentences have it.
+EXPLAIN = "m36-explain"
+
 # The words that an end line has before its fault or stop.
 LEADING = re.compile(r"(?:end |stop |fault )+")
+
+
+def with_explain(text):
+    """A text in which tools/explain is named as it can be started from here."""
+    if EXPLAIN not in text or shutil.which(EXPLAIN):
+        return text
+    path = pathlib.Path(__file__).resolve().parents[1] / "explain"
+    return text.replace(EXPLAIN, os.path.relpath(path))
 
 
 def code_entry(code):
