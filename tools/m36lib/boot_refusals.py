@@ -2,6 +2,7 @@
 
 from m36lib.line_forms import BOOT, Finding, column_of, malformed
 from m36lib.shown import quoted
+from m36lib.user_rights import right_of
 
 # Which kinds of lines may follow a line; the text begins with `frames`.
 AFTER_WORK = ("library", "segment", "start")
@@ -184,8 +185,22 @@ def found_by_name(text, name):
     return next((named[d, name] for d in searched if (d, name) in named), None)
 
 
-def start_refused(text, _number):
-    """U3."""
+def start_denied(found, user):
+    """What is wrong with a start in a segment that the access lists deny to a user, or None."""
+    if not user:
+        return None
+    mode, term = right_of(user, found[1], found[2])
+    if "e" in mode:
+        return None
+    why = f"by the term {quoted(term)}" if term != "none" else "since no term matches"
+    return Finding(
+        f"the access lists give {quoted(user)} the mode {quoted(mode)} for {quoted(found[2])}, "
+        f"{why}; expected one with e, since the start executes there"
+    )
+
+
+def start_refused(text, _number, user=None):
+    """U3, with the user whose rights count."""
     words = text.line(len(text.lines)).split(" ")
     ring, target = words[1], words[2]
     name, entry = target.split("$")
@@ -201,14 +216,17 @@ def start_refused(text, _number):
             f"ring {ring} of the start is not from R1 to R2 of {quoted(name)}, which are {one} and "
             f"{two}; expected one of these rings"
         )
-    if "e" not in mode:
+    denied = start_denied(found, user)
+    if denied:
+        return denied
+    if "e" not in mode and not user:
         return Finding(
             f"the mode {quoted(mode)} of {quoted(name)} lacks e; expected one with e, since the "
             "start executes there"
         )
     return Finding(
-        f"the object {quoted(found[3])} does not define {quoted(entry)}, or the access lists deny "
-        "the user to execute it; expected an entry or segdef of that name, and the right e"
+        f"the object {quoted(found[3])} does not define {quoted(entry)}; expected an entry or "
+        "segdef of that name"
     )
 
 
@@ -221,11 +239,12 @@ FINDERS = {
     "D6": end_refused,
     "U1": frames_refused,
     "U2": gate_refused,
-    "U3": start_refused,
     "U4": object_refused,
 }
 
 
-def find(code, text, number):
-    """What is wrong, by the code and the place of the refusal."""
+def find(code, text, number, user=None):
+    """What is wrong, by the code and the place of the refusal, and the user of a start."""
+    if code == "U3":
+        return start_refused(text, number, user)
     return FINDERS[code](text, number)

@@ -1,9 +1,12 @@
 """How a call of m36 ended, in words, where its status line names no place in a file."""
 
+from m36lib.audits import broken_conditions
 from m36lib.unreadable import unreadable, unwritable
 from m36lib.words import status_entry
 
-READ_FAULT, WRITE_FAULT, MACHINE_STOP = 2, 3, 6
+READ_FAULT, WRITE_FAULT, AUDIT_NO, MACHINE_STOP = 2, 3, 5, 6
+# After these the sentence of the status is followed by sentences of their own.
+FOLLOWED = (AUDIT_NO, MACHINE_STOP)
 
 
 def account_of_end(program, words):
@@ -22,6 +25,8 @@ def causes(program, words, status):
     try:
         if status == MACHINE_STOP:
             return account_of_end(program, words)
+        if status == AUDIT_NO:
+            return broken_conditions(program, words)
         finders = {READ_FAULT: unreadable, WRITE_FAULT: unwritable}
         found = finders[status](words) if status in finders else None
         return [found] if found else []
@@ -37,6 +42,6 @@ def end_in_words(program, words, status):
     found = causes(program, words, status)
     if not found:
         return [f"{entry.word}: {entry.sentence}; {entry.advice}"]
-    if status == MACHINE_STOP:
+    if status in FOLLOWED:
         return [f"{entry.word}: {entry.sentence}", *found]
     return [f"{entry.word}: {entry.sentence}: {found[0]}"]

@@ -12,6 +12,7 @@ from m36lib import image_refusals, list_refusals
 from m36lib.alm_lines import cut
 from m36lib.shown import plain, quoted
 from m36lib.texts import read_text
+from m36lib.user_rights import user_of
 from m36lib.words import code_entry
 
 REFUSAL = re.compile(r"m36: BadFile (\S+) ([A-Z][0-9]) ([0-9]+) ([0-9]+)")
@@ -24,11 +25,10 @@ SOURCE_LIMIT = 1024 * 1024
 LINE_FINDERS = {
     "B": list_refusals.find,
     "C": list_refusals.find,
-    "D": boot_refusals.find,
     "I": image_refusals.find,
     "P": image_refusals.find,
-    "U": boot_refusals.find,
 }
+BOOT_LETTERS = "DU"
 FORM_FINDERS = {
     "E1": alm_forms.character_refused,
     "E2": alm_forms.form_refused,
@@ -50,7 +50,7 @@ def source_finding(code, text, number, column):
     return alm_values.find(code, lines, number, column)
 
 
-def finding_of(name, code, number, column, text):
+def finding_of(name, code, number, column, text, words):
     """What is wrong, or None where it can't be found: the file may be another one by now, and is
     then not refused for this code at this place."""
     try:
@@ -58,6 +58,8 @@ def finding_of(name, code, number, column, text):
             return file_refusals.find(code, name, number)
         if code[0] == "E":
             return source_finding(code, text, number, column)
+        if code[0] in BOOT_LETTERS:
+            return boot_refusals.find(code, text, number, user_of(words))
         return LINE_FINDERS[code[0]](code, text, number)
     except Exception:  # pylint: disable=broad-except
         return None
@@ -93,15 +95,15 @@ def later_line(code, text, number):
     return shown_line(text.line(place), finding.column), [sentence + finding.sentence]
 
 
-def refusal_in_words(status_line):
-    """What follows a status line of BadFile: pairs of lines to be shown as they are, and sentences.
-    None where the line is none of BadFile."""
+def refusal_in_words(status_line, words=()):
+    """What follows a status line of BadFile after these command words: pairs of lines to be shown
+    as they are, and sentences. None where the line is none of BadFile."""
     match = REFUSAL.fullmatch(status_line)
     if not match:
         return None
     name, code, number, column = match[1], match[2], int(match[3]), int(match[4])
     text = read_text(name) if code not in file_refusals.FINDERS else None
-    finding = finding_of(name, code, number, column, text)
+    finding = finding_of(name, code, number, column, text, words)
     line = text.line(number) if text and code[0] in LINE_LETTERS else None
     shown = []
     if line is not None:

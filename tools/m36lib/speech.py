@@ -35,7 +35,7 @@ def end_lines(said, program, words, status):
     for line in lines:
         if not line.startswith(STATUS):
             continue
-        parts = refusal_in_words(line.decode("ascii", "replace"))
+        parts = refusal_in_words(line.decode("ascii", "replace"), words)
         if parts:
             return [row for shown, told in parts for row in rows_of(shown, told)]
     return rows_of([], end_in_words(program, words, status))

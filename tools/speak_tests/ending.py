@@ -7,10 +7,12 @@ import tempfile
 from speak_tests.answering import ROOT, plain, sentences
 from speak_tests.passing import stub
 
+# What is wrong with the image overlap, by its own page.
+OVERLAP = ["A4", "two words of segments are on one core word"]
 # By the name of the status: the words, the example that is copied, and what must be said.
 EXAMPLES = {
     "Steps": (["bare", "least", "--steps=1"], "least/least", ["took all the steps", "--steps N"]),
-    "AuditNo": (["audit", "overlap"], "overlap/overlap", ["audit fails", "explain A3"]),
+    "AuditNo": (["audit", "overlap"], "overlap/overlap", ["audit fails", *OVERLAP]),
     "MachineStop": (
         ["bare", "unprivileged"],
         "least/unprivileged/unprivileged",
@@ -67,4 +69,21 @@ def the_file_is_named(tried):
     return wrong
 
 
-TESTS = (runs_end_in_words, statuses_end_in_words, the_file_is_named)
+def a_denied_start_is_said(tried):
+    """A start that the access lists deny: the user, the mode and the term that decides."""
+    wrong = []
+    parts = ['"Jones.Demo.a"', 'the mode "null"', '"Jones.Demo.*"', "one with e"]
+    others = ['"Ann.Other.a"', 'the mode "null"', "no term matches", "one with e"]
+    with tempfile.TemporaryDirectory() as folder:
+        for name in ("acl", "boot", "main.alm", "con_.alm"):
+            shutil.copy(ROOT / "examples/lists" / name, folder)
+        for name in ("main", "con_"):
+            tried.directly(["alm", name], folder)
+        for words, wanted in (["--user", "Jones.Demo.a"], parts), (["--user=Ann.Other.a"], others):
+            said = tried.spoken(["run", *words], folder).stderr.decode()
+            answer = sentences(said, "U3")
+            wrong += [f"lacks {p}: {said}" for p in wanted if p not in plain(answer)]
+    return wrong
+
+
+TESTS = (a_denied_start_is_said, runs_end_in_words, statuses_end_in_words, the_file_is_named)

@@ -38,6 +38,7 @@ FAULTS = (
         'f"{quoted(word)} is one operand too many")\n        if not',
         'f"there is one operand too many")\n        if not',
     ),
+    ("m36lib/user_rights.py", 'one in ("*", other)', 'one in (other,)'),
     ("m36lib/ends.py", "sentence}: {found[0]}", "sentence}"),
     ("m36lib/ends.py", '[f"{entry.word}: {entry.sentence}; {entry.advice}"]', "[]"),
     # A sentence without the form, or with another one.
@@ -59,7 +60,7 @@ FAULTS = (
     ("m36lib/inputs.py", '"BadFile a.alm E2 1 6"', '"BadFile a.alm E2 1 7"'),
     # What must come through, and what must not be shown.
     ("speak", "while more := os.read(handle, KEPT):", "if more := os.read(handle, 9):"),
-    ("speak", "program, words, status))\n    return status", "program, words, status))\n    return 0"),
+    ("speak", "words, status))\n    return status", "words, status))\n    return 0"),
     ("speak", "return 128 + number", "return number"),
     ("speak", 'if os.environ.get("M36_PLAIN"):', "if False:"),
     ("speak", "return is_always or os.isatty(STANDARD_ERROR)", "return True"),
