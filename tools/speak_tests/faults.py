@@ -104,7 +104,7 @@ def unnoticed(fault, program):
         if text.count(old) != 1:
             return f"{name} has {text.count(old)} times {old!r}"
         (tools / name).write_text(text.replace(old, new))
-        command = [str(tools / "speak-check"), program]
+        command = [str(tools / "speak-check"), "--first", program]
         done = subprocess.run(command, capture_output=True, check=False)
     return None if done.returncode == 1 else f"{name}: {old!r} is not noticed"
 
