@@ -37,12 +37,12 @@ def no_symbol(piece, what, whole):
     if SYMBOL.fullmatch(piece.text):
         return None
     if not piece.text:
-        why = f"{what} is missing in {whole}"
+        why = f"the {what} is missing in {whole}; it is"
     elif LONG_SYMBOL.fullmatch(piece.text):
-        why = f"{what} {piece} has {len(piece.text)} characters"
+        why = f"the {what} {piece} has {len(piece.text)} characters; it is"
     else:
-        why = f"{what} {piece} is no symbol"
-    return Finding(f"{why}; a symbol is {SYMBOL_WORDS}", piece.column)
+        why = f"{piece} is no {what}, which is"
+    return Finding(f"{why} {SYMBOL_WORDS}", piece.column)
 
 
 def no_term(piece, whole):
@@ -57,7 +57,7 @@ def no_term(piece, whole):
     elif text.isdigit():
         why = f"{piece} has a leading zero"
     elif LONG_SYMBOL.fullmatch(text):
-        why = f"the symbol {piece} has {len(text)} characters, and 32 is the most"
+        why = f"the symbol {piece} has {len(text)} characters, more than 32"
     else:
         why = f"{piece} is no term"
     return Finding(f"{why}; {TERM_WORDS}", piece.column)
@@ -85,21 +85,25 @@ def no_address(operand):
     if found:
         return found
     if parts.modifier and not MODIFIER.fullmatch(parts.modifier.text):
-        return Finding(
-            f"{parts.modifier} after the comma of {operand} is no modifier, which is "
-            f"{MODIFIER_WORDS}",
-            parts.modifier.column,
-        )
+        return no_modifier(parts.modifier, operand)
     return None
+
+
+def no_modifier(modifier, operand):
+    """A text after the comma that is no modifier, or none at all."""
+    why = f"{modifier} after the comma of {operand} is no modifier, which is"
+    if not modifier.text:
+        why = f"the modifier is missing after the comma of {operand}; it is"
+    return Finding(f"{why} {MODIFIER_WORDS}", modifier.column)
 
 
 def no_external(parts, operand):
     """What is wrong with a segment, an entry and what follows them, or None."""
     if not OWN.fullmatch(parts.segment.text):
-        found = no_symbol(parts.segment, "the segment before the $", operand)
+        found = no_symbol(parts.segment, "segment before the $", operand)
         if found:
             return Finding(found.sentence + ", or *text, *link, *static", found.column)
-    found = parts.entry.text and no_symbol(parts.entry, "the entry after the $", operand)
+    found = parts.entry.text and no_symbol(parts.entry, "entry after the $", operand)
     if found or not parts.expression.text:
         return found or None
     if parts.expression.text[0] not in "+-":
@@ -113,15 +117,20 @@ def no_external(parts, operand):
 def no_member(members, pattern, what, whole):
     """The first member of a list that does not have its form, or None."""
     for member in members:
-        if not pattern.fullmatch(member.text):
-            shown = f"{member} is no {what}" if member.text else f"a {what} is missing in {whole}"
-            return Finding(shown, member.column)
+        if pattern.fullmatch(member.text):
+            continue
+        shown = f"{member} is no {what}"
+        if not member.text:
+            shown = f"the {what} is missing in {whole}"
+        elif member.text.isdigit() and pattern is not OCTAL:
+            shown = f"{member} has a leading zero"
+        return Finding(shown, member.column)
     return None
 
 
 def no_names(operand):
     """What is wrong with the names of entry or segdef, or None."""
-    found = (no_symbol(member, "the name", operand) for member in operand.split(","))
+    found = (no_symbol(member, "name", operand) for member in operand.split(","))
     return next(filter(None, found), None)
 
 
@@ -129,14 +138,14 @@ def no_pair(operand, first, second):
     """What is wrong with two members, each by its reader, or None."""
     members = operand.split(",")
     if len(members) != 2:
-        count = len(members)
-        return Finding(f"{operand} has {count} parts between commas, and not 2", operand.column)
+        count = f"{len(members)} part{'s' if len(members) > 1 else ''}"
+        return Finding(f"{operand} has {count}, not 2", operand.column)
     return first(members[0], operand) or second(members[1], operand)
 
 
 def no_name(member, operand):
     """What is wrong with the symbol that equ or bss defines, or None."""
-    return no_symbol(member, "the symbol", operand)
+    return no_symbol(member, "symbol", operand)
 
 
 def no_text(operand):
@@ -154,7 +163,7 @@ def no_text(operand):
 
 def no_count(member, operand):
     """What is wrong with the count of bss, or None."""
-    return no_member([member], NUMBER, "number without a leading zero", operand)
+    return no_member([member], NUMBER, "number", operand)
 
 
 def not_numbers(pattern, what):
@@ -167,7 +176,7 @@ READERS = {
     "segdef": no_names,
     "equ": lambda operand: no_pair(operand, no_name, no_expression),
     "use": lambda operand: no_member([operand], SECTION, "section", operand),
-    "dec": not_numbers(SIGNED, "decimal number without a leading zero"),
+    "dec": not_numbers(SIGNED, "decimal number"),
     "oct": not_numbers(OCTAL, "octal number"),
     "aci": no_text,
     "zero": lambda operand: no_pair(operand, no_expression, no_expression),
@@ -180,7 +189,7 @@ READERS = {
 def form_refused(line, raw, column):
     """E2: a label or an operand."""
     for label in line.labels:
-        found = no_symbol(label, "the label", quoted(raw.encode("latin-1")))
+        found = no_symbol(label, "label", quoted(raw.encode("latin-1")))
         if found and label.column == column:
             return found
     if not line.operation:

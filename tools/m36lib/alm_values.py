@@ -67,10 +67,8 @@ def value_refused(layout, spot, column):
         if not expression.column <= column <= expression.column + 1:
             continue
         if not least <= total.value <= most:
-            return Finding(
-                f"the value of {expression} is {total.value}; expected one from {least} to {most}",
-                column,
-            )
+            value = "" if expression.text == str(total.value) else f", which is {total.value}"
+            return Finding(f"{expression}{value}; expected one from {least} to {most}", column)
         if not may_move and not total.is_number():
             return Finding(
                 f"{expression} is a place of a section; expected a number, which does not move",

@@ -67,9 +67,10 @@ def name_refused(text, number):
     first = next(
         (n for n in range(1, number) if (entry_of(text, n) or ())[:2] == (directory, name)), None
     )
-    where = f", since line {first}" if first else ""
+    where = f" since line {first}" if first else ""
     return Finding(
-        f"{quoted(name)} is in {quoted(directory)}{where}; expected each name once in a directory",
+        f"{quoted(name)} is a name in {quoted(directory)}{where}; expected each name once in a "
+        "directory",
         column_of(text.line(number).split(" "), index),
     )
 

@@ -17,7 +17,7 @@ FAULTS = (
     # A sentence without the text at fault.
     (
         "m36lib/alm_forms.py",
-        "{parts.modifier} after the comma of {operand} is no modifier",
+        "{modifier} after the comma of {operand} is no modifier",
         "the modifier after the comma is no modifier",
     ),
     ("m36lib/alm_forms.py", '        f"{line.operation}; expected', '        f"expected'),
@@ -29,7 +29,7 @@ FAULTS = (
     ("m36lib/line_forms.py", 'f"{quoted(words[index])} does not fit', 'f"a word does not fit'),
     ("m36lib/line_forms.py", "is missing after {quoted(' '.join(words))}", "is missing"),
     ("m36lib/boot_refusals.py", ": {quoted(' '.join(words[4:9]))}; expected", "; expected"),
-    ("m36lib/boot_refusals.py", 'f"{quoted(name)} is in', 'f"it is in'),
+    ("m36lib/boot_refusals.py", 'f"{quoted(name)} is a name', 'f"it is a name'),
     ("m36lib/list_refusals.py", 'f"the term {quoted(words[1])} is', 'f"the term is'),
     ("m36lib/image_refusals.py", 'f"{quoted(words[index])} in', 'f"a number in'),
     ("m36lib/usage.py", 'f"there is no command {quoted(word)}:', 'f"there is no such command:'),

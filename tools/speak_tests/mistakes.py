@@ -130,7 +130,7 @@ BOOTS = rows(
     (FRAMES + WORK + SEGMENT + "start 4 a\n", "D1", "a", "RING NAME$ENTRY", "a $ between them"),
     (FRAMES + WORK + SEGMENT + "start 4 a$b", "D1", "start 4 a$b", "line feed"),
     (FRAMES + WORK + SEGMENT + "start 4 a$b \n", "D1", "start 4 a$b ", "single blanks"),
-    (FRAMES + WORK + SEGMENT + "name a\n" + START, "D2", "a", "each name once in a directory"),
+    (FRAMES + WORK + SEGMENT + "name a\n" + START, "D2", "a", "line 3", "each name once"),
     (FRAMES + "work >v\n" + SEGMENT + START, "D3", ">v", LINE),
     (FRAMES + WORK + FALLING + START, "D4", "object re 4 3 4", "R1 <= R2"),
     (FRAMES + WORK + "segment >u a a gate r 4 4 5\n" + START, "D4", "gate r 4 4 5", "mode with e"),
