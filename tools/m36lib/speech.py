@@ -5,6 +5,7 @@ import os
 from m36lib.ends import end_in_words
 from m36lib.refusals import refusal_in_words
 from m36lib.shown import WIDTH, paragraph, plain
+from m36lib.stale import stale_in_words
 from m36lib.usage import wrong_word
 from m36lib.words import with_explain
 
@@ -25,6 +26,12 @@ def usage_lines(words):
     """What is wrong with a command line, for after the line of Usage and before the help."""
     wrong = wrong_word(words)
     return [*rows_of([], [f"Usage: {wrong.sentence}"]), ""] if wrong else []
+
+
+def start_lines(words):
+    """What a person should know before the program runs."""
+    sentence = stale_in_words(words)
+    return rows_of([], [f"stale: {sentence}"]) if sentence else []
 
 
 def end_lines(said, program, words, status):

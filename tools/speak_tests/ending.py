@@ -1,5 +1,6 @@
 """Tests of what is said of each status, and of how a run ended."""
 
+import os
 import pathlib
 import shutil
 import tempfile
@@ -86,4 +87,27 @@ def a_denied_start_is_said(tried):
     return wrong
 
 
-TESTS = (a_denied_start_is_said, runs_end_in_words, statuses_end_in_words, the_file_is_named)
+def a_stale_object_is_named(tried):
+    """Before a run the object is named whose source was changed after it, and no other."""
+    with tempfile.TemporaryDirectory() as folder:
+        for name in ("boot", "main.alm", "con_.alm"):
+            shutil.copy(ROOT / "examples/hello" / name, folder)
+        for name in ("main", "con_"):
+            tried.directly(["alm", name], folder)
+        current = tried.spoken(["run"], folder)
+        os.utime(pathlib.Path(folder, "main.alm"), (2**31, 2**31))
+        stale = tried.spoken(["run"], folder)
+    said = plain(stale.stderr.decode())
+    start = 'stale: the source is newer than the object of "main"'
+    right = not current.stderr and said.startswith(start)
+    right &= "con_" not in said and (stale.returncode, stale.stdout) == (0, current.stdout)
+    return [] if right else [f"{current} / {stale}"]
+
+
+TESTS = (
+    a_stale_object_is_named,
+    a_denied_start_is_said,
+    runs_end_in_words,
+    statuses_end_in_words,
+    the_file_is_named,
+)
