@@ -7,6 +7,7 @@ from m36lib.shown import quoted
 from m36lib.texts import read_text
 from m36lib.unreadable import operand_of, segment_files
 
+
 def changed_at(name):
     """When a plain file was changed last, or None where there is no such file."""
     try:
