@@ -11,6 +11,8 @@ from speak_tests.mistakes import Mistake
 TOOLS = pathlib.Path(__file__).resolve().parents[1]
 ROOT = TOOLS.parent
 DRAWN = pathlib.Path(__file__).with_name("drawn.json")
+# How long a call may take; one that hangs takes longer.
+SECONDS = 60
 HELP = "Simulate the Honeywell 6180"
 
 # The file of each kind, and the words that read it.
@@ -46,7 +48,7 @@ class Tried:
 
 def run(command, folder, **options):
     """Runs a command in a folder, with nothing to read."""
-    settings = {"stdin": subprocess.DEVNULL, "timeout": 120, **options}
+    settings = {"stdin": subprocess.DEVNULL, "timeout": SECONDS, **options}
     return subprocess.run(command, cwd=folder, capture_output=True, **settings)
 
 
@@ -114,7 +116,10 @@ def judge(mistake, tried):
     with tempfile.TemporaryDirectory() as folder:
         words = lay_out(mistake, tried, folder)
         direct = tried.directly(words, folder)
-        spoken = tried.spoken(words, folder)
+        try:
+            spoken = tried.spoken(words, folder)
+        except subprocess.TimeoutExpired as late:
+            return [f"{mistake.kind} {mistake.text!r}: {late}"]
     lacks = lacking(mistake, direct, spoken)
     said = spoken.stderr.decode("utf-8", "replace").split(HELP)[0]
     text = f"{mistake.kind} ({mistake.origin}) {mistake.text!r}: lacks {lacks}\n{said}"

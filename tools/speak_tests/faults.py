@@ -111,7 +111,12 @@ def unnoticed(fault, program):
 
 
 def missed(program):
-    """The faults that are not noticed, and how many there are."""
+    """How many faults there are, and those that are not noticed. Each is printed once it was
+    tried."""
+    wrong = []
     with ThreadPoolExecutor(max(1, (os.cpu_count() or 2) // 2)) as pool:
         found = pool.map(lambda fault: unnoticed(fault, program), FAULTS)
-    return len(FAULTS), [line for line in found if line]
+        for (name, old, _new), line in zip(FAULTS, found, strict=True):
+            print(f"{'not noticed' if line else 'noticed'}: {name}: {old!r}", flush=True)
+            wrong += [line] if line else []
+    return len(FAULTS), wrong
