@@ -19,8 +19,9 @@ GROUPS = (STATUS_GROUP, END_GROUP, FAULT_GROUP, VIOLATION_GROUP, *CODE_GROUPS, I
 # The name of tools/explain once it is installed, as the sentences have it.
 EXPLAIN = "m36-explain"
 
-# The words that an end line has before its fault or stop.
+# The words that an end line has before its fault or stop, and whole lines that have a code.
 LEADING = re.compile(r"(?:end |stop |fault )+")
+WITH_CODE = re.compile(r"BadFile \S+ ([A-Z]\d) .*|audit no (?:\d )?([AJ]\d)\b.*|link \d.* (L\d)")
 
 
 def with_explain(text):
@@ -54,8 +55,10 @@ def names(entry):
 
 def entries_of(text):
     """The entries of a word, as `E2`, `20.3`, `MachineStop`, `DIS`, `6`, `illegal procedure`, or
-    of an end line. A number may be a status and a fault."""
-    text = " ".join(text.split())
+    of a line of m36. A number may be a status and a fault."""
+    text = " ".join(text.split()).removeprefix("m36: ")
+    line = WITH_CODE.fullmatch(text)
+    text = next(filter(None, line.groups())) if line else text
     short = re.sub(r" \d+$", "", text) if text.startswith("end ") else text
     bare = LEADING.sub("", short).removeprefix("link ") or short
     wanted = (text, bare)

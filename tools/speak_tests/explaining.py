@@ -16,6 +16,9 @@ KNOWN = {
     "13": ["overflow", "out of range"],
     "lockup": ["17th indirect word"],
     "end fault 20.7 12": ["no entry of the gate"],
+    "m36: BadFile e.alm E6 1 6": ["the symbol is not defined"],
+    "audit no 1 A3 00000100": ["a word of a table"],
+    "link 4 00024|002010 con_$write L2": ["no directory"],
     "L2": ["no directory", "end link L2 1", "docs/LINKS.md"],
     "A3": ["a word of a table", "audit no A3"],
 }
