@@ -1,5 +1,6 @@
 """Tests that the program's own answer comes through: output, status, signals, time."""
 
+import contextlib
 import os
 import pathlib
 import pty
@@ -8,6 +9,7 @@ import shutil
 import signal
 import subprocess
 import tempfile
+import threading
 import time
 
 from speak_tests.answering import HELP, ROOT, TOOLS, Tried, run
@@ -15,7 +17,7 @@ from speak_tests.answering import HELP, ROOT, TOOLS, Tried, run
 LEAST = ROOT / "examples/least/least"
 USAGE = ["rum"]
 SHORT = ["bare", "least", "--steps=1"]
-SECONDS = 10
+SECONDS = 30
 
 
 def stub(folder, script):
@@ -24,6 +26,18 @@ def stub(folder, script):
     path.write_text(f"#!/bin/sh\n{script}\n")
     path.chmod(0o755)
     return Tried(path)
+
+
+@contextlib.contextmanager
+def started(command, **settings):
+    """A command that runs meanwhile, and is killed with all it started where it takes too long."""
+    with subprocess.Popen(command, start_new_session=True, **settings) as child:
+        timer = threading.Timer(SECONDS, os.killpg, (child.pid, signal.SIGKILL))
+        timer.start()
+        try:
+            yield child
+        finally:
+            timer.cancel()
 
 
 def same(direct, spoken, what):
@@ -50,7 +64,7 @@ def on_terminal(command, folder, **variables):
     """What a command prints on a terminal, and its status."""
     leader, follower = pty.openpty()
     settings = {"stdin": follower, "stdout": follower, "stderr": follower, "cwd": folder}
-    with subprocess.Popen(command, env={**os.environ, **variables}, **settings) as child:
+    with started(command, env={**os.environ, **variables}, **settings) as child:
         os.close(follower)
         said = b""
         try:
@@ -59,7 +73,7 @@ def on_terminal(command, folder, **variables):
         except OSError:
             pass
         os.close(leader)
-        return said.replace(b"\r\n", b"\n").decode(), child.wait(SECONDS)
+        return said.replace(b"\r\n", b"\n").decode(), child.wait()
 
 
 def a_terminal_gets_words(tried):
@@ -117,10 +131,10 @@ def signals_go_to_the_program(_tried):
             tried = stub(folder, script)
             command = [tried.speak, "--always", tried.program]
             pipes = {"stdout": subprocess.PIPE, "stderr": subprocess.DEVNULL}
-            with subprocess.Popen(command, **pipes) as child:
+            with started(command, **pipes) as child:
                 child.stdout.readline()
                 child.send_signal(number)
-                status = child.wait(SECONDS)
+                status = child.wait()
             wrong += [f"{name}: status {status}"] * (status != 5)
     return wrong
 
@@ -131,13 +145,13 @@ def sessions_answer_in_time(tried):
         shutil.copy(LEAST, folder)
         command = [tried.speak, "--always", tried.program, "debug", "least"]
         pipes = {"stdin": subprocess.PIPE, "stdout": subprocess.PIPE, "stderr": subprocess.PIPE}
-        with subprocess.Popen(command, cwd=folder, bufsize=0, **pipes) as child:
+        with started(command, cwd=folder, bufsize=0, **pipes) as child:
             answers = []
             for line in (b"where\n", b"step\n", b"where\n"):
                 child.stdin.write(line)
                 answers.append(child.stdout.readline())
             child.stdin.write(b"quit\n")
-            status = child.wait(SECONDS)
+            status = child.wait()
     right = answers[0] == b"0 00001|000000\n" and answers[2] == b"0 00001|000001\n"
     return [] if right and status == 0 else [f"{answers}, status {status}"]
 
@@ -147,12 +161,11 @@ def standard_error_comes_in_time(_tried):
     with tempfile.TemporaryDirectory() as folder:
         tried = stub(folder, "echo m36: first >&2\nsleep 2\necho second >&2\nexit 3")
         command = [tried.speak, "--always", tried.program]
-        with subprocess.Popen(command, stderr=subprocess.PIPE) as child:
+        with started(command, stderr=subprocess.PIPE) as child:
             child.stderr.readline()
             begun = time.monotonic()
             rest = child.stderr.read()
             took = time.monotonic() - begun
-            child.wait(SECONDS)
     return [] if took > 1 and rest.startswith(b"second\n") else [f"{took:.1f} seconds, {rest}"]
 
 
