@@ -45,7 +45,7 @@ FAULTS = (
     # A sentence without the form, or with another one.
     ("m36lib/alm_lines.py", "n au qu du ic al ql dl or x0 to x7", "a register"),
     ("m36lib/alm_forms.py", "from -34359738368 to 68719476735", "from -34359738368 to 34359738367"),
-    ("m36lib/alm_forms.py", "; {takes(name)}\", column)", "\", column)"),
+    ("m36lib/alm_forms.py", "has no operand; {takes(name)}", "has no operand"),
     ("m36lib/alm_values.py", "(-16384, 16383)", "(-16384, 16384)"),
     ("m36lib/line_forms.py", '"object, gate or data"', '"object or data"'),
     ("m36lib/line_forms.py", 'decimal("N", 1, 8192)', 'decimal("N", 1, 16384)'),

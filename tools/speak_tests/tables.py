@@ -8,7 +8,7 @@ from m36lib import commands, words
 from m36lib.usage import wrong_word
 from speak_tests.answering import ROOT
 
-SEED, LISTS = 36, 400
+SEED, LISTS = 36, 300
 # Pieces of command lines, right and wrong.
 PIECES = """
 x a.b A.B.a --steps --steps=5 --steps= 5 --user --user=A.B.a --user= --unaudited --unaudited=1 --
@@ -16,8 +16,23 @@ x a.b A.B.a --steps --steps=5 --steps= 5 --user --user=A.B.a --user= --unaudited
 """.split() + ["", "a" * 27, "a" * 28, "a" * 32, "a" * 33, "1" * 18, "1" * 19]
 
 
+# What follows each command: an operand or none, and an option or none.
+OPERANDS = ([], ["x"], ["A.B.a"])
+OPTIONS = (
+    [],
+    ["--steps", "5"],
+    ["--steps=10000000"],
+    ["--steps=10000001"],
+    ["--unaudited"],
+    ["--user", "A.B.a"],
+)
+
+
 def word_lists():
-    """Lists of words by a seed, most of them with a command first."""
+    """Each command with each operand and option; and lists by a seed, most with a command first."""
+    for command in commands.COMMANDS:
+        for operand in OPERANDS:
+            yield from ([command.word, *operand, *option] for option in OPTIONS)
     chance = random.Random(SEED)
     for _ in range(LISTS):
         pieces = [PIECES[chance.randrange(len(PIECES))] for _ in range(chance.randrange(5))]
