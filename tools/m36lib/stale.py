@@ -7,6 +7,8 @@ from m36lib.shown import quoted
 from m36lib.texts import read_text
 from m36lib.unreadable import operand_of, segment_files
 
+MOST_NAMED = 4
+
 
 def changed_at(name):
     """When a plain file was changed last, or None where there is no such file."""
@@ -35,7 +37,9 @@ def stale_in_words(words):
     names = older_objects(words)
     if not names:
         return None
-    listed = ", ".join(quoted(name) for name in names)
+    listed = ", ".join(quoted(name) for name in names[:MOST_NAMED])
+    if len(names) > MOST_NAMED:
+        listed += f" and {len(names) - MOST_NAMED} more"
     return (
         f"the source is newer than the object of {listed}, so the object is what runs; "
         f"`m36 alm {names[0]}` assembles it again"
