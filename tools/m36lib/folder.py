@@ -13,6 +13,7 @@ from .names import Names
 
 FIRST_STACK, FIRST_LINKAGE, FIRST_CATALOG = 8, 16, 64
 BOOTED_DBR = Dbr(address=0, bound=127, unpaged=True, stack=1)
+MOST_SECONDS = 60
 STACK_BLOCKS, LINKAGE_BLOCKS = 64 * 16, 64 * 256
 KINDS = ("object", "gate", "data")
 
@@ -166,7 +167,8 @@ def assembled(program, folder, name):
     program says. Nothing is written in the folder."""
     with tempfile.TemporaryDirectory() as copy:
         shutil.copy(pathlib.Path(folder) / f"{name}.alm", copy)
-        done = subprocess.run([program, "alm", name], cwd=copy, capture_output=True)
+        done = subprocess.run([program, "alm", name], cwd=copy, capture_output=True,
+                              stdin=subprocess.DEVNULL, timeout=MOST_SECONDS)
         if done.returncode:
             return None, done.stderr.decode("utf-8", "replace").splitlines()[:1]
         made = (pathlib.Path(copy) / name).read_bytes()

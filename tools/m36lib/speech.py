@@ -28,9 +28,9 @@ def usage_lines(words):
     return [*rows_of([], [f"Usage: {wrong.sentence}"]), ""] if wrong else []
 
 
-def start_lines(words):
+def start_lines(program, words):
     """What a person should know before the program runs."""
-    sentence = stale_in_words(words)
+    sentence = stale_in_words(program, words)
     return rows_of([], [f"stale: {sentence}"]) if sentence else []
 
 

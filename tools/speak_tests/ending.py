@@ -88,17 +88,21 @@ def a_denied_start_is_said(tried):
 
 
 def a_stale_object_is_named(tried):
-    """Before a run the object is named whose source was changed after it, and no other."""
+    """Before a run the object is named that is not of its source, and no other, whatever the times
+    are."""
     with tempfile.TemporaryDirectory() as folder:
         for name in ("boot", "main.alm", "con_.alm"):
             shutil.copy(ROOT / "examples/hello" / name, folder)
         for name in ("main", "con_"):
             tried.directly(["alm", name], folder)
+        source = pathlib.Path(folder, "main.alm")
+        os.utime(source, (2**31, 2**31))
         current = tried.spoken(["run"], folder)
-        os.utime(pathlib.Path(folder, "main.alm"), (2**31, 2**31))
+        source.write_bytes(source.read_bytes() + b" nop 0\n")
+        os.utime(source, (1, 1))
         stale = tried.spoken(["run"], folder)
     said = plain(stale.stderr.decode())
-    start = 'stale: the source is newer than the object of "main"'
+    start = 'stale: the source was changed after it was assembled to "main"'
     right = not current.stderr and said.startswith(start)
     right &= "con_" not in said and (stale.returncode, stale.stdout) == (0, current.stdout)
     return [] if right else [f"{current} / {stale}"]

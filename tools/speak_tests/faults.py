@@ -39,7 +39,7 @@ FAULTS = (
         'f"there is one operand too many")\n        if not',
     ),
     ("m36lib/user_rights.py", 'one in ("*", other)', 'one in (other,)'),
-    ("m36lib/stale.py", "source > made", "source < made"),
+    ("m36lib/stale.py", "return bool(source_of", "return not bool(source_of"),
     ("m36lib/ends.py", "sentence}: {found[0]}", "sentence}"),
     ("m36lib/ends.py", '[f"{entry.word}: {entry.sentence}; {entry.advice}"]', "[]"),
     # A sentence without the form, or with another one.
