@@ -1,0 +1,208 @@
+/* The page: where it is in the run, keys and buttons. */
+
+const SIZES = [0.75, 0.85, 1, 1.15, 1.3, 1.5, 1.75];
+
+class Page {
+  constructor(run) {
+    this.run = run;
+    this.turn = 0;
+    this.predicts = false;
+    this.isHidden = false;
+    this.size = window.innerWidth >= 1700 ? 3 : 2;
+    this.setSize();
+    this.slider = byId("slider");
+    this.source = new SourcePanel(run, byId("source"));
+    this.account = new AccountPanel(run, byId("account"), byId("trace"));
+    this.memory = new MemoryPanel(run, byId("memory"));
+    this.ladder = new Ladder(run, byId("ladder"), (turn) => this.go(turn));
+    this.makeHead();
+    this.makeButtons();
+    this.listen();
+    this.go(this.firstStep());
+    this.goToFragment();
+  }
+
+  makeHead() {
+    const start = this.run.start;
+    byId("name").textContent = start.name;
+    byId("name").title = { folder: "a folder that boots", image: "a bare image", processes: "several processes" }[start.kind];
+    if (!start.notes.length) return;
+    byId("notes").hidden = false;
+    byId("notes").append(...start.notes.map((note) => element("p", {}, note)));
+  }
+
+  makeButtons() {
+    this.actions = [
+      ["Home", "Home", "the first step", () => this.go(this.firstStep())],
+      ["ArrowLeft", "←", "a step back", () => this.back()],
+      ["ArrowRight", "→", "a step", () => this.forward()],
+      ["End", "End", "the end", () => this.end()],
+      ["ArrowUp", "↑", "the change of ring before", () => this.ring(-1), "ring"],
+      ["ArrowDown", "↓", "the next change of ring", () => this.ring(1), "ring"],
+      ["f", "f", "the next fault or link", () => this.event(), "fault, link"],
+      ["l", "l", "out of a loop", () => this.leaveLoop(), "loop"],
+      ["p", "p", "predict", () => this.togglePredict(), "predict"],
+      ["-", "−", "smaller", () => this.resize(-1)],
+      ["+", "+", "larger", () => this.resize(1)],
+    ];
+    for (const [key, label, title, act, word] of this.actions) {
+      const button = element("button", { type: "button", title: `${title} (key ${label})`, "aria-label": title,
+        "aria-keyshortcuts": key, "data-key": key }, element("kbd", {}, label), word ? ` ${word}` : "");
+      button.addEventListener("click", act);
+      byId("buttons").append(button);
+    }
+    this.keys = new Map(this.actions.map(([key, , , act]) => [key, act]));
+    this.keys.set("=", this.keys.get("+"));
+    this.predictButton = byId("buttons").querySelector("[data-key=p]");
+    this.predictButton.setAttribute("aria-pressed", "false");
+  }
+
+  listen() {
+    document.addEventListener("keydown", (event) => {
+      if (event.ctrlKey || event.altKey || event.metaKey || event.target.tagName === "SELECT") return;
+      const act = this.keys.get(event.key);
+      if (!act) return;
+      event.preventDefault();
+      act();
+    });
+    this.slider.addEventListener("input", () => this.go(Number(this.slider.value)));
+    window.addEventListener("resize", () => this.show());
+    window.addEventListener("hashchange", () => this.goToFragment());
+  }
+
+  /* `#14` is step 14, and `#14p` the same to be predicted. */
+  goToFragment() {
+    const found = /^#(\d+)(p?)$/.exec(location.hash);
+    if (!found) return;
+    if (found[2] && !this.predicts) this.togglePredict();
+    for (let turn = 0; turn < this.run.count; turn++) {
+      if (this.run.isStep(turn) && this.run.numbers[turn] === Number(found[1])) return this.go(turn);
+    }
+  }
+
+  firstStep() {
+    let turn = 0;
+    while (turn < this.run.count - 1 && !this.run.isStep(turn)) turn += 1;
+    return turn;
+  }
+
+  go(turn) {
+    const wanted = Math.max(0, Math.min(turn, this.run.count - 1));
+    this.turn = wanted;
+    this.isHidden = this.predicts && this.run.isStep(wanted);
+    this.show();
+  }
+
+  forward() {
+    if (this.isHidden) {
+      this.isHidden = false;
+      this.show();
+    } else if (this.turn < this.run.count - 1) this.go(this.turn + 1);
+  }
+
+  back() {
+    if (this.turn > 0) this.go(this.turn - 1);
+  }
+
+  end() {
+    if (this.predicts) this.say("The end is hidden while you predict.");
+    else this.go(this.run.count - 1);
+  }
+
+  /* To the first step of the next stretch in another ring, or of this one or the one before. */
+  ring(direction) {
+    const run = this.run, ringAt = (turn) => run.tables.spots[run.spots[turn]][0];
+    const steps = (from, by) => {
+      let at = from + by;
+      while (at >= 0 && at < run.count && !run.isStep(at)) at += by;
+      return at;
+    };
+    let turn = run.isStep(this.turn) ? this.turn : steps(this.turn, -1);
+    if (turn < 0) return;
+    if (direction > 0) {
+      let at = steps(turn, 1);
+      while (at < run.count && ringAt(at) === ringAt(turn)) at = steps(at, 1);
+      if (at < run.count) this.go(at);
+      else this.say("The ring does not change any more.");
+      return;
+    }
+    const before = steps(turn, -1);
+    if (before < 0) return;
+    for (let at = before, ring = ringAt(before); at >= 0 && ringAt(at) === ring; at = steps(at, -1)) turn = at;
+    this.go(turn);
+  }
+
+  event() {
+    const found = this.ladder.events.find(([turn, kind]) => turn > this.turn && kind !== "page" && kind !== "console" && kind !== "end");
+    if (found) this.go(found[0]);
+    else this.say("There is no fault and no link after this.");
+  }
+
+  leaveLoop() {
+    const turn = this.run.isStep(this.turn) ? afterLoop(this.run, this.turn) : -1;
+    if (turn >= 0) this.go(turn);
+    else this.say("This step is in no loop.");
+  }
+
+  togglePredict() {
+    this.predicts = !this.predicts;
+    this.isHidden = this.predicts && this.run.isStep(this.turn);
+    this.predictButton.setAttribute("aria-pressed", String(this.predicts));
+    document.body.classList.toggle("predicts", this.predicts);
+    this.show();
+  }
+
+  resize(by) {
+    this.size = Math.max(0, Math.min(SIZES.length - 1, this.size + by));
+    this.setSize();
+    this.show();
+  }
+
+  setSize() {
+    document.documentElement.style.fontSize = `${16 * SIZES[this.size]}px`;
+  }
+
+  show() {
+    const run = this.run, { turn, isHidden } = this;
+    const limit = this.predicts ? (isHidden ? turn - 1 : turn) : Infinity;
+    this.slider.max = String(this.predicts ? turn : run.count - 1);
+    this.slider.value = String(turn);
+    const place = this.place();
+    this.slider.setAttribute("aria-valuetext", place);
+    byId("position").textContent = place;
+    if (run.spots[turn] >= 0) {
+      this.source.show(run.at(turn), isHidden || !run.isStep(turn) ? [] : run.references(turn));
+    }
+    this.account.show(turn, isHidden);
+    this.memory.show(turn, isHidden);
+    this.ladder.show(turn, limit, SIZES[this.size]);
+    this.say(this.summary());
+  }
+
+  place() {
+    const run = this.run, number = run.numbers[this.turn];
+    const of = this.predicts ? "" : ` of ${run.steps}`;
+    const kind = run.kind(this.turn);
+    if (kind === "step") return `Step ${number}${of}`;
+    if (kind === "end") return `End, after step ${number}`;
+    return kind === "page" ? `Before step ${number + 1}${of}` : `After step ${number}${of}`;
+  }
+
+  /* What a screen reader says of a turn. */
+  summary() {
+    const run = this.run;
+    if (!run.isStep(this.turn)) return `${this.place()}: ${run.rows[this.turn].text}`;
+    const step = run.step(this.turn);
+    const head = `Step ${step.number}. Ring ${step.at.ring} executes ${step.instruction || "nothing"} at ${step.at.name}.`;
+    if (this.isHidden) return `${head} Predict, then press the right arrow.`;
+    const reference = mainReference(step.references);
+    const asked = reference && reference.kind !== "fetch" ? ` ${reference.question} ${reference.answer}` : "";
+    return `${head}${asked} ${step.outcome.text}`;
+  }
+
+  say(text) {
+    byId("live").textContent = text;
+  }
+}
+
+new Page(new Run(JSON.parse(byId("run").textContent)));
