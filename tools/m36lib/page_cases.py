@@ -1,0 +1,109 @@
+"""The runs whose pages are checked, with what is expected of them by the program's own output."""
+
+import pathlib
+import re
+import shutil
+import subprocess
+import sys
+from dataclasses import dataclass, field
+
+from .cases import EXAMPLES, prepare
+
+TOOLS = pathlib.Path(__file__).resolve().parents[1]
+FIRST_SEGMENT = 0o100
+LISTED = re.compile(r"text ([0-7]+) [0-7]{12} (\d+)")
+STEP = re.compile(r"(?:\d )?\d+ [0-7] [0-7]{5}\|[0-7]{6} ")
+
+
+@dataclass
+class PageCase:
+    """A run: its name, its folder, its file or None, the command whose trace it is, and, once it is
+    made, its page. `lines` are those of the trace, without those of the audit."""
+
+    name: str
+    folder: pathlib.Path
+    file: str = None
+    command: str = "trace"
+    page: pathlib.Path = None
+    lines: list = field(default_factory=list)
+    places: dict = field(default_factory=dict)
+
+    @property
+    def what(self):
+        return self.folder / self.file if self.file else self.folder
+
+    def steps(self):
+        return [line for line in self.lines if STEP.match(line)]
+
+
+EXAMPLE_CASES = (
+    ("servant", None, "trace"),
+    ("hello", None, "trace"),
+    ("pages", None, "trace"),
+    ("search", None, "trace"),
+    ("borrowed", None, "trace"),
+    ("direct", None, "trace"),
+    ("segments", "segments", "bare"),
+    ("lock", "split", "procs"),
+)
+
+
+def run_look(program, words, folder):
+    """Runs tools/look, and returns what came of it."""
+    return subprocess.run([sys.executable, TOOLS / "look", *words], cwd=folder, capture_output=True,
+                          env={"M36_PROGRAM": program, "PATH": "/usr/bin:/bin"})
+
+
+def made(program, case, work, words=()):
+    """The case with its page, its trace, and the lines of its sources."""
+    case.page = work / f"{case.name}.html"
+    done = run_look(program, [case.what, "-o", case.page, *words], work)
+    if done.returncode:
+        raise RuntimeError(f"{case.name}: tools/look: {done.stderr.decode()}")
+    command = [program, case.command, *([case.file] if case.file else [])]
+    traced = subprocess.run(command, cwd=case.folder, capture_output=True).stdout.decode("ascii")
+    case.lines = [line for line in traced.splitlines() if not line.startswith("audit ")]
+    case.places = {} if case.file else source_places(program, case.folder)
+    return case
+
+
+def source_places(program, folder):
+    """File and line of each word of the sources, by segment and word."""
+    found = {}
+    boot = (folder / "boot").read_text().splitlines()
+    segments = [line.split(" ") for line in boot if line.startswith("segment ")]
+    for number, words in enumerate(segments, FIRST_SEGMENT):
+        source = folder / f"{words[3]}.alm"
+        if words[4] == "data" or not source.exists():
+            continue
+        listing = subprocess.run([program, "alm", words[3]], cwd=folder, capture_output=True)
+        for line in listing.stdout.decode("ascii").splitlines():
+            listed = LISTED.fullmatch(line)
+            if listed:
+                place = f"{number:05o}|{int(listed[1], 8):06o}"
+                found[place] = f"{source.name} {listed[2]}"
+    return found
+
+
+def examples(program, work):
+    """The cases of the examples."""
+    copies = work / "examples"
+    shutil.copytree(EXAMPLES, copies)
+    for folder, file, command in EXAMPLE_CASES:
+        prepare(program, copies / folder)
+        yield made(program, PageCase(folder, copies / folder, file, command), work)
+
+
+def folder_of(program, work, name, sources, boot, data=()):
+    """A folder with these sources, assembled, and this boot text."""
+    folder = work / name
+    folder.mkdir()
+    for file, text in sources.items():
+        (folder / f"{file}.alm").write_bytes(text.encode("utf-8", "surrogateescape"))
+        done = subprocess.run([program, "alm", file], cwd=folder, capture_output=True)
+        if done.returncode:
+            raise RuntimeError(f"{name}: {file}.alm: {done.stderr.decode()}")
+    for file, content in data:
+        (folder / file).write_bytes(content)
+    (folder / "boot").write_text(boot)
+    return folder
