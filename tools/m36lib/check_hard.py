@@ -2,6 +2,7 @@
 
 import functools
 import json
+import resource
 import subprocess
 import time
 
@@ -151,24 +152,32 @@ def check_size(_, program, work):
         raise Wrong(f"the page of {len(case.steps())} steps has {size} bytes")
 
 
+def seconds_used():
+    """The processor time of all that was started and has ended."""
+    used = resource.getrusage(resource.RUSAGE_CHILDREN)
+    return used.ru_utime + used.ru_stime
+
+
 def check_long(browser, program, work):
-    """100,000 steps: made within a minute, opened within five seconds, and right at the end."""
+    """100,000 steps: made within a minute of one processor, opened within five seconds, and right at
+    the end."""
     case = counting_case(program, work, "long", LONG_STEPS // 5 + 1)
-    started = time.monotonic()
+    started, used = time.monotonic(), seconds_used()
     made(program, case, work)
-    seconds = time.monotonic() - started
+    seconds, used = time.monotonic() - started, seconds_used() - used
     started = time.monotonic()
     tab = opened(browser, case)
     found = state(tab)
     opening = time.monotonic() - started
-    print(f"{LONG_STEPS} steps: made in {seconds:.1f} s, opened in {opening:.1f} s, "
+    print(f"{LONG_STEPS} steps: made in {seconds:.1f} s ({used:.1f} s of the processor), opened in "
+          f"{opening:.1f} s, "
           f"{case.page.stat().st_size // 1000} kB")
     expect("position", found["position"], f"Step 1 of {LONG_STEPS}")
     tab.press("End")
     tab.press("ArrowLeft")
     expect("the last trace line", state(tab)["trace"], case.steps()[-1])
     tab.close()
-    if seconds > LONG_SECONDS or opening > OPEN_SECONDS:
+    if used > LONG_SECONDS or opening > OPEN_SECONDS:
         raise Wrong(f"at most {LONG_SECONDS} s and {OPEN_SECONDS} s are allowed")
 
 

@@ -10,6 +10,7 @@ from .page_cases import STEP, examples
 PROBE = (pathlib.Path(__file__).resolve().parent / "page_probe.js").read_text()
 WIDTHS = ((1024, 768), (1440, 900), (1920, 1080))
 NO_LINE = "no line of the trace"
+UNDONE_BY = {"p": "p", "+": "-", "-": "+", "?": "?"}
 
 
 class Wrong(Exception):
@@ -75,17 +76,29 @@ def check_step(case, expected, found):
             raise Wrong(f"{where}: no access violation {refused[1]} in {found['refusals'][0]!r}")
 
 
+def check_next(lines, seen, found):
+    """Where the page says that the next instruction is."""
+    after = next((line for line in lines[seen:] if line.is_step), None)
+    if after:
+        word = int(after.place.split("|")[1], 8)
+        said = re.sub(r" at .*\|", " at |", found["next"])
+        expect(f"before step {after.number}", said, f"Next: ring {after.ring} at |{word:o}")
+
+
 def check_walk(browser, case):
     """Goes through a whole run by →."""
     tab, lines = opened(browser, case), traced(case)
     seen, found = 0, state(tab)
     while True:
         if found["trace"] != NO_LINE:
-            expect("trace line", found["trace"], lines[seen].line)
-            if lines[seen].is_step:
-                expect("position", found["position"], f"Step {lines[seen].number} of {len(case.steps())}")
-                check_step(case, lines[seen], found)
+            line = lines[seen]
+            expect("trace line", found["trace"], line.line)
+            if line.is_step:
+                expect("position", found["position"], f"Step {line.number} of {len(case.steps())}")
+                check_step(case, line, found)
             seen += 1
+            if line.is_step and line.outcome == "next" and case.command != "procs":
+                check_next(lines, seen, found)
         before = found
         tab.press("ArrowRight")
         found = state(tab)
@@ -171,14 +184,14 @@ def check_buttons(tab):
         before = state(tab)
         tab.press(key)
         by_key = state(tab)
-        if key in "p+-":
-            tab.press({"p": "p", "+": "-", "-": "+"}[key])
+        if key in UNDONE_BY:
+            tab.press(UNDONE_BY[key])
         go_to(tab, 3)
         expect(f"back from key {key}", state(tab), before)
         tab.evaluate(f"document.querySelector('[data-key=\"{key}\"]').click()")
         expect(f"button {key}", state(tab), by_key)
-        if key in "p+-":
-            tab.press({"p": "p", "+": "-", "-": "+"}[key])
+        if key in UNDONE_BY:
+            tab.press(UNDONE_BY[key])
     nameless = tab.evaluate("[...document.querySelectorAll('button, input, select, svg')].filter(n => "
                             "!n.getAttribute('aria-label') && !n.labels?.length).map(n => n.outerHTML)")
     expect("what has no name", nameless, [])
@@ -212,7 +225,7 @@ def check_hidden(tab, line, end, count):
     expect(f"{where}, cells and notes", (found["refused"], found["refusals"]), ([], []))
     texts = tab.evaluate("probe.visible()")
     shown = [text for text in texts if f"end {end}" in text or f"of {count}" in text]
-    if line.outcome != "next":
+    if re.match("fault|stop", line.outcome):
         shown += [text for text in texts if line.outcome in text]
     if re.match(r"\d:", line.final):
         shown += [text for text in texts if line.final in text and "PR" not in text]
@@ -291,8 +304,8 @@ def example_checks(browser, program, work):
     yield "servant: policy", functools.partial(check_policy, browser, cases["servant"])
 
 
-def run_checks(checks, show=print):
-    """Makes the checks. The number of those that fail."""
+def run_checks(checks, stops=False, show=print):
+    """Makes the checks, or those up to the first that fails. The number of those that fail."""
     wrong = made = 0
     for name, check in checks:
         made += 1
@@ -301,5 +314,7 @@ def run_checks(checks, show=print):
         except Wrong as error:
             wrong += 1
             show(f"{name}: {error}")
+            if stops:
+                break
     show(f"page: {made} checks, {wrong} wrong")
     return wrong

@@ -71,9 +71,10 @@ def source_hash(text):
     return f"'sha256-{base64.b64encode(digest).decode()}'"
 
 
-def page_of(run, steps):
-    """The text of the page of a run."""
+def page_of(run, steps, name=None):
+    """The text of the page of a run, with a name of its own where one is given."""
     start = with_more(run.header.as_json(), places_of(run))
+    start["name"] = name or start["name"]
     turns = (turn.as_json() for turn in run.turns(steps))
     style = (FILES / "page.css").read_text(encoding="utf-8")
     script = "\n".join((FILES / name).read_text(encoding="utf-8") for name in SCRIPTS)

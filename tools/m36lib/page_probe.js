@@ -19,6 +19,8 @@ window.probe = {
       rings: this.texts(".picture-words p"),
       refusals: this.texts("#account li.refused"),
       live: document.getElementById("live").textContent,
+      next: this.texts("#account .next")[0] || "",
+      help: Boolean(document.querySelector("dialog[open]")),
       size: getComputedStyle(document.documentElement).fontSize,
       slider: [document.getElementById("slider").value, document.getElementById("slider").max],
     };

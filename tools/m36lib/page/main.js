@@ -1,5 +1,8 @@
 /* The page: where it is in the run, keys and buttons. */
 
+const MARK_TEXTS = [["page", "a page is referred to for the first time"], ["link", "the linker answers a link"],
+  ["console", "the console writes"], ["fault", "a fault or a stop"]];
+
 const SIZES = [0.75, 0.85, 1, 1.15, 1.3, 1.5, 1.75];
 
 class Page {
@@ -44,6 +47,7 @@ class Page {
       ["p", "p", "predict", () => this.togglePredict(), "predict"],
       ["-", "−", "smaller", () => this.resize(-1)],
       ["+", "+", "larger", () => this.resize(1)],
+      ["?", "?", "help", () => this.help()],
     ];
     for (const [key, label, title, act, word] of this.actions) {
       const button = element("button", { type: "button", title: `${title} (key ${label})`, "aria-label": title,
@@ -55,6 +59,26 @@ class Page {
     this.keys.set("=", this.keys.get("+"));
     this.predictButton = byId("buttons").querySelector("[data-key=p]");
     this.predictButton.setAttribute("aria-pressed", "false");
+  }
+
+  /* What keys and marks mean. */
+  help() {
+    if (this.dialog) {
+      this.dialog.remove();
+      this.dialog = null;
+      return;
+    }
+    const row = (head, text) => element("tr", {}, element("th", { scope: "row" }, head), element("td", {}, text));
+    const mark = ([kind, text]) => row(drawn("svg", { width: 16, height: 14, viewBox: "-8 -7 16 14", "aria-label": kind },
+      drawn("path", { d: MARKS[kind], class: `mark ${kind}` })), text);
+    const close = element("button", { type: "button" }, "Close");
+    close.addEventListener("click", () => this.help());
+    this.dialog = element("dialog", { "aria-label": "Help" },
+      element("h2", {}, "Keys"), element("table", {}, this.actions.map(([, label, title]) => row(label, title))),
+      element("h2", {}, "Marks in the ladder"), element("table", {}, MARK_TEXTS.map(mark)), close);
+    this.dialog.addEventListener("close", () => this.dialog && this.help());
+    document.body.append(this.dialog);
+    this.dialog.showModal();
   }
 
   listen() {

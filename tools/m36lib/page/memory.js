@@ -68,7 +68,7 @@ class MemoryPanel {
       element("thead", {}, head), element("tbody", {}, body)));
     const left = this.run.start.segments.length - rows.length;
     this.legend = element("p", { class: "legend" },
-      "r read · w write · e execute · c call into an inner ring",
+      "r read · w write · e execute · c call into an inner ring · after a name R1 R2 R3",
       left && rows.length > MOST_ROWS / 2 && !this.isSmall() ? ` · ${left} segments that are not touched are left out` : "");
     this.matrix.append(this.legend);
   }
@@ -88,8 +88,14 @@ class MemoryPanel {
     const title = `segment ${segment.number}, brackets ${segment.r1} ${segment.r2} ${segment.r3}`
       + (segment.gate ? `, a gate with ${segment.entries} entries` : "") + `, ${segment.words} words`;
     return element("tr", { "data-segment": segment.number },
-      element("th", { scope: "row", title }, element("span", {}, segment.name),
+      element("th", { scope: "row", title }, element("span", {}, this.rowName(segment)),
         element("small", {}, ` ${segment.r1}${segment.r2}${segment.r3}`)), cells, pages);
+  }
+
+  /* The name of a segment, with its file where another one has the name too. */
+  rowName(segment) {
+    const others = this.run.start.segments.filter((other) => other.name === segment.name);
+    return others.length > 1 && segment.file !== segment.name ? `${segment.name} (${segment.file})` : segment.name;
   }
 
   show(turn, hidden) {
@@ -193,8 +199,10 @@ class MemoryPanel {
       picture.append(drawn("path", { d: `M${from} L${to}`, class: main.allowed ? "reach" : "reach refused" }));
       this.drawMarker(picture, middle, other, radius, band, 30, main.allowed ? "refers" : "refused");
     }
-    this.drawMarker(picture, middle, ring, radius, band, 150, "executes");
-    const words = [element("p", {}, "executes in ", ringBadge(ring))];
+    const isRefused = main && !main.allowed && main.kind === "fetch";
+    this.drawMarker(picture, middle, ring, radius, band, 150, isRefused ? "refused" : "executes");
+    const words = [element("p", { class: isRefused ? "refused" : "" }, "executes in ", ringBadge(ring),
+      isRefused ? " refused" : "")];
     if (hidden) words.push(element("p", { class: "covered" }, "asks in ?"));
     else if (other !== null) {
       words.push(element("p", { class: main.allowed ? "" : "refused" }, `${VERBS[main.kind]} in `,

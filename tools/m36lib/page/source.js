@@ -59,9 +59,16 @@ class SourcePanel {
 
   line(key, number, text) {
     const line = element("div", { class: "line", "data-line": number },
-      element("span", { class: "number" }, String(number)), element("code", {}, visible(text)));
+      element("span", { class: "number" }, String(number)), element("code", {}, this.parts(visible(text))));
     this.lines.set(key, line);
     return line;
+  }
+
+  /* A text with the blanks before its remark drawn narrow. */
+  parts(text) {
+    const found = /^(.*?\S)( {2,})(".*)$/s.exec(text);
+    if (!found) return [text];
+    return [found[1], element("span", { class: "gap" }, found[2]), element("span", { class: "remark" }, found[3])];
   }
 
   /* The instructions of a segment that the run fetches, by their words. */
