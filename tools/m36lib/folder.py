@@ -274,6 +274,9 @@ class Sources:
 class NoSources:
     """Where there is no source, as of a bare image."""
 
+    def of(self, segment):
+        return None
+
     def line(self, segment, word):
         return None, None
 

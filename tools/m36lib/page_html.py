@@ -8,6 +8,7 @@ from types import SimpleNamespace
 
 from . import rights
 from .encode import as_script, encode
+from .folder import source_of
 
 FILES = pathlib.Path(__file__).resolve().parent / "page"
 SCRIPTS = ("run.js", "stays.js", "elements.js", "ladder.js", "source.js", "account.js", "memory.js",
@@ -48,22 +49,33 @@ def letters(segment, ring):
     return found
 
 
-def with_more(start, places):
-    """What the page needs besides: rights by rings, titles of sections, and lines by words."""
-    segments = [{**segment, "rights": [letters(segment, ring) for ring in range(8)]}
-                for segment in start["segments"]]
-    return {**start, "segments": segments, "sections": SECTIONS, "places": places}
+def start_of(run):
+    """What is known before the first step, and what the page needs besides: rights by rings, titles
+    of sections, the sources of data, and the line of each word of a source."""
+    start = run.header.as_json()
+    sources = dict(sources_of(run, start))
+    places = {number: {"file": source.file,
+                       "lines": {f"{word:06o}": line for word, line in source.places.items()}}
+              for number, source in sources.items() if source.places}
+    return {
+        **start,
+        "segments": [{**segment, "rights": [letters(segment, ring) for ring in range(8)]}
+                     for segment in start["segments"]],
+        "sources": {**start["sources"], **{each.file: each.lines for each in sources.values()}},
+        "sections": SECTIONS,
+        "places": places,
+    }
 
 
-def places_of(run):
-    """The file and the line of each word of a source, by segments."""
-    found = {}
-    for segment in getattr(run.sources, "files", {}):
-        source = run.sources.of(segment)
-        if source and source.places:
-            lines = {f"{word:06o}": line for word, line in source.places.items()}
-            found[f"{segment:05o}"] = {"file": source.file, "lines": lines}
-    return found
+def sources_of(run, start):
+    """Pairs of a segment's number and its source. Data has one where it is assembled too."""
+    for segment in start["segments"]:
+        source = run.sources.of(int(segment["number"], 8))
+        if segment["kind"] == "data" and not source:
+            source = source_of(run.program, run.path, segment["file"])
+            source = None if source and source.problem else source
+        if source:
+            yield segment["number"], source
 
 
 def source_hash(text):
@@ -71,10 +83,11 @@ def source_hash(text):
     return f"'sha256-{base64.b64encode(digest).decode()}'"
 
 
-def page_of(run, steps, name=None):
-    """The text of the page of a run, with a name of its own where one is given."""
-    start = with_more(run.header.as_json(), places_of(run))
+def page_of(run, steps, name=None, question=None):
+    """The text of the page of a run. A name of its own and a question are optional."""
+    start = start_of(run)
     start["name"] = name or start["name"]
+    start["question"] = question
     turns = (turn.as_json() for turn in run.turns(steps))
     style = (FILES / "page.css").read_text(encoding="utf-8")
     script = "\n".join((FILES / name).read_text(encoding="utf-8") for name in SCRIPTS)

@@ -12,17 +12,21 @@ MOST_STEPS = 100_000
 
 @dataclass(frozen=True)
 class ListedRun:
-    """A line of the list: the name of the page, the folder of examples/, and the file or None."""
+    """A line of the list: the name of the page, the folder of examples/, the file or None, and the
+    question of its lesson."""
 
     name: str
     folder: str
-    file: str = None
+    file: str
+    question: str
 
 
 def listed(path):
-    """The runs of a list."""
-    return [ListedRun(*line.split()) for line in path.read_text().splitlines()
+    """The runs of a list: the fields of a line are separated by ` | `."""
+    rows = [line.split(" | ") for line in path.read_text().splitlines()
             if line and not line.startswith("#")]
+    return [ListedRun(name, folder, file.strip() or None, question)
+            for name, folder, file, question in rows]
 
 
 def pages(program, work, runs):
@@ -33,4 +37,4 @@ def pages(program, work, runs):
         folder = copies / run.folder
         prepare(program, folder)
         with open_run(program, folder / run.file if run.file else folder) as recorded:
-            yield run.name, page_of(recorded, MOST_STEPS, run.name).encode("utf-8")
+            yield run.name, page_of(recorded, MOST_STEPS, run.name, run.question).encode("utf-8")

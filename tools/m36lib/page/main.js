@@ -29,6 +29,8 @@ class Page {
     const start = this.run.start;
     byId("name").textContent = start.name;
     byId("name").title = { folder: "a folder that boots", image: "a bare image", processes: "several processes" }[start.kind];
+    byId("question").hidden = !start.question;
+    byId("question").textContent = start.question || "";
     if (!start.notes.length) return;
     byId("notes").hidden = false;
     byId("notes").append(...start.notes.map((note) => element("p", {}, note)));
