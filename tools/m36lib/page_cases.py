@@ -7,9 +7,9 @@ import subprocess
 import sys
 from dataclasses import dataclass, field
 
-from .cases import EXAMPLES, prepare
+from .cases import prepare
+from .program import TOP
 
-TOOLS = pathlib.Path(__file__).resolve().parents[1]
 FIRST_SEGMENT = 0o100
 LISTED = re.compile(r"text ([0-7]+) [0-7]{12} (\d+)")
 STEP = re.compile(r"(?:\d )?\d+ [0-7] [0-7]{5}\|[0-7]{6} ")
@@ -50,7 +50,7 @@ EXAMPLE_CASES = (
 
 def run_look(program, words, folder):
     """Runs tools/look, and returns what came of it."""
-    return subprocess.run([sys.executable, TOOLS / "look", *words], cwd=folder, capture_output=True,
+    return subprocess.run([sys.executable, TOP / "tools/look", *words], cwd=folder, capture_output=True,
                           env={"M36_PROGRAM": program, "PATH": "/usr/bin:/bin"})
 
 
@@ -88,7 +88,7 @@ def source_places(program, folder):
 def examples(program, work):
     """The cases of the examples."""
     copies = work / "examples"
-    shutil.copytree(EXAMPLES, copies)
+    shutil.copytree(TOP / "examples", copies)
     for folder, file, command in EXAMPLE_CASES:
         prepare(program, copies / folder)
         yield made(program, PageCase(folder, copies / folder, file, command), work)

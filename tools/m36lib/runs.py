@@ -3,9 +3,10 @@
 import shutil
 from dataclasses import dataclass
 
-from .cases import EXAMPLES, prepare
+from .cases import prepare
 from .open_run import open_run
 from .page_html import page_of
+from .program import TOP
 
 MOST_STEPS = 100_000
 
@@ -32,7 +33,7 @@ def listed(path):
 def pages(program, work, runs):
     """The name and the bytes of each page."""
     copies = work / "examples"
-    shutil.copytree(EXAMPLES, copies)
+    shutil.copytree(TOP / "examples", copies)
     for run in runs:
         folder = copies / run.folder
         prepare(program, folder)
