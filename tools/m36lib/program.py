@@ -14,14 +14,15 @@ class NoProgram(Exception):
 
 
 def find_program():
-    """The path of the program: M36_PROGRAM where it is set, that of the repository, or `m36` on the
-    path."""
+    """The path of the program: M36_PROGRAM where it is set, that of the repository, or the one that
+    was installed with the tool, or else is on the path."""
     given = os.environ.get("M36_PROGRAM")
     if given:
         return existing(pathlib.Path(given).resolve())
     if (TOP / "crates.txt").is_file():
         return built()
-    found = shutil.which("m36")
+    installed = TOP / "m36"
+    found = str(installed) if installed.is_file() else shutil.which("m36")
     if found:
         return found
     raise NoProgram("there is no m36 on the path, and M36_PROGRAM does not name one")
