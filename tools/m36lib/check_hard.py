@@ -2,15 +2,18 @@
 
 import functools
 import json
+import re
 import resource
 import subprocess
 import time
 
 from .check_page import Wrong, check_quiet, check_walk, expect, opened, state
 from .page_cases import PageCase, folder_of, made, run_look
+from .page_html import SECTIONS
+from .program import TOP
 
 HOSTILE_NAME = "a\"<b>'&amp;"
-HOSTILE = "</script><script>alert(1)</script><!-- <img src=x onerror=alert(2)> \\u003c 'q' &lt; \t\x07\x1b[1m\udcff \u2028"
+HOSTILE = "</script><script>alert(1)</script><!-- <img src=x onerror=alert(2)> \\u003c 'q' &lt; \t\x07\x1b[1m\udcff \u202e é"
 WRITTEN = "<b>&</b>'</script>\""
 MAIN = """ entry start
 start: epaq 0,ic " @
@@ -67,9 +70,9 @@ def check_hostile(browser, program, work):
            tab.evaluate("[document.scripts.length, document.querySelectorAll('img, b').length]"),
            [2, 0])
     shown = tab.evaluate("document.querySelector('[data-line=\"2\"] code').textContent")
-    text = main.splitlines()[1] if "\u2028" not in main else main.split("\n")[1]
+    text = main.split("\n")[1]
     expect("the line of the source", shown, text.replace("\t", "\\011").replace("\x07", "\\007")
-           .replace("\x1b", "\\033").replace("\udcff", "\ufffd"))
+           .replace("\x1b", "\\033").replace("\udcff", "\ufffd").replace("\u202e", "\\u202e"))
     tab.press("End")
     expect("the console", tab.evaluate("document.querySelector('.console pre').textContent"), WRITTEN)
     check_quiet(tab, case)
@@ -129,6 +132,7 @@ def check_words(_, program, work):
     for words, status in (([folder, "--steps", "0"], 2), ([folder / "none"], 2), ([folder, "-x"], 2),
                           ([folder, "--json", "-o", "-"], 2), ([folder, "-o", work / "no/page"], 3)):
         expect(f"status of {words}", run_look(program, words, work).returncode, status)
+    check_full(program, folder)
     expect("status without a program", run_look("/nowhere", [folder], work).returncode, 70)
     turns = [json.loads(line) for line in run_look(program, [folder, "--json"], work).stdout.splitlines()]
     own = subprocess.run([program, "trace"], cwd=folder, capture_output=True).stdout.decode()
@@ -136,6 +140,20 @@ def check_words(_, program, work):
     expect("lines of --json", [line for line in lines if line], own.splitlines()[1:])
     few = run_look(program, [folder, "--json", "--steps", "3"], work).stdout.splitlines()
     expect("the end of a few steps", json.loads(few[-1])["line"], None)
+
+
+def check_full(program, folder):
+    """A full disk is reported, by its status too."""
+    for words in (["--json"], ["-o", "-"], ["-o", "/dev/full"]):
+        with open("/dev/full", "w") as full:
+            done = run_look(program, [folder, *words], folder, stdout=full)
+        expect(f"a full disk with {words}", (done.returncode, b"No space" in done.stderr), (3, True))
+
+
+def check_sections(*_):
+    """The titles of MANUAL's sections are those that a page has."""
+    headings = re.findall(r"^## (\d+)\. (.*)$", (TOP / "docs/MANUAL.md").read_text(), re.M)
+    expect("sections", SECTIONS, {number: title for number, title in headings if number in SECTIONS})
 
 
 def counting_case(program, work, name, count):
@@ -182,7 +200,7 @@ def check_long(browser, program, work):
 
 
 def hard_checks(browser, program, work):
-    checks = (check_hostile, check_many, check_refused, check_stale, check_words, check_size)
+    checks = (check_sections, check_hostile, check_many, check_refused, check_stale, check_words, check_size)
     for check in checks:
         yield check.__name__, functools.partial(check, browser, program, work)
 

@@ -26,7 +26,8 @@ def plant(fault, folder):
     """A copy of the tools with a fault."""
     file, old, new = fault
     shutil.copytree(ROOT / "tools", folder / "tools", ignore=shutil.ignore_patterns("__pycache__"))
-    (folder / "examples").symlink_to(ROOT / "examples")
+    for name in ("examples", "docs"):
+        (folder / name).symlink_to(ROOT / name)
     path = folder / "tools/m36lib" / file
     text = path.read_text()
     if text.count(old) != 1:

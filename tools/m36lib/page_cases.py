@@ -24,6 +24,7 @@ class PageCase:
     folder: pathlib.Path
     file: str = None
     command: str = "trace"
+    options: tuple = ()
     page: pathlib.Path = None
     lines: list = field(default_factory=list)
     places: dict = field(default_factory=dict)
@@ -37,20 +38,22 @@ class PageCase:
 
 
 EXAMPLE_CASES = (
-    ("servant", None, "trace"),
-    ("hello", None, "trace"),
-    ("pages", None, "trace"),
-    ("search", None, "trace"),
-    ("borrowed", None, "trace"),
-    ("direct", None, "trace"),
-    ("segments", "segments", "bare"),
-    ("lock", "split", "procs"),
+    ("servant", None, "trace", ()),
+    ("hello", None, "trace", ()),
+    ("pages", None, "trace", ()),
+    ("search", None, "trace", ()),
+    ("borrowed", None, "trace", ()),
+    ("direct/open", None, "trace", ()),
+    ("segments", "segments", "bare", ()),
+    ("laid", "laid", "bare", ("--unaudited",)),
+    ("lock", "split", "procs", ()),
 )
 
 
-def run_look(program, words, folder):
+def run_look(program, words, folder, stdout=subprocess.PIPE):
     """Runs tools/look, and returns what came of it."""
-    return subprocess.run([sys.executable, TOP / "tools/look", *words], cwd=folder, capture_output=True,
+    return subprocess.run([sys.executable, TOP / "tools/look", *words], cwd=folder, stdout=stdout,
+                          stderr=subprocess.PIPE,
                           env={"M36_PROGRAM": program, "PATH": "/usr/bin:/bin"})
 
 
@@ -60,7 +63,7 @@ def made(program, case, work, words=()):
     done = run_look(program, [case.what, "-o", case.page, *words], work)
     if done.returncode:
         raise RuntimeError(f"{case.name}: tools/look: {done.stderr.decode()}")
-    command = [program, case.command, *([case.file] if case.file else [])]
+    command = [program, case.command, *([case.file] if case.file else []), *case.options]
     traced = subprocess.run(command, cwd=case.folder, capture_output=True).stdout.decode("ascii")
     case.lines = [line for line in traced.splitlines() if not line.startswith("audit ")]
     case.places = {} if case.file else source_places(program, case.folder)
@@ -89,9 +92,10 @@ def examples(program, work):
     """The cases of the examples."""
     copies = work / "examples"
     shutil.copytree(TOP / "examples", copies)
-    for folder, file, command in EXAMPLE_CASES:
+    for folder, file, command, options in EXAMPLE_CASES:
         prepare(program, copies / folder)
-        yield made(program, PageCase(folder, copies / folder, file, command), work)
+        name = folder.replace("/", "-")
+        yield made(program, PageCase(name, copies / folder, file, command, options), work)
 
 
 def folder_of(program, work, name, sources, boot, data=()):

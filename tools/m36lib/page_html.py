@@ -97,7 +97,7 @@ def page_of(run, steps, name=None, question=None):
     )
     filled = {
         "policy": policy,
-        "title": html.escape(start["name"]),
+        "title": html.escape(start["name"].encode("utf-8", "replace").decode()),
         "style": style,
         "data": as_script(encode(start, turns)),
         "script": script,

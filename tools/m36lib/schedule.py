@@ -29,8 +29,12 @@ class JsonTurn:
 
 
 def is_schedule(path):
-    """Whether a file is a text of several processes."""
-    lines = pathlib.Path(path).read_bytes().split(b"\n", 2)
+    """Whether a file is a text of several processes; not where it can't be read, which the program
+    is to say."""
+    try:
+        lines = pathlib.Path(path).read_bytes().split(b"\n", 2)
+    except OSError:
+        return False
     return len(lines) > 1 and lines[0].startswith(b"core ") and lines[1].startswith(b"process ")
 
 

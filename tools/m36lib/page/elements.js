@@ -31,6 +31,13 @@ function ringBadge(ring, label) {
   return element("span", { class: `ring r${ring}`, title: label || `ring ${ring}` }, String(ring));
 }
 
+/* A text in which all characters show: those that control a terminal, or the direction of writing. */
+function shown(text) {
+  return text.replace(/[\x00-\x1f\x7f-\x9f]/g, (character) => "\\" + octal(character.charCodeAt(0), 3))
+    .replace(/[\u061c\u200b-\u200f\u2028-\u202e\u2060-\u2069\ufeff]/g,
+      (character) => "\\u" + character.charCodeAt(0).toString(16).padStart(4, "0"));
+}
+
 /* Characters that would not show, as the console line of a trace writes them. */
 function visible(text) {
   return text.replace(/[\x00-\x09\x0b-\x1f\x7f-\u00ff]/g,

@@ -27,7 +27,7 @@ class Page {
 
   makeHead() {
     const start = this.run.start;
-    byId("name").textContent = start.name;
+    byId("name").textContent = shown(start.name);
     byId("name").title = { folder: "a folder that boots", image: "a bare image", processes: "several processes" }[start.kind];
     byId("question").hidden = !start.question;
     byId("question").textContent = start.question || "";

@@ -68,7 +68,7 @@ class MemoryPanel {
       element("thead", {}, head), element("tbody", {}, body)));
     const left = this.run.start.segments.length - rows.length;
     this.legend = element("p", { class: "legend" },
-      "r read · w write · e execute · c call into an inner ring · after a name R1 R2 R3",
+      "r read · w write · e execute · c call into an inner ring · 444: R1 R2 R3",
       left && rows.length > MOST_ROWS / 2 && !this.isSmall() ? ` · ${left} segments that are not touched are left out` : "");
     this.matrix.append(this.legend);
   }

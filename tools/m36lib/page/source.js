@@ -12,6 +12,7 @@ class SourcePanel {
     this.files = Object.keys(run.start.sources);
     this.shown = null;
     this.marked = [];
+    this.words = this.firstWords();
     this.title = element("h2");
     this.tabs = element("div", { class: "tabs", role: "group", "aria-label": "Sources" });
     this.body = element("div", { class: "listing", tabindex: "0", role: "region", "aria-label": "Lines" });
@@ -19,6 +20,18 @@ class SourcePanel {
     const lines = this.files.reduce((sum, file) => sum + run.start.sources[file].length, 0);
     this.isTogether = lines <= MOST_LINES_TOGETHER;
     if (this.files.length > 1 && !this.isTogether) this.makeTabs();
+  }
+
+  /* The first word of each line that has one, in octal, by the key of the line. */
+  firstWords() {
+    const found = new Map();
+    for (const { file, lines } of Object.values(this.run.start.places)) {
+      for (const [word, line] of Object.entries(lines)) {
+        const key = `${file} ${line}`, now = parseInt(word, 8);
+        if (!found.has(key) || now < found.get(key)) found.set(key, now);
+      }
+    }
+    return found;
   }
 
   makeTabs() {
@@ -37,8 +50,9 @@ class SourcePanel {
     this.at = at;
     this.references = references;
     this.title.replaceChildren(ringBadge(at.ring), ` ${at.name}`);
-    if (!at.file || !this.run.start.sources[at.file]) this.showInstructions(at.segment);
-    else this.showFiles(this.isTogether ? this.files : [at.file]);
+    const places = this.run.start.places[at.segment], file = at.file || (places && places.file);
+    if (file && this.run.start.sources[file]) this.showFiles(this.isTogether ? this.files : [file]);
+    else this.showInstructions(at.segment);
     this.markLines();
   }
 
@@ -58,8 +72,11 @@ class SourcePanel {
   }
 
   line(key, number, text) {
+    const word = this.words.has(key) ? this.words.get(key).toString(8) : "";
     const line = element("div", { class: "line", "data-line": number },
-      element("span", { class: "number" }, String(number)), element("code", {}, this.parts(visible(text))));
+      element("span", { class: "number" }, String(number)),
+      this.words.size ? element("span", { class: "word", title: word && `word ${word} of the segment` }, word) : null,
+      element("code", {}, this.parts(shown(text))));
     this.lines.set(key, line);
     return line;
   }
@@ -113,7 +130,7 @@ class SourcePanel {
   /* A note at the line of a word that is referred to. */
   markReference(reference, here) {
     const { place, kind, allowed } = reference;
-    const source = place && this.run.start.places && this.run.start.places[place.segment];
+    const source = place && this.run.start.places[place.segment];
     if (!source || kind === "fetch") return;
     const key = `${source.file} ${source.lines[place.word]}`, line = this.lines.get(key);
     if (!line || key === here || line.querySelector(".note")) return;
