@@ -129,7 +129,7 @@ class AccountPanel {
   }
 
   nextText(step) {
-    if (step.outcome.trace !== "next" || !step.next) return "";
+    if (step.outcome.trace !== "next" || !step.next || this.run.processes > 1) return "";
     return `Next: ring ${step.next.ring} at ${this.run.placeName(step.next)}`;
   }
 

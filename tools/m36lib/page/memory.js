@@ -16,12 +16,13 @@ class MemoryPanel {
   constructor(run, parent) {
     this.run = run;
     this.picture = element("div", { class: "picture" });
-    this.matrix = element("div", { class: "matrix" });
+    this.matrix = element("div", { class: "matrix", tabindex: "0", role: "region", "aria-label": "Matrix" });
     this.console = element("div", { class: "console" });
     parent.append(element("h2", {}, "Rings"), this.picture, element("h2", {}, "Who may do what"),
-      this.matrix, this.console);
+      this.matrix);
     this.findTouched();
     this.makeMatrix();
+    parent.append(this.legend, this.console);
   }
 
   /* Which page is touched when: the first turn by segment and page. */
@@ -67,10 +68,10 @@ class MemoryPanel {
       element("caption", { class: "unseen" }, "What each ring may do with each segment: r read, w write, e execute, c call"),
       element("thead", {}, head), element("tbody", {}, body)));
     const left = this.run.start.segments.length - rows.length;
-    this.legend = element("p", { class: "legend" },
+    const legend = element("p", { class: "legend" },
       "r read · w write · e execute · c call into an inner ring · 444: R1 R2 R3",
       left && rows.length > MOST_ROWS / 2 && !this.isSmall() ? ` · ${left} segments that are not touched are left out` : "");
-    this.matrix.append(this.legend);
+    this.legend = legend;
   }
 
   isSmall() {
@@ -116,6 +117,7 @@ class MemoryPanel {
     }
     for (const cell of this.matrix.querySelectorAll(`[data-ring="${at.ring}"]`)) cell.classList.add("column");
     const here = this.cells.get(`${at.segment} ${at.ring}`);
+    if (here) this.scrollTo(here.parentElement);
     if (here) this.markCell(here, "executes", `ring ${at.ring} executes here`);
     for (const reference of references) {
       if (reference.kind === "fetch" || !reference.place) continue;
@@ -125,6 +127,14 @@ class MemoryPanel {
       else this.markCell(cell, "refused", `${VERBS[reference.kind]}: refused`);
     }
     if (main && !main.allowed && main.kind === "fetch" && here) this.markCell(here, "refused", "execution refused");
+  }
+
+  /* Scrolls a long matrix to a row. */
+  scrollTo(row) {
+    const top = row.offsetTop, height = this.matrix.clientHeight, now = this.matrix.scrollTop;
+    if (top < now + row.offsetHeight || top > now + height - 2 * row.offsetHeight) {
+      this.matrix.scrollTop = Math.max(0, top - height / 2);
+    }
   }
 
   markCell(cell, mark, label) {
