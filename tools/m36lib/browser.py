@@ -7,6 +7,7 @@
 
 A message is JSON with a zero byte after it; a call has a number, which its answer repeats."""
 
+import base64
 import fcntl
 import json
 import os
@@ -20,7 +21,8 @@ NAMES = ("chromium", "chromium-browser", "google-chrome")
 OPTIONS = ("--headless", "--disable-gpu", "--disable-dev-shm-usage", "--no-first-run",
            "--disable-background-networking", "--disable-extensions", "--remote-debugging-pipe")
 MOST_SECONDS = 120
-KEY_CODES = {"ArrowLeft": 37, "ArrowUp": 38, "ArrowRight": 39, "ArrowDown": 40, "Home": 36, "End": 35}
+KEY_CODES = {"End": 35, "Home": 36, "ArrowLeft": 37, "ArrowUp": 38, "ArrowRight": 39,
+             "ArrowDown": 40}
 
 
 class BrowserError(Exception):
@@ -124,15 +126,16 @@ class Tab:
         """The value of an expression in the page."""
         found = self.call("Runtime.evaluate", expression=script, returnByValue=True)
         if "exceptionDetails" in found:
-            raise BrowserError(found["exceptionDetails"].get("exception", {}).get("description", script))
+            exception = found["exceptionDetails"].get("exception", {})
+            raise BrowserError(exception.get("description", script))
         return found["result"].get("value")
 
     def press(self, key):
         """Presses a key, and lets it go."""
-        code = KEY_CODES.get(key, 0)
+        event = {"key": key, "windowsVirtualKeyCode": KEY_CODES.get(key, 0)}
         text = {"text": key} if len(key) == 1 else {}
-        self.call("Input.dispatchKeyEvent", type="keyDown", key=key, windowsVirtualKeyCode=code, **text)
-        self.call("Input.dispatchKeyEvent", type="keyUp", key=key, windowsVirtualKeyCode=code)
+        self.call("Input.dispatchKeyEvent", type="keyDown", **event, **text)
+        self.call("Input.dispatchKeyEvent", type="keyUp", **event)
 
     def reported(self, *methods):
         """The events of these kinds since the page was opened."""
@@ -140,7 +143,6 @@ class Tab:
 
     def picture(self, path):
         """Writes what the tab shows as a PNG."""
-        import base64
         data = self.call("Page.captureScreenshot", format="png")["data"]
         with open(path, "wb") as file:
             file.write(base64.b64decode(data))

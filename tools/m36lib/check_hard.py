@@ -1,4 +1,5 @@
-"""Checks of what is hard on a page: hostile text, many segments, refusals, stale objects, long runs."""
+"""Checks of what is hard on a page: hostile text, many segments, refusals, stale objects and long
+runs."""
 
 import functools
 import json
@@ -13,7 +14,10 @@ from .page_html import SECTIONS
 from .program import TOP
 
 HOSTILE_NAME = "a\"<b>'&amp;"
-HOSTILE = "</script><script>alert(1)</script><!-- <img src=x onerror=alert(2)> \\u003c 'q' &lt; \t\x07\x1b[1m\udcff \u202e é"
+HOSTILE = (
+    "</script><script>alert(1)</script><!-- <img src=x onerror=alert(2)> \\u003c 'q' &lt; "
+    "\t\x07\x1b[1m\udcff \u202e é"
+)
 WRITTEN = "<b>&</b>'</script>\""
 MAIN = """ entry start
 start: epaq 0,ic " @
@@ -74,7 +78,8 @@ def check_hostile(browser, program, work):
     expect("the line of the source", shown, text.replace("\t", "\\011").replace("\x07", "\\007")
            .replace("\x1b", "\\033").replace("\udcff", "\ufffd").replace("\u202e", "\\u202e"))
     tab.press("End")
-    expect("the console", tab.evaluate("document.querySelector('.console pre').textContent"), WRITTEN)
+    written = tab.evaluate("document.querySelector('.console pre').textContent")
+    expect("the console", written, WRITTEN)
     check_quiet(tab, case)
     tab.close()
 
@@ -129,12 +134,18 @@ def check_words(_, program, work):
     folder = folder_of(program, work, "words", sources, boot)
     pages = [run_look(program, [folder, "-o", "-"], work).stdout for _ in range(2)]
     expect("the page is the same when it is made again", pages[0] == pages[1], True)
-    for words, status in (([folder, "--steps", "0"], 2), ([folder / "none"], 2), ([folder, "-x"], 2),
-                          ([folder, "--json", "-o", "-"], 2), ([folder, "-o", work / "no/page"], 3)):
+    for words, status in (
+        ([folder, "--steps", "0"], 2),
+        ([folder / "none"], 2),
+        ([folder, "-x"], 2),
+        ([folder, "--json", "-o", "-"], 2),
+        ([folder, "-o", work / "no/page"], 3),
+    ):
         expect(f"status of {words}", run_look(program, words, work).returncode, status)
     check_full(program, folder)
     expect("status without a program", run_look("/nowhere", [folder], work).returncode, 70)
-    turns = [json.loads(line) for line in run_look(program, [folder, "--json"], work).stdout.splitlines()]
+    written = run_look(program, [folder, "--json"], work).stdout
+    turns = [json.loads(line) for line in written.splitlines()]
     own = subprocess.run([program, "trace"], cwd=folder, capture_output=True).stdout.decode()
     lines = [turn.get("trace") or turn.get("line") for turn in turns[1:]]
     expect("lines of --json", [line for line in lines if line], own.splitlines()[1:])
@@ -147,13 +158,15 @@ def check_full(program, folder):
     for words in (["--json"], ["-o", "-"], ["-o", "/dev/full"]):
         with open("/dev/full", "w") as full:
             done = run_look(program, [folder, *words], folder, stdout=full)
-        expect(f"a full disk with {words}", (done.returncode, b"No space" in done.stderr), (3, True))
+        found = done.returncode, b"No space" in done.stderr
+        expect(f"a full disk with {words}", found, (3, True))
 
 
 def check_sections(*_):
     """The titles of MANUAL's sections are those that a page has."""
     headings = re.findall(r"^## (\d+)\. (.*)$", (TOP / "docs/MANUAL.md").read_text(), re.M)
-    expect("sections", SECTIONS, {number: title for number, title in headings if number in SECTIONS})
+    expect("sections", SECTIONS, {number: title for number, title in headings
+                                  if number in SECTIONS})
 
 
 def counting_case(program, work, name, count):
@@ -177,8 +190,8 @@ def seconds_used():
 
 
 def check_long(browser, program, work):
-    """100,000 steps: made within a minute of one processor, opened within five seconds, and right at
-    the end."""
+    """100,000 steps: made within a minute of one processor, opened within five seconds, and right
+    at the end."""
     case = counting_case(program, work, "long", LONG_STEPS // 5 + 1)
     started, used = time.monotonic(), seconds_used()
     made(program, case, work)
@@ -200,7 +213,8 @@ def check_long(browser, program, work):
 
 
 def hard_checks(browser, program, work):
-    checks = (check_sections, check_hostile, check_many, check_refused, check_stale, check_words, check_size)
+    checks = (check_sections, check_hostile, check_many, check_refused, check_stale, check_words,
+              check_size)
     for check in checks:
         yield check.__name__, functools.partial(check, browser, program, work)
 

@@ -1,11 +1,9 @@
 """Checks of the page in a browser: what it shows against the program's own trace."""
 
-import functools
-import json
 import pathlib
 import re
 
-from .page_cases import STEP, examples
+from .page_cases import EXAMPLE_CASES, STEP, Examples
 
 PROBE = (pathlib.Path(__file__).resolve().parent / "page_probe.js").read_text()
 WIDTHS = ((1024, 768), (1440, 900), (1920, 1080))
@@ -182,7 +180,7 @@ def check_keys(browser, case):
 
 def check_buttons(tab):
     """Each button does what its key does, and has a name."""
-    for key in tab.evaluate("[...document.querySelectorAll('#buttons button')].map(b => b.dataset.key)"):
+    for key in tab.evaluate("probe.keys()"):
         go_to(tab, 3)
         before = state(tab)
         tab.press(key)
@@ -195,9 +193,7 @@ def check_buttons(tab):
         expect(f"button {key}", state(tab), by_key)
         if key in UNDONE_BY:
             tab.press(UNDONE_BY[key])
-    nameless = tab.evaluate("[...document.querySelectorAll('button, input, select, svg')].filter(n => "
-                            "!n.getAttribute('aria-label') && !n.labels?.length).map(n => n.outerHTML)")
-    expect("what has no name", nameless, [])
+    expect("what has no name", tab.evaluate("probe.nameless()"), [])
 
 
 def check_predict(browser, case):
@@ -216,7 +212,8 @@ def check_predict(browser, case):
                (f"Step {line.number}", line.line))
         stays_after(tab, line.number)
     tab.press("p")
-    expect("p once more", state(tab)["position"], f"Step {len(case.steps())} of {len(case.steps())}")
+    count = len(case.steps())
+    expect("p once more", state(tab)["position"], f"Step {count} of {count}")
     tab.close()
 
 
@@ -295,29 +292,33 @@ def check_loop(browser, case):
 
 def example_checks(browser, program, work):
     """The checks of the examples: pairs of a name and what is to be called."""
-    cases = {case.name: case for case in examples(program, work)}
-    for name, case in cases.items():
-        yield f"{name}: walk", functools.partial(check_walk, browser, case)
-        yield f"{name}: looks", functools.partial(check_looks, browser, case)
+    cases = Examples(program, work)
+
+    def check(what, name, **how):
+        return lambda: what(browser, cases[name], **how)
+
+    for name in EXAMPLE_CASES:
+        yield f"{name}: walk", check(check_walk, name)
+        yield f"{name}: looks", check(check_looks, name)
     for name in ("servant", "hello", "search"):
-        yield f"{name}: keys", functools.partial(check_keys, browser, cases[name])
-        yield f"{name}: predict", functools.partial(check_predict, browser, cases[name])
-    yield "pages: loop", functools.partial(check_loop, browser, cases["pages"])
-    yield "servant: dark", functools.partial(check_looks, browser, cases["servant"], dark=True)
-    yield "servant: policy", functools.partial(check_policy, browser, cases["servant"])
+        yield f"{name}: keys", check(check_keys, name)
+        yield f"{name}: predict", check(check_predict, name)
+    yield "pages: loop", check(check_loop, "pages")
+    yield "servant: dark", check(check_looks, "servant", dark=True)
+    yield "servant: policy", check(check_policy, "servant")
 
 
-def run_checks(checks, stops=False, show=print):
-    """Makes the checks, or those up to the first that fails. The number of those that fail."""
+def run_checks(checks, words=("",), show=print):
+    """Makes the checks that have one of these words in their names. The number of those that fail."""
     wrong = made = 0
     for name, check in checks:
+        if not any(word in name for word in words):
+            continue
         made += 1
         try:
             check()
         except Wrong as error:
             wrong += 1
             show(f"{name}: {error}")
-            if stops:
-                break
     show(f"page: {made} checks, {wrong} wrong")
     return wrong

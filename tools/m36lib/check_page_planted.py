@@ -1,7 +1,8 @@
 """Plants faults in copies of the page, and sees whether its checks notice each.
 
-page_faults.txt has them: a file of this folder, lines with `-` before them, a text that the file has
-once, and lines with `+` before them, what is put in its place."""
+page_faults.txt has them: a file of this folder and the checks that are to notice it, lines with `-`
+before them, a text that the file has once, and lines with `+` before them, what is put in its
+place."""
 
 import pathlib
 import shutil
@@ -18,13 +19,14 @@ ROOT = HERE.parents[1]
 
 def faults():
     for block in (HERE / "page_faults.txt").read_text().split("\n\n"):
-        file, *lines = block.splitlines()
-        yield file, text_of(lines, "-"), text_of(lines, "+")
+        head, *lines = block.splitlines()
+        file, checks = head.split(" ", 1)
+        yield file, checks, text_of(lines, "-"), text_of(lines, "+")
 
 
 def plant(fault, folder):
     """A copy of the tools with a fault."""
-    file, old, new = fault
+    file, _, old, new = fault
     shutil.copytree(ROOT / "tools", folder / "tools", ignore=shutil.ignore_patterns("__pycache__"))
     for name in ("examples", "docs"):
         (folder / name).symlink_to(ROOT / name)
@@ -39,8 +41,9 @@ def noticed(program, fault):
     """The line by which the checks of a copy notice a fault, or None."""
     with tempfile.TemporaryDirectory() as folder:
         plant(fault, pathlib.Path(folder))
-        done = subprocess.run([sys.executable, pathlib.Path(folder) / "tools/page-check", "--first",
-                               program], capture_output=True)
+        check = pathlib.Path(folder) / "tools/page-check"
+        done = subprocess.run([sys.executable, check, "--only", fault[1], program],
+                              capture_output=True)
     if done.returncode == 0:
         return None
     return (done.stdout or done.stderr).decode("utf-8", "replace").splitlines()[0]
@@ -56,7 +59,7 @@ def check_planted(program, show=print):
     for fault in planted:
         by = noticed(program, fault)
         missed += by is None
-        file, old, _ = fault
+        file, _, old, _ = fault
         show(f"{file}: {old.strip()[:50]!r}: {'NOT NOTICED' if by is None else by[:120]}")
     show(f"planted: {len(planted)} faults, {missed} not noticed")
     return missed

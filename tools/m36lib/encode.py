@@ -9,11 +9,12 @@ there. A step is a row
 
 whose empty fields at the end are left out. `head` is a row of `tables.heads`: spot, instruction,
 outcome, sentences, references and links of the chain. A sentence is `rN` (reference N of the step),
-`lN` (link N) or the number of a text. `final` is the final address of the trace line. A text has HOLE12 and HOLE6 where words of 12 and
-6 octal digits are; `values` has these as numbers, in their order. `place` is where the next
-instruction is, and 0 where that is the next word after `next` and the same word after all else.
-`changes` has the number of a register and its value after the step, in pairs. `words` has a place
-and the values before and after. All other turns are kept as they are."""
+`lN` (link N) or the number of a text. `final` is the final address of the trace line. A text has
+HOLE12 and HOLE6 where words of 12 and 6 octal digits are; `values` has these as numbers, in their
+order. `place` is where the next instruction is, and 0 where that is the next word after `next` and
+the same word after all else. `changes` has the number of a register and its value after the step,
+in pairs. `words` has a place and the values before and after. All other turns are kept as they
+are."""
 
 import json
 import re
@@ -69,7 +70,8 @@ class Encoder:
     def step(self, turn):
         account = turn["account"]
         values = []
-        fields = turn["trace"].split(" ", 9 if "process" in turn else 8)[1 if "process" in turn else 0:]
+        lead = 1 if "process" in turn else 0
+        fields = turn["trace"].split(" ", 8 + lead)[lead:]
         known = {link["text"]: f"l{number}" for number, link in enumerate(account["chain"])}
         known.update({f"{asked['question']} {asked['answer']}": f"r{number}"
                       for number, asked in enumerate(account["references"])})

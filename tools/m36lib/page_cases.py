@@ -37,17 +37,17 @@ class PageCase:
         return [line for line in self.lines if STEP.match(line)]
 
 
-EXAMPLE_CASES = (
-    ("servant", None, "trace", ()),
-    ("hello", None, "trace", ()),
-    ("pages", None, "trace", ()),
-    ("search", None, "trace", ()),
-    ("borrowed", None, "trace", ()),
-    ("direct/open", None, "trace", ()),
-    ("segments", "segments", "bare", ()),
-    ("laid", "laid", "bare", ("--unaudited",)),
-    ("lock", "split", "procs", ()),
-)
+EXAMPLE_CASES = {
+    "servant": ("servant", None, "trace", ()),
+    "hello": ("hello", None, "trace", ()),
+    "pages": ("pages", None, "trace", ()),
+    "search": ("search", None, "trace", ()),
+    "borrowed": ("borrowed", None, "trace", ()),
+    "open": ("direct/open", None, "trace", ()),
+    "segments": ("segments", "segments", "bare", ()),
+    "laid": ("laid", "laid", "bare", ("--unaudited",)),
+    "lock": ("lock", "split", "procs", ()),
+}
 
 
 def run_look(program, words, folder, stdout=subprocess.PIPE):
@@ -88,14 +88,23 @@ def source_places(program, folder):
     return found
 
 
-def examples(program, work):
-    """The cases of the examples."""
-    copies = work / "examples"
-    shutil.copytree(TOP / "examples", copies)
-    for folder, file, command, options in EXAMPLE_CASES:
-        prepare(program, copies / folder)
-        name = folder.replace("/", "-")
-        yield made(program, PageCase(name, copies / folder, file, command, options), work)
+class Examples:
+    """The cases of the examples by their names. A page is made when it is first asked for."""
+
+    def __init__(self, program, work):
+        self.program = program
+        self.work = work
+        self.copies = work / "examples"
+        self.made = {}
+        shutil.copytree(TOP / "examples", self.copies)
+
+    def __getitem__(self, name):
+        if name not in self.made:
+            folder, file, command, options = EXAMPLE_CASES[name]
+            prepare(self.program, self.copies / folder)
+            case = PageCase(name, self.copies / folder, file, command, options)
+            self.made[name] = made(self.program, case, self.work)
+        return self.made[name]
 
 
 def folder_of(program, work, name, sources, boot, data=()):

@@ -1,8 +1,21 @@
-/* What the tests ask of an opened page. It is put into the page by the browser, and is no part of it. */
+/* What the tests ask of an opened page. It is put into the page by the browser, and is no part of
+   it. */
 
 window.probe = {
   texts(selector) {
     return [...document.querySelectorAll(selector)].map((node) => node.textContent);
+  },
+
+  /* The keys of the buttons. */
+  keys() {
+    return [...document.querySelectorAll("#buttons button")].map((button) => button.dataset.key);
+  },
+
+  /* What can be used and has no name for a screen reader. */
+  nameless() {
+    return [...document.querySelectorAll("button, input, select, svg")]
+      .filter((node) => !node.getAttribute("aria-label") && !(node.labels && node.labels.length))
+      .map((node) => node.outerHTML);
   },
 
   state() {
@@ -32,7 +45,8 @@ window.probe = {
     while (walker.nextNode()) {
       const parent = walker.currentNode.parentElement;
       if (/^(SCRIPT|STYLE|NOSCRIPT|title)$/.test(parent.tagName)) continue;
-      if (parent.checkVisibility({ visibilityProperty: true })) found.push(walker.currentNode.textContent);
+      if (parent.checkVisibility({ visibilityProperty: true })) found.push(
+        walker.currentNode.textContent);
     }
     for (const node of document.querySelectorAll("[aria-label], [aria-valuetext]")) {
       if (!node.checkVisibility({ visibilityProperty: true })) continue;
@@ -44,9 +58,11 @@ window.probe = {
   /* What is wider than its place. */
   overflowing() {
     const wide = (node) => node.scrollWidth > node.clientWidth + 1;
-    const found = [document.documentElement, ...document.querySelectorAll("main > section, .matrix, #buttons, header, #trace")]
+    const found = [document.documentElement,
+      ...document.querySelectorAll("main > section, .matrix, #buttons, header, #trace")]
       .filter(wide).map((node) => node.id || node.className || node.tagName);
-    for (const node of document.querySelectorAll("button, #trace code, .register code, .matrix td, .picture")) {
+    for (const node of document.querySelectorAll(
+      "button, #trace code, .register code, .matrix td, .picture")) {
       const box = node.getBoundingClientRect(), place = node.closest("main > section");
       const right = place ? place.getBoundingClientRect().right : window.innerWidth;
       if (box.right > right + 1 || box.left < -1) found.push(`${node.tagName} ${node.textContent}`);
@@ -55,7 +71,9 @@ window.probe = {
   },
 
   color(text) {
-    const context = this.canvas || (this.canvas = document.createElement("canvas").getContext("2d", { willReadFrequently: true }));
+    const context = this.canvas
+      || (this.canvas = document.createElement("canvas").getContext("2d",
+      { willReadFrequently: true }));
     context.clearRect(0, 0, 1, 1);
     context.fillStyle = text;
     context.fillRect(0, 0, 1, 1);
@@ -66,7 +84,8 @@ window.probe = {
   ground(node) {
     const stay = node.closest(".stay"), svg = node.closest("svg");
     if (stay && svg) return this.color(getComputedStyle(stay.querySelector("rect")).fill);
-    if (node.classList.contains("marker-text")) return this.color(getComputedStyle(node.previousElementSibling).fill);
+    if (node.classList.contains("marker-text")) return this.color(
+      getComputedStyle(node.previousElementSibling).fill);
     if (node.classList.contains("band-number")) {
       return this.color(getComputedStyle(svg.querySelector(`.band.r${node.textContent}`)).fill);
     }
@@ -90,8 +109,10 @@ window.probe = {
       const node = walker.currentNode.parentElement, text = walker.currentNode.textContent.trim();
       if (!text || /^(SCRIPT|STYLE|NOSCRIPT|title|OPTION)$/.test(node.tagName)) continue;
       if (!node.checkVisibility({ visibilityProperty: true })) continue;
-      const style = getComputedStyle(node), ink = this.color(node.closest("svg") ? style.fill : style.color);
-      const [light, dark] = [this.luminance(ink), this.luminance(this.ground(node))].sort((a, b) => b - a);
+      const style = getComputedStyle(node),
+        ink = this.color(node.closest("svg") ? style.fill : style.color);
+      const [light, dark] = [this.luminance(ink),
+        this.luminance(this.ground(node))].sort((a, b) => b - a);
       const contrast = (light + 0.05) / (dark + 0.05);
       if (contrast < 4.5) found.push(`${text}: ${contrast.toFixed(2)}`);
     }

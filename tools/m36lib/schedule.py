@@ -98,8 +98,9 @@ class Schedule:
             for segment in image_segments(image):
                 known = segments.setdefault(segment.number, segment)
                 if known != segment:
-                    notes.append(f"Segment {segment.number:05o} of process {number} has other rights "
-                                 "or another length than that of the first process, which is shown.")
+                    notes.append(f"Segment {segment.number:05o} of process {number} has other "
+                                 "rights or another length than that of the first process, which "
+                                 "is shown.")
         first = self.processes[0]
         start = {**place_of(first[3], f"{first[2]}|{first[4]}"), "name": f"{first[2]}|{first[4]}",
                  "file": None, "line": None, "process": 0}
@@ -119,7 +120,8 @@ class Schedule:
                 return
             if number <= steps:
                 yield JsonTurn(self.step(line))
-        yield EndTurn(steps, None, f"The recording ends after {steps} events; the schedule goes on.")
+        text = f"The recording ends after {steps} events; the schedule goes on."
+        yield EndTurn(steps, None, text)
 
     def step(self, line):
         process, number, ring, place, word, final, a, q, indicators, outcome = line.split(" ", 9)
@@ -144,7 +146,8 @@ class Schedule:
 def account_of(process, at, name, instruction, final, outcome):
     """What the trace line says, in words."""
     place = final_place(final)
-    said = [f"Process {process}, in ring {at['ring']}, executes {instruction or 'nothing'} at {name}."]
+    what = instruction or "nothing"
+    said = [f"Process {process}, in ring {at['ring']}, executes {what} at {name}."]
     references = []
     if place:
         where = f"{place['segment']}|{int(place['word'], 8):o}"

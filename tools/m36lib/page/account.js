@@ -1,7 +1,8 @@
-/* The middle of the page: the instruction, the account in sentences, the words and registers that changed,
-   and the trace line. */
+/* The middle of the page: the instruction, the account in sentences, the words and registers that
+   changed, and the trace line. */
 
-const TRACE_NAMES = ["step", "ring", "place", "instruction", "final address", "A", "Q", "indicators", "outcome"];
+const TRACE_NAMES = ["step", "ring", "place", "instruction", "final address", "A", "Q",
+  "indicators", "outcome"];
 const HIDDEN_FROM = 4;
 
 class AccountPanel {
@@ -24,7 +25,8 @@ class AccountPanel {
       this.headline(step),
       hidden ? this.question() : this.sentences(step),
       ...(hidden ? [] : this.warnings(step)),
-      this.registers(hidden ? before : step.after, hidden ? new Set() : step.changed, before, step, hidden),
+      this.registers(hidden ? before : step.after, hidden ? new Set() : step.changed, before, step,
+        hidden),
     );
     this.showTrace(step, hidden);
   }
@@ -42,7 +44,8 @@ class AccountPanel {
       ringBadge(step.at.ring),
       element("div", {},
         element("p", { class: "who" }, `Ring ${step.at.ring} executes`),
-        element("p", { class: "instruction" }, element("code", {}, step.instruction || "no instruction")),
+        element("p", { class: "instruction" },
+          element("code", {}, step.instruction || "no instruction")),
         element("p", { class: "where" }, `at ${step.at.name}`,
           step.code ? ` · word ${step.code}` : "")));
   }
@@ -66,19 +69,22 @@ class AccountPanel {
     const reference = sentence.reference;
     let kind = sentence.part;
     if (reference) kind = reference.allowed ? "allowed" : "refused";
-    if (sentence.part === "end" && step.outcome.trace !== "next" && sentence.text === step.outcome.text) {
+    if (sentence.part === "end" && step.outcome.trace !== "next"
+      && sentence.text === step.outcome.text) {
       kind = step.isAnswered ? "answered" : "ended";
     }
     return element("li", { class: kind },
       element("span", { class: "sign", "aria-hidden": "true" }, SIGNS[kind] || ""),
-      element("div", {}, element("p", {}, sentence.text), sentence.link ? this.chips(sentence.link) : null),
+      element("div", {}, element("p", {}, sentence.text),
+        sentence.link ? this.chips(sentence.link) : null),
       this.rule(sentence.rule));
   }
 
   rule(number) {
     if (!number) return null;
     const title = this.run.start.sections[number] || "";
-    return element("span", { class: "rule", title: `MANUAL, section ${number}: ${title}` }, `§${number}`);
+    return element("span", { class: "rule", title: `MANUAL, section ${number}: ${title}` },
+      `§${number}`);
   }
 
   /* The rings of a link of the chain, the greatest of which counts. */
@@ -103,7 +109,8 @@ class AccountPanel {
       found.push(element("table", { class: "words" },
         element("caption", {}, "Words written"),
         step.words.map((word) => element("tr", {}, element("th", { scope: "row" }, word.name),
-          element("td", {}, word.before === null ? "" : octal(word.before, 12)), element("td", {}, "→"),
+          element("td", {}, word.before === null ? "" : octal(word.before, 12)),
+          element("td", {}, "→"),
           element("td", { class: "changed" }, word.after === null ? "" : octal(word.after, 12))))));
     }
     return found;
@@ -119,11 +126,13 @@ class AccountPanel {
       element("span", { class: "label" }, REGISTER_LABELS[name] || name.toUpperCase()),
       this.registerValue(name, values[number]),
       changed.has(number) && before[number] !== values[number]
-        ? element("span", { class: "was" }, "was ", this.registerText(name, before[number])) : null);
+        ? element("span", { class: "was" }, "was ", this.registerText(name, before[number]))
+          : null);
     return element("div", { class: "registers" },
       element("h3", {}, caption),
       element("div", { class: "wide" }, rows.filter(([name]) => WIDE.has(name)).map(cell)),
-      element("div", { class: "pointers" }, rows.filter(([name]) => name.startsWith("pr")).map(cell)),
+      element("div", { class: "pointers" },
+        rows.filter(([name]) => name.startsWith("pr")).map(cell)),
       element("div", { class: "indexes" }, rows.filter(([name]) => /^x\d$/.test(name)).map(cell)),
       hidden ? null : element("p", { class: "next" }, this.nextText(step)));
   }
@@ -150,7 +159,8 @@ class AccountPanel {
     const from = HIDDEN_FROM + names.length - TRACE_NAMES.length;
     const fields = step.trace.map((text, index) => {
       const covered = hidden && index >= from;
-      return element("span", { class: covered ? "field covered" : "field", "data-field": names[index] },
+      return element("span",
+        { class: covered ? "field covered" : "field", "data-field": names[index] },
         element("span", { class: "label" }, names[index]),
         element("code", {}, covered ? "?" : text));
     });
@@ -160,15 +170,19 @@ class AccountPanel {
   /* What the system does between two steps. */
   showService(turn) {
     const row = this.run.rows[turn];
-    const title = { link: "The linker", console: "The console", page: "A page", end: "The end" }[row.turn];
+    const title = { link: "The linker", console: "The console", page: "A page",
+      end: "The end" }[row.turn];
     const body = [element("p", {}, row.text)];
-    if (row.turn === "console") body.push(element("pre", { class: "written" }, visible(row.written)));
-    if (row.line) body.push(element("p", { class: "line-of-trace" }, element("code", {}, row.line)));
+    if (row.turn === "console") body.push(
+      element("pre", { class: "written" }, visible(row.written)));
+    if (row.line) body.push(
+      element("p", { class: "line-of-trace" }, element("code", {}, row.line)));
     this.parent.replaceChildren(
       element("div", { class: `service ${row.turn}` }, element("h2", {}, title), ...body),
       ...this.registersHere(turn));
     this.trace.replaceChildren(element("span", { class: "field" },
-      element("span", { class: "label" }, row.turn), element("code", {}, row.line || "no line of the trace")));
+      element("span", { class: "label" }, row.turn),
+      element("code", {}, row.line || "no line of the trace")));
   }
 
   registersHere(turn) {
@@ -179,6 +193,7 @@ class AccountPanel {
   }
 }
 
-const SIGNS = { allowed: "✓", refused: "✕", chain: "↳", effect: "=", decode: "▸", end: "·", ended: "■", answered: "■", fetch: "▸" };
+const SIGNS = { allowed: "✓", refused: "✕", chain: "↳", effect: "=", decode: "▸", end: "·",
+  ended: "■", answered: "■", fetch: "▸" };
 const REGISTER_LABELS = { indicators: "indicators", a: "A", q: "Q" };
 const WIDE = new Set(["a", "q", "indicators"]);

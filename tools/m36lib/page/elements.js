@@ -31,9 +31,11 @@ function ringBadge(ring, label) {
   return element("span", { class: `ring r${ring}`, title: label || `ring ${ring}` }, String(ring));
 }
 
-/* A text in which all characters show: those that control a terminal, or the direction of writing. */
+/* A text in which all characters show, also those that control a terminal or the direction of
+   writing. */
 function shown(text) {
-  return text.replace(/[\x00-\x1f\x7f-\x9f]/g, (character) => "\\" + octal(character.charCodeAt(0), 3))
+  return text.replace(/[\x00-\x1f\x7f-\x9f]/g,
+    (character) => "\\" + octal(character.charCodeAt(0), 3))
     .replace(/[\u061c\u200b-\u200f\u2028-\u202e\u2060-\u2069\ufeff]/g,
       (character) => "\\u" + character.charCodeAt(0).toString(16).padStart(4, "0"));
 }

@@ -1,4 +1,5 @@
-/* The ladder: rings over time. A box for each stay, arrows for calls and returns, marks for what happens. */
+/* The ladder: rings over time. A box for each stay, arrows for calls and returns, marks for what
+   happens. */
 
 const MOST_BOXES = 120;
 const MARGIN_BOXES = 12;
@@ -24,7 +25,8 @@ class Ladder {
   /* A lane for each ring, the outermost at the top; for each process, where there are several. */
   findLanes() {
     const key = (stay) => (this.run.processes > 1 ? stay.process : stay.ring);
-    const keys = [...new Set(this.stays.map(key))].sort((a, b) => (this.run.processes > 1 ? a - b : b - a));
+    const keys = [...new Set(this.stays.map(key))].sort((a, b) =>
+      (this.run.processes > 1 ? a - b : b - a));
     this.lanes = keys;
     this.laneOf = (stay) => keys.indexOf(key(stay));
   }
@@ -34,7 +36,9 @@ class Ladder {
     const found = [], run = this.run;
     for (let turn = 0; turn < run.count; turn++) {
       if (!run.isStep(turn)) found.push([turn, run.kind(turn)]);
-      else if (/^(fault|stop)/.test(run.outcome(turn).trace)) found.push([turn, run.isAnswered(turn) ? "answered" : "fault"]);
+      else if (/^(fault|stop)/.test(run.outcome(turn).trace)) {
+        found.push([turn, run.isAnswered(turn) ? "answered" : "fault"]);
+      }
     }
     return found;
   }
@@ -47,7 +51,8 @@ class Ladder {
   /* The segment; of a single step of one process among several its instruction. */
   boxName(box) {
     const stay = box.stays[0];
-    if (this.run.processes === 1 || stay.first !== stay.last) return this.run.segmentName(stay.segment);
+    const isSingle = this.run.processes > 1 && stay.first === stay.last;
+    if (!isSingle) return this.run.segmentName(stay.segment);
     return this.run.tables.instructions[this.run.head(stay.first)[1]][0] || "no instruction";
   }
 
@@ -113,21 +118,24 @@ class Ladder {
     const stay = stayOfTurn(this.stays, turn);
     const wanted = this.windowAround(stay ? stay.box.index : 0);
     const width = Math.floor((this.parent.clientWidth / scale) - LANE.label - 8);
-    if (this.window && wanted[0] === this.window[0] && width === this.width && scale === this.scale) return;
+    if (this.window && wanted[0] === this.window[0] && width === this.width
+      && scale === this.scale) return;
     this.window = wanted;
     this.width = width;
     this.scale = scale;
     const total = Math.max(this.layOut(wanted, width), width);
     const hasGroups = this.boxes.slice(...wanted).some((box) => box.group);
     const height = this.lanes.length * LANE.height + (hasGroups ? 22 : 6);
-    this.picture = drawn("svg", { width: total * scale, height: height * scale, viewBox: `0 0 ${total} ${height}`,
+    this.picture = drawn("svg",
+      { width: total * scale, height: height * scale, viewBox: `0 0 ${total} ${height}`,
       role: "img" });
     this.parts = [];
     this.drawLanes(total);
     this.boxes.slice(...wanted).forEach((box) => this.drawBox(box, wanted));
     this.drawEvents(wanted);
     this.drawEdges(wanted, total);
-    this.cursor = drawn("g", { class: "cursor" }, drawn("path", { d: `M0,${height - 4} L0,8`, class: "cursor-line" }),
+    this.cursor = drawn("g", { class: "cursor" },
+      drawn("path", { d: `M0,${height - 4} L0,8`, class: "cursor-line" }),
       drawn("path", { d: "M-6,0 L6,0 L0,9 z", class: "cursor-head" }));
     this.picture.append(this.cursor);
     this.scroll.replaceChildren(this.picture);
@@ -148,7 +156,8 @@ class Ladder {
     const stay = box.stays[0], name = this.boxName(box);
     if (box.index > first) this.drawArrow(box);
     const rect = drawn("rect", { x: box.x, y: box.y, width: box.width, height: LANE.box, rx: 5 });
-    const steps = drawn("text", { x: box.x + 7, y: box.y + 28, class: "steps" }, this.stepsText(box));
+    const steps = drawn("text", { x: box.x + 7, y: box.y + 28, class: "steps" },
+      this.stepsText(box));
     const group = drawn("g", { class: `stay r${stay.ring}` },
       drawn("title", {}, `${name}, ring ${stay.ring}`), rect,
       drawn("text", { x: box.x + 7, y: box.y + 14, class: "name" }, name), steps);
@@ -167,9 +176,11 @@ class Ladder {
     const inward = stay.ring < from.ring ? "inward" : stay.ring > from.ring ? "outward" : "level";
     const path = y === old ? `M${start},${y} L${box.x - 7},${y}`
       : `M${start},${old} L${bend},${old} L${bend},${y} L${box.x - 7},${y}`;
-    const arrow = drawn("g", { class: `way ${inward}` }, drawn("path", { d: path, class: "way-line" }),
+    const arrow = drawn("g", { class: `way ${inward}` },
+      drawn("path", { d: path, class: "way-line" }),
       drawn("path", { d: `M${box.x},${y} l-8,-4 l0,8 z`, class: "way-head" }),
-      drawn("text", { x: (start + box.x) / 2, y: Math.min(y, old) - 5, class: "way-name" }, this.run.mnemonic(stay.came)));
+      drawn("text", { x: (start + box.x) / 2, y: Math.min(y, old) - 5, class: "way-name" },
+        this.run.mnemonic(stay.came)));
     this.picture.append(arrow);
     this.parts.push({ node: arrow, first: stay.first });
   }
@@ -179,16 +190,20 @@ class Ladder {
     const { group } = box, last = this.boxes[group.first + group.period - 1];
     if (last.x === undefined || last.x < box.x) return;
     const y = this.lanes.length * LANE.height + 2, end = last.x + last.width;
-    const text = drawn("text", { x: (box.x + end) / 2, y: y + 14, class: "times" }, `× ${group.repeats}`);
+    const text = drawn("text", { x: (box.x + end) / 2, y: y + 14, class: "times" },
+      `× ${group.repeats}`);
     const bracket = drawn("g", { class: "loop" },
-      drawn("path", { d: `M${box.x},${y - 4} L${box.x},${y} L${end},${y} L${end},${y - 4}`, class: "bracket" }), text);
+      drawn("path",
+        { d: `M${box.x},${y - 4} L${box.x},${y} L${end},${y} L${end},${y - 4}`,
+        class: "bracket" }), text);
     this.picture.append(bracket);
     const stays = last.stays;
     this.parts.push({ node: bracket, first: stays[stays.length - 1].last, loop: group, text });
   }
 
   drawEvents(wanted) {
-    const seen = new Map(), inWindow = (stay) => stay && stay.box.index >= wanted[0] && stay.box.index < wanted[1];
+    const seen = new Map();
+    const inWindow = (stay) => stay && stay.box.index >= wanted[0] && stay.box.index < wanted[1];
     for (const [turn, kind] of this.events) {
       const stay = stayOfTurn(this.stays, turn);
       if (!inWindow(stay) || kind === "answered") continue;
@@ -202,15 +217,19 @@ class Ladder {
 
   drawEvent(turn, kind, x, y, stay) {
     if (kind === "end") {
-      const row = this.run.rows[turn], text = row.line ? row.line.split(" ").slice(1, -1).join(" ") : "goes on";
+      const row = this.run.rows[turn];
+      const text = row.line ? row.line.split(" ").slice(1, -1).join(" ") : "goes on";
       const end = drawn("text", { x: stay.box.x + stay.box.width + 8, y: stay.box.y + 22,
-        class: /^(dis|goes|schedule)/.test(text) ? "ends" : "ends bad" }, text === "dis" ? "DIS" : text);
+        class: /^(dis|goes|schedule)/.test(text) ? "ends" : "ends bad" },
+          text === "dis" ? "DIS" : text);
       this.picture.append(end);
       this.parts.push({ node: end, first: turn });
       return;
     }
-    const titles = { link: "the linker", console: "the console", page: "a page is brought in", fault: "fault" };
-    const shape = drawn("path", { d: MARKS[kind], transform: `translate(${x},${y})`, class: `mark ${kind}` },
+    const titles = { link: "the linker", console: "the console", page: "a page is brought in",
+      fault: "fault" };
+    const shape = drawn("path",
+      { d: MARKS[kind], transform: `translate(${x},${y})`, class: `mark ${kind}` },
       drawn("title", {}, titles[kind]));
     shape.addEventListener("click", () => this.go(turn));
     this.picture.append(shape);
@@ -224,13 +243,15 @@ class Ladder {
       this.picture.append(drawn("text", { x: 4, y: 12, class: "edge" }, text));
     }
     if (last < this.boxes.length) {
-      this.picture.append(drawn("text", { x: total - 84, y: 12, class: "edge future" }, "more …"));
+      const more = drawn("text", { x: total - 84, y: 12, class: "edge future" }, "more …");
+      this.picture.append(more);
     }
   }
 
   click(box, event) {
     const point = (event.clientX - this.picture.getBoundingClientRect().left) / this.scale;
-    const column = Math.max(0, Math.min(box.words.size - 1, Math.floor((point - box.x - 6) / box.unit)));
+    const column = Math.max(0,
+      Math.min(box.words.size - 1, Math.floor((point - box.x - 6) / box.unit)));
     const word = [...box.words.keys()][column], stay = box.stays[0];
     for (let turn = stay.first; turn <= stay.last; turn++) {
       if (this.run.isStep(turn) && this.run.spot(turn)[2] === word) return this.go(turn);
@@ -257,13 +278,15 @@ class Ladder {
     part.node.setAttribute("visibility", isHidden ? "hidden" : "visible");
     if (part.box) {
       const cut = limit !== Infinity && part.last > turn;
-      part.rect.setAttribute("width", cut ? Math.max(14, this.x(turn) + part.box.unit / 2 - part.box.x) : part.box.width);
+      part.rect.setAttribute("width",
+        cut ? Math.max(14, this.x(turn) + part.box.unit / 2 - part.box.x) : part.box.width);
       part.steps.setAttribute("visibility", isHidden || cut ? "hidden" : "visible");
       part.node.classList.toggle("now", Boolean(stay) && stay.box === part.box);
     }
     if (part.loop) {
       const here = stay && stay.box.group === part.loop;
-      part.text.textContent = here ? `× ${part.loop.repeats}, now ${stay.time + 1}` : `× ${part.loop.repeats}`;
+      part.text.textContent = here ? `× ${part.loop.repeats}, now ${stay.time + 1}`
+        : `× ${part.loop.repeats}`;
     }
   }
 
@@ -272,8 +295,8 @@ class Ladder {
     const stay = stayOfTurn(this.stays, turn);
     if (!stay) return "no step";
     const first = Math.max(0, stay.index - 6);
-    const stays = this.stays.slice(first, stay.index + 7).filter((each) => each.first <= Math.max(turn, Math.min(limit, each.first)));
-    const known = stays.filter((each) => limit === Infinity || each.first <= turn);
+    const known = this.stays.slice(first, stay.index + 7)
+      .filter((each) => limit === Infinity || each.first <= turn);
     return "Ladder. " + known.map((each) => `${each === stay ? "Now " : ""}ring ${each.ring}, ${
       this.run.segmentName(each.segment)}, from step ${this.run.numbers[each.first]}`).join("; ");
   }

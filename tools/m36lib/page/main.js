@@ -1,6 +1,7 @@
 /* The page: where it is in the run, keys and buttons. */
 
-const MARK_TEXTS = [["page", "a page is referred to for the first time"], ["link", "the linker answers a link"],
+const MARK_TEXTS = [["page", "a page is referred to for the first time"],
+  ["link", "the linker answers a link"],
   ["console", "the console writes"], ["fault", "a fault or a stop"]];
 
 const SIZES = [0.75, 0.85, 1, 1.15, 1.3, 1.5, 1.75];
@@ -28,7 +29,8 @@ class Page {
   makeHead() {
     const start = this.run.start;
     byId("name").textContent = shown(start.name);
-    byId("name").title = { folder: "a folder that boots", image: "a bare image", processes: "several processes" }[start.kind];
+    byId("name").title = { folder: "a folder that boots", image: "a bare image",
+      processes: "several processes" }[start.kind];
     byId("question").hidden = !start.question;
     byId("question").textContent = start.question || "";
     if (!start.notes.length) return;
@@ -52,8 +54,10 @@ class Page {
       ["?", "?", "help", () => this.help()],
     ];
     for (const [key, label, title, act, word] of this.actions) {
-      const button = element("button", { type: "button", title: `${title} (key ${label})`, "aria-label": title,
-        "aria-keyshortcuts": key, "data-key": key }, element("kbd", {}, label), word ? ` ${word}` : "");
+      const button = element("button",
+        { type: "button", title: `${title} (key ${label})`, "aria-label": title,
+        "aria-keyshortcuts": key, "data-key": key }, element("kbd", {}, label),
+          word ? ` ${word}` : "");
       button.addEventListener("click", act);
       byId("buttons").append(button);
     }
@@ -70,13 +74,16 @@ class Page {
       this.dialog = null;
       return;
     }
-    const row = (head, text) => element("tr", {}, element("th", { scope: "row" }, head), element("td", {}, text));
-    const mark = ([kind, text]) => row(drawn("svg", { width: 16, height: 14, viewBox: "-8 -7 16 14", "aria-label": kind },
+    const row = (head, text) =>
+      element("tr", {}, element("th", { scope: "row" }, head), element("td", {}, text));
+    const mark = ([kind, text]) =>
+      row(drawn("svg", { width: 16, height: 14, viewBox: "-8 -7 16 14", "aria-label": kind },
       drawn("path", { d: MARKS[kind], class: `mark ${kind}` })), text);
     const close = element("button", { type: "button" }, "Close");
     close.addEventListener("click", () => this.help());
     this.dialog = element("dialog", { "aria-label": "Help" },
-      element("h2", {}, "Keys"), element("table", {}, this.actions.map(([, label, title]) => row(label, title))),
+      element("h2", {}, "Keys"),
+        element("table", {}, this.actions.map(([, label, title]) => row(label, title))),
       element("h2", {}, "Marks in the ladder"), element("table", {}, MARK_TEXTS.map(mark)), close);
     this.dialog.addEventListener("close", () => this.dialog && this.help());
     document.body.append(this.dialog);
@@ -85,7 +92,8 @@ class Page {
 
   listen() {
     document.addEventListener("keydown", (event) => {
-      if (event.ctrlKey || event.altKey || event.metaKey || event.target.tagName === "SELECT") return;
+      const isOther = event.ctrlKey || event.altKey || event.metaKey;
+      if (isOther || event.target.tagName === "SELECT") return;
       const act = this.keys.get(event.key);
       if (!act) return;
       event.preventDefault();
@@ -102,7 +110,8 @@ class Page {
     if (!found) return;
     if (found[2] && !this.predicts) this.togglePredict();
     for (let turn = 0; turn < this.run.count; turn++) {
-      if (this.run.isStep(turn) && this.run.numbers[turn] === Number(found[1])) return this.go(turn);
+      const number = this.run.isStep(turn) ? this.run.numbers[turn] : null;
+      if (number === Number(found[1])) return this.go(turn);
     }
   }
 
@@ -154,12 +163,15 @@ class Page {
     }
     const before = steps(turn, -1);
     if (before < 0) return;
-    for (let at = before, ring = ringAt(before); at >= 0 && ringAt(at) === ring; at = steps(at, -1)) turn = at;
+    const ring = ringAt(before);
+    for (let at = before; at >= 0 && ringAt(at) === ring; at = steps(at, -1)) turn = at;
     this.go(turn);
   }
 
   event() {
-    const found = this.ladder.events.find(([turn, kind]) => turn > this.turn && kind !== "page" && kind !== "console" && kind !== "end");
+    const kinds = ["link", "fault", "answered"];
+    const found = this.ladder.events
+      .find(([turn, kind]) => turn > this.turn && kinds.includes(kind));
     if (found) this.go(found[0]);
     else this.say("There is no fault and no link after this.");
   }
@@ -219,10 +231,12 @@ class Page {
     const run = this.run;
     if (!run.isStep(this.turn)) return `${this.place()}: ${run.rows[this.turn].text}`;
     const step = run.step(this.turn);
-    const head = `Step ${step.number}. Ring ${step.at.ring} executes ${step.instruction || "nothing"} at ${step.at.name}.`;
+    const what = step.instruction || "nothing";
+    const head = `Step ${step.number}. Ring ${step.at.ring} executes ${what} at ${step.at.name}.`;
     if (this.isHidden) return `${head} Predict, then press the right arrow.`;
     const reference = mainReference(step.references);
-    const asked = reference && reference.kind !== "fetch" ? ` ${reference.question} ${reference.answer}` : "";
+    const asked = reference && reference.kind !== "fetch"
+      ? ` ${reference.question} ${reference.answer}` : "";
     return `${head}${asked} ${step.outcome.text}`;
   }
 

@@ -3,20 +3,23 @@
 const MOST_ROWS = 40;
 const MOST_SQUARES = 12;
 const FEW_PAGES = 4;
-const KIND_LETTERS = { fetch: "e", read: "r", indirect: "r", write: "w", transfer: "e", call: "c", locate: "" };
-const VERBS = { read: "reads", indirect: "reads", write: "writes", transfer: "goes on", call: "calls",
+const RINGS = [0, 1, 2, 3, 4, 5, 6, 7];
+const VERBS = { read: "reads", indirect: "reads", write: "writes", transfer: "goes on",
+  call: "calls",
   locate: "locates", fetch: "executes", final: "refers" };
 
 /* The reference of a step that counts: the one that is refused, or else the last. */
 function mainReference(references) {
-  return references.find((reference) => !reference.allowed) || references[references.length - 1] || null;
+  return references.find((reference) => !reference.allowed) || references[references.length - 1]
+    || null;
 }
 
 class MemoryPanel {
   constructor(run, parent) {
     this.run = run;
     this.picture = element("div", { class: "picture" });
-    this.matrix = element("div", { class: "matrix", tabindex: "0", role: "region", "aria-label": "Matrix" });
+    this.matrix = element("div",
+      { class: "matrix", tabindex: "0", role: "region", "aria-label": "Matrix" });
     this.console = element("div", { class: "console" });
     parent.append(element("h2", {}, "Rings"), this.picture, element("h2", {}, "Who may do what"),
       this.matrix);
@@ -60,17 +63,20 @@ class MemoryPanel {
     this.cells = new Map();
     const rows = this.rowsShown();
     const head = element("tr", {}, element("th", { scope: "col" }, "segment"),
-      [0, 1, 2, 3, 4, 5, 6, 7].map((ring) => element("th", { scope: "col", class: `r${ring}`, "data-ring": ring }, String(ring))),
+      RINGS.map((ring) =>
+        element("th", { scope: "col", class: `r${ring}`, "data-ring": ring }, String(ring))),
       element("th", { scope: "col", class: "pages" }, "pages"));
     this.heads = [...head.querySelectorAll("[data-ring]")];
     const body = rows.map((segment) => this.matrixRow(segment));
     this.matrix.append(element("table", {},
-      element("caption", { class: "unseen" }, "What each ring may do with each segment: r read, w write, e execute, c call"),
+      element("caption", { class: "unseen" },
+        "What each ring may do with each segment: r read, w write, e execute, c call"),
       element("thead", {}, head), element("tbody", {}, body)));
     const left = this.run.start.segments.length - rows.length;
     const legend = element("p", { class: "legend" },
       "r read · w write · e execute · c call into an inner ring · 444: R1 R2 R3",
-      left && rows.length > MOST_ROWS / 2 && !this.isSmall() ? ` · ${left} segments that are not touched are left out` : "");
+      left && rows.length > MOST_ROWS / 2 && !this.isSmall()
+        ? ` · ${left} segments that are not touched are left out` : "");
     this.legend = legend;
   }
 
@@ -80,14 +86,16 @@ class MemoryPanel {
 
   matrixRow(segment) {
     const cells = segment.rights.map((letters, ring) => {
-      const cell = element("td", { class: letters ? `r${ring}` : "none", "data-ring": ring }, letters);
+      const cell = element("td", { class: letters ? `r${ring}` : "none", "data-ring": ring },
+        letters);
       this.cells.set(`${segment.number} ${ring}`, cell);
       return cell;
     });
     const pages = element("td", { class: "pages" });
     this.cells.set(`${segment.number} pages`, pages);
     const title = `segment ${segment.number}, brackets ${segment.r1} ${segment.r2} ${segment.r3}`
-      + (segment.gate ? `, a gate with ${segment.entries} entries` : "") + `, ${segment.words} words`;
+      + (segment.gate ? `, a gate with ${segment.entries} entries` : "")
+        + `, ${segment.words} words`;
     return element("tr", { "data-segment": segment.number },
       element("th", { scope: "row", title }, element("span", {}, this.rowName(segment)),
         element("small", {}, ` ${segment.r1}${segment.r2}${segment.r3}`)), cells, pages);
@@ -96,7 +104,8 @@ class MemoryPanel {
   /* The name of a segment, with its file where another one has the name too. */
   rowName(segment) {
     const others = this.run.start.segments.filter((other) => other.name === segment.name);
-    return others.length > 1 && segment.file !== segment.name ? `${segment.name} (${segment.file})` : segment.name;
+    return others.length > 1 && segment.file !== segment.name ? `${segment.name} (${segment.file})`
+      : segment.name;
   }
 
   show(turn, hidden) {
@@ -115,7 +124,9 @@ class MemoryPanel {
       cell.classList.remove("executes", "refers", "refused", "column");
       cell.removeAttribute("aria-label");
     }
-    for (const cell of this.matrix.querySelectorAll(`[data-ring="${at.ring}"]`)) cell.classList.add("column");
+    for (const cell of this.matrix.querySelectorAll(`[data-ring="${at.ring}"]`)) {
+      cell.classList.add("column");
+    }
     const here = this.cells.get(`${at.segment} ${at.ring}`);
     if (here) this.scrollTo(here.parentElement);
     if (here) this.markCell(here, "executes", `ring ${at.ring} executes here`);
@@ -123,10 +134,12 @@ class MemoryPanel {
       if (reference.kind === "fetch" || !reference.place) continue;
       const cell = this.cells.get(`${reference.place.segment} ${reference.place.ring}`);
       if (!cell) continue;
-      if (reference.allowed) this.markCell(cell, "refers", `ring ${reference.place.ring} ${VERBS[reference.kind]}`);
-      else this.markCell(cell, "refused", `${VERBS[reference.kind]}: refused`);
+      const verb = VERBS[reference.kind];
+      if (reference.allowed) this.markCell(cell, "refers", `ring ${reference.place.ring} ${verb}`);
+      else this.markCell(cell, "refused", `${verb}: refused`);
     }
-    if (main && !main.allowed && main.kind === "fetch" && here) this.markCell(here, "refused", "execution refused");
+    const isFetch = main && !main.allowed && main.kind === "fetch";
+    if (isFetch && here) this.markCell(here, "refused", "execution refused");
   }
 
   /* Scrolls a long matrix to a row. */
@@ -149,15 +162,18 @@ class MemoryPanel {
       if (!cell) continue;
       const words = this.run.segments.has(segment) ? this.run.segments.get(segment).words : 0;
       const count = Math.max(1, Math.ceil(words / 1024));
-      const shown = count <= FEW_PAGES ? [...Array(count).keys()] : this.touchedPages(pages, turn, segment, uses);
-      cell.replaceChildren(...shown.map((page) => this.square(segment, page, pages.get(page), turn, uses, hidden)),
+      const shown = count <= FEW_PAGES ? [...Array(count).keys()]
+        : this.touchedPages(pages, turn, segment, uses);
+      cell.replaceChildren(
+        ...shown.map((page) => this.square(segment, page, pages.get(page), turn, uses, hidden)),
         count > FEW_PAGES ? element("small", { title: `${count} pages` }, `/${count}`) : "");
     }
   }
 
   /* The pages that have been touched, and of many those about the last ones. */
   touchedPages(pages, turn, segment, uses) {
-    const touched = [...pages.keys()].filter((page) => pages.get(page) <= turn).sort((a, b) => a - b);
+    const touched = [...pages.keys()].filter((page) => pages.get(page) <= turn);
+    touched.sort((a, b) => a - b);
     const used = touched.findIndex((page) => uses.has(`${segment} ${page}`));
     const first = Math.max(0, Math.min((used < 0 ? 0 : used) - 4, touched.length - MOST_SQUARES));
     return touched.slice(first, first + MOST_SQUARES);
@@ -173,7 +189,7 @@ class MemoryPanel {
     for (const reference of references) {
       if (!reference.allowed) add(reference.refused || reference.place, "refused");
       else if (reference.kind === "write") add(reference.place, "written");
-      else if (reference.kind === "read" || reference.kind === "indirect") add(reference.place, "read");
+      else if (["read", "indirect"].includes(reference.kind)) add(reference.place, "read");
     }
     return uses;
   }
@@ -183,7 +199,8 @@ class MemoryPanel {
     const before = first !== undefined && (hidden ? first < turn : first <= turn);
     const kinds = ["refused", "written", "read", "executed"].filter((use) => now.has(use));
     const kind = kinds[0] || (before ? "before" : "untouched");
-    const names = kinds.length ? kinds.join(", ") : kind === "before" ? "touched before" : "not touched";
+    const other = kind === "before" ? "touched before" : "not touched";
+    const names = kinds.length ? kinds.join(", ") : other;
     return element("span", { class: `square ${kind}`, title: `page ${page}: ${names}`, role: "img",
       "aria-label": `page ${page}: ${names}` }, SQUARE_LETTERS[kind] || "");
   }
@@ -201,17 +218,22 @@ class MemoryPanel {
       const y = number ? middle - radius(number) + band / 2 + 3 : middle + 4;
       picture.append(drawn("text", { x: middle, y, class: "band-number" }, String(number)));
     }
-    picture.append(drawn("circle", { cx: middle, cy: middle, r: ring ? radius(ring) - band / 2 : radius(0) / 2,
+    picture.append(
+      drawn("circle", { cx: middle, cy: middle, r: ring ? radius(ring) - band / 2 : radius(0) / 2,
       class: "track executes" }));
     const other = main && main.kind !== "fetch" && main.place ? main.place.ring : null;
     if (other !== null) {
-      const [from, to] = [this.markerPlace(middle, ring, radius, band, 150), this.markerPlace(middle, other, radius, band, 30)];
-      picture.append(drawn("path", { d: `M${from} L${to}`, class: main.allowed ? "reach" : "reach refused" }));
-      this.drawMarker(picture, middle, other, radius, band, 30, main.allowed ? "refers" : "refused");
+      const [from, to] = [this.markerPlace(middle, ring, radius, band, 150),
+        this.markerPlace(middle, other, radius, band, 30)];
+      picture.append(
+        drawn("path", { d: `M${from} L${to}`, class: main.allowed ? "reach" : "reach refused" }));
+      this.drawMarker(picture, middle, other, radius, band, 30,
+        main.allowed ? "refers" : "refused");
     }
     const isRefused = main && !main.allowed && main.kind === "fetch";
     this.drawMarker(picture, middle, ring, radius, band, 150, isRefused ? "refused" : "executes");
-    const words = [element("p", { class: isRefused ? "refused" : "" }, "executes in ", ringBadge(ring),
+    const words = [
+      element("p", { class: isRefused ? "refused" : "" }, "executes in ", ringBadge(ring),
       isRefused ? " refused" : "")];
     if (hidden) words.push(element("p", { class: "covered" }, "asks in ?"));
     else if (other !== null) {
@@ -230,7 +252,8 @@ class MemoryPanel {
   drawMarker(picture, middle, ring, radius, band, angle, kind) {
     const [x, y] = this.markerPlace(middle, ring, radius, band, angle);
     picture.append(drawn("circle", { cx: x, cy: y, r: 8, class: `marker ${kind}` }),
-      drawn("text", { x, y: y + 4, class: "marker-text" }, { executes: "▸", refers: "•", refused: "✕" }[kind]));
+      drawn("text", { x, y: y + 4, class: "marker-text" },
+        { executes: "▸", refers: "•", refused: "✕" }[kind]));
   }
 
   showConsole(turn) {
@@ -241,7 +264,8 @@ class MemoryPanel {
     if (!text) this.console.replaceChildren();
     else {
       this.console.replaceChildren(element("h2", {}, "Console"),
-        element("pre", { tabindex: "0", "aria-label": "What the console has written" }, visible(text)));
+        element("pre", { tabindex: "0", "aria-label": "What the console has written" },
+          visible(text)));
     }
   }
 }

@@ -1,7 +1,7 @@
 "use strict";
 
-/* The run: decodes the data of the page (tools/m36lib/encode.py says how it is written). A turn is a
-   step or what the system does between two steps. Turns are counted from 0, steps from 1. */
+/* The run: decodes the data of the page (tools/m36lib/encode.py says how it is written). A turn is
+   a step, or what the system does between two steps. Turns are counted from 0, steps from 1. */
 
 const HOLES = { "\ue000": 12, "\ue001": 6 };
 const NUMBERS = 10;
@@ -116,7 +116,8 @@ class Run {
   reference(number) {
     const [kind, place, count, link, question, answer, allowed, fault, violation, refused, rule] =
       this.tables.references[number];
-    return { kind, place: placeParts(place), count, link, question, answer, allowed: Boolean(allowed),
+    return { kind, place: placeParts(place), count, link, question, answer,
+      allowed: Boolean(allowed),
       fault, violation, refused: placeParts(refused), rule };
   }
 
@@ -139,7 +140,8 @@ class Run {
     const links = head[5].map((number) => this.link(number));
     const after = this.registersAfter(turn);
     return {
-      number: this.numbers[turn], at: this.at(turn), isAnswered: this.isAnswered(turn), instruction, code, references, links, after,
+      number: this.numbers[turn], at: this.at(turn), isAnswered: this.isAnswered(turn),
+        instruction, code, references, links, after,
       final: this.tables.finals[row[1]], outcome: this.outcome(turn), unknown: head[6] || null,
       sentences: this.sentences(head[3], row[5] || [], references, links),
       changed: this.changed(turn), words: this.words(row[4] || []), differences: row[6] || [],

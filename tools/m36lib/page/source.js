@@ -3,7 +3,8 @@
 
 const MOST_LINES_TOGETHER = 150;
 const RING_CLASSES = [0, 1, 2, 3, 4, 5, 6, 7].map((ring) => `r${ring}`);
-const PARTICIPLES = { read: "read", indirect: "read", write: "written", transfer: "gone to", call: "called",
+const PARTICIPLES = { read: "read", indirect: "read", write: "written", transfer: "gone to",
+  call: "called",
   locate: "located", final: "referred to" };
 
 class SourcePanel {
@@ -15,7 +16,8 @@ class SourcePanel {
     this.words = this.firstWords();
     this.title = element("h2");
     this.tabs = element("div", { class: "tabs", role: "group", "aria-label": "Sources" });
-    this.body = element("div", { class: "listing", tabindex: "0", role: "region", "aria-label": "Lines" });
+    this.body = element("div",
+      { class: "listing", tabindex: "0", role: "region", "aria-label": "Lines" });
     parent.append(this.title, this.tabs, this.body);
     const lines = this.files.reduce((sum, file) => sum + run.start.sources[file].length, 0);
     this.isTogether = lines <= MOST_LINES_TOGETHER;
@@ -67,7 +69,8 @@ class SourcePanel {
   linesOf(file) {
     const texts = this.run.start.sources[file];
     const count = texts[texts.length - 1] === "" ? texts.length - 1 : texts.length;
-    const lines = texts.slice(0, count).map((text, index) => this.line(`${file} ${index + 1}`, index + 1, text));
+    const lines = texts.slice(0,
+      count).map((text, index) => this.line(`${file} ${index + 1}`, index + 1, text));
     return [element("h3", { class: "file" }, file), ...lines];
   }
 
@@ -75,7 +78,9 @@ class SourcePanel {
     const word = this.words.has(key) ? this.words.get(key).toString(8) : "";
     const line = element("div", { class: "line", "data-line": number },
       element("span", { class: "number" }, String(number)),
-      this.words.size ? element("span", { class: "word", title: word && `word ${word} of the segment` }, word) : null,
+      this.words.size
+        ? element("span", { class: "word", title: word && `word ${word} of the segment` }, word)
+        : null,
       element("code", {}, this.parts(shown(text))));
     this.lines.set(key, line);
     return line;
@@ -85,7 +90,8 @@ class SourcePanel {
   parts(text) {
     const found = /^(.*?\S)( {2,})(".*)$/s.exec(text);
     if (!found) return [text];
-    return [found[1], element("span", { class: "gap" }, found[2]), element("span", { class: "remark" }, found[3])];
+    return [found[1], element("span", { class: "gap" }, found[2]),
+      element("span", { class: "remark" }, found[3])];
   }
 
   /* The instructions of a segment that the run fetches, by their words. */
@@ -95,7 +101,8 @@ class SourcePanel {
     this.lines = new Map();
     this.instructions = this.instructions || this.fetched();
     const words = [...(this.instructions.get(segment) || new Map())].sort();
-    this.body.replaceChildren(element("h3", { class: "file" }, `instructions of ${this.run.segmentName(segment)}`),
+    this.body.replaceChildren(
+      element("h3", { class: "file" }, `instructions of ${this.run.segmentName(segment)}`),
       ...words.map(([word, text]) => this.line(`|${word}`, word, text)));
   }
 

@@ -1,4 +1,5 @@
-/* Stays: turns in a row in one ring and one segment. Loops are folded, within a stay and of stays. */
+/* Stays: turns in a row in one ring and one segment. Loops are folded, within a stay and of
+   stays. */
 
 const LONGEST_LOOP = 12;
 const LEAST_REPEATS = 3;
@@ -14,7 +15,8 @@ function staysOf(run) {
       || (run.processes > 1 && stays[stays.length - 1] !== stay);
     if (isNew) {
       const came = stay && (stay.ring !== at.ring || stay.segment !== at.segment) ? stay.last : -1;
-      stay = { index: stays.length, process, ring: at.ring, segment: at.segment, first: turn, last: turn,
+      stay = { index: stays.length, process, ring: at.ring, segment: at.segment, first: turn,
+        last: turn,
         words: new Map(), repeats: 1, came, before: last[process] };
       stays.push(stay);
       last[process] = stay;
@@ -34,7 +36,8 @@ function sameStay(one, other) {
 /* How often the stays from `at` on repeat in periods of so many. */
 function repeatsFrom(stays, at, period) {
   let same = 0;
-  while (at + period + same < stays.length && sameStay(stays[at + same], stays[at + period + same])) {
+  while (at + period + same < stays.length
+    && sameStay(stays[at + same], stays[at + period + same])) {
     same += 1;
   }
   return 1 + Math.floor(same / period);
@@ -52,13 +55,14 @@ function loopAt(stays, at) {
   return best;
 }
 
-/* The boxes of the ladder: a stay each, or the stays of a loop that are drawn once. Each stay gets the
-   number of its box. */
+/* The boxes of the ladder: a stay each, or the stays of a loop that are drawn once. Each stay gets
+   its box. */
 function boxesOf(stays, folds) {
   const boxes = [];
   for (let at = 0; at < stays.length;) {
     const loop = (folds && loopAt(stays, at)) || { period: 1, repeats: 1 };
-    const group = loop.repeats > 1 ? { repeats: loop.repeats, first: boxes.length, period: loop.period } : null;
+    const group = loop.repeats > 1
+      ? { repeats: loop.repeats, first: boxes.length, period: loop.period } : null;
     for (let offset = 0; offset < loop.period; offset++) {
       const box = { stays: [], words: new Map(), group, index: boxes.length };
       for (let time = 0; time < loop.repeats; time++) {
@@ -87,8 +91,8 @@ function stayOfTurn(stays, turn) {
   return stays[low] || null;
 }
 
-/* The first turn after the loop that a step is in, or -1. A loop comes back to the step's word in no
-   more than twice the time that it took before. */
+/* The first turn after the loop that a step is in, or -1. A loop comes back to the step's word in
+   no more than twice the time that it took before. */
 function afterLoop(run, turn) {
   const key = (at) => `${run.processOf(at)} ${run.spots[at]}`;
   const start = key(turn), inside = new Set();
