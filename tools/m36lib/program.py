@@ -1,5 +1,5 @@
 """Which program the tools run: the one that is built at the top of the repository, or the installed
-m36. Nothing is built here, since that takes an hour and more."""
+m36. Nothing is built here, since that takes an hour."""
 
 import os
 import pathlib
@@ -37,7 +37,6 @@ def existing(path):
 def built():
     """The program of the repository, where it is built and its sources are not newer."""
     if subprocess.run([TOP / "tools/is-current"]).returncode:
-        raise NoProgram("the program is not built, or is older than its sources: "
-                        "`cd examples/least && ../../m36 bare least` builds it, and M36_PROGRAM "
-                        "names another")
+        raise NoProgram("the program is not proved, or is older than its sources: ./prove builds it, "
+                        "and M36_PROGRAM names another")
     return str(TOP / "crates/m36/out/m36")
