@@ -2,6 +2,7 @@
 
 import pathlib
 import re
+from functools import partial
 
 from .page_cases import EXAMPLE_CASES, STEP, Examples
 
@@ -308,7 +309,7 @@ def example_checks(browser, program, work):
     yield "servant: policy", check(check_policy, "servant")
 
 
-def run_checks(checks, words=("",), show=print):
+def run_checks(checks, words=("",), show=partial(print, flush=True)):
     """Makes the checks that have one of these words in their names. The number of those that fail."""
     wrong = made = 0
     for name, check in checks:
