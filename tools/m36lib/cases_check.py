@@ -1,5 +1,7 @@
 """Makes drawn cases, and holds the account against the machine at every step of them."""
 
+import concurrent.futures
+import os
 import pathlib
 import random
 import shutil
@@ -10,11 +12,13 @@ from .cases import Case
 from .cases_ends import ENDS
 from .cases_folders import MOST_STEPS, FolderCase
 from .cases_path import drawn
-from .cases_reached import Reached
+from .cases_reached import IMAGE_GOALS, Reached
 from .check_account import differences
 from .machine import Machine
 
 MOST_SHOWN = 4
+# Images of one part are drawn in the light of what those before them reach.
+IN_PART = {"image": 200, "folder": 20}
 
 
 class Watched(Machine):
@@ -32,43 +36,97 @@ class Watched(Machine):
         return answers
 
 
-def images(folder, seed, count):
-    """Writes so many images that are drawn from a seed: their cases."""
+def images(folder, seed, count, more=0):
+    """Writes so many images that are drawn from a seed, and as long as they have not reached all
+    goals some more: their cases."""
     counts = Counter()
-    for number in range(count):
+    for number in range(count + more):
+        if number >= count and all(counts[goal] for goal in IMAGE_GOALS):
+            return
         name = f"image{number}"
         text, steps, size = drawn(random.Random(f"{seed} image {number}"), counts)
         (folder / name).write_text(text)
         yield Case(f"image {number} of seed {seed}", folder, name, steps, size)
 
 
-def folders(program, folder, seed, count):
-    """Writes so many folders that are drawn from a seed: their cases."""
+def folders(program, folder, seed, count, first=0):
+    """Writes so many folders that are drawn from a seed, from a number on: their cases. Their ends
+    follow each other."""
     ends = list(ENDS)
-    for number in range(count):
+    for number in range(first, first + count):
         place = folder / f"folder{number}"
         place.mkdir()
-        FolderCase(random.Random(f"{seed} folder {number}"), ends[number % len(ends)]).write(
-            place, program
-        )
-        name = f"folder {number} of seed {seed}, {ends[number % len(ends)]}"
-        yield Case(name, place, steps=MOST_STEPS)
+        end = ends[number % len(ends)]
+        FolderCase(random.Random(f"{seed} folder {number}"), end).write(place, program)
+        yield Case(f"folder {number} of seed {seed}, {end}", place, steps=MOST_STEPS)
 
 
-def check(program, cases, reached, keep=None, show=print):
-    """Holds the account against the machine in cases. The number of those that differ, which are
-    copied to the folder `keep`."""
-    wrong = 0
+def check(program, cases, reached, keep=None):
+    """Holds the account against the machine in cases. What differs, as lines of text; the cases that
+    differ are copied to the folder `keep`."""
+    lines = []
     for case in cases:
         machine = Watched(program, str(case.folder), case.image)
         found = differences(program, case, reached, machine)
         reached.end_case(machine.lines, frames_of(case))
-        wrong += bool(found)
-        for line in found[:MOST_SHOWN]:
-            show(f"{case.name}: {line}")
+        lines += [f"{case.name}: {line}" for line in found[:MOST_SHOWN]]
         if found and keep:
             copy(case, pathlib.Path(keep))
-    return wrong
+    return lines
+
+
+def check_images(program, seed, number, count, keep):
+    """Makes and checks a part of the images: what they reach, and what differs."""
+    reached = Reached()
+    with tempfile.TemporaryDirectory() as work:
+        of_part = f"{seed}.{number}" if number else seed
+        made = images(pathlib.Path(work), of_part, count, more=count)
+        return reached, check(program, made, reached, keep)
+
+
+def check_folders(program, seed, number, count, keep):
+    """The same for folders, of which a part has IN_PART."""
+    reached = Reached()
+    with tempfile.TemporaryDirectory() as work:
+        made = folders(program, pathlib.Path(work), seed, count, number * IN_PART["folder"])
+        return reached, check(program, made, reached, keep)
+
+
+def parts(count, most):
+    """How many cases each part has."""
+    return [min(most, count - first) for first in range(0, count, most)]
+
+
+def report(kind, jobs):
+    """Prints what the parts of a kind reach. The number of things that are wrong or missing."""
+    reached, wrong = Reached(), 0
+    for job in jobs:
+        found, lines = job.result()
+        reached.take(found)
+        wrong += len(lines)
+        for line in lines:
+            print(line)
+    missing = reached.missing(kind)
+    print(f"{reached.text(kind)}, {wrong} things wrong")
+    if missing:
+        print(f"{kind}s: not reached: {', '.join(missing)}")
+    return wrong + len(missing)
+
+
+def check_all(program, seed, images_count, folders_count, keep=None):
+    """Makes and checks images and folders. The number of things that are wrong or missing."""
+    kinds = (
+        ("image", check_images, images_count),
+        ("folder", check_folders, folders_count),
+    )
+    with concurrent.futures.ProcessPoolExecutor(os.cpu_count()) as pool:
+        jobs = {}
+        for kind, function, count in kinds:
+            jobs[kind] = [
+                pool.submit(function, program, seed, number, size, keep)
+                for number, size in enumerate(parts(count, IN_PART[kind]))
+            ]
+        return sum(report(kind, found) for kind, found in jobs.items() if found)
 
 
 def frames_of(case):

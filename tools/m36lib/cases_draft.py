@@ -177,7 +177,8 @@ class Drafts:
         if segment.kind != "code":
             return self.random.randrange(segment.words)
         other = segment.number != self.registers.segment
-        if segment.entries and other and self.random.random() < 0.9:
+        often = 0.5 if self.ends else 0.9
+        if segment.entries and other and self.random.random() < often:
             return self.random.randrange(segment.entries)
         words = range(segment.words // 2 - MARGIN)
         free = [word for word in words if segment.base + word not in self.path.seen]

@@ -88,9 +88,18 @@ def written_to_end(source, layout, ring):
     stop_by_call(source, layout, ring)
 
 
+def many_pages(source, layout, ring):
+    """More pages than there are frames, and all of them again."""
+    for _ in range(2):
+        source.pages("big_", layout.big_pages)
+        source.pages(None, 15)
+    stop_by_call(source, layout, ring)
+
+
 ENDS = {
     "dis": End(ANY, stop_by_call),
     "dis after a long line": End(ANY, written_to_end),
+    "dis after many pages": End(ANY, many_pages),
     "dis after marks": End(ANY, with_marks(stop_by_call)),
     "link L1": End(ANY, tagged(0o46)),
     "link L2": End(ANY, lines("lda none_$x")),

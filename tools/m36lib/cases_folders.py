@@ -67,6 +67,7 @@ class Layout:
             "huge1_": ("object", "re", ring, ring, 7),
             "huge2_": ("object", "re", ring, ring, 7),
         }
+        self.big_pages = 2
         self.numbers = {name: FIRST_CATALOG + n for n, name in enumerate(self.rings)}
 
     def boot(self, ring, frames):
@@ -90,7 +91,7 @@ class FolderCase:
         self.gate_ring = random.randint(0, min(self.ring, 6))
         self.layout = Layout(self.ring, self.gate_ring)
         self.storing = random.choice(("link", "static"))
-        self.big_pages = random.randint(2, 9)
+        self.layout.big_pages = 12 if end == "dis after many pages" else random.randint(2, 9)
 
     def links(self):
         own = [link.format(storing=self.storing) for link in OWN_LINKS]
@@ -109,7 +110,7 @@ class FolderCase:
             lambda: source.call("sub_$run"),
             lambda: source.call("gate_$serve"),
             source.write,
-            lambda: source.pages("big_", self.big_pages),
+            lambda: source.pages("big_", self.layout.big_pages),
             lambda: source.pages(None, self.random.randint(2, 15)),
         ]
         source.body(calls, self.random.randint(5, 9))
@@ -163,8 +164,8 @@ class FolderCase:
         random = self.random
         for name, words in (("data_", 64), ("low_", 16), ("view_", 16), ("bad_", 3)):
             (folder / name).write_bytes(random.randbytes(9 * words // 2 // 9 * 9))
-        (folder / "big_").write_bytes(random.randbytes(4608 * self.big_pages))
-        frames = random.choice((24, 24, 25, 30, 60))
+        (folder / "big_").write_bytes(random.randbytes(4608 * self.layout.big_pages))
+        frames = random.choice((24, 24, 24, 25, 30))
         (folder / "boot").write_text(self.layout.boot(self.ring, frames))
 
 

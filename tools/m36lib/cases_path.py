@@ -20,6 +20,7 @@ from .references import References
 MOST_TRIES, FEWEST_ENDS, MOST_ENDS, MOST_STEPS = 12, 30, 120, 150
 GOES_ON = 1 << 30
 ENDERS = ("mme", "drl", "dis", "div", "ldbr", "sdbr", "cams", "lprp3", "lpri", "spri", "staq")
+# Instructions for the ends of runs, by the last word of what is to be reached.
 KINDS = {
     "fetch": ("rtcd",),
     "indirect": ("lda", "eax1", "cams"),
@@ -28,7 +29,14 @@ KINDS = {
     "transfer": ("tra", "tsx1", "tsp2"),
     "call": ("call6",),
     "locate": ("absa",),
+    "2": ("mme",),
+    "5": ("lprp1", "lprp5"),
+    "6": ("drl",),
+    "13": ("ada", "sba", "aos", "neg", "adq", "ssa", "als", "lls"),
+    "14": ("div",),
+    "dis": ("dis",),
 }
+REFERENCES = ("fetch", "indirect", "read", "write", "transfer", "call", "locate")
 
 
 class End(NamedTuple):
@@ -173,7 +181,7 @@ class Path:
         """An instruction for the end, by what is not yet reached."""
         kind = self.world.goal.rpartition(" ")[2]
         if self.random.random() < 0.6:
-            return self.random.choice(KINDS.get(kind) or KINDS[self.random.choice(list(KINDS))])
+            return self.random.choice(KINDS.get(kind) or KINDS[self.random.choice(REFERENCES)])
         return self.random.choice((*ENDERS, self.name()))
 
 

@@ -52,7 +52,7 @@ def end_feature(account):
         return outcome.trace_text()
     number = outcome.number
     if number == ILLEGAL_PROCEDURE:
-        return f"10 {reason(ILLEGAL, account.sentences[-2].text)}"
+        return f"10 {reason(ILLEGAL, outcome.text)}"
     refused = [reference for reference in account.references if not reference.allowed]
     if not refused:
         return f"{number}"
@@ -186,15 +186,12 @@ class Reached:
         return [goal for goal in GOALS[kind] if not self.counts[goal]]
 
     def text(self, kind):
-        """A line that says what was reached, and a line with what is missing, if anything is."""
-        goals = GOALS[kind]
-        missing = self.missing(kind)
+        """What was reached, in a line."""
+        goals = len(GOALS[kind])
         names = sum(self.counts[text] > 0 for text in INSTRUCTIONS)
         tags = sum(self.counts[text] > 0 for text in TAGS)
-        plural = "" if self.cases == 1 else "s"
-        said = (
-            f"{self.cases} {kind}{plural}, {self.steps} steps, {names} of {len(INSTRUCTIONS)} "
+        return (
+            f"{self.cases} {kind}s, {self.steps} steps: {names} of {len(INSTRUCTIONS)} "
             f"instructions, {tags} of {len(TAGS)} tags, "
-            f"{len(goals) - len(missing)} of {len(goals)} goals"
+            f"{goals - len(self.missing(kind))} of {goals} features"
         )
-        return said + (f"\nnot reached: {', '.join(missing)}" if missing else "")

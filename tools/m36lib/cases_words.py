@@ -4,7 +4,6 @@ from .fields import HALF_WORD, ITP_TAG, WORD
 from .made_images import its
 
 SMALL = (0, 1, 2, 7, 0o777777, HALF_WORD, WORD - 1, WORD >> 1, (WORD >> 1) - 1)
-NO_SEGMENTS = (6, 63, 0o1000, 0o1000, 0o2000, 0o3000, 0o10000, 0o77777)
 
 
 def number(random):
@@ -24,7 +23,7 @@ def some_segment(random, world, odd=0.1):
     """A segment of the world; now and then one that refuses, or none."""
     often = 1 if "descriptor" in world.goal or "segment" in world.goal else 3
     if random.random() < odd / often:
-        return random.choice(NO_SEGMENTS)
+        return random.choice(world.absent)
     if world.aimed and random.random() < odd:
         return random.choice(world.aimed).number
     wanted = "odd" if random.random() < odd else random.choice(("code", "data", "data", "stack"))

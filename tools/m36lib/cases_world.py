@@ -23,6 +23,13 @@ MODES = ("r", "rw", "rw", "rw", "w", "re", "rewp", "")
 PRIVILEGED_MODES = ("rep", "rep", "rewp", "re")
 CODE_MODES = ("re", "re", "rew", "e", "rep", "rewp")
 
+# Numbers without a descriptor, by a part of the goal.
+ABSENT = (
+    ("descriptor page", (0o1000, 0o1000, 0o2000, 0o3000, 0o10000)),
+    ("1 descriptor", (0o10000, 0o77777)),
+    ("", (6, 63, 0o1000, 0o10000, 0o77777)),
+)
+
 
 @dataclass(frozen=True)
 class Segment:
@@ -71,19 +78,21 @@ def without_f(base, code):
 class World:
     """A machine: its words of core, its segments, and where it starts. `goal` is a feature that the
     program is to reach, if it can: the tables are such that this is not rare. The segments in `aimed`
-    refuse as the goal says."""
+    refuse as the goal says, and `absent` are numbers of segments that have no descriptor."""
 
     def __init__(self, random, goal=""):
         self.random = random
         self.goal = goal
         self.aimed = []
+        self.absent = next((some for text, some in ABSENT if text in goal), ABSENT[-1][1])
         self.memory = DrawnMemory(SIZE, {})
         self.segments = {}
         self.tables = TABLES
         self.numbers = list(FREE_NUMBERS)
         random.shuffle(self.numbers)
-        rings = (0,) if goal.endswith(" locate") else (0, 0, 0, 1, 2, 3, 4, 4, 5, 6, 7)
-        self.ring = random.choice(rings)
+        self.ring = random.choice((0, 0, 0, 1, 2, 3, 4, 4, 5, 6, 7))
+        if goal in ("dis", "20.9 call") or goal.endswith(" locate"):
+            self.ring = 0
         self.lay_descriptor_segment()
         self.lay_segments()
         self.lay_odd_segments()
@@ -152,7 +161,8 @@ class World:
         self.start = self.add_code(FRAME + 512, self.ring)
         lower = random.randint(0, self.ring)
         self.add_code(FRAME + 768, lower, random.random() < 0.7)
-        self.add_code(2 * FRAME, random.randrange(8), random.random() < 0.5, [2])
+        other = 7 if self.goal == "20.9 call" else random.randrange(8)
+        self.add_code(2 * FRAME, other, random.random() < 0.5, [2])
         for place in range(4):
             self.add_data(3 * FRAME + 128 * place, 128)
         self.add_data(4 * FRAME, 512, [4])
@@ -188,19 +198,20 @@ class World:
         data = 3 * FRAME
         pages, more = self.page_table([]), self.page_table([], 8)
         codes = ((f"{16 + code} descriptor", without_f(data, code)) for code in range(4))
+        rings = self.random.choice(("077", "777"))
         odd = [
             ("20.0", sdw(data, "426", "rewp", 7)),
             ("20.0", sdw(data, "132", "rew", 7)),
             *codes,
-            ("page", sdw(pages, "077", "rewp", 255, None, True)),
-            ("page", sdw(more, "077", "rew", 255, None, True)),
+            ("page", sdw(pages, rings, "rewp", 255, None, True)),
+            ("page", sdw(more, rings, "rew", 255, None, True)),
             ("1 page", sdw(SIZE - 1, "077", "rewp", 127, None, True)),
-            ("1 page", sdw(SIZE, "077", "rew", 63, None, True)),
-            ("1 place", sdw(SIZE - 32, "077", "rewp", 63)),
-            ("20.15 word", sdw(data, "077", "rew", 0)),
+            ("1 page", sdw(SIZE, rings, "rew", 63, None, True)),
+            ("1 place", sdw(SIZE - 32, rings, "rewp", 63)),
+            ("20.15 word", sdw(data, rings, "rew", 0)),
             ("20.1", sdw(data, "000", "rew", 7)),
             ("20.1", sdw(data, "777", "rew", 7)),
-            ("20.", sdw(data, "077", "", 7)),
+            ("20.", sdw(data, rings, "", 7)),
         ]
         for refusal, words in odd:
             number = self.numbers.pop()
