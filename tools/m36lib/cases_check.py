@@ -62,8 +62,8 @@ def folders(program, folder, seed, count, first=0):
 
 
 def check(program, cases, reached, keep=None):
-    """Holds the account against the machine in cases. What differs, as lines of text; the cases that
-    differ are copied to the folder `keep`."""
+    """Holds the account against the machine in cases. What differs, as lines of text; the cases
+    that differ are copied to the folder `keep`."""
     lines = []
     for case in cases:
         machine = Watched(program, str(case.folder), case.image)

@@ -86,7 +86,8 @@ class Drafts:
         return op(self.row.name, address % (1 << 15), tag, register)
 
     def free_place(self, number):
-        """An even word of a segment that nothing has looked at, as is the word after it; or None."""
+        """An even word of a segment such that nothing has looked at it and at the word after it; or
+        None."""
         segment = self.world.segments.get(number)
         if segment is None or segment.kind == "odd":
             return None

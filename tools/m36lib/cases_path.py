@@ -148,7 +148,8 @@ class Path:
         return segment.base + after.word not in self.seen or self.random.random() < 0.1
 
     def rarest_end(self):
-        """The candidate that ends as the world is made for, or else the one whose end is the rarest."""
+        """The candidate that ends as the world is made for, or else the one whose end is the
+        rarest."""
         found = [self.end() for _ in range(FEWEST_ENDS)]
         while min(found).rarity and self.world.goal and len(found) < MOST_ENDS:
             found.append(self.end())

@@ -1,15 +1,5 @@
-"""Faults for `look-cases --planted`, each of which `look-cases --check` must report.
-
-Each row is a file of m36lib, a text that it has, and what is put in its place, once."""
-
-import concurrent.futures
-import os
-import pathlib
-import shutil
-import subprocess
-import tempfile
-
-TOP = pathlib.Path(__file__).resolve().parents[2]
+"""Faults for `look-cases --planted`, each of which `look-cases --check` must report. A fault is a
+file of m36lib, a text that it has, and what is put in its place, once."""
 
 PLANTED = (
     # The account
@@ -25,27 +15,3 @@ PLANTED = (
     ("cases_draft.py", "ROWS = list(TABLE.values())", "ROWS = list(TABLE.values())[:-1]"),
     ("cases_world.py", '("1 page", sdw(SIZE, ', '("none", sdw(0, '),
 )
-
-
-def is_reported(program, fault):
-    """Whether `look-cases --check`, in a copy with a fault planted in it, reports something."""
-    name, old, new = fault
-    with tempfile.TemporaryDirectory() as room:
-        copy = pathlib.Path(room) / "tools"
-        shutil.copytree(TOP / "tools", copy, ignore=shutil.ignore_patterns("__pycache__"))
-        text = (copy / "m36lib" / name).read_text()
-        (copy / "m36lib" / name).write_text(text.replace(old, new, 1))
-        words = [copy / "look-cases", "--check", program]
-        done = subprocess.run(words, capture_output=True)
-        return old in text and done.returncode == 1 and not done.stderr
-
-
-def check_planted(program):
-    """Plants each fault. The number of those that are not reported."""
-    with concurrent.futures.ThreadPoolExecutor(os.cpu_count()) as pool:
-        reported = list(pool.map(lambda fault: is_reported(program, fault), PLANTED))
-    missed = [fault for fault, is_so in zip(PLANTED, reported) if not is_so]
-    for name, old, new in missed:
-        print(f"{name}: {old!r} as {new!r} is not reported")
-    print(f"{len(PLANTED)} planted, {len(missed)} not reported")
-    return len(missed)

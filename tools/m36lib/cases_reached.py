@@ -128,7 +128,8 @@ IMAGE_GOALS = [*INSTRUCTIONS, *TAGS, *CHAINS, *CHAIN_TAGS, *RINGS, *IMAGE_ENDS]
 LINKS = ["link $entry", "link $", "link *$", "link *$entry"]
 FOLDER_GOALS = [
     *RINGS, *LINKS, *(f"code L{number}" for number in range(1, 7)),
-    "console", "console refused", "end console", "pages", "pages that give way", "2", "17 page", "24", "20.3 read", "20.5 write",
+    "console", "console refused", "end console", "pages", "pages that give way", "2", "17 page",
+    "24", "20.3 read", "20.5 write",
     "20.1 transfer", "20.2 call", "20.7 call", "20.8 call", "20.9 call", "20.10 call", "dis",
 ]
 GOALS = {"image": IMAGE_GOALS, "folder": FOLDER_GOALS}

@@ -68,7 +68,8 @@ class Source:
         return f"pr6|{FIRST_FREE + self.random.randrange(FREE)}"
 
     def number(self):
-        return self.constant(f" oct {self.random.getrandbits(36):o},{self.random.getrandbits(36):o}")
+        words = (self.random.getrandbits(36) for _ in range(2))
+        return self.constant(" oct " + ",".join(f"{word:o}" for word in words))
 
     def operand(self, row):
         """An operand for an instruction, after lines that prepare it."""
@@ -150,7 +151,8 @@ class Source:
         base = "pr7|200" if segment is None else "pr3|0"
         if segment is not None:
             self.add(f"epp3 {segment}$")
-        self.add("eax1 0", f"{again}: {self.random.choice(('stx1', 'asx1', 'ldq', 'szn'))} {base},x1")
+        name = self.random.choice(("stx1", "asx1", "ldq", "szn"))
+        self.add("eax1 0", f"{again}: {name} {base},x1")
         self.add("eax1 1024,x1", f"cmpx1 {1024 * pages},du", f"tnz {again}")
 
     def body(self, calls, pieces):

@@ -78,7 +78,8 @@ def any_word(random, world):
     if kind < 0.35:
         return itp_pair(random)
     if kind < 0.5:
-        return random.randrange(64) << 18 | tag(random), tally_for(random, 0o51, random.randrange(64))
+        tally = tally_for(random, 0o51, random.randrange(64))
+        return random.randrange(64) << 18 | tag(random), tally
     if kind < 0.6:
         return packed_pointer(random, world), number(random)
     return number(random), number(random)

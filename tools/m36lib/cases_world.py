@@ -7,7 +7,7 @@ that each word of it can be looked at after a run."""
 from dataclasses import dataclass
 
 from .cases_words import any_word
-from .fields import Dbr, dbr_words
+from .fields import Dbr, dbr_words, ptw_of
 from .made_images import sdw
 from .memory import CoreMemory
 from .registers import Indicators, Pointer, Registers
@@ -77,8 +77,8 @@ def without_f(base, code):
 
 class World:
     """A machine: its words of core, its segments, and where it starts. `goal` is a feature that the
-    program is to reach, if it can: the tables are such that this is not rare. The segments in `aimed`
-    refuse as the goal says, and `absent` are numbers of segments that have no descriptor."""
+    program is to reach, if it can: the tables are such that this is not rare. The segments in
+    `aimed` refuse as the goal says, and `absent` are numbers of segments without a descriptor."""
 
     def __init__(self, random, goal=""):
         self.random = random
@@ -131,7 +131,8 @@ class World:
         return code if code < 4 else 16 * self.random.choice((FRAMES, 900)) << 18 | PRESENT
 
     def code(self):
-        """The directed fault of a page table word that refuses, or 4 for one past the end of core."""
+        """The directed fault of a page table word that refuses, or 4 for one whose frame is past
+        the end of core."""
         number = self.goal.partition(" ")[0]
         if "page" in self.goal and self.random.random() < 0.8:
             return int(number) - 16 if number != "1" else 4
@@ -235,8 +236,9 @@ class World:
         return words == VIEW_SDW and dbr == self.dbr and (dbr.unpaged or self.table_stays())
 
     def table_stays(self):
-        word = self.memory.words.get(self.dbr.address, 0)
-        return word & (1 << 18) - 64 | word >> 18 << 18 | PRESENT == word | 1 << 9 and word >> 18 == 0
+        """The page table word of the first descriptors is that of frame 0, whatever its marks."""
+        ptw = ptw_of(self.memory.words.get(self.dbr.address, 0))
+        return ptw.present and ptw.address == 0
 
     def text(self, words):
         """The image, with these words of core."""
