@@ -18,6 +18,7 @@ PLANTED = (
     ("docs/guide/write.md", "source template 73", "source template 74"),
     ("docs/guide/write.md", " ada 1,dl ", " ada 1;dl "),
     ("docs/guide/servant.svg", "fault 20.3", "fault 20.4"),
+    ("docs/guide/direct-who.svg", "brackets 1 1 1", "brackets 1 4 4"),
     ("examples/least/README.md", "    core 1\n", "    core 2\n"),
     ("examples/least/README.md", "    end dis 2\n", "    end dis 3\n"),
 )

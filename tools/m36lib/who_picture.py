@@ -14,10 +14,10 @@ FILLS = ["#f2b8a0", "#f5c9a8", "#f5dcb0", "#eee8b8", "#cfe5bd", "#bfe0d4", "#bfd
 STYLE = (
     "text{font-family:ui-monospace,Menlo,Consolas,monospace;font-size:13px;fill:#222}"
     ".h{font-weight:bold;font-size:15px}.b{font-weight:bold}.s{font-size:11px;fill:#555}"
-    ".k{fill:#222}.m{text-anchor:middle}.l{stroke:#ccc}.a{stroke:#444;fill:none;stroke-width:1.5}"
+    ".o{fill-opacity:.45}.k{fill:#222}.m{text-anchor:middle}.l{stroke:#ccc}.a{stroke:#444;fill:none;stroke-width:1.5}"
     ".t{fill:#444}.c{fill:none;stroke:#777;stroke-dasharray:3 3}.p{fill:#fff}"
     "@media (prefers-color-scheme:dark){"
-    "text{fill:#e6e6e6}.s{fill:#aaa}.k{fill:#222}.p{fill:#16181d}"
+    "text{fill:#e6e6e6}.o{fill-opacity:.3}.s{fill:#aaa}.k{fill:#222}.p{fill:#16181d}"
     ".l{stroke:#3a3f4a}.a{stroke:#ddd}.t{fill:#ddd}.c{stroke:#999}}"
 )
 WIDTH, HEIGHT, GAP = 66, 34, 20
@@ -107,7 +107,7 @@ def draw_cell(picture, cell, ring, x, y):
     if cell.execute:
         picture.box(x, y, WIDTH, HEIGHT, f'fill="{FILLS[ring]}" stroke="#444" stroke-width="1.5"')
     elif cell.read or cell.write:
-        picture.box(x, y, WIDTH, HEIGHT, f'fill="{FILLS[ring]}" fill-opacity="0.45"')
+        picture.box(x, y, WIDTH, HEIGHT, f'fill="{FILLS[ring]}" class="o"')
     if cell.call:
         picture.box(x, y, WIDTH, HEIGHT, 'class="c"')
     shade = "k" if cell.execute else ""
@@ -154,9 +154,9 @@ def as_picture(facts):
         picture.line(LEFT, y - 6, end, y - 6, "l")
         draw_row(picture, facts, row, left, end, y)
         y += HEIGHT + GAP
-    notes = ["r reads, w writes, e executes it there, c calls it: the arrow leads to the ring that "
-             "executes then."]
-    notes += [sentence for row in facts.rows if (sentence := call_sentence(row))]
+    calls = [sentence for row in facts.rows if (sentence := call_sentence(row))]
+    arrow = ", c calls it: the arrow leads to the ring that executes then" if calls else ""
+    notes = [f"r reads, w writes, e executes it there{arrow}.", *calls]
     notes += [line for line in facts.audit if line != "audit yes"]
     for note in notes:
         picture.text(LEFT, y + 12, note, "s")

@@ -2,7 +2,7 @@
 
 from .who_facts import RINGS
 
-LETTERS = "r reads, w writes, e executes it there, c calls it from there"
+LETTERS = "r reads, w writes, e executes it there, c calls it from there."
 STACKS = (
     "Each ring has a stack and a linkage segment, stack_0 to stack_7 and linkage_0 to linkage_7: "
     "the rings from 0 to its own read and write them."
@@ -52,7 +52,7 @@ def table(facts):
         cells = [cell.text() for cell in row.cells]
         line = [f"{row.number:05o}", row.name, row.kind, row.mode, brackets, *cells]
         rows.append(line + ([row.decided] if facts.user else []))
-    lines = [heading(facts), "", *aligned(rows), "", f"{LETTERS}."]
+    lines = [heading(facts), "", *aligned(rows), "", LETTERS]
     lines += [sentence for row in facts.rows if (sentence := call_sentence(row))]
     lines += [STACKS]
     if facts.terms:
