@@ -20,6 +20,8 @@ TALLY_TAGS = (0o44, 0o51, 0o53, 0o54, 0o56)
 OFFSETS = range(-(1 << 14), 1 << 14)
 MARGIN = 8
 DEEPEST = 3
+# How many words a long chain has after its first one: the 17th indirect word is a fault.
+LONG = (14, 15, 16)
 
 
 class Draft:
@@ -131,6 +133,8 @@ class Drafts:
         random = self.random
         if self.ends and random.random() < 0.04:
             return (place << 18 | 0o20,)
+        if depth == 0 and random.random() < 0.02:
+            return self.long_chain(number, place, held)
         tag = self.tag("chain tag", 0.5) if depth < DEEPEST else 0
         kind = random.random()
         if kind < 0.15:
@@ -146,6 +150,21 @@ class Drafts:
         word = self.word_for(segment, tag, held, depth + 1)
         ring = some_ring(random, self.registers.ring)
         return its(segment, word % HALF_WORD, ring, bit >> 9, tag)
+
+    def long_chain(self, number, place, held):
+        """Indirect words that go by many others to an operand: the first of them."""
+        places = [place]
+        for _ in range(self.random.choice(LONG)):
+            after = self.free_place(number)
+            if after is None:
+                return 0, 0
+            self.lay(number, after, (0, 0))
+            places.append(after)
+        last = self.word_for(number, 0, held, DEEPEST)
+        for one, after in zip(places, [*places[1:], None]):
+            word = last % HALF_WORD << 18 if after is None else after << 18 | 0o20
+            self.lay(number, one, (word,))
+        return (self.laid[self.world.segments[number].base + place],)
 
     def segment(self):
         """A segment for an operand or a target."""

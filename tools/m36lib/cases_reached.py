@@ -6,6 +6,7 @@ A step reaches features: texts such as `instruction lda`, `tag 20` or `20.3 read
 import re
 from collections import Counter
 
+from .address import MOST_INDIRECT_WORDS
 from .disassemble import row_of
 from .fields import tag_of
 from .table import TABLE
@@ -91,6 +92,8 @@ def features(account):
     elif account.chain:
         found.append(f"tag {tag_of(account.word):02o}")
         found += [f"chain {link.kind}" for link in account.chain[1:]]
+        if account.final and len(account.chain) > MOST_INDIRECT_WORDS:
+            found.append("chain of 16")
         found += [f"chain tag {link.tag:02o}" for link in account.chain[1:] if link.kind != "tally"]
     return found
 
@@ -120,7 +123,7 @@ ILLEGALS = products(["10"], [name for _, name in ILLEGAL])
 OTHERS = ["2", "3", "5", "6", "7", "13", "14", "24", "25", "dis", "stop operation", "stop tag"]
 INSTRUCTIONS = [f"instruction {row.name}" for row in TABLE.values()]
 TAGS = [f"tag {tag:02o}" for tag in range(64)]
-CHAINS = ["chain word", "chain its", "chain itp", "chain tally"]
+CHAINS = ["chain word", "chain its", "chain itp", "chain tally", "chain of 16"]
 CHAIN_TAGS = [f"chain tag {tag:02o}" for tag in range(64)]
 RINGS = [f"ring {ring}" for ring in range(8)]
 IMAGE_ENDS = [*VIOLATIONS, *STORES, *DIRECTED_FAULTS, *ILLEGALS, *OTHERS]
