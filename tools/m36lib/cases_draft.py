@@ -16,7 +16,6 @@ BY_DIRECT = tuple(16 * tm + td for tm in (1, 3) for td in DIRECT)
 FAULTING = (0o40, 0o41, 0o42, 0o43, 0o45, 0o46, 0o47, 0o50, 0o52, 0o55, 0o57)
 ENDING = (*FAULTING, *BY_DIRECT)
 GOING = tuple(tag for tag in range(64) if tag not in ENDING)
-TALLY_TAGS = (0o44, 0o51, 0o53, 0o54, 0o56)
 OFFSETS = range(-(1 << 14), 1 << 14)
 MARGIN = 8
 DEEPEST = 3

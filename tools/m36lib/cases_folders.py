@@ -2,7 +2,7 @@
 kind, the console and pages, and an end that is chosen.
 
 Each folder has the segments of `Layout`. Its procedures are pieces of cases_source.py; after them
-`main` comes to its end, one of `ENDS` in cases_ends.py."""
+`main` ends the run in one of the ways of cases_ends.py."""
 
 import subprocess
 

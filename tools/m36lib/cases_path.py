@@ -1,6 +1,6 @@
 """Draws the program of a bare image while it follows its path.
 
-Where the path comes to a word that nothing has looked at, an instruction is drawn: candidates are
+Where the path reaches a word that nothing has looked at, an instruction is drawn: candidates are
 tried by the account of a step, and one that goes on is taken, so that a program runs for some tens
 of steps. Its last step is drawn among candidates that end the run, the rarest first. The account
 only steers: whether the machine does the same is what the case is there to find out."""

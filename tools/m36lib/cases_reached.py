@@ -34,8 +34,6 @@ OUT_OF_REACH = {
     "access violation 11": "no rule of docs/MANUAL.md, section 6, refuses by it",
     "access violation 13": "no rule of docs/MANUAL.md, section 6, refuses by it",
     "access violation 14": "no rule of docs/MANUAL.md, section 6, refuses by it",
-    "20.15 segment fetch of a folder": "the descriptor segment of a booted folder has 1,024 "
-    "descriptors, and RTCD is the one way to such a fetch: images reach it",
     "a page or a place of a target": "a target is examined up to its bound, and no page is asked",
     "code L6 at the start": "a folder whose first section does not fit is refused with U3",
 }

@@ -8,7 +8,6 @@ from .made_images import its
 from .table import TABLE
 
 MASK = 2048
-KEPT = ("4", "6", "7")
 PLAIN = ("R", "R2", "W", "W2", "Wl", "Wr", "Rw", "Rwl")
 UNSAFE = ("Ldi", "Div", "LprpN", "SpriN", "SpbpN", "Rtcd", "Ldbr", "Sdbr", "Stcd")
 DATA_ROWS = [
