@@ -7,3 +7,5 @@ pub mod Parts
 pub mod OneToOne
 pub mod Texts
 pub mod NamesInOrder
+pub mod QuickRows
+pub mod Grouped

@@ -6,3 +6,4 @@ pub mod Table
 pub mod Lookup
 pub mod Named
 pub mod Names
+pub mod Quick

@@ -37,7 +37,7 @@ macro_rules! row {
 
 /// The rows of 64 codes, in order.
 macro_rules! rows {
-    ($($entry:tt)*) => {
+    ([$($entry:tt)*]) => {
         [$(row!($entry)),*]
     };
 }
@@ -45,6 +45,7 @@ macro_rules! rows {
 mod below_400;
 mod bit_27;
 mod from_400;
+pub mod quick;
 
 use below_400::{codes_000, codes_100, codes_200, codes_300};
 use bit_27::{

@@ -10,7 +10,7 @@
 //! Source: Multics Processor Manual AL39, "Machine instruction format", "Machine instructions" and "Operation code map".
 #![tactic(auto)]
 
-mod codes;
+pub mod codes;
 pub mod effect;
 pub mod inst;
 pub mod laws;
@@ -19,9 +19,10 @@ mod names;
 pub mod operand;
 pub mod rows;
 
+pub use codes::quick::quick_row;
 pub use effect::Effect;
 pub use inst::Inst;
 pub use laws::{instruction_laws, table_laws};
 pub use lookup::{by_name, name_of, row};
 pub use operand::Operand;
-pub use rows::Row;
+pub use rows::{Group, Quick, Row};
