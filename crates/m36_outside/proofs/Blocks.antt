@@ -1,9 +1,9 @@
 -- Laws of blocks of pieces: how a block grows and where its pieces lie, what putting them in turn has put, and what a
 -- system took of one that it could not take whole.
-use Rattle.std.proofs.Common.{◌≡◌, ℕ, zero, suc, ◌+◌, ◌-◌, ◌<◌, ◌≤◌, List, [], ◌∷◌, ◌++◌, length, get_or, take, drop, nat_le, slice_range, Option, Some, None, inl, inr, refl, sym, ap, subst, ◌∙◌, arith, length-append}
+use Rattle.std.proofs.Common.{◌≡◌, ℕ, zero, suc, ◌+◌, ◌-◌, ◌<◌, ◌≤◌, List, [], ◌∷◌, ◌++◌, length, get_or, take, drop, nat_le, nat_lt, slice_range, Option, Some, None, inl, inr, refl, sym, ap, subst, ◌∙◌, arith, length-append, true}
 use Rattle.std.proofs.lemmas.List.{append_assoc, take_at, drop_at, take_all, take-append-drop, take-append-le, drop-append-le, take_more, drop_more}
-use Rattle.std.proofs.lemmas.Bool.{cases_Bool, leb-true, leb-false}
-use Rattle.m36_outside.specs.Block.{marks_of, parts}
+use Rattle.std.proofs.lemmas.Bool.{cases_Bool, leb-true, leb-false, ltb-true, and_parts, and_from, le-leb}
+use Rattle.m36_outside.specs.Block.{Lie, has_room, is_room, marks_of, parts}
 use Rattle.m36_outside.specs.Passing.{TakesPart, TakesSome, TakesLines, joined}
 use Rattle.m36_outside.specs.Put.{PutSays}
 use Rattle.m36_outside.specs.Written.{Grew, GrewWithin}
@@ -35,18 +35,64 @@ marks_more from (first ∷ pieces) piece =
     ap (λ l. from ∷ l) (marks_more (from + length first) pieces piece
     ∙ ap (λ n. marks_of (from + length first) pieces ++ n ∷ []) place)
 
-pub block_marks :
-    (marks : List ℕ) (pieces : List (List ℕ)) (bytes piece : List ℕ) (end : ℕ)
-    → marks ≡ marks_of 0 pieces → bytes ≡ joined pieces ++ piece → end ≡ length bytes
-    → marks ++ end ∷ [] ≡ marks_of 0 (pieces ++ piece ∷ [])
-block_marks marks pieces bytes piece end is all at =
-    let place : end ≡ 0 + length (joined pieces ++ piece) = omega (arith, at, ap length all) in
-    ap (λ l. l ++ end ∷ []) is ∙ ap (λ n. marks_of 0 pieces ++ n ∷ []) place ∙ sym (marks_more 0 pieces piece)
+-- no pieces
+pub block_none :
+    (bytes marks : List ℕ) (pieces : List (List ℕ))
+    → take 1 marks ≡ 0 ∷ [] → pieces ≡ [] → Lie bytes marks 0 0 pieces
+block_none bytes marks pieces begins none = subst (λ (l : List (List ℕ)). Lie bytes marks 0 0 l) (sym none) record {
+  fits = omega arith;
+  few = omega arith;
+  len_is = refl;
+  count_is = refl;
+  bytes_are = refl;
+  marks_are = begins;
+}
 
-pub block_bytes_more :
-    (pieces : List (List ℕ)) (bytes piece : List ℕ)
-    → bytes ≡ joined pieces ++ piece → bytes ≡ joined (pieces ++ piece ∷ [])
-block_bytes_more pieces bytes piece all = all ∙ sym (joined_more pieces piece)
+-- one piece more
+pub block_more :
+    (bytes marks bytes' marks' : List ℕ) (len count len' count' : ℕ) (pieces pieces' : List (List ℕ)) (piece : List ℕ)
+    → Lie bytes marks len count pieces
+    → is_room len count (length piece) ≡ true
+    → len' ≡ len + length piece → count' ≡ count + 1
+    → take len' bytes' ≡ take len bytes ++ piece
+    → take (count' + 1) marks' ≡ take (count + 1) marks ++ len' ∷ []
+    → pieces' ≡ pieces ++ piece ∷ []
+    → Lie bytes' marks' len' count' pieces'
+block_more bytes marks bytes' marks' len count len' count' pieces pieces' piece lie room end next put marked are =
+    let parts = and_parts (nat_lt count 2048) (nat_le (len + length piece) 32768) room in
+    let few : count < 2048 = ltb-true count 2048 parts.0 in
+    let fits : len + length piece ≤ 32768 = leb-true (len + length piece) 32768 parts.1 in
+    let whole = lie.len_is in
+    let many = lie.count_is in
+    let all = joined_more pieces piece in
+    let place : len' ≡ 0 + length (joined pieces ++ piece) = omega (arith, length-append (joined pieces) piece) in
+    subst (λ (l : List (List ℕ)). Lie bytes' marks' len' count' l) (sym are) record {
+      fits = omega arith;
+      few = omega arith;
+      len_is = omega (arith, ap length all, length-append (joined pieces) piece);
+      count_is = omega (arith, length-append pieces (piece ∷ []));
+      bytes_are = put ∙ ap (λ l. l ++ piece) lie.bytes_are ∙ sym all;
+      marks_are = marked
+          ∙ ap (λ l. l ++ len' ∷ []) lie.marks_are
+          ∙ ap (λ n. marks_of 0 pieces ++ n ∷ []) place
+          ∙ sym (marks_more 0 pieces piece);
+    }
+
+-- whether there is room is told by what is counted
+pub block_room :
+    (bytes marks : List ℕ) (len count : ℕ) (pieces : List (List ℕ)) (piece : List ℕ)
+    → Lie bytes marks len count pieces
+    → is_room len count (length piece) ≡ has_room pieces piece
+block_room bytes marks len count pieces piece lie =
+    ap (λ n. is_room len n (length piece)) lie.count_is ∙ ap (λ n. is_room n (length pieces) (length piece)) lie.len_is
+
+-- where there is room for more than a piece, there is for the piece
+pub room_less :
+    (len count wanted most : ℕ) → is_room len count most ≡ true → wanted ≤ most → is_room len count wanted ≡ true
+room_less len count wanted most room less =
+    let parts = and_parts (nat_lt count 2048) (nat_le (len + most) 32768) room in
+    let fits : len + most ≤ 32768 = leb-true (len + most) 32768 parts.1 in
+    and_from (nat_lt count 2048) (nat_le (len + wanted) 32768) parts.0 (le-leb (len + wanted) 32768 (omega arith))
 
 -- ---- a piece at its place
 
@@ -118,7 +164,7 @@ pub piece_is :
     → slice_range bytes (get_or marks place 0) (get_or marks (place + 1) 0) ≡ get_or pieces place []
 piece_is pieces bytes marks place all is inside = (lies pieces bytes marks place all is inside).is
 
-pub ruleset blocks = (block_length, block_marks, block_bytes_more, piece_order, piece_within, piece_is)
+pub ruleset blocks = (block_none, block_length, block_more, block_room, room_less, piece_order, piece_within, piece_is)
 
 -- ---- pieces put in turn
 

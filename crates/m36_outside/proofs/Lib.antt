@@ -6,6 +6,7 @@ mod Consumed
 mod FilesGiven
 pub mod FilesKept
 mod FilesNamed
+pub mod Fronts
 pub mod Gathered
 pub mod Grown
 pub mod LinesTaken

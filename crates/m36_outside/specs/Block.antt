@@ -1,5 +1,5 @@
 -- A block of pieces, which lie one behind the other in one list of bytes.
-use Rattle.std.specs.Prelude.{ℕ, Bool, List, [], ◌∷◌, ◌+◌, ◌&&◌, length, take, drop, nat_le}
+use Rattle.std.specs.Prelude.{ℕ, ◌≡◌, ◌≤◌, Bool, List, [], ◌∷◌, ◌+◌, ◌&&◌, length, take, drop, nat_le}
 use Rattle.std.specs.Prelude.{nat_lt, if◌then◌else◌}
 use Rattle.m36_outside.specs.Passing.{joined}
 
@@ -20,6 +20,20 @@ has_room pieces piece =
 abbrev pub marks_of : ℕ → List (List ℕ) → List ℕ
 marks_of from [] = from ∷ []
 marks_of from (piece ∷ pieces) = from ∷ marks_of (from + length piece) pieces
+
+-- How pieces lie in a block: their bytes come first, one piece after the other, and the places where
+-- they begin come first too.
+pub record Lie (bytes marks : List ℕ) (len count : ℕ) (pieces : List (List ℕ)) : Type 0 where
+  pub fits : len ≤ block_bytes
+  pub few : count ≤ block_pieces
+  pub len_is : len ≡ length (joined pieces)
+  pub count_is : count ≡ length pieces
+  pub bytes_are : take len bytes ≡ joined pieces
+  pub marks_are : take (count + 1) marks ≡ marks_of 0 pieces
+
+-- there is room for so many bytes more, in a piece more
+abbrev pub is_room : ℕ → ℕ → ℕ → Bool
+is_room len count wanted = nat_lt count block_pieces && nat_le (len + wanted) block_bytes
 
 -- Bytes parted by pieces: those pieces that are whole in them, and where a piece is left the rest
 -- of the bytes, which may be none, as a first part of it.

@@ -1,50 +1,64 @@
 //! Pieces of output that are put at once.
 
-ghost use Rattle.std.specs.Prelude.{ℕ, [], ◌∷◌, ◌++◌, ◌≡◌, ◌<◌, ◌≤◌, ◌==◌, length, get_or, slice_range};
+ghost use Rattle.std.specs.Prelude.{ℕ, [], ◌∷◌, ◌++◌, ◌+◌, ◌≡◌, ◌<◌, ◌≤◌, ◌==◌, length, get_or, take, slice_range};
 ghost use Rattle.std.specs.Bool.{OnTrue, OnFalse};
-ghost use Rattle.m36_outside.specs.Block.{has_room};
+ghost use Rattle.m36_outside.specs.Block.{has_room, is_room, marks_of};
 ghost use Rattle.m36_outside.specs.Gathered.{Adds};
 ghost use Rattle.m36_outside.specs.Passing.{joined, TakesLines};
 ghost use Rattle.m36_outside.specs.Put.{PutSays, PutHasCause, OnFailed};
 
 use crate::passed::{Entries, Passed};
 use crate::sink::{Put, Sink};
+use crate::spelled::{SHORT, Spelled};
 use crate::text::Text;
-use arrayvec::ArrayVec;
 use std::marker::Model;
 
-/// Pieces in order, seen as a list of them. Their bytes lie one behind the other, so a system can take all pieces in one
+/// The most bytes of all pieces.
+const BYTES: usize = 32768;
+
+/// The most pieces.
+const PIECES: usize = 2048;
+
+/// The places where they begin, and the one where the last of them ends.
+const PIECES_AND_END: usize = 2049;
+
+/// Pieces in order, seen as a list of them. Their bytes lie one after the other, so a system can take all pieces in one
 /// call. There is room for 2,048 pieces, and for 32,768 bytes in them.
 #[derive(Drop)]
 pub struct Block {
-    bytes: ArrayVec<u8, 32768>,
-    marks: ArrayVec<usize, 2049>,
+    /// The bytes of the pieces, and after them bytes that mean nothing.
+    bytes: [u8; BYTES],
+    /// Where each piece begins, then where the last one ends, and after that places that mean nothing.
+    marks: [usize; PIECES_AND_END],
+    /// How many bytes the pieces have.
+    len: usize,
+    /// How many pieces there are.
+    count: usize,
     pieces: Passed<Text>,
 }
 
 impl Model for Block {
-    ghost use Rattle.std.specs.Prelude.{ℕ, List, ◌≡◌};
-    ghost use Rattle.m36_outside.specs.Block.{marks_of};
-    ghost use Rattle.m36_outside.specs.Passing.{joined};
+    ghost use Rattle.std.specs.Prelude.{ℕ, List};
+    ghost use Rattle.m36_outside.specs.Block.{Lie};
 
     ghost Value = { List (List ℕ) };
 
     ghost view = { λ b. b.pieces.entries };
 
-    ghost invariant = { λ b. (b.bytes.items ≡ joined b.pieces.entries)
-        × (b.marks.items ≡ marks_of 0 b.pieces.entries) };
+    ghost invariant = { λ b. Lie b.bytes b.marks b.len b.count b.pieces.entries };
 }
 
 impl Block {
     /// No pieces.
+    #[tactic(auto, using(crate::proofs::Blocks::blocks))]
     pub fn new() -> Block
         ensures { result ≡ [] }
     {
-        let mut marks = ArrayVec::new();
-        marks.push(0);
         Block {
-            bytes: ArrayVec::new(),
-            marks,
+            bytes: [0; BYTES],
+            marks: [0; PIECES_AND_END],
+            len: 0,
+            count: 0,
             pieces: Passed::new(),
         }
     }
@@ -61,14 +75,15 @@ impl Block {
     pub fn len(&self) -> usize
         ensures { result ≡ length self.now }
     {
-        self.marks.as_slice().len() - 1
+        self.count
     }
 
-    /// The bytes of all pieces, one behind the other.
+    /// The bytes of all pieces, one after the other.
+    #[tactic(auto, using(crate::proofs::Blocks::blocks))]
     pub fn bytes(&self) -> &[u8]
         ensures { result.now ≡ joined self.now }
     {
-        self.bytes.as_slice()
+        &self.bytes[..self.len]
     }
 
     /// The piece at a place.
@@ -77,8 +92,15 @@ impl Block {
         requires { place < length self.now }
         ensures { result.now ≡ get_or self.now place [] }
     {
-        let marks = self.marks.as_slice();
-        between(self.bytes.as_slice(), marks[place], marks[place + 1])
+        let marks = self.marks();
+        between(self.bytes(), marks[place], marks[place + 1])
+    }
+
+    // Where each piece begins, and where the last one ends.
+    fn marks(&self) -> &[usize]
+        ensures { result.now ≡ marks_of 0 self.now }
+    {
+        &self.marks[..self.count + 1]
     }
 
     /// Adds a piece at the end where there is room, and answers whether there is.
@@ -88,26 +110,52 @@ impl Block {
         ensures done { OnTrue result (self.new ≡ self.old ++ piece.now ∷ []) }
         ensures full { OnFalse result (self.new ≡ self.old) }
     {
-        if self.marks.is_full() {
+        if !is_room(self.len, self.count, piece.len()) {
             return false;
         }
-        match self.bytes.try_extend_from_slice(piece) {
-            Ok(()) => {
-                self.marks.push(self.bytes.len());
-                self.pieces.note(&piece);
-                true
-            }
-            Err(_) => false,
+        self.len = copy_after(&mut self.bytes, self.len, piece);
+        self.count = mark(&mut self.marks, self.count, self.len);
+        self.pieces.note(&piece);
+        true
+    }
+
+    /// The same of a short text, which is written where it lies from then on.
+    #[inline(always)]
+    #[tactic(auto, using(crate::proofs::Blocks::blocks))]
+    pub fn push_line<L: Spelled>(&mut self, line: &L) -> bool
+        ensures room { result ≡ has_room self.old (L.text line.now) }
+        ensures done { OnTrue result (self.new ≡ self.old ++ L.text line.now ∷ []) }
+        ensures full { OnFalse result (self.new ≡ self.old) }
+    {
+        if !is_room(self.len, self.count, SHORT) {
+            return self.push_copy(line);
         }
+        self.len = spell_after(&mut self.bytes, self.len, line);
+        self.count = mark(&mut self.marks, self.count, self.len);
+        self.pieces.note(&Line { line });
+        true
+    }
+
+    // The same where there may be no room for the longest text.
+    #[inline(never)]
+    fn push_copy<L: Spelled>(&mut self, line: &L) -> bool
+        ensures room { result ≡ has_room self.old (L.text line.now) }
+        ensures done { OnTrue result (self.new ≡ self.old ++ L.text line.now ∷ []) }
+        ensures full { OnFalse result (self.new ≡ self.old) }
+    {
+        let mut copy = [0; SHORT];
+        let count = line.spell(&mut copy);
+        self.push(&copy[..count])
     }
 
     /// Takes all pieces out.
+    #[tactic(auto, using(crate::proofs::Blocks::blocks))]
     pub fn clear(&mut self)
         ensures { self.new ≡ [] }
     {
-        self.bytes.clear();
-        self.marks.clear();
-        self.marks.push(0);
+        self.len = 0;
+        self.count = 0;
+        self.marks[0] = 0;
         self.pieces = Passed::new();
     }
 
@@ -139,6 +187,34 @@ impl Block {
             Put::Done => self.add_first(piece, out),
             Put::Failed => Put::Failed,
         }
+    }
+
+    /// The same of a short text.
+    #[inline(always)]
+    pub fn add_line<L: Spelled, S: Sink>(&mut self, line: &L, out: &mut S) -> Put
+        ensures adds { Adds result self.old self.new (L.text line.now ∷ [])
+            (S.written out.old) (S.written out.new) (S.taken out.old) (S.taken out.new) }
+        ensures cause { PutHasCause result (S.faults out.old) (S.faults out.new) }
+        ensures lost { OnFailed result (self.new ≡ []) }
+    {
+        if self.push_line(line) {
+            Put::Done
+        } else {
+            self.add_copy(line, out)
+        }
+    }
+
+    // The same where there is no room for it.
+    #[inline(never)]
+    fn add_copy<L: Spelled, S: Sink>(&mut self, line: &L, out: &mut S) -> Put
+        ensures adds { Adds result self.old self.new (L.text line.now ∷ [])
+            (S.written out.old) (S.written out.new) (S.taken out.old) (S.taken out.new) }
+        ensures cause { PutHasCause result (S.faults out.old) (S.faults out.new) }
+        ensures lost { OnFailed result (self.new ≡ []) }
+    {
+        let mut copy = [0; SHORT];
+        let count = line.spell(&mut copy);
+        self.add(&copy[..count], out)
     }
 
     /// Adds the last piece, and hands over all that is there. No piece is left, whether that was done or failed.
@@ -174,6 +250,52 @@ impl Block {
     }
 }
 
+/// Whether there is room for so many bytes more, in a piece more.
+#[inline(always)]
+fn is_room(len: usize, count: usize, wanted: usize) -> bool
+    requires { len ≤ BYTES }
+    ensures { result ≡ is_room len count wanted }
+{
+    count < PIECES && wanted <= BYTES - len
+}
+
+/// Copies a piece after so many bytes, and answers how many there are then.
+#[inline(always)]
+#[tactic(auto, using(crate::proofs::Fronts::front_put))]
+fn copy_after(bytes: &mut [u8; BYTES], len: usize, piece: &[u8]) -> usize
+    requires { len + length piece.now ≤ BYTES }
+    ensures end { result ≡ len + length piece.now }
+    ensures bytes { take result bytes.new ≡ take len bytes.old ++ piece.now }
+{
+    let end = len + piece.len();
+    bytes[len..end].copy_from_slice(piece);
+    end
+}
+
+/// Writes a short text after so many bytes, and answers how many there are then.
+#[inline(always)]
+#[tactic(auto, using(crate::proofs::Fronts::front_put))]
+fn spell_after<L: Spelled>(bytes: &mut [u8; BYTES], len: usize, line: &L) -> usize
+    requires { len + SHORT ≤ BYTES }
+    ensures end { result ≡ len + length (L.text line.now) }
+    ensures short { length (L.text line.now) ≤ SHORT }
+    ensures bytes { take result bytes.new ≡ take len bytes.old ++ L.text line.now }
+{
+    len + line.spell(&mut bytes[len..len + SHORT])
+}
+
+/// Marks where the last of so many pieces and one more ends, and answers how many there are then.
+#[inline(always)]
+#[tactic(auto, using(std::proofs::lemmas::List::take_more_set))]
+fn mark(marks: &mut [usize; PIECES_AND_END], count: usize, end: usize) -> usize
+    requires { count < PIECES }
+    ensures count { result ≡ count + 1 }
+    ensures marks { take (result + 1) marks.new ≡ take (count + 1) marks.old ++ end ∷ [] }
+{
+    marks[count + 1] = end;
+    count + 1
+}
+
 /// The bytes between two places.
 fn between(bytes: &[u8], from: usize, until: usize) -> &[u8]
     requires order { from ≤ until }
@@ -181,6 +303,16 @@ fn between(bytes: &[u8], from: usize, until: usize) -> &[u8]
     ensures { result.now ≡ slice_range bytes.now from until }
 {
     &bytes[from..until]
+}
+
+/// A short text that is a piece.
+#[derive(Drop)]
+struct Line<'a, L> {
+    line: &'a L,
+}
+
+impl<'a, L: Spelled> Entries<Text> for Line<'a, L> {
+    ghost entries = { λ piece. L.text piece.line.now ∷ [] };
 }
 
 impl Entries<Text> for Block {
