@@ -45,6 +45,7 @@ pub mod Transfers
 pub mod Effect
 pub mod FirstPoint
 pub mod Step
+pub mod Shown
 pub mod Worked
 pub mod WorkedAddresses
 pub mod WorkedCalls

@@ -23,5 +23,5 @@ pub use effects::{Effect36, Formed, Held, Operand36, Tally};
 pub use endings::{End, LinkCode};
 pub use outcome::{Fault, Final, Halt, Outcome, Refusal, Stop};
 pub use place::{At, Kind, Reference, Refs};
-pub use record::StepRecord;
+pub use record::{Shown, StepRecord};
 pub use registers::{Ind, Ppr, Regs};

@@ -20,3 +20,15 @@ pub struct StepRecord {
     /// Where the instruction stood.
     pub ppr: Ppr,
 }
+
+/// What the line of a step shows of it, besides the registers after it.
+#[derive(Clone, Copy)]
+pub struct Shown {
+    /// The instruction's word; None where its fetch was refused.
+    pub word: Option<Word>,
+    /// The end of the address chain; None where none was formed or it did not end.
+    pub at: Option<Final>,
+    pub outcome: Outcome,
+    /// Where the instruction stood.
+    pub ppr: Ppr,
+}
