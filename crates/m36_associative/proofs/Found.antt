@@ -1,5 +1,5 @@
 -- What the memories and the pages in front find.
-use Rattle.std.proofs.Common.{ℕ, ◌≡◌, ◌+◌, ◌*◌, ◌/◌, ◌%◌, ◌<◌, ◌^◌, ◌++◌, Bool, true, false, if◌then◌else◌, List, [], ◌∷◌, length, Option, Some, None, IfSome, OnSome, option_map, Ok, slice_get, slice_set, slice_index, get_or, nat_eq, refl, sym, ap, ◌∙◌, arith}
+use Rattle.std.proofs.Common.{ℕ, ◌≡◌, ◌+◌, ◌*◌, ◌/◌, ◌%◌, ◌<◌, ◌^◌, ◌++◌, Bool, true, false, if◌then◌else◌, List, [], ◌∷◌, length, Option, Some, None, IfSome, OnSome, option_map, Ok, slice_get, slice_set, slice_index, nat_eq, refl, sym, ap, ◌∙◌, arith}
 use Rattle.std.proofs.lemmas.List.{set-get_or}
 use Rattle.std.proofs.lemmas.Option.{slice_get_within}
 use Rattle.std.specs.Map.{lookup}
@@ -7,7 +7,7 @@ use Rattle.m36_desc.specs.Fields.{SdwFields, PtwFields, DbrFields}
 use Rattle.m36_desc.specs.Descriptors.{ptw_of}
 use Rattle.m36_model.specs.Place.{wrapped, frame_at, in_frame, in_frame_by, ptw_at, directory_at, page_at, in_bounds, sdw_place_by, sdw_at, core_sdw, marked_word, with_mark, with_marks, marks_by}
 use Rattle.m36_tables.specs.Tables.{TableIn}
-use Rattle.m36_associative.specs.Right.{IsMarked, IsPage, AreRight}
+use Rattle.m36_associative.specs.Right.{IsMarked, IsFace, IsPage, AreRight}
 use Rattle.m36_associative.specs.declared.front.Page.{Page}
 use Rattle.m36_associative.specs.declared.memories.Memories.{Memories}
 use Rattle.m36_associative.proofs.Keeping.{found_descriptor, found_table_word}
@@ -36,59 +36,60 @@ marks_stand core a b write false true h k = no_change core a false (h refl)
 marks_stand core a b write false false h k =
     ap (λ (l : List ℕ). with_mark l (record { address = b; modified = write })) (no_change core a false (h refl)) ∙ no_change core b write (k refl)
 
+-- the marks of a page in front stand
+pub marks_of : (core : List ℕ) (dbr : DbrFields) (words tables : List ℕ) (p : Page) (seg word : ℕ) (write : Bool) → (write ≡ true → 0 < p.write_below) → (k : IsPage core dbr words tables p seg (word / 1024)) → with_marks core (marks_by dbr seg write word (Ok k.sdw)) ≡ core
+marks_of core dbr words tables p seg word write h k = marks_stand core (directory_at dbr seg) (page_at k.sdw (word / 1024)) write dbr.unpaged k.sdw.unpaged k.passed (stands write h)
+  where
+    stands : (write : Bool) → (write ≡ true → 0 < p.write_below) → k.sdw.unpaged ≡ false → IsMarked core (page_at k.sdw (word / 1024)) write
+    stands true h u = k.modified (h refl) u
+    stands false h u = k.used u
+
 module _ (core : List ℕ) (dbr : DbrFields) (m : Memories) (p : Page) (seg word : ℕ) where
-  -- a page with this key
-  pub page_of : (i : ℕ) → AreRight core dbr m → i < length m.pages → get_or m.pages i p ≡ p → p.key ≡ seg * 256 + word / 1024 + 1 → word < 2 ^ 18 → IsPage core dbr m.words m.tables p seg (word / 1024)
-  page_of i h b e k l = h.pages p (i, b, e) seg (word / 1024) (omega arith) k
+  module _ (d : SdwFields) (face : IsFace (length core) d (word / 1024) p) where
+    -- a page of a segment that lies in one piece
+    whole_place : (w : ℕ) → w / 1024 ≡ word / 1024 → p.base ≡ wrapped (d.addr + word / 1024 * 1024) → wrapped (d.addr + w) ≡ wrapped (p.base + w % 1024)
+    whole_place w e b = omega arith
 
-  -- its marks stand
-  pub marks_of : (write : Bool) → (write ≡ true → p.modified ≡ true) → IsPage core dbr m.words m.tables p seg (word / 1024) → with_marks core (marks_by dbr seg write word (Ok p.sdw)) ≡ core
-  marks_of write h k = marks_stand core (directory_at dbr seg) (page_at p.sdw (word / 1024)) write dbr.unpaged p.sdw.unpaged k.passed (stands write h)
-    where
-      stands : (write : Bool) → (write ≡ true → p.modified ≡ true) → p.sdw.unpaged ≡ false → IsMarked core (page_at p.sdw (word / 1024)) write
-      stands true h u = k.modified (h refl) u
-      stands false h u = k.used u
+    pub page_unpaged : AreRight core dbr m → lookup (nat_eq seg) m.sdws.entries ≡ Some d → d.unpaged ≡ true → (dbr.unpaged ≡ false → IsMarked core (directory_at dbr seg) false) → p.base ≡ wrapped (d.addr + word / 1024 * 1024) → p.base < 2 ^ 24 → IsPage core dbr m.words m.tables p seg (word / 1024)
+    page_unpaged h e u q b l =
+        let k = found_descriptor core dbr m seg d h e in
+        record {
+          sdw = d;
+          found = k.found;
+          watches = k.watches;
+          table = λ v. let wrong : true ≡ false = sym u ∙ v in absurd (cc);
+          low = l;
+          place = λ w f. rw u (ap Ok (whole_place w f b));
+          passed = q;
+          used = λ v. let wrong : true ≡ false = sym u ∙ v in absurd (cc);
+          modified = λ x v. let wrong : true ≡ false = sym u ∙ v in absurd (cc);
+          face = face;
+        }
 
-  -- a page of a segment that lies in one piece
-  whole_place : (w : ℕ) → w / 1024 ≡ word / 1024 → p.base ≡ wrapped (p.sdw.addr + word / 1024 * 1024) → wrapped (p.sdw.addr + w) ≡ wrapped (p.base + w % 1024)
-  whole_place w e b = omega arith
+    -- a page of a segment in pages
+    frame_place : (t : PtwFields) (w : ℕ) → p.base ≡ wrapped (t.addr / 16 * 1024) → wrapped (frame_at t + w % 1024) ≡ wrapped (p.base + w % 1024)
+    frame_place t w b = omega arith
 
-  pub page_unpaged : AreRight core dbr m → lookup (nat_eq seg) m.sdws.entries ≡ Some p.sdw → p.sdw.unpaged ≡ true → (dbr.unpaged ≡ false → IsMarked core (directory_at dbr seg) false) → p.base ≡ wrapped (p.sdw.addr + word / 1024 * 1024) → p.base < 2 ^ 24 → IsPage core dbr m.words m.tables p seg (word / 1024)
-  page_unpaged h e u q b l =
-      let d = found_descriptor core dbr m seg p.sdw h e in
-      record {
-        found = d.found;
-        watches = d.watches;
-        low = l;
-        place = λ w f. rw u (ap Ok (whole_place w f b));
-        table = λ v. let wrong : true ≡ false = sym u ∙ v in absurd (cc);
-        passed = q;
-        used = λ v. let wrong : true ≡ false = sym u ∙ v in absurd (cc);
-        modified = λ x v. let wrong : true ≡ false = sym u ∙ v in absurd (cc);
-      }
+    in_frame_on : (t : PtwFields) (w : ℕ) → t.f ≡ true → p.base ≡ wrapped (t.addr / 16 * 1024) → in_frame (Some t) (w % 1024) ≡ Ok (wrapped (p.base + w % 1024))
+    in_frame_on t w f b = ap (λ (x : Bool). in_frame_by x t (w % 1024)) f ∙ ap Ok (frame_place t w b)
 
-  -- a page of a segment in pages
-  frame_place : (t : PtwFields) (w : ℕ) → p.base ≡ wrapped (t.addr / 16 * 1024) → wrapped (frame_at t + w % 1024) ≡ wrapped (p.base + w % 1024)
-  frame_place t w b = omega arith
-
-  in_frame_on : (t : PtwFields) (w : ℕ) → t.f ≡ true → p.base ≡ wrapped (t.addr / 16 * 1024) → in_frame (Some t) (w % 1024) ≡ Ok (wrapped (p.base + w % 1024))
-  in_frame_on t w f b = ap (λ (x : Bool). in_frame_by x t (w % 1024)) f ∙ ap Ok (frame_place t w b)
-
-  pub page_paged : (t : PtwFields) → AreRight core dbr m → lookup (nat_eq seg) m.sdws.entries ≡ Some p.sdw → p.sdw.unpaged ≡ false → (dbr.unpaged ≡ false → IsMarked core (directory_at dbr seg) false) → lookup (nat_eq (page_at p.sdw (word / 1024))) m.ptws.entries ≡ Some t → t.f ≡ true → p.base ≡ wrapped (t.addr / 16 * 1024) → p.base < 2 ^ 24
-      → IsMarked core (page_at p.sdw (word / 1024)) false → (p.modified ≡ true → IsMarked core (page_at p.sdw (word / 1024)) true) → IsPage core dbr m.words m.tables p seg (word / 1024)
-  page_paged t h e u q g f b l i j =
-      let d = found_descriptor core dbr m seg p.sdw h e in
-      let x = found_table_word core dbr m (page_at p.sdw (word / 1024)) t h g in
-      record {
-        found = d.found;
-        watches = d.watches;
-        low = l;
-        place = λ w k. rw u (x.finds (w % 1024) ∙ in_frame_on t w f b);
-        table = λ v. x.watches;
-        passed = q;
-        used = λ v. i;
-        modified = λ y v. j y;
-      }
+    pub page_paged : (t : PtwFields) → AreRight core dbr m → lookup (nat_eq seg) m.sdws.entries ≡ Some d → d.unpaged ≡ false → (dbr.unpaged ≡ false → IsMarked core (directory_at dbr seg) false) → lookup (nat_eq (page_at d (word / 1024))) m.ptws.entries ≡ Some t → t.f ≡ true → p.base ≡ wrapped (t.addr / 16 * 1024) → p.base < 2 ^ 24
+        → IsMarked core (page_at d (word / 1024)) false → (0 < p.write_below → IsMarked core (page_at d (word / 1024)) true) → IsPage core dbr m.words m.tables p seg (word / 1024)
+    page_paged t h e u q g f b l i j =
+        let k = found_descriptor core dbr m seg d h e in
+        let x = found_table_word core dbr m (page_at d (word / 1024)) t h g in
+        record {
+          sdw = d;
+          found = k.found;
+          watches = k.watches;
+          table = λ v. x.watches;
+          low = l;
+          place = λ w k. rw u (x.finds (w % 1024) ∙ in_frame_on t w f b);
+          passed = q;
+          used = λ v. i;
+          modified = λ y v. j y;
+          face = face;
+        }
 
 -- what a look-up finds in the memories
 pub recalled : (r : Option SdwFields) (core : List ℕ) (dbr : DbrFields) (m : Memories) (seg : ℕ) → AreRight core dbr m → r ≡ lookup (nat_eq seg) m.sdws.entries → IfSome r (λ d. core_sdw core dbr seg ≡ Ok d)

@@ -2,3 +2,4 @@ pub mod Watching
 pub mod Keeping
 pub mod Written
 pub mod Found
+pub mod Faces

@@ -7,7 +7,8 @@ use Rattle.m36_desc.specs.Descriptors.{ptw_of}
 use Rattle.m36_model.specs.Place.{wrapped, in_frame, in_frame_by, ptw_at, directory_at, page_at, in_bounds, sdw_place, sdw_place_by, sdw_at, core_sdw, word_place_by, with_used, with_modified, marked_word, with_mark}
 use Rattle.m36_model.specs.declared.outcome.Refusal.{Refusal}
 use Rattle.m36_associative.specs.Watched.{watched}
-use Rattle.m36_associative.specs.Right.{IsMarked, IsWatched, IsDescriptor, IsTableWord, IsPageInFront, AreRight}
+use Rattle.m36_associative.specs.Right.{IsMarked, IsWatched, IsDescriptor, IsTableWord, IsPage, IsFetching, AreRight}
+use Rattle.m36_associative.specs.declared.front.Fetching.{Fetching}
 use Rattle.m36_associative.specs.declared.front.Page.{Page}
 use Rattle.m36_associative.specs.declared.memories.Memories.{Memories}
 use Rattle.m36_associative.proofs.Watching.{differs}
@@ -54,19 +55,25 @@ module _ (core now words tables : List ℕ) (dbr : DbrFields) (alike : AreAlike 
   mark_alike : ((b : ℕ) → watched tables b ≡ true → slice_index now b ≡ slice_index core b) → (b : ℕ) (m : Bool) → watched tables b ≡ true → IsMarked core b m → IsMarked now b m
   mark_alike same b m w h = subst (λ (x : ℕ). marked_word m x ≡ x) (sym (same b w)) h
 
-  pub page_alike : ((b : ℕ) → watched tables b ≡ true → slice_index now b ≡ slice_index core b) → (p : Page) → IsPageInFront core dbr words tables p → IsPageInFront now dbr words tables p
-  page_alike same p h seg page b e =
-      let k = h seg page b e in
-      record {
-        found = same_sdw seg k.watches ∙ k.found;
-        watches = still_watched seg k.watches;
-        low = k.low;
-        place = λ w f. word_place_alike p.sdw w (page_at p.sdw page) p.sdw.unpaged refl k.table ∙ k.place w f;
-        table = k.table;
-        passed = λ u. mark_alike same _ false (k.watches.directory u) (k.passed u);
-        used = λ u. mark_alike same _ false (k.table u) (k.used u);
-        modified = λ v u. mark_alike same _ true (k.table u) (k.modified v u);
-      }
+  module _ (same : (b : ℕ) → watched tables b ≡ true → slice_index now b ≡ slice_index core b) where
+    pub page_alike : (p : Page) (seg page : ℕ) → IsPage core dbr words tables p seg page → IsPage now dbr words tables p seg page
+    page_alike p seg page k =
+        record {
+          sdw = k.sdw;
+          found = same_sdw seg k.watches ∙ k.found;
+          watches = still_watched seg k.watches;
+          table = k.table;
+          low = k.low;
+          place = λ w f. word_place_alike k.sdw w (page_at k.sdw page) k.sdw.unpaged refl k.table ∙ k.place w f;
+          passed = λ u. mark_alike same _ false (k.watches.directory u) (k.passed u);
+          used = λ u. mark_alike same _ false (k.table u) (k.used u);
+          modified = λ v u. mark_alike same _ true (k.table u) (k.modified v u);
+          face = rw alike.size k.face;
+        }
+
+    pub fetching_alike : (f : Fetching) → IsFetching core dbr words tables f → IsFetching now dbr words tables f
+    fetching_alike f k =
+        record { page = k.page; is = page_alike k.page f.seg (f.first / 1024) k.is; first = k.first; low = k.low; base = k.base; len = k.len; above = k.above; below = k.below; privileged = k.privileged }
 
 -- one word is written
 get_set_other : (xs : List ℕ) (i j v : ℕ) → j ≢ i → slice_get (slice_set xs i v) j ≡ slice_get xs j
@@ -88,10 +95,12 @@ alike_written core words tables a v h k =
 pub right_written : (core : List ℕ) (dbr : DbrFields) (m : Memories) (a v : ℕ) → watched m.words a ≡ false → watched m.tables a ≡ false → AreRight core dbr m → AreRight (slice_set core a v) dbr m
 right_written core dbr m a v h k r =
     let alike = alike_written core m.words m.tables a v h k in
+    let same = λ (b : ℕ) (e : watched m.tables b ≡ true). get_or-set_other core a b v 0 (differs m.tables a b e k) in
     record {
       descriptors = λ seg d c. descriptor_alike core (slice_set core a v) m.words m.tables dbr alike seg d (r.descriptors seg d c);
       table_words = λ b p c. table_word_alike core (slice_set core a v) m.words m.tables dbr alike b p (r.table_words b p c);
-      pages = λ p c. page_alike core (slice_set core a v) m.words m.tables dbr alike (λ b e. get_or-set_other core a b v 0 (differs m.tables a b e k)) p (r.pages p c);
+      pages = λ p c seg page b e. page_alike core (slice_set core a v) m.words m.tables dbr alike same p seg page (r.pages p c seg page b e);
+      fetching = λ n. fetching_alike core (slice_set core a v) m.words m.tables dbr alike same m.fetching (r.fetching n);
     }
 
 -- marks leave what finds a page
@@ -172,8 +181,8 @@ module _ (core : List ℕ) (a : ℕ) (m : Bool) (offset : ℕ) where
       ap (λ (o : Option ℕ). in_frame (option_map ptw_of o) offset) (get_set_other core a b (marked_word m (slice_index core a)) (eqb-false b a e))
 
 -- a mark on a page table word from which no descriptor was read
-pub right_marked : (core : List ℕ) (dbr : DbrFields) (m : Memories) (a : ℕ) (modified : Bool) → watched m.words a ≡ false → ((p : Page) → Contains m.pages p → p.key ≡ 0) → AreRight core dbr m → AreRight (with_mark core (record { address = a; modified = modified })) dbr m
-right_marked core dbr m a modified h none r =
+pub right_marked : (core : List ℕ) (dbr : DbrFields) (m : Memories) (a : ℕ) (modified : Bool) → watched m.words a ≡ false → ((p : Page) → Contains m.pages p → p.key ≡ 0) → m.fetching.len ≡ 0 → AreRight core dbr m → AreRight (with_mark core (record { address = a; modified = modified })) dbr m
+right_marked core dbr m a modified h none z r =
     let now = with_mark core (record { address = a; modified = modified }) in
     let alike : AreAlike core now m.words m.tables = record {
       size = length-set core a (marked_word modified (slice_index core a));
@@ -184,4 +193,5 @@ right_marked core dbr m a modified h none r =
       descriptors = λ seg d c. descriptor_alike core now m.words m.tables dbr alike seg d (r.descriptors seg d c);
       table_words = λ b p c. table_word_alike core now m.words m.tables dbr alike b p (r.table_words b p c);
       pages = λ p c seg page b e. absurd (let zero_key = none p c in omega arith);
+      fetching = λ n. absurd (omega arith);
     }

@@ -1,10 +1,14 @@
 -- What is kept is what the tables in core say.
-use Rattle.std.specs.Prelude.{ℕ, ◌≡◌, ◌+◌, ◌*◌, ◌/◌, ◌%◌, ◌<◌, ◌^◌, Bool, true, false, List}
-use Rattle.std.specs.Prelude.{length, slice_index, Contains, Ok, Some}
+use Rattle.std.specs.Prelude.{ℕ, ◌≡◌, ◌+◌, ◌*◌, ◌/◌, ◌%◌, ◌<◌, ◌≤◌, ◌^◌, Bool, true, false, List}
+use Rattle.std.specs.Prelude.{length, slice_index, Contains, Ok, Some, None}
+use Rattle.m36_desc.specs.Access.{first_of, read_rows, write_rows, fetch_rows, transfer_rows}
 use Rattle.m36_desc.specs.Fields.{SdwFields, PtwFields, DbrFields}
 use Rattle.m36_model.specs.Place.{wrapped, in_frame, ptw_at, directory_at, page_at, sdw_place}
-use Rattle.m36_model.specs.Place.{core_sdw, word_place_by, marked_word}
+use Rattle.m36_model.specs.Place.{core_sdw, word_place, word_place_by, marked_word, marks_by}
+use Rattle.m36_model.specs.Place.{with_marks}
+use Rattle.m36_model.specs.Store.{within}
 use Rattle.m36_associative.specs.Watched.{watched}
+use Rattle.m36_associative.specs.declared.front.Fetching.{Fetching}
 use Rattle.m36_associative.specs.declared.front.Page.{Page}
 use Rattle.m36_associative.specs.declared.memories.Memories.{Memories}
 
@@ -15,6 +19,34 @@ page_key seg page = seg * 256 + page + 1
 -- a page table word has its used bit on, and its modified bit too where modified is on
 abbrev pub IsMarked : List ℕ → ℕ → Bool → Type 0
 IsMarked core a modified = marked_word modified (slice_index core a) ≡ slice_index core a
+
+-- Nothing refuses a ring to read by a descriptor, whatever segment executes; to write; to fetch; and
+-- to transfer there from the same ring.
+abbrev pub MayRead : ℕ → SdwFields → Type 0
+MayRead ring d = (same : Bool) → first_of (read_rows d ring same) ≡ None
+
+abbrev pub MayWrite : ℕ → SdwFields → Type 0
+MayWrite ring d = first_of (write_rows d ring) ≡ None
+
+abbrev pub MayFetch : ℕ → SdwFields → Type 0
+MayFetch ring d = first_of (fetch_rows d ring) ≡ None
+
+abbrev pub MayGo : ℕ → SdwFields → Type 0
+MayGo ring d = first_of (transfer_rows d ring ring) ≡ None
+
+-- What a page answers, in a core of this size: the words before its end are within the bound and in
+-- core, and the rings that it names are given what it names them for.
+pub record IsFace (size : ℕ) (d : SdwFields) (page : ℕ) (p : Page) : Type 0 where
+  pub small : size ≤ 2 ^ 24
+  pub most : p.end ≤ 1024
+  pub inside : 0 < p.end → p.base + p.end ≤ size
+  pub bound : (w : ℕ) → w / 1024 ≡ page → w % 1024 < p.end → within d w ≡ true
+  pub reads : (ring : ℕ) → ring < p.read_below → MayRead ring d
+  pub writes : (ring : ℕ) → ring < p.write_below → MayWrite ring d
+  pub fetches : (ring : ℕ) → p.r1 ≤ ring → ring < p.fetch_below → MayFetch ring d
+  pub ring : p.r1 ≡ d.r1
+  pub low_ring : p.r1 < 2 ^ 3
+  pub privileged : p.privileged ≡ d.privileged
 
 module _ (core : List ℕ) (dbr : DbrFields) (words tables : List ℕ) where
   -- The words by which the descriptor of a segment is found are watched: its own two, and in a paged
@@ -35,24 +67,39 @@ module _ (core : List ℕ) (dbr : DbrFields) (words tables : List ℕ) where
     pub finds : (offset : ℕ) → in_frame (ptw_at core a) offset ≡ in_frame (Some p) offset
     pub watches : watched tables a ≡ true
 
-  -- A page in front: its descriptor, where its words lie, and the marks that references have set.
+  -- A page in front: the descriptor of its segment, where its words lie, the marks that references
+  -- have set, and what it answers.
   pub record IsPage (p : Page) (seg page : ℕ) : Type 0 where
-    pub found : core_sdw core dbr seg ≡ Ok p.sdw
+    pub sdw : SdwFields
+    pub found : core_sdw core dbr seg ≡ Ok sdw
     pub watches : IsWatched seg
+    pub table : sdw.unpaged ≡ false → watched tables (page_at sdw page) ≡ true
     pub low : p.base < 2 ^ 24
     pub place :
         (w : ℕ) → w / 1024 ≡ page
-        → word_place_by p.sdw.unpaged p.sdw w (ptw_at core (page_at p.sdw page))
+        → word_place_by sdw.unpaged sdw w (ptw_at core (page_at sdw page))
         ≡ Ok (wrapped (p.base + w % 1024))
-    pub table : p.sdw.unpaged ≡ false → watched tables (page_at p.sdw page) ≡ true
     pub passed : dbr.unpaged ≡ false → IsMarked core (directory_at dbr seg) false
-    pub used : p.sdw.unpaged ≡ false → IsMarked core (page_at p.sdw page) false
+    pub used : sdw.unpaged ≡ false → IsMarked core (page_at sdw page) false
     pub modified :
-        p.modified ≡ true → p.sdw.unpaged ≡ false → IsMarked core (page_at p.sdw page) true
+        0 < p.write_below → sdw.unpaged ≡ false → IsMarked core (page_at sdw page) true
+    pub face : IsFace (length core) sdw page p
 
   -- by its key, which tells segment and page; key 0 is of no page
   abbrev pub IsPageInFront : Page → Type 0
   IsPageInFront p = (seg page : ℕ) → page < 256 → p.key ≡ page_key seg page → IsPage p seg page
+
+  -- the page that is fetched from: what a page in front answers in one ring
+  pub record IsFetching (f : Fetching) : Type 0 where
+    pub page : Page
+    pub is : IsPage page f.seg (f.first / 1024)
+    pub first : f.first % 1024 ≡ 0
+    pub low : f.first < 2 ^ 18
+    pub base : f.base ≡ page.base
+    pub len : f.len ≤ page.end
+    pub above : page.r1 ≤ f.ring
+    pub below : f.ring < page.fetch_below
+    pub privileged : f.privileged ≡ page.privileged
 
 -- all that is kept
 pub record AreRight (core : List ℕ) (dbr : DbrFields) (m : Memories) : Type 0 where
@@ -63,3 +110,18 @@ pub record AreRight (core : List ℕ) (dbr : DbrFields) (m : Memories) : Type 0 
       (a : ℕ) (p : PtwFields) → Contains m.ptws.entries (a, p)
       → IsTableWord core dbr m.words m.tables a p
   pub pages : (p : Page) → Contains m.pages p → IsPageInFront core dbr m.words m.tables p
+  pub fetching : 0 < m.fetching.len → IsFetching core dbr m.words m.tables m.fetching
+
+-- A page in front answers a reference to so many words of a segment: the descriptor gives these
+-- rights, the words are within the bound and lie in core, one after another from a place on, and the
+-- marks of the reference are set.
+pub record Answers (core : List ℕ) (dbr : DbrFields) (Rights : SdwFields → Type 0) (write : Bool)
+    (seg word count place : ℕ) : Type 0 where
+  pub sdw : SdwFields
+  pub found : core_sdw core dbr seg ≡ Ok sdw
+  pub rights : Rights sdw
+  pub bound : within sdw word ≡ true
+  pub at : word_place core sdw word ≡ Ok place
+  pub small : length core ≤ 2 ^ 24
+  pub inside : place + count ≤ length core
+  pub marked : with_marks core (marks_by dbr seg write word (Ok sdw)) ≡ core

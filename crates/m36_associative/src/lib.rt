@@ -8,23 +8,32 @@
 //! kept, and each call here keeps it. So nobody can tell the memories from core, but by time:
 //!
 //! - `descriptor` and `word_place` answer as the reader of tables (`m36_tables`) does, and keep what they have read;
-//! - `page` gives the page of a word, where it is in front and the marks of a reference to it stand already;
-//! - `enter` puts a page in front;
+//! - `enter` puts a page in front: how many of its words are within the bound and in core, which rings read, write and fetch
+//!   from it, and whether its marks are set;
+//! - `place_to_read` and the calls beside it answer a reference from a page in front, by comparisons alone. Instructions are
+//!   fetched from one such page, which is kept by itself with its ring (`place_to_fetch`), until a fetch goes elsewhere;
 //! - `store` and `mark` are how core is written where something may be kept. A word from which an entry was read, or that
-//!   was passed to find one, empties all when it is written. A mark that changes a word does so where a descriptor was read
+//!   was passed to find one, empties all when it is written, as long as the entry is kept. A mark that changes a word does so where a descriptor was read
 //!   from it, and else takes the pages out of the front.
 //!
 //! A page in front answers without asking the memories behind it. So it is told there later that it was used: `settle`
-//! does so, oldest first, before the memories are asked, and whoever looks at their order calls it first.
+//! does so, oldest first, before the memories are asked, and whoever looks at their order calls it first. An entry that
+//! makes room for another takes its pages out of the front. So the memories keep what they would keep if there were no front.
 #![tactic(auto)]
 
+pub mod answering;
+mod face;
 pub mod front;
 pub mod memories;
 pub mod reading;
+mod resting;
 pub mod watch;
 pub mod writing;
 
-pub use front::Page;
+pub use answering::{
+    goes_to, place_to_change, place_to_fetch, place_to_fetch_elsewhere, place_to_read,
+    place_to_write,
+};
 pub use memories::Memories;
-pub use reading::{descriptor, enter, page, page_seen, word_place};
+pub use reading::{descriptor, enter, word_place};
 pub use writing::{mark, store};

@@ -7,8 +7,12 @@ ghost use Rattle.m36_tables.specs.Tables.{TableIn};
 ghost use Rattle.m36_associative.specs.Right.{AreRight, IsWatched, IsPage, IsMarked, page_key};
 ghost use Rattle.m36_associative.specs.Watched.{watched};
 
-use crate::front::{Page, key_of, slot_of};
-use crate::memories::{Memories, recalled_ptw, recalled_sdw, seen_ptw, seen_sdw};
+use crate::face::page_of;
+use crate::front::{Page, slot_of};
+use crate::memories::{
+    ENTRIES, Memories, NO_TABLE, recalled_ptw, recalled_sdw, seen_ptw, seen_sdw,
+};
+use crate::resting::{watch_anew, watch_words};
 use crate::writing::with_mark;
 use m36_core::Core;
 use m36_desc::{Dbr, Ptw, Sdw};
@@ -36,16 +40,29 @@ fn watch_descriptor(_core: &Core, dbr: Dbr, memories: &mut Memories, seg: u16, e
         memories.new.tables seg }
     ensures right { AreRight _core.now dbr memories.new }
 {
-    if !memories.words.add(even) {
-        return false;
+    watch_words(
+        _core,
+        dbr,
+        &mut memories.words,
+        &mut memories.tables,
+        seg,
+        even,
+    )
+}
+
+/// Where all entries hold a descriptor, the one that was used longest ago is to make room: its pages leave the front.
+fn make_room_for_descriptor(memories: &mut Memories)
+    ensures { (core : List ℕ) (dbr : DbrFields) → AreRight core dbr memories.old
+        → AreRight core dbr memories.new }
+{
+    if memories.sdws.len() < ENTRIES {
+        return;
     }
-    if !memories.words.add(wrapped(even + 1)) {
-        return false;
-    }
-    if dbr.unpaged {
-        return true;
-    }
-    memories.tables.add(directory_at(dbr, seg))
+    let seg = match memories.sdws.peek_lru() {
+        Some((seg, _)) => *seg,
+        None => return,
+    };
+    memories.leave_segment(seg);
 }
 
 /// Puts a descriptor, where there is memory for it.
@@ -68,9 +85,13 @@ fn keep_descriptor(core: &Core, dbr: Dbr, memories: &mut Memories, seg: u16, eve
     requires right { AreRight core.now dbr memories.old }
     ensures { AreRight core.now dbr memories.new }
 {
+    make_room_for_descriptor(memories);
     if !watch_descriptor(core, dbr, memories, seg, even) {
-        memories.forget();
-        return;
+        watch_anew(core, dbr, memories);
+        if !watch_descriptor(core, dbr, memories, seg, even) {
+            memories.forget();
+            return;
+        }
     }
     put_descriptor(core, dbr, memories, seg, sdw);
 }
@@ -113,6 +134,21 @@ fn watch_table_word(_core: &Core, _dbr: Dbr, memories: &mut Memories, a: u32) ->
     memories.tables.add(a)
 }
 
+/// As `make_room_for_descriptor`, for a page table word.
+fn make_room_for_table_word(memories: &mut Memories)
+    ensures { (core : List ℕ) (dbr : DbrFields) → AreRight core dbr memories.old
+        → AreRight core dbr memories.new }
+{
+    if memories.ptws.len() < ENTRIES {
+        return;
+    }
+    let a = match memories.ptws.peek_lru() {
+        Some((a, _)) => *a,
+        None => return,
+    };
+    memories.leave_table(a);
+}
+
 /// Puts a page table word, where there is memory for it.
 fn put_table_word(_core: &Core, _dbr: Dbr, memories: &mut Memories, a: u32, ptw: Ptw)
     requires found { ptw_at _core.now a ≡ Some ptw }
@@ -133,9 +169,13 @@ fn keep_table_word(core: &Core, dbr: Dbr, memories: &mut Memories, a: u32)
         Some(ptw) => ptw,
         None => return,
     };
+    make_room_for_table_word(memories);
     if !watch_table_word(core, dbr, memories, a) {
-        memories.forget();
-        return;
+        watch_anew(core, dbr, memories);
+        if !watch_table_word(core, dbr, memories, a) {
+            memories.forget();
+            return;
+        }
     }
     put_table_word(core, dbr, memories, a, ptw);
 }
@@ -168,64 +208,6 @@ pub fn word_place(
     Ok(place)
 }
 
-/// Whether the marks stand that a reference to a page sets.
-#[inline(always)]
-fn stands(page: &Page, write: bool) -> bool
-    ensures { result ≡ true → write ≡ true → page.now.modified ≡ true }
-{
-    if write { page.modified } else { true }
-}
-
-/// The page of a word, where it is in front and the marks of a reference to it stand already, or of a write.
-#[inline(always)]
-pub fn page(
-    _core: &Core,
-    _dbr: Dbr,
-    memories: &mut Memories,
-    seg: u16,
-    word: u32,
-    write: bool,
-) -> Option<Page>
-    requires seg { seg < 2 ^ 15 }
-    requires word { word < 2 ^ 18 }
-    requires right { AreRight _core.now _dbr memories.old }
-    ensures found { IfSome result (λ p. core_sdw _core.now _dbr seg ≡ Ok p.sdw) }
-    ensures low { IfSome result (λ p. p.base < 2 ^ 24) }
-    ensures place { IfSome result (λ p. word_place _core.now p.sdw word
-        ≡ Ok (wrapped (p.base + word % 1024))) }
-    ensures marked { IfSome result (λ p. with_marks _core.now
-        (marks_by _dbr seg write word (Ok p.sdw)) ≡ _core.now) }
-    ensures right { AreRight _core.now _dbr memories.new }
-{
-    let i = slot_of(seg, word);
-    let page = memories.pages[i];
-    if page.key != key_of(seg, word) {
-        return None;
-    }
-    if !stands(&page, write) {
-        return None;
-    }
-    memories.clock = memories.clock.wrapping_add(1);
-    memories.pages[i].hit = memories.clock;
-    Some(page)
-}
-
-/// The descriptor of the segment of a word, where its page is in front. It is no use of the page.
-#[inline(always)]
-pub fn page_seen(_core: &Core, _dbr: Dbr, memories: &Memories, seg: u16, word: u32) -> Option<Sdw>
-    requires seg { seg < 2 ^ 15 }
-    requires word { word < 2 ^ 18 }
-    requires right { AreRight _core.now _dbr memories.now }
-    ensures { IfSome result (λ d. core_sdw _core.now _dbr seg ≡ Ok d) }
-{
-    let page = memories.pages[slot_of(seg, word)];
-    if page.key == key_of(seg, word) {
-        Some(page.sdw)
-    } else {
-        None
-    }
-}
-
 /// Whether a page table word is marked as used, or as used and modified.
 fn is_marked(core: &Core, a: u32, modified: bool) -> bool
     ensures { IsTrue result → IsMarked core.now a modified }
@@ -249,27 +231,28 @@ fn is_passed(core: &Core, dbr: Dbr, seg: u16) -> bool
     is_marked(core, directory_at(dbr, seg), false)
 }
 
-/// The page of a word, by what the memories have of it.
-fn found_page(core: &Core, dbr: Dbr, memories: &Memories, seg: u16, word: u32) -> Option<Page>
+/// The page of a word, by what the memories have of it, and the address of its page table word.
+fn found_page(
+    core: &Core,
+    dbr: Dbr,
+    memories: &Memories,
+    seg: u16,
+    word: u32,
+) -> Option<(Page, u32)>
     requires seg { seg < 2 ^ 15 }
     requires word { word < 2 ^ 18 }
     requires right { AreRight core.now dbr memories.now }
-    ensures page { IfSome result (λ p. IsPage core.now dbr memories.now.words memories.now.tables
-        p seg (word / 1024)) }
-    ensures key { IfSome result (λ p. p.key ≡ page_key seg (word / 1024)) }
+    ensures page { IfSome result (λ r. IsPage core.now dbr memories.now.words memories.now.tables
+        r.0 seg (word / 1024)) }
+    ensures key { IfSome result (λ r. r.0.key ≡ page_key seg (word / 1024)) }
 {
     let sdw = seen_sdw(&memories.sdws, seg)?;
     if !is_passed(core, dbr, seg) {
         return None;
     }
     if sdw.unpaged {
-        return Some(Page {
-            hit: memories.settled,
-            key: key_of(seg, word),
-            base: wrapped(sdw.addr + word / 1024 * 1024),
-            sdw,
-            modified: true,
-        });
+        let base = wrapped(sdw.addr + word / 1024 * 1024);
+        return Some((page_of(core, &sdw, seg, word, base, true), NO_TABLE));
     }
     let a = page_at(&sdw, word / 1024);
     let ptw = seen_ptw(&memories.ptws, a)?;
@@ -279,13 +262,9 @@ fn found_page(core: &Core, dbr: Dbr, memories: &Memories, seg: u16, word: u32) -
     if !is_marked(core, a, false) {
         return None;
     }
-    Some(Page {
-        hit: memories.settled,
-        key: key_of(seg, word),
-        base: wrapped(ptw.addr / 16 * 1024),
-        sdw,
-        modified: is_marked(core, a, true),
-    })
+    let base = wrapped(ptw.addr / 16 * 1024);
+    let modified = is_marked(core, a, true);
+    Some((page_of(core, &sdw, seg, word, base, modified), a))
 }
 
 /// Puts the page of a word in front, where both memories have what finds it and its marks stand. They know of this use.
@@ -295,7 +274,7 @@ pub fn enter(core: &Core, dbr: Dbr, memories: &mut Memories, seg: u16, word: u32
     requires right { AreRight core.now dbr memories.old }
     ensures { AreRight core.now dbr memories.new }
 {
-    if let Some(page) = found_page(core, dbr, memories, seg, word) {
-        memories.pages[slot_of(seg, word)] = page;
+    if let Some((page, address)) = found_page(core, dbr, memories, seg, word) {
+        memories.put_in_front(slot_of(seg, word), page, address);
     }
 }

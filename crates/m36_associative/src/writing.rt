@@ -1,54 +1,85 @@
-//! Core is written, and what rests on the word is forgotten.
+//! Core is written, and where something that is kept rests on the word, all is emptied.
 
-ghost use Rattle.std.specs.Prelude.{ℕ, ◌≡◌, ◌<◌, List, Bool, true, false, ◌||◌, length, slice_set};
-ghost use Rattle.m36_desc.specs.Fields.{DbrFields};
+ghost use Rattle.std.specs.Prelude.{ℕ, ◌≡◌, ◌<◌, List, Bool, true, false, IsFalse, length, slice_set};
 ghost use Rattle.m36_model.specs.Place.{marked_word, with_mark};
 ghost use Rattle.m36_associative.specs.Right.{AreRight};
 ghost use Rattle.m36_associative.specs.Watched.{watched};
 
 use crate::memories::Memories;
+use crate::resting::watch_anew;
 use m36_core::Core;
+use m36_desc::Dbr;
 use m36_word::Word;
 
-impl Memories {
-    /// Makes ready for a write of the word at a place.
-    #[inline(always)]
-    fn release(&mut self, a: u32)
-        ensures { (core : List ℕ) (dbr : DbrFields) (v : ℕ) → AreRight core dbr self.old
-            → AreRight (slice_set core a v) dbr self.new }
-    {
-        if self.words.has(a) {
-            self.forget();
-            return;
-        }
-        if self.tables.has(a) {
-            self.forget();
-        }
+/// Makes ready for a write of a word that is watched: where something that is kept rests on it, all is emptied.
+#[cold]
+#[inline(never)]
+fn release_watched(core: &Core, dbr: &Dbr, memories: &mut Memories, a: u32)
+    requires { AreRight core.now dbr.now memories.old }
+    ensures { (v : ℕ) → AreRight (slice_set core.now a v) dbr.now memories.new }
+{
+    watch_anew(core, *dbr, memories);
+    if memories.words.has(a) {
+        memories.forget();
+        return;
     }
+    if memories.tables.has(a) {
+        memories.forget();
+    }
+}
 
-    /// Makes ready for a mark that changes the page table word at an address.
-    fn release_marked(&mut self, a: u32)
-        ensures { (core : List ℕ) (dbr : DbrFields) (modified : Bool) → AreRight core dbr self.old
-            → AreRight (with_mark core (record { address = a; modified = modified })) dbr
-            self.new }
-    {
-        if self.words.has(a) {
-            self.forget();
-            return;
-        }
-        self.clear_front();
+/// Makes ready for a write of the word at a place.
+#[inline(always)]
+fn release(core: &Core, dbr: &Dbr, memories: &mut Memories, a: u32)
+    requires { AreRight core.now dbr.now memories.old }
+    ensures { (v : ℕ) → AreRight (slice_set core.now a v) dbr.now memories.new }
+{
+    if memories.words.has(a) {
+        release_watched(core, dbr, memories, a);
+        return;
     }
+    if memories.tables.has(a) {
+        release_watched(core, dbr, memories, a);
+    }
+}
+
+/// Whether a descriptor that is kept was read from a word.
+fn is_read(core: &Core, dbr: &Dbr, memories: &mut Memories, a: u32) -> bool
+    requires { AreRight core.now dbr.now memories.old }
+    ensures none { IsFalse result → watched memories.new.words a ≡ false }
+    ensures right { AreRight core.now dbr.now memories.new }
+{
+    if !memories.words.has(a) {
+        return false;
+    }
+    watch_anew(core, *dbr, memories);
+    memories.words.has(a)
+}
+
+/// Makes ready for a mark that changes the page table word at an address: where a descriptor that is kept was read from it,
+/// all is emptied, and else the front.
+fn release_marked(core: &Core, dbr: &Dbr, memories: &mut Memories, a: u32)
+    requires { AreRight core.now dbr.now memories.old }
+    ensures { (modified : Bool)
+        → AreRight (with_mark core.now (record { address = a; modified = modified })) dbr.now
+        memories.new }
+{
+    if is_read(core, dbr, memories, a) {
+        memories.forget();
+        return;
+    }
+    memories.clear_front();
 }
 
 /// Writes the word at a place.
 #[inline(always)]
-pub fn store(core: &mut Core, memories: &mut Memories, a: u32, w: Word)
-    requires { a < length core.old }
+pub fn store(core: &mut Core, dbr: &Dbr, memories: &mut Memories, a: u32, w: Word)
+    requires place { a < length core.old }
+    requires right { AreRight core.old dbr.now memories.old }
     ensures core { core.new ≡ slice_set core.old a w }
-    ensures right { (dbr : DbrFields) → AreRight core.old dbr memories.old
-        → AreRight core.new dbr memories.new }
+    ensures right { AreRight core.new dbr.now memories.new }
 {
-    memories.release(a);
+    release(core, dbr, memories, a);
     core.poke(a, w);
 }
 
@@ -83,18 +114,18 @@ pub(crate) fn with_mark(w: Word, modified: bool) -> Word
 
 /// Marks the page table word at an address as used, or as used and modified.
 #[tactic(auto, using(crate::proofs::Found::unchanged))]
-pub fn mark(core: &mut Core, memories: &mut Memories, a: u32, modified: bool)
-    requires { a < length core.old }
+pub fn mark(core: &mut Core, dbr: &Dbr, memories: &mut Memories, a: u32, modified: bool)
+    requires place { a < length core.old }
+    requires right { AreRight core.old dbr.now memories.old }
     ensures marked { core.new ≡ with_mark core.old (record { address = a; modified = modified }) }
     ensures len { length core.new ≡ length core.old }
-    ensures right { (dbr : DbrFields) → AreRight core.old dbr memories.old
-        → AreRight core.new dbr memories.new }
+    ensures right { AreRight core.new dbr.now memories.new }
 {
     let word = core.peek(a);
     let marked = with_mark(word, modified);
     if marked == word {
         return;
     }
-    memories.release_marked(a);
+    release_marked(core, dbr, memories, a);
     core.poke(a, marked);
 }

@@ -7,3 +7,4 @@ pub mod Told
 pub mod Claims
 pub mod Placing
 pub mod Asked
+pub mod InFront

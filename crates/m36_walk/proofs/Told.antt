@@ -1,5 +1,5 @@
 -- A reference that reads tells its words.
-use Rattle.std.proofs.Common.{ℕ, zero, suc, ◌≡◌, ◌+◌, List, ◌∷◌, map, Option, Result, Ok, Err, IfOk, true, false, ◌==◌, refl, ap, sym, ◌∙◌, slice_index}
+use Rattle.std.proofs.Common.{ℕ, zero, suc, ◌≡◌, ◌+◌, List, ◌∷◌, map, Option, Result, Ok, Err, true, false, ◌==◌, refl, ap, sym, ◌∙◌, slice_index}
 use Rattle.m36_desc.specs.Fields.{SdwFields, DbrFields}
 use Rattle.m36_desc.specs.Access.{first_of, read_rows, write_rows, fetch_rows}
 use Rattle.m36_model.specs.Fields.{AtFields}
@@ -28,10 +28,6 @@ pub found_sdw : (R : SdwFields → Option ℕ) (core : List ℕ) (dbr : DbrField
 unfolding sdw_in
 found_sdw R core dbr at count f h =
     ap sdw_by (reached_is _ _ (core_sdw core dbr at.seg) at (record { sdw = f.sdw; spots = run_from f.place count }) h)
-
-pub found_sdw_of : (R : SdwFields → Option ℕ) (core : List ℕ) (dbr : DbrFields) (at : AtFields) (count : ℕ) (result : Result Found Fault) → FoundBy R core dbr at count result → IfOk result (λ f. sdw_in (record { core = core; dbr = dbr }) at.seg ≡ f.sdw)
-found_sdw_of R core dbr at count (Ok f) h = found_sdw R core dbr at count f h
-found_sdw_of R core dbr at count (Err e) h = tt
 
 -- one request, whose words are told
 telling : (q : Request) (d d' : SdwFields) (new : List ℕ) (claims : List Spot) (refs : List Reference) (words words' : List ℕ) → d' ≡ d → words ≡ words'

@@ -45,7 +45,7 @@ impl Walk {
             (at_target (sdw_in self.old at.seg) result) }
         ensures same { self.new ≡ self.old }
     {
-        find_transfer(&self.core, self.dbr, &self.memories, at, prr)
+        find_transfer(&self.core, self.dbr, at, prr)
     }
 
     /// Examines the target of CALL6 in the ring of `at`, called from `p`. The answer is the ring in which the call goes on.

@@ -32,12 +32,17 @@ impl Walk {
         ensures dbr { self.new.dbr ≡ self.old.dbr }
         ensures len { length self.new.core ≡ length self.old.core }
     {
-        let found = match refer_fetch(&mut self.core, self.dbr, &mut self.memories, at) {
+        let (place, privileged) = match refer_fetch(
+            &mut self.core,
+            self.dbr,
+            &mut self.memories,
+            at,
+        ) {
             Ok(found) => found,
             Err(_fault) => return None,
         };
-        let word = self.core.peek(found.place);
-        Some((word, found.privileged && at.ring == 0))
+        let word = self.core.peek(place);
+        Some((word, privileged && at.ring == 0))
     }
 
     /// As `operand` of a word that sees no pending word, where nothing refuses it.
@@ -88,7 +93,10 @@ impl Walk {
         ensures refused { IsFalse result
             → (f : Fault) × ServesAsked (λ g. g.ppr.prr ≡ prr) Transfer self.now at (Err f) }
     {
-        match find_transfer(&self.core, self.dbr, &self.memories, at, prr) {
+        if at.ring == prr && self.quick_transfer(at) {
+            return true;
+        }
+        match find_transfer(&self.core, self.dbr, at, prr) {
             Ok(()) => true,
             Err(_fault) => false,
         }

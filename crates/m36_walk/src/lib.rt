@@ -15,14 +15,18 @@
 #![tactic(auto)]
 
 mod asks;
+mod front;
 mod hot;
 mod marks;
 mod place;
+mod quick;
 mod reads;
 mod refer;
 mod reference;
 mod refusal;
 mod targets;
+#[cfg(test)]
+mod tests;
 pub mod walk;
 pub mod words;
 mod writes;

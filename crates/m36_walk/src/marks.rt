@@ -2,7 +2,6 @@
 
 ghost use Rattle.std.specs.Prelude.{◌≡◌, ◌/◌, ◌<◌, ◌^◌, Ok, length};
 ghost use Rattle.m36_associative.specs.Right.{AreRight};
-ghost use Rattle.m36_desc.specs.Fields.{DbrFields};
 ghost use Rattle.m36_model.specs.Place.{directory_at, page_at, with_marks, directory_marks, page_marks, marks_by};
 ghost use Rattle.m36_tables.specs.Tables.{TableIn};
 
@@ -17,32 +16,32 @@ use m36_tables::{directory_at, page_at};
 fn mark_directory(core: &mut Core, memories: &mut Memories, dbr: Dbr, seg: u16)
     requires seg { seg < 2 ^ 15 }
     requires table { TableIn (length core.old) dbr.unpaged (directory_at dbr seg) }
+    requires right { AreRight core.old dbr memories.old }
     ensures marked { core.new ≡ with_marks core.old (directory_marks dbr seg) }
     ensures len { length core.new ≡ length core.old }
-    ensures right { (other : DbrFields) → AreRight core.old other memories.old
-        → AreRight core.new other memories.new }
+    ensures right { AreRight core.new dbr memories.new }
 {
     if dbr.unpaged {
         return;
     }
-    mark(core, memories, directory_at(dbr, seg), false);
+    mark(core, &dbr, memories, directory_at(dbr, seg), false);
 }
 
 /// Marks the page table word of a segment for a word, as modified too under a write.
 #[inline(always)]
 #[tactic(auto, unfolding(m36_model::specs::Place::with_marks))]
-fn mark_page(core: &mut Core, memories: &mut Memories, sdw: &Sdw, word: u32, write: bool)
+fn mark_page(core: &mut Core, memories: &mut Memories, dbr: Dbr, sdw: &Sdw, word: u32, write: bool)
     requires word { word < 2 ^ 18 }
     requires table { TableIn (length core.old) sdw.now.unpaged (page_at sdw.now (word / 1024)) }
+    requires right { AreRight core.old dbr memories.old }
     ensures marked { core.new ≡ with_marks core.old (page_marks write word (Ok sdw.now)) }
     ensures len { length core.new ≡ length core.old }
-    ensures right { (other : DbrFields) → AreRight core.old other memories.old
-        → AreRight core.new other memories.new }
+    ensures right { AreRight core.new dbr memories.new }
 {
     if sdw.unpaged {
         return;
     }
-    mark(core, memories, page_at(sdw, word / 1024), write);
+    mark(core, &dbr, memories, page_at(sdw, word / 1024), write);
 }
 
 /// Sets the marks of a reference to a word of a segment.
@@ -61,11 +60,11 @@ pub(crate) fn set_marks(
     requires word { word < 2 ^ 18 }
     requires directory { TableIn (length core.old) dbr.unpaged (directory_at dbr seg) }
     requires page { TableIn (length core.old) sdw.now.unpaged (page_at sdw.now (word / 1024)) }
+    requires right { AreRight core.old dbr memories.old }
     ensures marked { core.new ≡ with_marks core.old (marks_by dbr seg write word (Ok sdw.now)) }
     ensures len { length core.new ≡ length core.old }
-    ensures right { (other : DbrFields) → AreRight core.old other memories.old
-        → AreRight core.new other memories.new }
+    ensures right { AreRight core.new dbr memories.new }
 {
     mark_directory(core, memories, dbr, seg);
-    mark_page(core, memories, sdw, word, write);
+    mark_page(core, memories, dbr, sdw, word, write);
 }

@@ -106,35 +106,6 @@ pub(crate) fn places(core: &Core, sdw: &Sdw, word: u32, count: u32) -> Result<u3
     }
 }
 
-/// As `places`, where the place of the first word is known already.
-#[inline(always)]
-#[tactic(auto, using(crate::proofs::Spots::by_first))]
-pub(crate) fn places_from(
-    core: &Core,
-    sdw: &Sdw,
-    word: u32,
-    count: u32,
-    first: u32,
-) -> Result<u32, Refused>
-    requires some { 1 ≤ count }
-    requires block { word % 16 + count ≤ 16 }
-    requires low { first < 2 ^ 24 }
-    requires first { word_place core.now sdw.now word ≡ Ok first }
-    ensures value { (dbr : DbrFields) (seg : ℕ)
-        → spots_of core_store core.now dbr sdw.now seg word count ≡ run_by word count result }
-    ensures inside { IfOk result (λ a. LiesIn (length core.now) a count) }
-    ensures bound { IfOk result (λ a. a < 2 ^ 24) }
-    ensures further { IfErr result (λ r. r.further < count) }
-{
-    if !within(sdw, word) {
-        return Err(Refused {
-            why: violation(15),
-            further: 0,
-        });
-    }
-    run_in_core(core.len(), first, count)
-}
-
 /// As `places`, where the memories may have the page table word.
 #[tactic(auto, using(crate::proofs::Spots::by_first))]
 pub(crate) fn places_kept(

@@ -47,9 +47,9 @@ impl Walk {
         ensures dbr { self.new.dbr ≡ self.old.dbr }
         ensures len { length self.new.core ≡ length self.old.core }
     {
-        let found = refer_fetch(&mut self.core, self.dbr, &mut self.memories, at)?;
-        let word = self.core.peek(found.place);
-        Ok((word, found.privileged && at.ring == 0))
+        let (place, privileged) = refer_fetch(&mut self.core, self.dbr, &mut self.memories, at)?;
+        let word = self.core.peek(place);
+        Ok((word, privileged && at.ring == 0))
     }
 
     /// Reads an indirect word in the ring of `at`, for an instruction of segment `psr`. With it goes the first ring

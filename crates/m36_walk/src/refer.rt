@@ -6,20 +6,19 @@ ghost use Rattle.m36_model.specs.Act.{Fetch, Indirect, Odd, Read};
 ghost use Rattle.m36_walk.specs.Runs.{LiesIn};
 ghost use Rattle.m36_walk.specs.Served.{sdw_in, ok_map, ServesRun, ServesClaim};
 
-use crate::reference::{Found, find_fetch, find_read, find_write};
+use crate::front::{fetch_elsewhere, fetch_in_front, read_in_front, write_in_front};
+use crate::reference::{Found, fetch_by_tables, read_by_tables, write_by_tables};
 use crate::words::Run;
 use m36_associative::Memories;
 use m36_core::Core;
 use m36_desc::Dbr;
 use m36_model::{At, Fault};
 
-/// A reference that is answered: the place in core of its first word, the first ring bracket of its segment, and
-/// whether the segment may execute privileged instructions.
+/// A reference that reads and is answered: the place in core of its first word, and the first ring bracket of its segment.
 #[derive(Clone, Copy)]
 pub(crate) struct Reach {
     pub(crate) place: u32,
     pub(crate) ring: u8,
-    pub(crate) privileged: bool,
 }
 
 #[inline(always)]
@@ -27,12 +26,10 @@ fn reach_of(found: &Found) -> Reach
     ensures place { result.place ≡ found.now.place }
     ensures ring { result.ring ≡ found.now.sdw.r1 }
     ensures bound { result.ring < 2 ^ 3 }
-    ensures privileged { result.privileged ≡ found.now.sdw.privileged }
 {
     Reach {
         place: found.place,
         ring: found.sdw.r1,
-        privileged: found.sdw.privileged,
     }
 }
 
@@ -64,7 +61,10 @@ pub(crate) fn refer_read(
     ensures len { length core.new ≡ length core.old }
     ensures right { AreRight core.new dbr memories.new }
 {
-    match find_read(core, dbr, memories, at, psr, count) {
+    if let Some((place, ring)) = read_in_front(core, dbr, memories, at, count) {
+        return Ok(Reach { place, ring });
+    }
+    match read_by_tables(core, dbr, memories, at, psr, count) {
         Ok(found) => Ok(reach_of(&found)),
         Err(fault) => Err(fault),
     }
@@ -91,7 +91,10 @@ pub(crate) fn refer_write(
     ensures len { length core.new ≡ length core.old }
     ensures right { AreRight core.new dbr memories.new }
 {
-    match find_write(core, dbr, memories, at, count) {
+    if let Some(place) = write_in_front(core, dbr, memories, at, count) {
+        return Ok(Run { place, count });
+    }
+    match write_by_tables(core, dbr, memories, at, count) {
         Ok(found) => Ok(Run {
             place: found.place,
             count,
@@ -100,27 +103,41 @@ pub(crate) fn refer_write(
     }
 }
 
-/// Fetches an instruction in the ring of `at`.
+/// The place of an instruction that was found, and whether its segment may execute privileged instructions.
+#[inline(always)]
+fn fetch_of(found: &Found) -> (u32, bool)
+    ensures place { result.0 ≡ found.now.place }
+    ensures privileged { result.1 ≡ found.now.sdw.privileged }
+{
+    (found.place, found.sdw.privileged)
+}
+
+/// Fetches an instruction in the ring of `at`: its place, and whether its segment may execute privileged instructions.
 #[inline(always)]
 pub(crate) fn refer_fetch(
     core: &mut Core,
     dbr: Dbr,
     memories: &mut Memories,
     at: At,
-) -> Result<Reach, Fault>
+) -> Result<(u32, bool), Fault>
     requires right { AreRight core.old dbr memories.old }
     ensures fetch { ServesRun (λ g. g.ppr.prr ≡ at.ring) Fetch
-        (record { core = core.old; dbr = dbr }) core.new at 1 (ok_map (λ r. r.place) result) }
-    ensures privileged { IfOk result (λ r. r.privileged
+        (record { core = core.old; dbr = dbr }) core.new at 1 (ok_map (λ r. r.0) result) }
+    ensures privileged { IfOk result (λ r. r.1
         ≡ (sdw_in (record { core = core.old; dbr = dbr }) at.seg).privileged) }
-    ensures inside { IfOk result (λ r. LiesIn (length core.new) r.place 1) }
-    ensures bound { IfOk result (λ r. r.place < 2 ^ 24) }
+    ensures inside { IfOk result (λ r. r.0 < length core.new) }
     ensures stays { IfErr result (λ e. core.new ≡ core.old) }
     ensures len { length core.new ≡ length core.old }
     ensures right { AreRight core.new dbr memories.new }
 {
-    match find_fetch(core, dbr, memories, at) {
-        Ok(found) => Ok(reach_of(&found)),
+    if let Some(found) = fetch_in_front(core, dbr, memories, at) {
+        return Ok(found);
+    }
+    if let Some(found) = fetch_elsewhere(core, dbr, memories, at) {
+        return Ok(found);
+    }
+    match fetch_by_tables(core, dbr, memories, at) {
+        Ok(found) => Ok(fetch_of(&found)),
         Err(fault) => Err(fault),
     }
 }

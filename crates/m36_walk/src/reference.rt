@@ -1,10 +1,4 @@
-//! One reference: descriptor, rights, places, and then its marks.
-//!
-//! Where the page of the word stands in front, its descriptor, its place and its marks are known; by the tables they are
-//! found where it does not, and then the page is put in front.
-//!
-//! What is found by the tables is taken apart and put together again. Handed on as it is, it would stand in one place in
-//! memory with what is found in front, which is otherwise in processor registers.
+//! One reference by the tables: descriptor, rights, places, and then its marks. Then its page is put in front.
 
 ghost use Rattle.std.specs.Prelude.{ℕ, ◌≡◌, ◌+◌, ◌/◌, ◌%◌, ◌<◌, ◌≤◌, ◌^◌, ◌==◌, Ok, IfOk, OnOk, length, Result, true, false};
 ghost use Rattle.m36_desc.specs.Access.{allowed, first_of, read_rows, write_rows, fetch_rows};
@@ -18,14 +12,14 @@ ghost use Rattle.m36_walk.specs.Served.{sdw_in};
 ghost use Rattle.m36_tables.specs.Tables.{TableIn};
 
 use crate::marks::set_marks;
-use crate::place::{places_from, places_kept};
+use crate::place::places_kept;
 use crate::refusal::{fault, fault_further};
-use m36_associative::{Memories, Page, enter, page};
+use m36_associative::{Memories, enter};
 use m36_core::Core;
 use m36_desc::access::{may_fetch, may_read, may_write};
 use m36_desc::{Acv, Dbr, Sdw};
 use m36_model::{At, Fault};
-use m36_tables::{descriptor, violation, wrapped};
+use m36_tables::{descriptor, violation};
 
 /// A reference that is answered: the descriptor by which its words were found, and the place of the first.
 #[derive(Clone, Copy)]
@@ -63,16 +57,6 @@ fn described_kept(core: &Core, dbr: Dbr, memories: &mut Memories, at: At) -> Res
     }
 }
 
-/// The place of a word of a page in front.
-#[inline(always)]
-fn place_in(page: &Page, word: u32) -> u32
-    requires { page.now.base < 2 ^ 24 }
-    ensures value { result ≡ wrapped (page.now.base + word % 1024) }
-    ensures bound { result < 2 ^ 24 }
-{
-    wrapped(page.base + word % 1024)
-}
-
 /// What a descriptor says of a right, told at a word.
 #[inline(always)]
 pub(crate) fn permitted(answer: Result<(), Acv>, at: At) -> Result<(), Fault>
@@ -81,43 +65,6 @@ pub(crate) fn permitted(answer: Result<(), Acv>, at: At) -> Result<(), Fault>
     match answer {
         Ok(()) => Ok(()),
         Err(Acv(acv)) => Err(fault(violation(acv), at)),
-    }
-}
-
-/// A reference that reads so many words in the ring of `at`, for an instruction of segment `psr`, in a page that stands in
-/// front.
-#[inline(always)]
-#[tactic(auto, unfolding(crate::specs::Reached::reached))]
-fn read_in_page(
-    core: &Core,
-    dbr: Dbr,
-    page: &Page,
-    at: At,
-    psr: u16,
-    count: u32,
-) -> Result<Found, Fault>
-    requires some { 1 ≤ count }
-    requires block { at.word % 16 + count ≤ 16 }
-    requires found { core_sdw core.now dbr at.seg ≡ Ok page.now.sdw }
-    requires low { page.now.base < 2 ^ 24 }
-    requires place { word_place core.now page.now.sdw at.word
-        ≡ Ok (wrapped (page.now.base + at.word % 1024)) }
-    requires marked { with_marks core.now
-        (marks_by dbr at.seg false at.word (Ok page.now.sdw)) ≡ core.now }
-    ensures examined { reached (λ d. allowed tt (first_of (read_rows d at.ring (at.seg == psr))))
-        (λ d. spots_of core_store core.now dbr d at.seg at.word count)
-        (core_sdw core.now dbr at.seg) at ≡ found_run count result }
-    ensures marked { Marked dbr at false core.now core.now result }
-    ensures inside { IfOk result (λ f. LiesIn (length core.now) f.place count) }
-    ensures bound { IfOk result (λ f. f.place < 2 ^ 24) }
-{
-    permitted(may_read(&page.sdw, at.ring, at.seg == psr), at)?;
-    match places_from(core, &page.sdw, at.word, count, place_in(page, at.word)) {
-        Ok(place) => Ok(Found {
-            sdw: page.sdw,
-            place,
-        }),
-        Err(refused) => Err(fault_further(refused, at)),
     }
 }
 
@@ -157,7 +104,7 @@ fn marked_run(
 /// A reference that reads so many words in the ring of `at`, for an instruction of segment `psr`, by the tables.
 #[inline(never)]
 #[tactic(auto, unfolding(crate::specs::Reached::reached))]
-fn read_by_tables(
+pub(crate) fn read_by_tables(
     core: &mut Core,
     dbr: Dbr,
     memories: &mut Memories,
@@ -183,70 +130,10 @@ fn read_by_tables(
     marked_run(core, dbr, memories, &sdw, at, count, false)
 }
 
-/// A reference that reads so many words in the ring of `at`, for an instruction of segment `psr`.
-#[inline(always)]
-pub(crate) fn find_read(
-    core: &mut Core,
-    dbr: Dbr,
-    memories: &mut Memories,
-    at: At,
-    psr: u16,
-    count: u32,
-) -> Result<Found, Fault>
-    requires some { 1 ≤ count }
-    requires block { at.word % 16 + count ≤ 16 }
-    requires right { AreRight core.old dbr memories.old }
-    ensures examined { reached (λ d. allowed tt (first_of (read_rows d at.ring (at.seg == psr))))
-        (λ d. spots_of core_store core.old dbr d at.seg at.word count)
-        (core_sdw core.old dbr at.seg) at ≡ found_run count result }
-    ensures marked { Marked dbr at false core.old core.new result }
-    ensures inside { IfOk result (λ f. LiesIn (length core.new) f.place count) }
-    ensures bound { IfOk result (λ f. f.place < 2 ^ 24) }
-    ensures len { length core.new ≡ length core.old }
-    ensures right { AreRight core.new dbr memories.new }
-{
-    if let Some(page) = page(core, dbr, memories, at.seg, at.word, false) {
-        return read_in_page(core, dbr, &page, at, psr, count);
-    }
-    match read_by_tables(core, dbr, memories, at, psr, count) {
-        Ok(found) => Ok(found),
-        Err(fault) => Err(fault),
-    }
-}
-
-/// A reference that is to write so many words, in the ring of `at`, in a page that stands in front.
-#[inline(always)]
-#[tactic(auto, unfolding(crate::specs::Reached::reached))]
-fn write_in_page(core: &Core, dbr: Dbr, page: &Page, at: At, count: u32) -> Result<Found, Fault>
-    requires some { 1 ≤ count }
-    requires block { at.word % 16 + count ≤ 16 }
-    requires found { core_sdw core.now dbr at.seg ≡ Ok page.now.sdw }
-    requires low { page.now.base < 2 ^ 24 }
-    requires place { word_place core.now page.now.sdw at.word
-        ≡ Ok (wrapped (page.now.base + at.word % 1024)) }
-    requires marked { with_marks core.now
-        (marks_by dbr at.seg true at.word (Ok page.now.sdw)) ≡ core.now }
-    ensures examined { reached (λ d. allowed tt (first_of (write_rows d at.ring)))
-        (λ d. spots_of core_store core.now dbr d at.seg at.word count)
-        (core_sdw core.now dbr at.seg) at ≡ found_run count result }
-    ensures marked { Marked dbr at true core.now core.now result }
-    ensures inside { IfOk result (λ f. LiesIn (length core.now) f.place count) }
-    ensures bound { IfOk result (λ f. f.place < 2 ^ 24) }
-{
-    permitted(may_write(&page.sdw, at.ring), at)?;
-    match places_from(core, &page.sdw, at.word, count, place_in(page, at.word)) {
-        Ok(place) => Ok(Found {
-            sdw: page.sdw,
-            place,
-        }),
-        Err(refused) => Err(fault_further(refused, at)),
-    }
-}
-
 /// A reference that is to write so many words, in the ring of `at`, by the tables.
 #[inline(never)]
 #[tactic(auto, unfolding(crate::specs::Reached::reached))]
-fn write_by_tables(
+pub(crate) fn write_by_tables(
     core: &mut Core,
     dbr: Dbr,
     memories: &mut Memories,
@@ -271,67 +158,10 @@ fn write_by_tables(
     marked_run(core, dbr, memories, &sdw, at, count, true)
 }
 
-/// A reference that is to write so many words, in the ring of `at`.
-#[inline(always)]
-pub(crate) fn find_write(
-    core: &mut Core,
-    dbr: Dbr,
-    memories: &mut Memories,
-    at: At,
-    count: u32,
-) -> Result<Found, Fault>
-    requires some { 1 ≤ count }
-    requires block { at.word % 16 + count ≤ 16 }
-    requires right { AreRight core.old dbr memories.old }
-    ensures examined { reached (λ d. allowed tt (first_of (write_rows d at.ring)))
-        (λ d. spots_of core_store core.old dbr d at.seg at.word count)
-        (core_sdw core.old dbr at.seg) at ≡ found_run count result }
-    ensures marked { Marked dbr at true core.old core.new result }
-    ensures inside { IfOk result (λ f. LiesIn (length core.new) f.place count) }
-    ensures bound { IfOk result (λ f. f.place < 2 ^ 24) }
-    ensures len { length core.new ≡ length core.old }
-    ensures right { AreRight core.new dbr memories.new }
-{
-    if let Some(page) = page(core, dbr, memories, at.seg, at.word, true) {
-        return write_in_page(core, dbr, &page, at, count);
-    }
-    match write_by_tables(core, dbr, memories, at, count) {
-        Ok(found) => Ok(found),
-        Err(fault) => Err(fault),
-    }
-}
-
-/// The fetch of an instruction, in the ring of `at`, in a page that stands in front.
-#[inline(always)]
-#[tactic(auto, unfolding(crate::specs::Reached::reached))]
-fn fetch_in_page(core: &Core, dbr: Dbr, page: &Page, at: At) -> Result<Found, Fault>
-    requires found { core_sdw core.now dbr at.seg ≡ Ok page.now.sdw }
-    requires low { page.now.base < 2 ^ 24 }
-    requires place { word_place core.now page.now.sdw at.word
-        ≡ Ok (wrapped (page.now.base + at.word % 1024)) }
-    requires marked { with_marks core.now
-        (marks_by dbr at.seg false at.word (Ok page.now.sdw)) ≡ core.now }
-    ensures examined { reached (λ d. allowed tt (first_of (fetch_rows d at.ring)))
-        (λ d. spots_of core_store core.now dbr d at.seg at.word 1)
-        (core_sdw core.now dbr at.seg) at ≡ found_run 1 result }
-    ensures marked { Marked dbr at false core.now core.now result }
-    ensures inside { IfOk result (λ f. LiesIn (length core.now) f.place 1) }
-    ensures bound { IfOk result (λ f. f.place < 2 ^ 24) }
-{
-    permitted(may_fetch(&page.sdw, at.ring), at)?;
-    match places_from(core, &page.sdw, at.word, 1, place_in(page, at.word)) {
-        Ok(place) => Ok(Found {
-            sdw: page.sdw,
-            place,
-        }),
-        Err(refused) => Err(fault_further(refused, at)),
-    }
-}
-
 /// The fetch of an instruction, in the ring of `at`, by the tables.
 #[inline(never)]
 #[tactic(auto, unfolding(crate::specs::Reached::reached))]
-fn fetch_by_tables(
+pub(crate) fn fetch_by_tables(
     core: &mut Core,
     dbr: Dbr,
     memories: &mut Memories,
@@ -351,31 +181,4 @@ fn fetch_by_tables(
     let sdw = described_kept(core, dbr, memories, at)?;
     permitted(may_fetch(&sdw, at.ring), at)?;
     marked_run(core, dbr, memories, &sdw, at, 1, false)
-}
-
-/// The fetch of an instruction, in the ring of `at`.
-#[inline(always)]
-pub(crate) fn find_fetch(
-    core: &mut Core,
-    dbr: Dbr,
-    memories: &mut Memories,
-    at: At,
-) -> Result<Found, Fault>
-    requires right { AreRight core.old dbr memories.old }
-    ensures examined { reached (λ d. allowed tt (first_of (fetch_rows d at.ring)))
-        (λ d. spots_of core_store core.old dbr d at.seg at.word 1)
-        (core_sdw core.old dbr at.seg) at ≡ found_run 1 result }
-    ensures marked { Marked dbr at false core.old core.new result }
-    ensures inside { IfOk result (λ f. LiesIn (length core.new) f.place 1) }
-    ensures bound { IfOk result (λ f. f.place < 2 ^ 24) }
-    ensures len { length core.new ≡ length core.old }
-    ensures right { AreRight core.new dbr memories.new }
-{
-    if let Some(page) = page(core, dbr, memories, at.seg, at.word, false) {
-        return fetch_in_page(core, dbr, &page, at);
-    }
-    match fetch_by_tables(core, dbr, memories, at) {
-        Ok(found) => Ok(found),
-        Err(fault) => Err(fault),
-    }
 }

@@ -2,7 +2,6 @@
 
 ghost use Rattle.std.specs.Prelude.{ℕ, ◌≡◌, ◌<◌, ◌^◌, ◌==◌, [], Ok, IfOk, length};
 ghost use Rattle.m36_desc.specs.Access.{allowed, first_of, in_order, ordered_rows, transfer_rows, call_rows, ring_called};
-ghost use Rattle.m36_associative.specs.Right.{AreRight};
 ghost use Rattle.m36_model.specs.Core.{core_store};
 ghost use Rattle.m36_model.specs.Place.{core_sdw};
 ghost use Rattle.m36_model.specs.Store.{Core_word, within, when_ordered, bound_only, spots_of, place, first_ring};
@@ -13,7 +12,6 @@ ghost use Rattle.m36_walk.specs.Served.{sdw_in, at_place, at_target, ok_map};
 use crate::place::places;
 use crate::reference::{described, permitted};
 use crate::refusal::{fault, fault_further};
-use m36_associative::{Memories, page_seen};
 use m36_core::Core;
 use m36_desc::access::{call_ring, may_transfer};
 use m36_desc::{Acv, Dbr, Sdw};
@@ -33,36 +31,15 @@ fn bounded(sdw: &Sdw, at: At) -> Result<(), Fault>
     }
 }
 
-/// The descriptor of the segment of a word, which may stand in front.
-#[inline(always)]
-#[tactic(auto, unfolding(crate::specs::Served::sdw_in))]
-fn described_in_front(core: &Core, dbr: Dbr, memories: &Memories, at: At) -> Result<Sdw, Fault>
-    requires { AreRight core.now dbr memories.now }
-    ensures value { result ≡ told at (core_sdw core.now dbr at.seg) }
-    ensures sdw { IfOk result (λ d. sdw_in (record { core = core.now; dbr = dbr }) at.seg ≡ d) }
-{
-    if let Some(sdw) = page_seen(core, dbr, memories, at.seg, at.word) {
-        return Ok(sdw);
-    }
-    described(core, dbr, at)
-}
-
 /// The target of a transfer in the ring of `at` from ring `prr`.
 #[inline(always)]
 #[tactic(auto, unfolding(crate::specs::Reached::reached))]
-pub(crate) fn find_transfer(
-    core: &Core,
-    dbr: Dbr,
-    memories: &Memories,
-    at: At,
-    prr: u8,
-) -> Result<(), Fault>
-    requires { AreRight core.now dbr memories.now }
+pub(crate) fn find_transfer(core: &Core, dbr: Dbr, at: At, prr: u8) -> Result<(), Fault>
     ensures { reached (λ d. allowed tt (first_of (transfer_rows d at.ring prr)))
         (λ d. bound_only (within d at.word) at.word) (core_sdw core.now dbr at.seg) at
         ≡ at_target (sdw_in (record { core = core.now; dbr = dbr }) at.seg) result }
 {
-    let sdw = described_in_front(core, dbr, memories, at)?;
+    let sdw = described(core, dbr, at)?;
     permitted(may_transfer(&sdw, at.ring, prr), at)?;
     bounded(&sdw, at)
 }

@@ -3,7 +3,6 @@
 ghost use Rattle.std.specs.Prelude.{ℕ, ◌≡◌, ◌+◌, ◌<◌, ◌^◌, length, slice_index};
 ghost use Rattle.m36_word.specs.Pairs.{pair_words};
 ghost use Rattle.m36_associative.specs.Right.{AreRight};
-ghost use Rattle.m36_desc.specs.Fields.{DbrFields};
 ghost use Rattle.m36_model.specs.Core.{core_put};
 ghost use Rattle.m36_model.specs.Place.{wrapped};
 ghost use Rattle.m36_model.specs.Results.{words_of_pairs};
@@ -12,6 +11,7 @@ ghost use Rattle.m36_walk.specs.Words.{seen, run_changes};
 
 use m36_associative::{Memories, store};
 use m36_core::Core;
+use m36_desc::Dbr;
 use m36_tables::wrapped;
 use m36_word::{Pair, Word};
 
@@ -76,31 +76,37 @@ pub(crate) fn seen_block(core: &Core, pending: &Option<Pending>, a: u32) -> [Pai
 
 /// Writes a pair from a place on.
 #[tactic(auto, unfolding(m36_model::specs::Core::core_put, crate::specs::Runs::LiesIn))]
-pub(crate) fn put_pair(core: &mut Core, memories: &mut Memories, a: u32, pair: Pair)
+pub(crate) fn put_pair(core: &mut Core, dbr: &Dbr, memories: &mut Memories, a: u32, pair: Pair)
     requires place { a < 2 ^ 24 }
     requires inside { LiesIn (length core.old) a 2 }
+    requires right { AreRight core.old dbr.now memories.old }
     ensures put { core.new ≡ core_put core.old (run_changes a (pair_words pair)) }
     ensures len { length core.new ≡ length core.old }
-    ensures right { (dbr : DbrFields) → AreRight core.old dbr memories.old
-        → AreRight core.new dbr memories.new }
+    ensures right { AreRight core.new dbr.now memories.new }
 {
-    store(core, memories, a, pair.even);
-    store(core, memories, wrapped(a + 1), pair.odd);
+    store(core, dbr, memories, a, pair.even);
+    store(core, dbr, memories, wrapped(a + 1), pair.odd);
 }
 
 /// Writes a block of 16 words from a place on.
-pub(crate) fn put_block(core: &mut Core, memories: &mut Memories, a: u32, block: &[Pair; 8])
+pub(crate) fn put_block(
+    core: &mut Core,
+    dbr: &Dbr,
+    memories: &mut Memories,
+    a: u32,
+    block: &[Pair; 8],
+)
     requires place { a < 2 ^ 24 }
     requires inside { LiesIn (length core.old) a 16 }
+    requires right { AreRight core.old dbr.now memories.old }
     ensures put { core.new ≡ core_put core.old (run_changes a (words_of_pairs block.now)) }
     ensures words { length (words_of_pairs block.now) ≡ 16 }
     ensures len { length core.new ≡ length core.old }
-    ensures right { (dbr : DbrFields) → AreRight core.old dbr memories.old
-        → AreRight core.new dbr memories.new }
+    ensures right { AreRight core.new dbr.now memories.new }
 {
     let mut next = a;
     for pair in block {
-        put_pair(core, memories, next, *pair);
+        put_pair(core, dbr, memories, next, *pair);
         next = wrapped(wrapped(next + 1) + 1);
     }
 }

@@ -72,12 +72,13 @@ impl Walk {
     }
 
     /// Writes one core word.
+    #[inline(always)]
     pub fn store(&mut self, place: u32, w: Word)
         requires { place < length self.old.core }
         ensures core { self.new.core ≡ slice_set self.old.core place w }
         ensures dbr { self.new.dbr ≡ self.old.dbr }
     {
-        store(&mut self.core, &mut self.memories, place, w);
+        store(&mut self.core, &self.dbr, &mut self.memories, place, w);
     }
 
     /// Writes a pair from a place on.
@@ -89,7 +90,7 @@ impl Walk {
         ensures dbr { self.new.dbr ≡ self.old.dbr }
         ensures len { length self.new.core ≡ length self.old.core }
     {
-        put_pair(&mut self.core, &mut self.memories, place, pair);
+        put_pair(&mut self.core, &self.dbr, &mut self.memories, place, pair);
     }
 
     /// Writes a block from a place on.
@@ -102,7 +103,7 @@ impl Walk {
         ensures dbr { self.new.dbr ≡ self.old.dbr }
         ensures len { length self.new.core ≡ length self.old.core }
     {
-        put_block(&mut self.core, &mut self.memories, place, block);
+        put_block(&mut self.core, &self.dbr, &mut self.memories, place, block);
     }
 
     /// Writes a word in the ring of `at`.

@@ -11,7 +11,7 @@ is_true false e = absurd (cc)
 pub returns-then-sdw-clause-page : goal.returns-then-sdw-clause-page
 returns-then-sdw-clause-page c =
     let whole : c.in_ok-sdw.sdw.unpaged ≡ true = rw (← c.sdw.view_is) c.if-sdw.true in
-    page_unpaged c.args.core.now c.args.dbr c.args.memories.now _ c.args.seg c.args.word c.requires.right (sym c.in_ok-sdw.ensures) whole (c.is_passed.ensures (search rules)) (rw (← c.sdw.view_is) c.wrapped.ensures.value) c.wrapped.ensures.bound
+    page_unpaged c.args.core.now c.args.dbr c.args.memories.now _ c.args.seg c.args.word c.in_ok-sdw.sdw c.page_of.ensures.face c.requires.right (sym c.in_ok-sdw.ensures) whole (c.is_passed.ensures (search rules)) (rw (c.page_of.ensures.base, ← c.sdw.view_is) c.wrapped-base.ensures.value) (rw c.page_of.ensures.base c.wrapped-base.ensures.bound)
 
 pub returns-clause-page : goal.returns-clause-page
 returns-clause-page c =
@@ -19,8 +19,8 @@ returns-clause-page c =
     let here : c.ptw.inside.f ≡ true = search rules in
     let there : c.in_ok-ptw.ptw.f ≡ true = rw (← c.ptw.view_is) here in
     let used : IsMarked c.args.core.now c.page_at-a.result false = c.is_marked.ensures (search rules) in
-    page_paged c.args.core.now c.args.dbr c.args.memories.now _ c.args.seg c.args.word c.in_ok-ptw.ptw c.requires.right (sym c.in_ok-sdw.ensures) paged (c.is_passed.ensures (search rules))
+    page_paged c.args.core.now c.args.dbr c.args.memories.now _ c.args.seg c.args.word c.in_ok-sdw.sdw c.page_of-2.ensures.face c.in_ok-ptw.ptw c.requires.right (sym c.in_ok-sdw.ensures) paged (c.is_passed.ensures (search rules))
     (subst (λ (a : ℕ). lookup (nat_eq a) c.args.memories.now.ptws.entries ≡ Some c.in_ok-ptw.ptw) c.page_at-a.ensures.value (sym c.in_ok-ptw.ensures))
-    there (rw (← c.ptw.view_is) c.wrapped-2.ensures.value) c.wrapped-2.ensures.bound
+    there (rw (c.page_of-2.ensures.base, ← c.ptw.view_is) c.wrapped-base-2.ensures.value) (rw c.page_of-2.ensures.base c.wrapped-base-2.ensures.bound)
     (subst (λ (a : ℕ). IsMarked c.args.core.now a false) c.page_at-a.ensures.value used)
-    (λ y. subst (λ (a : ℕ). IsMarked c.args.core.now a true) c.page_at-a.ensures.value (c.is_marked-2.ensures (is_true c.is_marked-2.result y)))
+    (λ y. subst (λ (a : ℕ). IsMarked c.args.core.now a true) c.page_at-a.ensures.value (c.is_marked-modified.ensures (is_true c.is_marked-modified.result (c.page_of-2.ensures.modified y))))

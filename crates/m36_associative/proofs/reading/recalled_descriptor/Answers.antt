@@ -10,4 +10,4 @@ pub returns-clause-passes : goal.returns-clause-passes
 returns-clause-passes c = recalled_passes c.recalled_sdw.result c.args._core.now c.args._dbr c.args.memories.now c.args.seg c.requires c.recalled_sdw.ensures.value
 
 pub returns-clause-right : goal.returns-clause-right
-returns-clause-right c = with_sdws_used c.args._core.now c.args._dbr c.args.memories.now _ c.args.seg c.requires refl refl c.recalled_sdw.ensures.order refl refl
+returns-clause-right c = with_sdws_used c.args._core.now c.args._dbr c.args.memories.now _ c.args.seg c.requires refl refl c.recalled_sdw.ensures.order refl refl refl

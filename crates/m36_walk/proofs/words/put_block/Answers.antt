@@ -16,7 +16,7 @@ loop-pair-preserved c =
       next = c.wrapped-next.ensures.bound;
       count = c.loop-pair.invariant.count;
       len = c.put_pair.ensures.len ∙ c.loop-pair.invariant.len;
-      right = λ dbr h. c.put_pair.ensures.right dbr (c.loop-pair.invariant.right dbr h);
+      right = c.put_pair.ensures.right;
     }
 
 pub returns-clause-put : goal.returns-clause-put

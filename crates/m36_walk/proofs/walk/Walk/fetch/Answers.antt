@@ -6,4 +6,4 @@ use Rattle.m36_walk.proofs.walk.Walk.fetch.Goals as goal
 
 pub returns-clause-serves : goal.returns-clause-serves
 unfolding changes core_put words_from
-returns-clause-serves c = rw (← c.self.view_is, c.peek-word.ensures) (λ g e k claims refs. c.in_ok-found.ensures.fetch g e k claims refs [] [] refl)
+returns-clause-serves c = rw (← c.self.view_is, c.peek-word.ensures) (λ g e k claims refs. c.in_ok-place.ensures.fetch g e k claims refs [] [] refl)

@@ -1,0 +1,11 @@
+use Rattle.std.proofs.Common.{◌≡◌, ◌/◌, ◌-◌, ◌%◌, refl, arith}
+use Rattle.m36_associative.specs.Right.{IsPage}
+use Rattle.m36_associative.proofs.Keeping.{with_fetching}
+use Rattle.m36_associative.proofs.memories.Memories.fetch_from.Goals as goal
+
+pub returns : goal.returns
+returns c = λ core dbr h k.
+    let first : (c.args.word - c.args.word % 1024) / 1024 ≡ c.args.word / 1024 = omega arith in
+    let here : IsPage core dbr c.note_fetch.new.self.words c.note_fetch.new.self.tables c.args.page.now c.args.seg ((c.args.word - c.args.word % 1024) / 1024) = rw (first, c.note_fetch.ensures.words, c.note_fetch.ensures.tables) k in
+    with_fetching core dbr c.note_fetch.new.self _ (c.note_fetch.ensures.right core dbr h) refl refl refl refl refl
+    (λ n. record { page = c.args.page.now; is = here; first = omega arith; low = omega arith; base = refl; len = omega arith; above = c.requires.above; below = c.requires.below; privileged = refl })

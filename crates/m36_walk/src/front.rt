@@ -1,0 +1,145 @@
+//! References that a page in front answers: they change nothing in core, since their marks are set.
+
+ghost use Rattle.std.specs.Prelude.{ℕ, ◌≡◌, ◌+◌, ◌%◌, ◌<◌, ◌≤◌, ◌^◌, Ok, IfSome, IsTrue, length};
+ghost use Rattle.m36_associative.specs.Right.{AreRight};
+ghost use Rattle.m36_model.specs.Act.{Fetch, Indirect, Odd, Read, Transfer};
+ghost use Rattle.m36_walk.specs.Runs.{LiesIn};
+ghost use Rattle.m36_walk.specs.Served.{sdw_in, at_target, ServesRun, ServesClaim, ServesAsked};
+
+use m36_associative::{
+    Memories, goes_to, place_to_change, place_to_fetch, place_to_fetch_elsewhere, place_to_read,
+    place_to_write,
+};
+use m36_core::Core;
+use m36_desc::Dbr;
+use m36_model::At;
+
+/// Reads so many words in the ring of `at`: the place of the first, and the first ring bracket of their segment.
+#[inline(always)]
+pub(crate) fn read_in_front(
+    core: &Core,
+    dbr: Dbr,
+    memories: &mut Memories,
+    at: At,
+    count: u32,
+) -> Option<(u32, u8)>
+    requires some { 1 ≤ count }
+    requires block { at.word % 16 + count ≤ 16 }
+    requires right { AreRight core.now dbr memories.old }
+    ensures read { IfSome result (λ r. (psr : ℕ) → ServesRun (λ g. g.ppr.psr ≡ psr) Read
+        (record { core = core.now; dbr = dbr }) core.now at count (Ok r.0)) }
+    ensures indirect { IfSome result (λ r. (psr : ℕ) → ServesRun (λ g. g.ppr.psr ≡ psr) Indirect
+        (record { core = core.now; dbr = dbr }) core.now at count (Ok r.0)) }
+    ensures odd { IfSome result (λ r. (psr : ℕ) → ServesRun (λ g. g.ppr.psr ≡ psr) Odd
+        (record { core = core.now; dbr = dbr }) core.now at count (Ok r.0)) }
+    ensures ring { IfSome result (λ r. r.1
+        ≡ (sdw_in (record { core = core.now; dbr = dbr }) at.seg).r1) }
+    ensures ring_bound { IfSome result (λ r. r.1 < 2 ^ 3) }
+    ensures inside { IfSome result (λ r. LiesIn (length core.now) r.0 count) }
+    ensures run { IfSome result (λ r. r.0 + count ≤ length core.now) }
+    ensures bound { IfSome result (λ r. r.0 + count ≤ 2 ^ 24) }
+    ensures right { AreRight core.now dbr memories.new }
+{
+    match place_to_read(core, dbr, memories, at.seg, at.ring, at.word, count) {
+        Some((place, ring)) => Some((place, ring)),
+        None => None,
+    }
+}
+
+/// Examines so many words that are to be written, in the ring of `at`: the place of the first.
+#[inline(always)]
+pub(crate) fn write_in_front(
+    core: &Core,
+    dbr: Dbr,
+    memories: &mut Memories,
+    at: At,
+    count: u32,
+) -> Option<u32>
+    requires some { 1 ≤ count }
+    requires block { at.word % 16 + count ≤ 16 }
+    requires right { AreRight core.now dbr memories.old }
+    ensures write { IfSome result (λ a. ServesClaim (record { core = core.now; dbr = dbr })
+        core.now at count (Ok a)) }
+    ensures inside { IfSome result (λ a. LiesIn (length core.now) a count) }
+    ensures run { IfSome result (λ a. a + count ≤ length core.now) }
+    ensures bound { IfSome result (λ a. a + count ≤ 2 ^ 24) }
+    ensures right { AreRight core.now dbr memories.new }
+{
+    match place_to_write(core, dbr, memories, at.seg, at.ring, at.word, count) {
+        Some(place) => Some(place),
+        None => None,
+    }
+}
+
+/// Fetches an instruction in the ring of `at` from the page that was fetched from last: its place, and whether its segment
+/// may execute privileged instructions.
+#[inline(always)]
+pub(crate) fn fetch_in_front(
+    core: &Core,
+    dbr: Dbr,
+    memories: &mut Memories,
+    at: At,
+) -> Option<(u32, bool)>
+    requires right { AreRight core.now dbr memories.old }
+    ensures fetch { IfSome result (λ r. ServesRun (λ g. g.ppr.prr ≡ at.ring) Fetch
+        (record { core = core.now; dbr = dbr }) core.now at 1 (Ok r.0)) }
+    ensures privileged { IfSome result (λ r. r.1
+        ≡ (sdw_in (record { core = core.now; dbr = dbr }) at.seg).privileged) }
+    ensures inside { IfSome result (λ r. r.0 < length core.now) }
+    ensures right { AreRight core.now dbr memories.new }
+{
+    match place_to_fetch(core, dbr, memories, at.seg, at.ring, at.word) {
+        Some((place, privileged)) => Some((place, privileged)),
+        None => None,
+    }
+}
+
+/// As `fetch_in_front`, from any page in front.
+#[inline(always)]
+pub(crate) fn fetch_elsewhere(
+    core: &Core,
+    dbr: Dbr,
+    memories: &mut Memories,
+    at: At,
+) -> Option<(u32, bool)>
+    requires right { AreRight core.now dbr memories.old }
+    ensures fetch { IfSome result (λ r. ServesRun (λ g. g.ppr.prr ≡ at.ring) Fetch
+        (record { core = core.now; dbr = dbr }) core.now at 1 (Ok r.0)) }
+    ensures privileged { IfSome result (λ r. r.1
+        ≡ (sdw_in (record { core = core.now; dbr = dbr }) at.seg).privileged) }
+    ensures inside { IfSome result (λ r. r.0 < length core.now) }
+    ensures right { AreRight core.now dbr memories.new }
+{
+    match place_to_fetch_elsewhere(core, dbr, memories, at.seg, at.ring, at.word) {
+        Some((place, privileged)) => Some((place, privileged)),
+        None => None,
+    }
+}
+
+/// Reads a word in the ring of `at` and examines it to be written: its place.
+#[inline(always)]
+pub(crate) fn change_in_front(core: &Core, dbr: Dbr, memories: &mut Memories, at: At) -> Option<u32>
+    requires right { AreRight core.now dbr memories.old }
+    ensures read { IfSome result (λ a. (psr : ℕ) → ServesRun (λ g. g.ppr.psr ≡ psr) Read
+        (record { core = core.now; dbr = dbr }) core.now at 1 (Ok a)) }
+    ensures write { IfSome result (λ a. ServesClaim (record { core = core.now; dbr = dbr })
+        core.now at 1 (Ok a)) }
+    ensures inside { IfSome result (λ a. a < length core.now) }
+    ensures right { AreRight core.now dbr memories.new }
+{
+    match place_to_change(core, dbr, memories, at.seg, at.ring, at.word) {
+        Some(place) => Some(place),
+        None => None,
+    }
+}
+
+/// Whether a transfer in the ring of `at`, from the same ring, goes to a word.
+#[inline(always)]
+pub(crate) fn transfer_in_front(core: &Core, dbr: Dbr, memories: &Memories, at: At) -> bool
+    requires { AreRight core.now dbr memories.now }
+    ensures { IsTrue result → ServesAsked (λ g. g.ppr.prr ≡ at.ring) Transfer
+        (record { core = core.now; dbr = dbr }) at
+        (at_target (sdw_in (record { core = core.now; dbr = dbr }) at.seg) (Ok (tt {0}))) }
+{
+    goes_to(core, dbr, memories, at.seg, at.ring, at.word)
+}
