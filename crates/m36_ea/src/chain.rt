@@ -9,7 +9,7 @@ ghost use Rattle.m36_walk.specs.Words.{pending_changes};
 ghost use Rattle.m36_ea.specs.Formed.{formed_from, ended, plain, TallyLies};
 
 use crate::indirect::{count, follow, formed};
-use crate::modification::{Action, action_of, end_by_register, fault};
+use crate::modification::{Action, action_of, end_by_register, end_unmodified, fault};
 use crate::temporary::{Tpr, first};
 use m36_inst::Inst;
 use m36_model::{Final, Formed, Halt, Refs, Regs};
@@ -81,6 +81,9 @@ pub fn plain_address(regs: &Regs, inst: &Inst) -> Option<Final>
     ensures none { IfNone result (16 ≤ inst.now.tag) }
 {
     let tpr = first(regs, inst);
+    if tpr.tag == 0 {
+        return Some(end_unmodified(&tpr));
+    }
     match end_by_register(regs, &tpr) {
         Some(last) => Some(last),
         None => None,

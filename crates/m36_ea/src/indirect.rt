@@ -29,7 +29,8 @@ pub(crate) enum Format {
 
 /// The tags of pairs count at even word numbers alone.
 #[tactic(auto, unfolding(m36_model::specs::Chain::found))]
-fn format_of(word: u32, w: Word) -> Format
+#[inline(always)]
+pub(crate) fn format_of(word: u32, w: Word) -> Format
     ensures found { found_is result ≡ found word w }
     ensures even { FollowsEven word result }
 {

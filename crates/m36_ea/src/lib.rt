@@ -17,10 +17,12 @@
 mod chain;
 mod indirect;
 mod modification;
+mod quick;
 mod registers;
 mod tallies;
 mod temporary;
 
 pub use chain::{effective, pending, plain_address};
 pub use indirect::complete;
-pub use registers::procedure_segment;
+pub use quick::{Counting, Through, address_counted, address_through};
+pub use registers::{procedure_ring, procedure_segment};

@@ -1,11 +1,13 @@
 //! Address modification: what the tag of a point does.
 
-ghost use Rattle.std.specs.Prelude.{◌≡◌, ◌<◌, ◌≤◌, ◌%◌, ◌^◌, IfSome, IfNone};
+ghost use Rattle.std.specs.Prelude.{◌≡◌, ◌<◌, ◌≤◌, ◌%◌, ◌^◌, ◌==◌, None, false, IsTrue, IfSome, IfNone};
 ghost use Rattle.m36_model.specs.Faults.{illegal_procedure};
-ghost use Rattle.m36_model.specs.Modification.{Ends, Fails, plain_fault, halt_here, is_direct};
+ghost use Rattle.m36_model.specs.Modification.{Ends, Fails, Reads, Counts, plain_fault, halt_here, is_direct};
 ghost use Rattle.m36_model.specs.Modification.{move_register, move_register_then_indirect};
 ghost use Rattle.m36_model.specs.Modification.{move_indirect_then_tally};
 ghost use Rattle.m36_model.specs.Modification.{move_indirect_then_register, move_of_point};
+ghost use Rattle.m36_model.specs.Registers.{RegsFields};
+ghost use Rattle.m36_model.specs.Tally.{indirect_only};
 ghost use Rattle.m36_ea.specs.Points.{move_is, IsInRange};
 
 use crate::registers::index;
@@ -132,6 +134,18 @@ fn indirect_then_tally(regs: &Regs, tpr: &Tpr, td: u8) -> Action
     }
 }
 
+/// The end of the chain, where the tag of the point is 0 and no register is held.
+#[inline(always)]
+#[tactic(auto, unfolding(m36_model::specs::Modification::move_of_point, m36_model::specs::Modification::index_of))]
+pub(crate) fn end_unmodified(tpr: &Tpr) -> Final
+    requires tag { tpr.now.tag ≡ 0 }
+    requires held { tpr.now.held ≡ None }
+    ensures ends { (g : RegsFields) → Ends result ≡ move_of_point g tpr.now }
+    ensures direct { result.direct ≡ None }
+{
+    tpr.end_at(tpr.y)
+}
+
 /// The end of the chain, where the tag of the point is one of register modification.
 #[inline(always)]
 #[tactic(auto, unfolding(m36_model::specs::Modification::move_of_point))]
@@ -159,4 +173,40 @@ pub(crate) fn action_of(regs: &Regs, tpr: &Tpr) -> Action
         2 => indirect_then_tally(regs, tpr, td),
         _ => indirect_then_register(regs, tpr, td),
     }
+}
+
+/// The indirect word that the tag of a point reads, where it is one of register and indirect modification that names no
+/// direct operand; and the register that is held from then on.
+#[inline(always)]
+#[tactic(auto, unfolding(m36_model::specs::Modification::move_of_point))]
+pub(crate) fn reads_word(regs: &Regs, tpr: &Tpr) -> Option<(u32, Option<u32>)>
+    ensures moves { IfSome result (λ r. Reads r.0 r.1 ≡ move_of_point regs.now tpr.now) }
+    ensures word { IfSome result (λ r. r.0 < 2 ^ 18) }
+    ensures held { IfSome result (λ r. IfSome r.1 (λ h. h < 2 ^ 18)) }
+{
+    let td = tpr.tag % 16;
+    if names_direct(td) {
+        return None;
+    }
+    match tpr.tag / 16 {
+        1 => Some(((tpr.y + index(regs, td)) % (1 << 18), tpr.held)),
+        3 => Some((tpr.y, Some(index(regs, td)))),
+        _ => None,
+    }
+}
+
+/// Whether the tag of a point counts a tally word.
+#[inline(always)]
+#[tactic(auto, unfolding(m36_model::specs::Modification::move_of_point))]
+pub(crate) fn counts_word(regs: &Regs, tpr: &Tpr) -> bool
+    ensures moves { IsTrue result → Counts ≡ move_of_point regs.now tpr.now }
+    ensures counts { IsTrue result → (tpr.now.tag % 16 == indirect_only) ≡ false }
+{
+    if tpr.tag / 16 != 2 {
+        return false;
+    }
+    matches!(
+        tpr.tag % 16,
+        SUBTRACT_DELTA | ADD_DELTA | DECREMENT_INCREMENT | INCREMENT_DECREMENT
+    )
 }

@@ -16,6 +16,15 @@ pub fn procedure_segment(regs: &Regs) -> u16
     ppr.psr
 }
 
+/// The ring of execution.
+#[inline(always)]
+pub fn procedure_ring(regs: &Regs) -> u8
+    ensures { result ≡ regs.now.ppr.prr }
+{
+    let ppr = regs.ppr;
+    ppr.prr
+}
+
 /// The register that the low four bits of a tag name, where they name no direct operand.
 #[inline(always)]
 #[tactic(auto, unfolding(m36_model::specs::Modification::index_of))]

@@ -49,6 +49,7 @@ impl Model for Tpr {
 #[tactic(auto, unfolding(m36_model::specs::FirstPoint::first_point))]
 pub(crate) fn first(regs: &Regs, inst: &Inst) -> Tpr
     ensures value { result ≡ first_point regs.now inst.now }
+    ensures held { result.held ≡ None }
     ensures tag { result.tag ≡ inst.now.tag }
 {
     let here = regs.here();
@@ -115,7 +116,11 @@ impl Tpr {
     {
         Final {
             direct: None,
-            at: self.at(word),
+            at: At {
+                word,
+                seg: self.seg,
+                ring: self.ring,
+            },
             bit: self.bit,
         }
     }
@@ -127,13 +132,18 @@ impl Tpr {
     {
         Final {
             direct: Some(operand),
-            at: self.at(self.y),
+            at: At {
+                word: self.y,
+                seg: self.seg,
+                ring: self.ring,
+            },
             bit: self.bit,
         }
     }
 
     /// The point after a plain indirect word that stands at word number `word`. `r1` is the first ring bracket of the
     /// segment that holds it.
+    #[inline(always)]
     pub(crate) fn after_plain(&self, word: u32, held: Option<u32>, w: Word, r1: u8) -> Tpr
         requires word { word < 2 ^ 18 }
         requires held { IfSome held (λ h. h < 2 ^ 18) }
@@ -156,6 +166,7 @@ impl Tpr {
     }
 
     /// The point after an ITS pair whose even word stands at word number `word`.
+    #[inline(always)]
     pub(crate) fn after_its(&self, word: u32, held: Option<u32>, pair: Pair, r1: u8) -> Tpr
         requires word { word + 1 < 2 ^ 18 }
         requires held { IfSome held (λ h. h < 2 ^ 18) }

@@ -13,9 +13,6 @@ mod pairs;
 mod shifts;
 mod words;
 
-pub use pairs::{read_pair, reads_pair, store_pair, stores_pair};
-pub use shifts::{is_shift, shift};
-pub use words::{
-    change_word, changes_word, load_address, loads_address, read_word, reads_word, store_word,
-    stores_word,
-};
+pub use pairs::{read_pair, store_pair};
+pub use shifts::shift;
+pub use words::{change_word, load_address, read_word, store_half, store_word};

@@ -1,9 +1,8 @@
 //! Frequent instructions on pairs, done in the registers field by field.
 //!
-//! They do what `exec_in_place` does, and take and give a pair in registers, as the frequent instructions on single
-//! words do.
+//! They take and give a pair in registers, as the frequent instructions on single words do.
 
-ghost use Rattle.std.specs.Prelude.{ℕ, ◌≡◌, ◌^◌, ◌<◌, false, [], Ok, IsTrue};
+ghost use Rattle.std.specs.Prelude.{ℕ, ◌≡◌, ◌^◌, ◌<◌, false, [], Ok, IsTrue, IsFalse};
 ghost use Rattle.m36_word.specs.Pairs.{number_of, pair_words};
 ghost use Rattle.m36_model.specs.Effect.{exec};
 ghost use Rattle.m36_model.specs.Fields.{FinalFields};
@@ -12,11 +11,13 @@ ghost use Rattle.m36_model.specs.Results.{AQ, with_indicators, with_value};
 ghost use Rattle.m36_model.specs.Results.{tested, zn_carry_overflow};
 ghost use Rattle.m36_model.specs.Step.{no_operand};
 ghost use Rattle.m36_model.specs.Sums.{into_register};
-ghost use Rattle.m36_frequent.specs.Frequent.{reads_pair, stores_pair, pair_read};
+ghost use Rattle.m36_inst.specs.Quick.{group_of};
+ghost use Rattle.m36_inst.specs.declared.rows.Group.TheVariants as group;
+ghost use Rattle.m36_frequent.specs.Frequent.{IsDone, pair_read};
 
-use crate::words::{move_on, tell_comparison};
+use crate::words::{faults, move_on, tell_comparison};
 use m36_arith::{Sum72, add72, and72, cmp72, or72, sub72, xor72};
-use m36_inst::{Effect, Row};
+use m36_inst::Effect;
 use m36_model::Regs;
 use m36_word::Pair;
 use m36_xdata::pair;
@@ -46,22 +47,22 @@ fn test_pair(p: &Pair, regs: &mut Regs)
 /// The accumulator and the quotient register become a pair, which sets zero and negative.
 #[inline(always)]
 #[tactic(auto, unfolding(m36_model::specs::Loads::load, m36_model::specs::Results::with_value, m36_model::specs::Results::moved_on))]
-pub(crate) fn load_pair(p: Pair, regs: &mut Regs) -> bool
+pub(crate) fn load_pair(p: Pair, regs: &mut Regs)
     ensures dbr { regs.new.dbr ≡ regs.old.dbr }
-    ensures value { Ok (record { regs = regs.new; put = []; overflow = result })
+    ensures value { Ok (record { regs = regs.new; put = []; overflow = false })
         ≡ load AQ (number_of p) regs.old }
 {
     take_pair(&p, regs);
     test_pair(&p, regs);
     move_on(regs);
-    false
 }
 
 /// Sets zero, negative and carry by a sum, and puts overflow on where it overflows.
 #[inline(always)]
 #[tactic(auto, unfolding(m36_model::specs::Results::zn_carry_overflow))]
 fn tell_sum(s: &Sum72, regs: &mut Regs)
-    ensures { regs.new ≡ with_indicators (zn_carry_overflow s.now regs.old.ind) regs.old }
+    ensures value { regs.new ≡ with_indicators (zn_carry_overflow s.now regs.old.ind) regs.old }
+    ensures mask { regs.new.ind.mask ≡ regs.old.ind.mask }
 {
     let before = regs.ind.overflow;
     regs.ind.zero = s.zero;
@@ -70,79 +71,69 @@ fn tell_sum(s: &Sum72, regs: &mut Regs)
     regs.ind.overflow = before || s.overflow;
 }
 
-/// The accumulator and the quotient register become a sum. The answer is whether overflow is to be reported.
+/// The accumulator and the quotient register become a sum.
 #[inline(always)]
 #[tactic(auto, unfolding(m36_model::specs::Sums::into_register, m36_model::specs::Results::with_value, m36_model::specs::Results::moved_on))]
-fn sum_into_pair(s: Sum72, regs: &mut Regs) -> bool
+fn sum_into_pair(s: &Sum72, regs: &mut Regs)
     ensures dbr { regs.new.dbr ≡ regs.old.dbr }
-    ensures value { Ok (record { regs = regs.new; put = []; overflow = result })
-        ≡ into_register AQ s regs.old }
+    ensures value { Ok (record { regs = regs.new; put = []; overflow = s.now.overflow })
+        ≡ into_register AQ s.now regs.old }
+    ensures mask { regs.new.ind.mask ≡ regs.old.ind.mask }
 {
     take_pair(&s.value, regs);
-    tell_sum(&s, regs);
+    tell_sum(s, regs);
     move_on(regs);
-    s.overflow
 }
 
-/// Whether `read_pair` does an instruction.
+/// The same, where no overflow is a fault.
 #[inline(always)]
-pub fn reads_pair(effect: Effect) -> bool
-    ensures { result ≡ reads_pair effect }
-{
-    matches!(
-        effect,
-        Effect::Ldaq
-            | Effect::Adaq
-            | Effect::Sbaq
-            | Effect::Cmpaq
-            | Effect::Anaq
-            | Effect::Oraq
-            | Effect::Eraq
-    )
-}
-
-/// A frequent instruction that reads a pair, done in the registers. The answer is whether overflow is to be reported. The
-/// first ring bracket of the pair's segment does not matter.
-#[inline(always)]
-#[tactic(auto, unfolding(m36_model::specs::Effect::exec, m36_model::specs::Sums::add, m36_model::specs::Sums::subtract, m36_model::specs::Compares::compare, m36_model::specs::Logic::and_register, m36_model::specs::Logic::or_register, m36_model::specs::Logic::xor_register, m36_model::specs::Loads::load))]
-pub fn read_pair(row: &Row, regs: &mut Regs, p: Pair) -> bool
-    requires { IsTrue (reads_pair row.now.effect) }
-    ensures value { (f : FinalFields) (ring : ℕ)
-        → Ok (record { regs = regs.new; put = []; overflow = result })
-        ≡ exec row.now.effect row.now.reg regs.old f (pair_read p ring) }
+fn try_sum_pair(s: Sum72, regs: &mut Regs) -> bool
+    ensures done { IsTrue result → IsDone regs.new [] (into_register AQ s regs.old) }
+    ensures not { IsFalse result → regs.new ≡ regs.old }
     ensures dbr { regs.new.dbr ≡ regs.old.dbr }
 {
-    match row.effect {
+    if faults(s.overflow, regs) {
+        return false;
+    }
+    sum_into_pair(&s, regs);
+    true
+}
+
+/// A frequent instruction that reads a pair, done in the registers. False says that it gives an overflow fault, and then
+/// nothing has changed. The first ring bracket of the pair's segment does not matter.
+#[inline(always)]
+#[tactic(auto, unfolding(m36_model::specs::Effect::exec, m36_model::specs::Sums::add, m36_model::specs::Sums::subtract, m36_model::specs::Compares::compare, m36_model::specs::Logic::and_register, m36_model::specs::Logic::or_register, m36_model::specs::Logic::xor_register, m36_model::specs::Loads::load))]
+pub fn read_pair(effect: Effect, regs: &mut Regs, p: Pair) -> bool
+    requires { group_of effect ≡ group.ReadPair }
+    ensures done { IsTrue result → (n : ℕ) (f : FinalFields) (ring : ℕ)
+        → IsDone regs.new [] (exec effect n regs.old f (pair_read p ring)) }
+    ensures not { IsFalse result → regs.new ≡ regs.old }
+    ensures dbr { regs.new.dbr ≡ regs.old.dbr }
+{
+    match effect {
         Effect::Ldaq => load_pair(p, regs),
-        Effect::Adaq => sum_into_pair(add72(pair(regs), p, false), regs),
-        Effect::Sbaq => sum_into_pair(sub72(pair(regs), p, false), regs),
+        Effect::Adaq => return try_sum_pair(add72(pair(regs), p, false), regs),
+        Effect::Sbaq => return try_sum_pair(sub72(pair(regs), p, false), regs),
         Effect::Cmpaq => tell_comparison(cmp72(pair(regs), p), regs),
         Effect::Anaq => load_pair(and72(pair(regs), p), regs),
         Effect::Oraq => load_pair(or72(pair(regs), p), regs),
         Effect::Eraq => load_pair(xor72(pair(regs), p), regs),
         _ => unreachable!(),
     }
-}
-
-/// Whether `store_pair` does an instruction: STAQ.
-#[inline(always)]
-pub fn stores_pair(effect: Effect) -> bool
-    ensures { result ≡ stores_pair effect }
-{
-    matches!(effect, Effect::Staq)
+    true
 }
 
 /// The pair that STAQ writes.
 #[inline(always)]
 #[tactic(auto, unfolding(m36_model::specs::Effect::exec, m36_model::specs::Stores::store))]
-pub fn store_pair(row: &Row, regs: &mut Regs) -> Pair
-    requires { IsTrue (stores_pair row.now.effect) }
-    ensures value { (f : FinalFields)
+pub fn store_pair(effect: Effect, regs: &mut Regs) -> Pair
+    requires { group_of effect ≡ group.StorePair }
+    ensures value { (n : ℕ) (f : FinalFields)
         → Ok (record { regs = regs.new; put = pair_words result; overflow = false })
-        ≡ exec row.now.effect row.now.reg regs.old f no_operand }
+        ≡ exec effect n regs.old f no_operand }
     ensures dbr { regs.new.dbr ≡ regs.old.dbr }
 {
-    match row.effect {
+    match effect {
         Effect::Staq => {
             let stored = pair(regs);
             move_on(regs);

@@ -1,6 +1,6 @@
 //! Shifts, done in the registers field by field, as the frequent instructions on words and pairs are.
 
-ghost use Rattle.std.specs.Prelude.{◌≡◌, ◌^◌, ◌<◌, false, [], Ok, IsTrue};
+ghost use Rattle.std.specs.Prelude.{ℕ, ◌≡◌, ◌^◌, ◌<◌, false, [], Ok};
 ghost use Rattle.m36_word.specs.Pairs.{number_of};
 ghost use Rattle.m36_arith.specs.ShiftResult.{shifted};
 ghost use Rattle.m36_model.specs.Effect.{exec};
@@ -8,12 +8,13 @@ ghost use Rattle.m36_model.specs.Shifts.{count_of};
 ghost use Rattle.m36_model.specs.ShiftEffects.{shift_left, with_carry};
 ghost use Rattle.m36_model.specs.Results.{A, Q, AQ, with_indicators};
 ghost use Rattle.m36_model.specs.Step.{no_operand};
-ghost use Rattle.m36_frequent.specs.Frequent.{is_shift};
+ghost use Rattle.m36_inst.specs.Quick.{group_of};
+ghost use Rattle.m36_inst.specs.declared.rows.Group.TheVariants as group;
 
 use crate::pairs::load_pair;
 use crate::words::{load_a, load_q};
 use m36_arith::{Shift, shift36, shift72};
-use m36_inst::{Effect, Row};
+use m36_inst::Effect;
 use m36_model::{Final, Regs};
 use m36_word::{Pair, Word};
 use m36_xdata::{accumulator, pair, quotient, shift_count};
@@ -49,78 +50,53 @@ fn tell_carry(carry: bool, regs: &mut Regs)
 /// ALS: the accumulator to the left.
 #[inline(always)]
 #[tactic(auto, unfolding(m36_arith::specs::ShiftResult::shift_result, m36_model::specs::ShiftEffects::shift_left, m36_model::specs::Loads::load, m36_model::specs::Results::with_value, m36_model::specs::Results::zn, m36_model::specs::Results::moved_on))]
-fn a_left(f: &Final, regs: &mut Regs) -> bool
+fn a_left(f: &Final, regs: &mut Regs)
     ensures dbr { regs.new.dbr ≡ regs.old.dbr }
-    ensures value { Ok (record { regs = regs.new; put = []; overflow = result })
+    ensures value { Ok (record { regs = regs.new; put = []; overflow = false })
         ≡ shift_left A f.now.at.word regs.old }
 {
     let s = shift36(Shift::Left, accumulator(regs), shift_count(f));
     load_a(s.value, regs);
     tell_carry(s.carry, regs);
-    false
 }
 
 /// QLS: the quotient register to the left.
 #[inline(always)]
 #[tactic(auto, unfolding(m36_arith::specs::ShiftResult::shift_result, m36_model::specs::ShiftEffects::shift_left, m36_model::specs::Loads::load, m36_model::specs::Results::with_value, m36_model::specs::Results::zn, m36_model::specs::Results::moved_on))]
-fn q_left(f: &Final, regs: &mut Regs) -> bool
+fn q_left(f: &Final, regs: &mut Regs)
     ensures dbr { regs.new.dbr ≡ regs.old.dbr }
-    ensures value { Ok (record { regs = regs.new; put = []; overflow = result })
+    ensures value { Ok (record { regs = regs.new; put = []; overflow = false })
         ≡ shift_left Q f.now.at.word regs.old }
 {
     let s = shift36(Shift::Left, quotient(regs), shift_count(f));
     load_q(s.value, regs);
     tell_carry(s.carry, regs);
-    false
 }
 
 /// LLS: both registers to the left, as one number.
 #[inline(always)]
 #[tactic(auto, unfolding(m36_arith::specs::ShiftResult::shift_result, m36_model::specs::ShiftEffects::shift_left, m36_model::specs::Loads::load, m36_model::specs::Results::with_value, m36_model::specs::Results::zn, m36_model::specs::Results::moved_on))]
-fn pair_left(f: &Final, regs: &mut Regs) -> bool
+fn pair_left(f: &Final, regs: &mut Regs)
     ensures dbr { regs.new.dbr ≡ regs.old.dbr }
-    ensures value { Ok (record { regs = regs.new; put = []; overflow = result })
+    ensures value { Ok (record { regs = regs.new; put = []; overflow = false })
         ≡ shift_left AQ f.now.at.word regs.old }
 {
     let s = shift72(Shift::Left, pair(regs), shift_count(f));
     load_pair(s.value, regs);
     tell_carry(s.carry, regs);
-    false
-}
-
-/// Whether `shift` does an instruction.
-#[inline(always)]
-pub fn is_shift(effect: Effect) -> bool
-    ensures { result ≡ is_shift effect }
-{
-    matches!(
-        effect,
-        Effect::Als
-            | Effect::Qls
-            | Effect::Lls
-            | Effect::Ars
-            | Effect::Qrs
-            | Effect::Lrs
-            | Effect::Arl
-            | Effect::Qrl
-            | Effect::Lrl
-            | Effect::Alr
-            | Effect::Qlr
-            | Effect::Llr
-    )
 }
 
 /// A shift, done in the registers. It never overflows.
 #[inline(always)]
 #[tactic(auto, unfolding(m36_model::specs::Effect::exec, m36_model::specs::ShiftEffects::shift_right, m36_model::specs::ShiftEffects::shift_right_logical, m36_model::specs::ShiftEffects::rotate_left, m36_model::specs::Loads::load))]
-pub fn shift(row: &Row, regs: &mut Regs, f: &Final) -> bool
-    requires { IsTrue (is_shift row.now.effect) }
-    ensures value { Ok (record { regs = regs.new; put = []; overflow = result })
-        ≡ exec row.now.effect row.now.reg regs.old f.now no_operand }
+pub fn shift(effect: Effect, regs: &mut Regs, f: &Final)
+    requires { group_of effect ≡ group.Shift }
+    ensures value { (n : ℕ) → Ok (record { regs = regs.new; put = []; overflow = false })
+        ≡ exec effect n regs.old f.now no_operand }
     ensures dbr { regs.new.dbr ≡ regs.old.dbr }
 {
     let n = shift_count(f);
-    match row.effect {
+    match effect {
         Effect::Als => a_left(f, regs),
         Effect::Qls => q_left(f, regs),
         Effect::Lls => pair_left(f, regs),

@@ -1,9 +1,8 @@
 //! Frequent instructions on single words, done in the registers field by field.
 //!
-//! They do what `exec_in_place` does, and take and give words in registers: a step that knows the kind of its operand
-//! asks here first.
+//! They take and give words in registers. What may give an overflow fault asks first, and then nothing has changed.
 
-ghost use Rattle.std.specs.Prelude.{◌≡◌, ◌^◌, ◌<◌, false, [], ◌∷◌, Ok, IsTrue};
+ghost use Rattle.std.specs.Prelude.{ℕ, ◌≡◌, ◌^◌, ◌<◌, false, not, ◌&&◌, ◌⊎◌, [], ◌∷◌, Ok, IsTrue, IsFalse, IfSome, IfNone};
 ghost use Rattle.m36_model.specs.Compares.{test_word};
 ghost use Rattle.m36_model.specs.Effect.{exec};
 ghost use Rattle.m36_model.specs.Fields.{FinalFields};
@@ -12,11 +11,12 @@ ghost use Rattle.m36_model.specs.Results.{A, Q, X, completes};
 ghost use Rattle.m36_model.specs.Results.{moved_on, with_indicators, tested, zn_carry_overflow, compared};
 ghost use Rattle.m36_model.specs.Step.{no_operand};
 ghost use Rattle.m36_model.specs.Sums.{into_register, into_operand};
-ghost use Rattle.m36_frequent.specs.Frequent.{reads_word, stores_word, changes_word};
-ghost use Rattle.m36_frequent.specs.Frequent.{loads_address, word_read};
+ghost use Rattle.m36_inst.specs.Quick.{group_of};
+ghost use Rattle.m36_inst.specs.declared.rows.Group.TheVariants as group;
+ghost use Rattle.m36_frequent.specs.Frequent.{IsDone, word_read};
 
 use m36_arith::{Compare, Sum36, add36, and36, cmp36, or36, sub36, xor36};
-use m36_inst::{Effect, Row};
+use m36_inst::Effect;
 use m36_model::{Final, Regs};
 use m36_word::{Field, Word};
 use m36_xdata::{accumulator, quotient};
@@ -56,49 +56,47 @@ fn test_index(v: u32, regs: &mut Regs)
 /// The accumulator becomes a word.
 #[inline(always)]
 #[tactic(auto, unfolding(m36_model::specs::Loads::load, m36_model::specs::Results::with_value, m36_model::specs::Results::moved_on))]
-pub(crate) fn load_a(w: Word, regs: &mut Regs) -> bool
+pub(crate) fn load_a(w: Word, regs: &mut Regs)
     ensures dbr { regs.new.dbr ≡ regs.old.dbr }
-    ensures value { Ok (record { regs = regs.new; put = []; overflow = result }) ≡ load A w regs.old }
+    ensures value { Ok (record { regs = regs.new; put = []; overflow = false }) ≡ load A w regs.old }
 {
     regs.a = w;
     test(w, regs);
     move_on(regs);
-    false
 }
 
 /// The quotient register becomes a word.
 #[inline(always)]
 #[tactic(auto, unfolding(m36_model::specs::Loads::load, m36_model::specs::Results::with_value, m36_model::specs::Results::moved_on))]
-pub(crate) fn load_q(w: Word, regs: &mut Regs) -> bool
+pub(crate) fn load_q(w: Word, regs: &mut Regs)
     ensures dbr { regs.new.dbr ≡ regs.old.dbr }
-    ensures value { Ok (record { regs = regs.new; put = []; overflow = result }) ≡ load Q w regs.old }
+    ensures value { Ok (record { regs = regs.new; put = []; overflow = false }) ≡ load Q w regs.old }
 {
     regs.q = w;
     test(w, regs);
     move_on(regs);
-    false
 }
 
 /// An index register becomes a number.
 #[inline(always)]
 #[tactic(auto, unfolding(m36_model::specs::Loads::load, m36_model::specs::Results::with_value, m36_model::specs::Results::moved_on))]
-fn load_index(n: u8, v: u32, regs: &mut Regs) -> bool
+fn load_index(n: u8, v: u32, regs: &mut Regs)
     requires register { n < 8 }
     requires number { v < 2 ^ 18 }
     ensures dbr { regs.new.dbr ≡ regs.old.dbr }
-    ensures value { Ok (record { regs = regs.new; put = []; overflow = result }) ≡ load (X n) v regs.old }
+    ensures value { Ok (record { regs = regs.new; put = []; overflow = false }) ≡ load (X n) v regs.old }
 {
     regs.x[n as usize] = v;
     test_index(v, regs);
     move_on(regs);
-    false
 }
 
 /// Sets zero, negative and carry by a sum, and puts overflow on where it overflows.
 #[inline(always)]
 #[tactic(auto, unfolding(m36_model::specs::Results::zn_carry_overflow))]
 fn tell_sum(s: Sum36, regs: &mut Regs)
-    ensures { regs.new ≡ with_indicators (zn_carry_overflow s regs.old.ind) regs.old }
+    ensures value { regs.new ≡ with_indicators (zn_carry_overflow s regs.old.ind) regs.old }
+    ensures mask { regs.new.ind.mask ≡ regs.old.ind.mask }
 {
     let before = regs.ind.overflow;
     regs.ind.zero = s.zero;
@@ -107,109 +105,118 @@ fn tell_sum(s: Sum36, regs: &mut Regs)
     regs.ind.overflow = before || s.overflow;
 }
 
-/// The accumulator becomes a sum. The answer is whether overflow is to be reported.
+/// The accumulator becomes a sum.
 #[inline(always)]
 #[tactic(auto, unfolding(m36_model::specs::Sums::into_register, m36_model::specs::Results::with_value, m36_model::specs::Results::moved_on))]
-fn sum_into_a(s: Sum36, regs: &mut Regs) -> bool
+fn sum_into_a(s: Sum36, regs: &mut Regs)
     ensures dbr { regs.new.dbr ≡ regs.old.dbr }
-    ensures value { Ok (record { regs = regs.new; put = []; overflow = result })
+    ensures value { Ok (record { regs = regs.new; put = []; overflow = s.overflow })
         ≡ into_register A s regs.old }
+    ensures mask { regs.new.ind.mask ≡ regs.old.ind.mask }
 {
     regs.a = s.value;
     tell_sum(s, regs);
     move_on(regs);
-    s.overflow
 }
 
-/// The quotient register becomes a sum. The answer is whether overflow is to be reported.
+/// The quotient register becomes a sum.
 #[inline(always)]
 #[tactic(auto, unfolding(m36_model::specs::Sums::into_register, m36_model::specs::Results::with_value, m36_model::specs::Results::moved_on))]
-fn sum_into_q(s: Sum36, regs: &mut Regs) -> bool
+fn sum_into_q(s: Sum36, regs: &mut Regs)
     ensures dbr { regs.new.dbr ≡ regs.old.dbr }
-    ensures value { Ok (record { regs = regs.new; put = []; overflow = result })
+    ensures value { Ok (record { regs = regs.new; put = []; overflow = s.overflow })
         ≡ into_register Q s regs.old }
+    ensures mask { regs.new.ind.mask ≡ regs.old.ind.mask }
 {
     regs.q = s.value;
     tell_sum(s, regs);
     move_on(regs);
-    s.overflow
 }
 
 /// Sets zero, negative and carry by a comparison.
 #[inline(always)]
 #[tactic(auto, unfolding(m36_model::specs::Results::compared))]
-pub(crate) fn tell_comparison(c: Compare, regs: &mut Regs) -> bool
+pub(crate) fn tell_comparison(c: Compare, regs: &mut Regs)
     ensures dbr { regs.new.dbr ≡ regs.old.dbr }
-    ensures value { Ok (record { regs = regs.new; put = []; overflow = result })
+    ensures value { Ok (record { regs = regs.new; put = []; overflow = false })
         ≡ completes (with_indicators (compared c regs.old.ind) regs.old) }
 {
     regs.ind.zero = c.zero;
     regs.ind.negative = c.negative;
     regs.ind.carry = c.carry;
     move_on(regs);
-    false
 }
 
 /// SZN: the word is tested.
 #[inline(always)]
 #[tactic(auto, unfolding(m36_model::specs::Compares::test_word))]
-fn test_alone(w: Word, regs: &mut Regs) -> bool
+fn test_alone(w: Word, regs: &mut Regs)
     ensures dbr { regs.new.dbr ≡ regs.old.dbr }
-    ensures value { Ok (record { regs = regs.new; put = []; overflow = result })
+    ensures value { Ok (record { regs = regs.new; put = []; overflow = false })
         ≡ test_word w regs.old }
 {
     test(w, regs);
     move_on(regs);
-    false
 }
 
-/// Whether `read_word` does an instruction.
+/// Whether an overflow is a fault: it is where the overflow mask is off.
 #[inline(always)]
-pub fn reads_word(effect: Effect) -> bool
-    ensures { result ≡ reads_word effect }
+pub(crate) fn faults(overflow: bool, regs: &Regs) -> bool
+    ensures { result ≡ (overflow && not regs.now.ind.mask) }
 {
-    matches!(
-        effect,
-        Effect::Lda
-            | Effect::Ldq
-            | Effect::LdxN
-            | Effect::LxlN
-            | Effect::Ada
-            | Effect::Adq
-            | Effect::Sba
-            | Effect::Sbq
-            | Effect::Cmpa
-            | Effect::Cmpq
-            | Effect::Szn
-            | Effect::Ana
-            | Effect::Anq
-            | Effect::Ora
-            | Effect::Orq
-            | Effect::Era
-            | Effect::Erq
-    )
+    let ind = regs.ind;
+    overflow && !ind.mask
 }
 
-/// A frequent instruction that reads a word, done in the registers. The answer is whether overflow is to be reported.
+/// The accumulator becomes a sum, where no overflow is a fault.
 #[inline(always)]
-#[tactic(auto, unfolding(m36_model::specs::Effect::exec, m36_model::specs::Sums::add, m36_model::specs::Sums::subtract, m36_model::specs::Compares::compare, m36_model::specs::Logic::and_register, m36_model::specs::Logic::or_register, m36_model::specs::Logic::xor_register, m36_model::specs::Loads::load))]
-pub fn read_word(row: &Row, regs: &mut Regs, w: Word) -> bool
-    requires frequent { IsTrue (reads_word row.now.effect) }
-    requires reg { row.now.reg < 8 }
-    ensures value { (f : FinalFields)
-        → Ok (record { regs = regs.new; put = []; overflow = result })
-        ≡ exec row.now.effect row.now.reg regs.old f (word_read w) }
+fn try_sum_a(s: Sum36, regs: &mut Regs) -> bool
+    ensures done { IsTrue result → IsDone regs.new [] (into_register A s regs.old) }
+    ensures not { IsFalse result → regs.new ≡ regs.old }
     ensures dbr { regs.new.dbr ≡ regs.old.dbr }
 {
-    match row.effect {
+    if faults(s.overflow, regs) {
+        return false;
+    }
+    sum_into_a(s, regs);
+    true
+}
+
+/// The quotient register becomes a sum, where no overflow is a fault.
+#[inline(always)]
+fn try_sum_q(s: Sum36, regs: &mut Regs) -> bool
+    ensures done { IsTrue result → IsDone regs.new [] (into_register Q s regs.old) }
+    ensures not { IsFalse result → regs.new ≡ regs.old }
+    ensures dbr { regs.new.dbr ≡ regs.old.dbr }
+{
+    if faults(s.overflow, regs) {
+        return false;
+    }
+    sum_into_q(s, regs);
+    true
+}
+
+/// A frequent instruction that reads a word, done in the registers. False says that it gives an overflow fault, and then
+/// nothing has changed.
+#[inline(always)]
+#[tactic(auto, unfolding(m36_model::specs::Effect::exec, m36_model::specs::Sums::add, m36_model::specs::Sums::subtract, m36_model::specs::Compares::compare, m36_model::specs::Logic::and_register, m36_model::specs::Logic::or_register, m36_model::specs::Logic::xor_register, m36_model::specs::Loads::load))]
+pub fn read_word(effect: Effect, reg: u8, regs: &mut Regs, w: Word) -> bool
+    requires group { group_of effect ≡ group.Read }
+    requires reg { reg < 8 }
+    ensures done { IsTrue result → (f : FinalFields)
+        → IsDone regs.new [] (exec effect reg regs.old f (word_read w)) }
+    ensures not { IsFalse result → regs.new ≡ regs.old }
+    ensures dbr { regs.new.dbr ≡ regs.old.dbr }
+{
+    match effect {
         Effect::Lda => load_a(w, regs),
         Effect::Ldq => load_q(w, regs),
-        Effect::LdxN => load_index(row.reg, Field::<0, 18>::get(w) as u32, regs),
-        Effect::LxlN => load_index(row.reg, Field::<18, 18>::get(w) as u32, regs),
-        Effect::Ada => sum_into_a(add36(accumulator(regs), w, false), regs),
-        Effect::Adq => sum_into_q(add36(quotient(regs), w, false), regs),
-        Effect::Sba => sum_into_a(sub36(accumulator(regs), w, false), regs),
-        Effect::Sbq => sum_into_q(sub36(quotient(regs), w, false), regs),
+        Effect::LdxN => load_index(reg, Field::<0, 18>::get(w) as u32, regs),
+        Effect::LxlN => load_index(reg, Field::<18, 18>::get(w) as u32, regs),
+        Effect::Ada => return try_sum_a(add36(accumulator(regs), w, false), regs),
+        Effect::Adq => return try_sum_q(add36(quotient(regs), w, false), regs),
+        Effect::Sba => return try_sum_a(sub36(accumulator(regs), w, false), regs),
+        Effect::Sbq => return try_sum_q(sub36(quotient(regs), w, false), regs),
         Effect::Cmpa => tell_comparison(cmp36(accumulator(regs), w), regs),
         Effect::Cmpq => tell_comparison(cmp36(quotient(regs), w), regs),
         Effect::Szn => test_alone(w, regs),
@@ -221,27 +228,20 @@ pub fn read_word(row: &Row, regs: &mut Regs, w: Word) -> bool
         Effect::Erq => load_q(xor36(quotient(regs), w), regs),
         _ => unreachable!(),
     }
-}
-
-/// Whether `store_word` does an instruction.
-#[inline(always)]
-pub fn stores_word(effect: Effect) -> bool
-    ensures { result ≡ stores_word effect }
-{
-    matches!(effect, Effect::Sta | Effect::Stq | Effect::Stz)
+    true
 }
 
 /// The word that a frequent store writes.
 #[inline(always)]
 #[tactic(auto, unfolding(m36_model::specs::Effect::exec, m36_model::specs::Stores::store, m36_model::specs::Stores::store_zero))]
-pub fn store_word(row: &Row, regs: &mut Regs) -> Word
-    requires { IsTrue (stores_word row.now.effect) }
-    ensures value { (f : FinalFields)
+pub fn store_word(effect: Effect, regs: &mut Regs) -> Word
+    requires { group_of effect ≡ group.Store }
+    ensures value { (n : ℕ) (f : FinalFields)
         → Ok (record { regs = regs.new; put = result ∷ []; overflow = false })
-        ≡ exec row.now.effect row.now.reg regs.old f no_operand }
+        ≡ exec effect n regs.old f no_operand }
     ensures dbr { regs.new.dbr ≡ regs.old.dbr }
 {
-    let word = match row.effect {
+    let word = match effect {
         Effect::Sta => accumulator(regs),
         Effect::Stq => quotient(regs),
         Effect::Stz => Word::ZERO,
@@ -251,72 +251,91 @@ pub fn store_word(row: &Row, regs: &mut Regs) -> Word
     word
 }
 
-/// Sets the indicators by a sum that goes into the operand. The answer is the sum, and whether overflow is to be reported.
+/// The half of a word that STX or SXL writes.
+#[inline(always)]
+#[tactic(auto, unfolding(m36_model::specs::Effect::exec, m36_model::specs::Stores::store))]
+pub fn store_half(effect: Effect, reg: u8, regs: &mut Regs) -> Word
+    requires group { (group_of effect ≡ group.Upper) ⊎ (group_of effect ≡ group.Lower) }
+    requires reg { reg < 8 }
+    ensures value { (f : FinalFields)
+        → Ok (record { regs = regs.new; put = result ∷ []; overflow = false })
+        ≡ exec effect reg regs.old f no_operand }
+    ensures half { result < 2 ^ 18 }
+    ensures dbr { regs.new.dbr ≡ regs.old.dbr }
+{
+    let half = match effect {
+        Effect::StxN => regs.x[reg as usize],
+        Effect::SxlN => regs.x[reg as usize],
+        _ => unreachable!(),
+    };
+    move_on(regs);
+    Word::low(half as u64)
+}
+
+/// Sets the indicators by a sum that goes into the operand. The answer is the sum.
 #[inline(always)]
 #[tactic(auto, unfolding(m36_model::specs::Sums::into_operand, m36_model::specs::Results::moved_on))]
-fn sum_into_word(s: Sum36, regs: &mut Regs) -> (Word, bool)
+fn sum_into_word(s: Sum36, regs: &mut Regs) -> Word
     ensures dbr { regs.new.dbr ≡ regs.old.dbr }
-    ensures value { Ok (record { regs = regs.new; put = result.0 ∷ []; overflow = result.1 })
+    ensures value { Ok (record { regs = regs.new; put = result ∷ []; overflow = s.overflow })
         ≡ into_operand A s regs.old }
-    ensures alike { into_operand Q s regs.old ≡ into_operand A s regs.old }
+    ensures mask { regs.new.ind.mask ≡ regs.old.ind.mask }
 {
     let value = s.value;
-    let overflow = s.overflow;
     tell_sum(s, regs);
     move_on(regs);
-    (value, overflow)
+    value
 }
 
-/// Whether `change_word` does an instruction.
+/// The same, where no overflow is a fault. None says that one is, and then nothing has changed.
 #[inline(always)]
-pub fn changes_word(effect: Effect) -> bool
-    ensures { result ≡ changes_word effect }
-{
-    matches!(effect, Effect::Aos | Effect::Asa | Effect::Asq)
-}
-
-/// A frequent instruction that reads a word and writes it, done in the registers. The answer is the word to write, and
-/// whether overflow is to be reported.
-#[inline(always)]
-#[tactic(auto, unfolding(m36_model::specs::Effect::exec, m36_model::specs::Sums::add_one_to_storage, m36_model::specs::Sums::add_to_storage))]
-pub fn change_word(row: &Row, regs: &mut Regs, w: Word) -> (Word, bool)
-    requires { IsTrue (changes_word row.now.effect) }
-    ensures value { (f : FinalFields)
-        → Ok (record { regs = regs.new; put = result.0 ∷ []; overflow = result.1 })
-        ≡ exec row.now.effect row.now.reg regs.old f (word_read w) }
+#[tactic(auto, unfolding(m36_model::specs::Sums::into_operand))]
+fn try_sum_word(s: Sum36, regs: &mut Regs) -> Option<Word>
+    ensures done { IfSome result (λ w. IsDone regs.new (w ∷ []) (into_operand A s regs.old)) }
+    ensures alike { IfSome result (λ w. IsDone regs.new (w ∷ []) (into_operand Q s regs.old)) }
+    ensures none { IfNone result (regs.new ≡ regs.old) }
     ensures dbr { regs.new.dbr ≡ regs.old.dbr }
 {
-    match row.effect {
-        Effect::Aos => sum_into_word(add36(w, Word::low(1), false), regs),
-        Effect::Asa => sum_into_word(add36(accumulator(regs), w, false), regs),
-        Effect::Asq => sum_into_word(add36(quotient(regs), w, false), regs),
-        _ => unreachable!(),
+    if faults(s.overflow, regs) {
+        return None;
     }
+    Some(sum_into_word(s, regs))
 }
 
-/// Whether `load_address` does an instruction.
+/// A frequent instruction that reads a word and writes it, done in the registers. The answer is the word to write. None
+/// says that it gives an overflow fault, and then nothing has changed.
 #[inline(always)]
-pub fn loads_address(effect: Effect) -> bool
-    ensures { result ≡ loads_address effect }
+#[tactic(auto, unfolding(m36_model::specs::Effect::exec, m36_model::specs::Sums::add_one_to_storage, m36_model::specs::Sums::add_to_storage))]
+pub fn change_word(effect: Effect, regs: &mut Regs, w: Word) -> Option<Word>
+    requires { group_of effect ≡ group.Change }
+    ensures done { IfSome result (λ v. (n : ℕ) (f : FinalFields)
+        → IsDone regs.new (v ∷ []) (exec effect n regs.old f (word_read w))) }
+    ensures none { IfNone result (regs.new ≡ regs.old) }
+    ensures dbr { regs.new.dbr ≡ regs.old.dbr }
 {
-    matches!(effect, Effect::Eaa | Effect::Eaq | Effect::EaxN)
+    match effect {
+        Effect::Aos => try_sum_word(add36(w, Word::low(1), false), regs),
+        Effect::Asa => try_sum_word(add36(accumulator(regs), w, false), regs),
+        Effect::Asq => try_sum_word(add36(quotient(regs), w, false), regs),
+        _ => unreachable!(),
+    }
 }
 
 /// An instruction that loads its address, done in the registers. It never overflows.
 #[inline(always)]
 #[tactic(auto, unfolding(m36_model::specs::Effect::exec))]
-pub fn load_address(row: &Row, regs: &mut Regs, f: &Final) -> bool
-    requires frequent { IsTrue (loads_address row.now.effect) }
-    requires reg { row.now.reg < 8 }
-    ensures value { Ok (record { regs = regs.new; put = []; overflow = result })
-        ≡ exec row.now.effect row.now.reg regs.old f.now no_operand }
+pub fn load_address(effect: Effect, reg: u8, regs: &mut Regs, f: &Final)
+    requires group { group_of effect ≡ group.Address }
+    requires reg { reg < 8 }
+    ensures value { Ok (record { regs = regs.new; put = []; overflow = false })
+        ≡ exec effect reg regs.old f.now no_operand }
     ensures dbr { regs.new.dbr ≡ regs.old.dbr }
 {
     let at = f.at;
-    match row.effect {
+    match effect {
         Effect::Eaa => load_a(Word::low((at.word as u64) << 18), regs),
         Effect::Eaq => load_q(Word::low((at.word as u64) << 18), regs),
-        Effect::EaxN => load_index(row.reg, at.word, regs),
+        Effect::EaxN => load_index(reg, at.word, regs),
         _ => unreachable!(),
     }
 }

@@ -1,4 +1,4 @@
-use Rattle.std.proofs.Common.{ℕ, ◌≡◌, ◌+◌, ◌≤◌, length, []}
+use Rattle.std.proofs.Common.{◌≡◌, ◌+◌, ◌≤◌, length, []}
 use Rattle.m36_model.specs.Chain.{chain}
 use Rattle.m36_model.specs.Core.{core_store}
 use Rattle.m36_model.specs.Store.{run}

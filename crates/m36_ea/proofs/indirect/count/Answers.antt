@@ -2,7 +2,7 @@ use Rattle.std.proofs.Common.{◌∙◌, ap, sym, eq-eqb}
 use Rattle.std.proofs.lemmas.Bool.{ne_eqb}
 use Rattle.std.proofs.lemmas.Result.{err_from_is_err_and}
 use Rattle.m36_model.specs.Modification.{Point}
-use Rattle.m36_model.specs.Tally.{Counted, tally}
+use Rattle.m36_model.specs.Tally.{Counted}
 use Rattle.m36_walk.specs.Runs.{LiesIn}
 use Rattle.m36_ea.proofs.Runs.{counts_refused, counts_indirect_only, counts_write_refused, counts_claimed}
 use Rattle.m36_ea.proofs.indirect.count.Goals as goal
