@@ -1,2 +1,5 @@
 pub mod Ascii
+pub mod ByThrees
+pub mod FieldsPut
 pub mod Lines
+pub mod Numbers

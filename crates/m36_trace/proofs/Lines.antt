@@ -2,6 +2,11 @@
 use Rattle.std.proofs.Common.{◌≡◌, ℕ, List, [], ◌∷◌, ◌++◌, append_assoc}
 use Rattle.std.specs.Prelude.{codes}
 use Rattle.std.specs.List.{join_with_byte}
+use Rattle.m36_model.specs.Registers.{RegsFields}
+use Rattle.m36_model.specs.Shown.{shown_of}
+use Rattle.m36_model.specs.declared.record.Shown.{Shown}
+use Rattle.m36_model.specs.declared.record.StepRecord.{StepRecord}
+use Rattle.m36_trace.specs.TraceLine.{line_of, shown_line}
 
 -- nine fields put one after the other, with a space after each but the last, are those fields joined
 pub put_in_turn :
@@ -15,3 +20,10 @@ pub ended_in_turn :
     (ending count : List ℕ)
     → ((codes "end " ++ ending) ++ (32 ∷ [])) ++ count ≡ join_with_byte 32 (codes "end" ∷ ending ∷ count ∷ [])
 ended_in_turn ending count = simp append_assoc
+
+-- what a record shows, with the registers after the step, has its line
+pub shown_is :
+    (n : ℕ) (r : StepRecord) (shown : Shown) (after : RegsFields)
+    → shown ≡ shown_of r → after ≡ r.after → shown_line n shown after ≡ line_of n r
+unfolding shown_line line_of
+shown_is n r shown after shown_as after_as = λ i. shown_line n (shown_as i) (after_as i)

@@ -1,2 +1,4 @@
 pub mod EndLine
+pub mod Kept
+pub mod Spaced
 pub mod TraceLine

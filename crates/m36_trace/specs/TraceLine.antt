@@ -4,7 +4,8 @@ use Rattle.std.specs.Prelude.{if◌then◌else◌, ◌==◌}
 use Rattle.m36_text.specs.Digits.{octal_text, decimal_text, segment_digits, word_text, half_text}
 use Rattle.m36_text.specs.Lines.{joined_by_spaces}
 use Rattle.m36_model.specs.Faults.{access_violation}
-use Rattle.m36_model.specs.Fields.{AtFields, FinalFields}
+use Rattle.m36_model.specs.Fields.{AtFields, FinalFields, PprFields}
+use Rattle.m36_model.specs.Registers.{RegsFields}
 use Rattle.m36_model.specs.declared.registers.Ind.{Ind}
 use Rattle.m36_model.specs.declared.outcome.Fault.{Fault}
 use Rattle.m36_model.specs.declared.outcome.Stop.{Stop}
@@ -12,6 +13,7 @@ use Rattle.m36_model.specs.declared.outcome.Stop.TheVariants.{Dis, Operation, Ta
 use Rattle.m36_model.specs.declared.outcome.Outcome.{Outcome}
 use Rattle.m36_model.specs.declared.outcome.Outcome.TheVariants.{Next, Faulted, Stopped}
 use Rattle.m36_model.specs.declared.record.StepRecord.{StepRecord}
+use Rattle.m36_model.specs.declared.record.Shown.{Shown}
 
 -- a segment and a word of it
 abbrev pub word_of_segment : ℕ → ℕ → List ℕ
@@ -67,19 +69,29 @@ outcome_with next (Stopped s) = stop_text s
 abbrev pub outcome_text : Outcome → List ℕ
 outcome_text outcome = outcome_with (codes "next") outcome
 
--- the fields of step n; A, Q and the indicators are those after the step
-abbrev pub fields : ℕ → StepRecord → List (List ℕ)
-fields n r =
+-- The fields of step n: where the instruction stood, its word, the final address, the outcome, and
+-- A, Q and the indicators after the step.
+abbrev pub fields_by : ℕ → PprFields → Option ℕ → Option FinalFields → Outcome → RegsFields
+    → List (List ℕ)
+fields_by n ppr word at outcome after =
     decimal_text n
-    ∷ octal_text 1 r.ppr.prr
-    ∷ word_of_segment r.ppr.psr r.ppr.ic
-    ∷ instruction_text r.word
-    ∷ final_text r.at
-    ∷ word_text r.after.a
-    ∷ word_text r.after.q
-    ∷ indicators_text r.after.ind
-    ∷ outcome_text r.outcome
+    ∷ octal_text 1 ppr.prr
+    ∷ word_of_segment ppr.psr ppr.ic
+    ∷ instruction_text word
+    ∷ final_text at
+    ∷ word_text after.a
+    ∷ word_text after.q
+    ∷ indicators_text after.ind
+    ∷ outcome_text outcome
     ∷ []
+
+abbrev pub fields : ℕ → StepRecord → List (List ℕ)
+fields n r = fields_by n r.ppr r.word r.at r.outcome r.after
 
 unfoldable pub line_of : ℕ → StepRecord → List ℕ
 line_of n r = joined_by_spaces (fields n r)
+
+-- the line of step n by what a record shows, and the registers after the step
+unfoldable pub shown_line : ℕ → Shown → RegsFields → List ℕ
+shown_line n shown after =
+    joined_by_spaces (fields_by n shown.ppr shown.word shown.at shown.outcome after)

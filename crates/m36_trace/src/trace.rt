@@ -1,38 +1,65 @@
 //! The trace line of a step.
 
 ghost use Rattle.std.specs.Prelude.{◌≡◌, ◌≤◌, length};
-ghost use Rattle.m36_trace.specs.TraceLine.{line_of};
+ghost use Rattle.m36_text.specs.Lines.{joined_by_spaces};
+ghost use Rattle.m36_trace.specs.TraceLine.{fields_by, line_of, shown_line};
 
 use crate::fields::{
     put_decimal, put_final, put_indicators, put_instruction, put_outcome, put_place, put_ring,
     put_word,
 };
 use arrayvec::ArrayString;
-use m36_model::StepRecord;
+use m36_model::{Final, Outcome, Ppr, Regs, Shown, StepRecord};
+use m36_word::Word;
 
-/// The trace line of step `n`, without a line feed. It has at most 144 bytes, so it always fits.
-#[tactic(auto, unfolding(crate::specs::TraceLine::line_of), using(crate::proofs::Lines::put_in_turn))]
-pub fn line(n: u64, r: &StepRecord) -> ArrayString<160>
-    ensures text { result.bytes ≡ line_of n r.now }
+// The trace line of step `n`, by what is told of the step.
+#[tactic(auto, using(crate::proofs::Lines::put_in_turn))]
+fn line_by(
+    n: u64,
+    ppr: &Ppr,
+    word: Option<Word>,
+    at: Option<Final>,
+    outcome: Outcome,
+    after: &Regs,
+) -> ArrayString<160>
+    ensures text { result.bytes ≡ joined_by_spaces (fields_by n ppr.now word at outcome after.now) }
     ensures len { length result.bytes ≤ 144 }
 {
     let mut line = ArrayString::new();
     put_decimal(&mut line, n);
     line.push_str(" ");
-    put_ring(&mut line, r.ppr.prr);
+    put_ring(&mut line, ppr.prr);
     line.push_str(" ");
-    put_place(&mut line, r.ppr.psr, r.ppr.ic);
+    put_place(&mut line, ppr.psr, ppr.ic);
     line.push_str(" ");
-    put_instruction(&mut line, r.word);
+    put_instruction(&mut line, word);
     line.push_str(" ");
-    put_final(&mut line, r.at);
+    put_final(&mut line, at);
     line.push_str(" ");
-    put_word(&mut line, r.after.a);
+    put_word(&mut line, after.a);
     line.push_str(" ");
-    put_word(&mut line, r.after.q);
+    put_word(&mut line, after.q);
     line.push_str(" ");
-    put_indicators(&mut line, &r.after.ind);
+    put_indicators(&mut line, &after.ind);
     line.push_str(" ");
-    put_outcome(&mut line, r.outcome);
+    put_outcome(&mut line, outcome);
     line
+}
+
+/// The trace line of step `n`, without a line feed. It has at most 144 bytes, so it always fits.
+#[tactic(auto, unfolding(crate::specs::TraceLine::line_of))]
+pub fn line(n: u64, r: &StepRecord) -> ArrayString<160>
+    ensures text { result.bytes ≡ line_of n r.now }
+    ensures len { length result.bytes ≤ 144 }
+{
+    line_by(n, &r.ppr, r.word, r.at, r.outcome, &r.after)
+}
+
+/// The same by what a record shows, and the registers after the step.
+#[tactic(auto, unfolding(crate::specs::TraceLine::shown_line))]
+pub fn shown_line(n: u64, shown: &Shown, after: &Regs) -> ArrayString<160>
+    ensures text { result.bytes ≡ shown_line n shown.now after.now }
+    ensures len { length result.bytes ≤ 144 }
+{
+    line_by(n, &shown.ppr, shown.word, shown.at, shown.outcome, after)
 }

@@ -1,0 +1,41 @@
+-- What is kept of a trace line from one step to the next, as a line with what a step tells.
+use Rattle.std.specs.Prelude.{ℕ, ◌≡◌, List, ◌++◌, ◌+◌, ◌-◌, Option, codes}
+use Rattle.m36_text.specs.Digits.{decimal_text, word_text}
+use Rattle.m36_text.specs.Lines.{as_line}
+use Rattle.m36_model.specs.Fields.{FinalFields, PprFields}
+use Rattle.m36_model.specs.Registers.{RegsFields}
+use Rattle.m36_model.specs.declared.outcome.Outcome.{Outcome}
+use Rattle.m36_model.specs.declared.outcome.Outcome.TheVariants.{Next}
+use Rattle.m36_model.specs.declared.registers.Ind.{Ind}
+use Rattle.m36_trace.specs.Spaced.{spaced, kept_place, kept_final, HasFront}
+use Rattle.m36_trace.specs.TraceLine.{instruction_text, indicators_text}
+use Rattle.m36_trace.specs.declared.text.TraceText.{TraceText}
+
+-- a line by its number, the ring and segment of the instruction and of the address, A and Q, and by
+-- what is not kept
+unfoldable pub kept_by : ℕ → ℕ → ℕ → ℕ → ℕ → ℕ → ℕ → ℕ → Option ℕ → Option FinalFields → Ind
+    → List ℕ
+kept_by n ring seg address_ring address_seg a q ic word at ind =
+    spaced (decimal_text n)
+    ++ spaced (kept_place ring 32 seg ic)
+    ++ spaced (instruction_text word)
+    ++ spaced (kept_final address_ring address_seg at)
+    ++ spaced (word_text a)
+    ++ spaced (word_text q)
+    ++ as_line (indicators_text ind ++ codes " next")
+
+abbrev pub kept_line : TraceText → PprFields → Option ℕ → Option FinalFields → RegsFields → List ℕ
+kept_line text ppr word at after =
+    kept_by (text.number.next - 1) text.place.ring text.place.seg
+    text.address.ring text.address.seg text.a.of text.q.of ppr.ic word at after.ind
+
+-- What is kept serves for the line of step n.
+pub record Serves (text : TraceText) (n : ℕ) (ppr : PprFields) (at : Option FinalFields)
+    (outcome : Outcome) (after : RegsFields) : Type 0 where
+  pub number : text.number.next ≡ n + 1
+  pub ring : text.place.ring ≡ ppr.prr
+  pub seg : text.place.seg ≡ ppr.psr
+  pub front : HasFront text.address.ring text.address.seg at
+  pub a : text.a.of ≡ after.a
+  pub q : text.q.of ≡ after.q
+  pub next : outcome ≡ Next

@@ -1,0 +1,93 @@
+//! A trace line that is added to a block of lines.
+
+ghost use Rattle.std.specs.Prelude.{[], ◌∷◌, ◌++◌, ◌≡◌, ◌<◌, length};
+ghost use Rattle.m36_outside.specs.Gathered.{Adds};
+ghost use Rattle.m36_outside.specs.Put.{PutHasCause};
+ghost use Rattle.m36_text.specs.Lines.{as_line};
+ghost use Rattle.m36_trace.specs.TraceLine.{line_of, shown_line};
+
+use crate::text::{ShownLine, StepLine, TraceText};
+use crate::trace::{line, shown_line};
+use arrayvec::ArrayString;
+use m36_model::{Regs, Shown, StepRecord};
+use m36_outside::{Block, Put, Sink};
+
+/// Adds the line of step n with its line feed to a block, as one piece. Of one step after the other only what has changed is
+/// spelled anew.
+#[inline(always)]
+#[tactic(auto, using(crate::proofs::FieldsPut::adding))]
+pub fn add_step<S: Sink>(
+    text: &mut TraceText,
+    n: u64,
+    told: &StepRecord,
+    block: &mut Block,
+    out: &mut S,
+) -> Put
+    ensures adds { Adds result block.old block.new (as_line (line_of n told.now) ∷ [])
+        (S.written out.old) (S.written out.new) (S.taken out.old) (S.taken out.new) }
+    ensures cause { PutHasCause result (S.faults out.old) (S.faults out.new) }
+{
+    if text.set(n, &told.ppr, &told.at, &told.outcome, &told.after) {
+        block.add_line(&StepLine { text, told }, out)
+    } else {
+        add_other(n, told, block, out)
+    }
+}
+
+/// The same by what a record shows of the step, and the registers after it.
+#[inline(always)]
+#[tactic(auto, using(crate::proofs::FieldsPut::adding))]
+pub fn add_shown<S: Sink>(
+    text: &mut TraceText,
+    n: u64,
+    shown: &Shown,
+    after: &Regs,
+    block: &mut Block,
+    out: &mut S,
+) -> Put
+    ensures adds { Adds result block.old block.new (as_line (shown_line n shown.now after.now) ∷ [])
+        (S.written out.old) (S.written out.new) (S.taken out.old) (S.taken out.new) }
+    ensures cause { PutHasCause result (S.faults out.old) (S.faults out.new) }
+{
+    if text.set(n, &shown.ppr, &shown.at, &shown.outcome, after) {
+        block.add_line(&ShownLine { text, shown, after }, out)
+    } else {
+        add_other_shown(n, shown, after, block, out)
+    }
+}
+
+// Adds a line for which nothing is kept.
+#[inline(never)]
+fn add_other<S: Sink>(n: u64, told: &StepRecord, block: &mut Block, out: &mut S) -> Put
+    ensures adds { Adds result block.old block.new (as_line (line_of n told.now) ∷ [])
+        (S.written out.old) (S.written out.new) (S.taken out.old) (S.taken out.new) }
+    ensures cause { PutHasCause result (S.faults out.old) (S.faults out.new) }
+{
+    add_whole(line(n, told), block, out)
+}
+
+#[inline(never)]
+fn add_other_shown<S: Sink>(
+    n: u64,
+    shown: &Shown,
+    after: &Regs,
+    block: &mut Block,
+    out: &mut S,
+) -> Put
+    ensures adds { Adds result block.old block.new (as_line (shown_line n shown.now after.now) ∷ [])
+        (S.written out.old) (S.written out.new) (S.taken out.old) (S.taken out.new) }
+    ensures cause { PutHasCause result (S.faults out.old) (S.faults out.new) }
+{
+    add_whole(shown_line(n, shown, after), block, out)
+}
+
+// Adds a whole line with its line feed.
+fn add_whole<S: Sink>(mut line: ArrayString<160>, block: &mut Block, out: &mut S) -> Put
+    requires { length line.bytes < 160 }
+    ensures adds { Adds result block.old block.new (as_line line.bytes ∷ [])
+        (S.written out.old) (S.written out.new) (S.taken out.old) (S.taken out.new) }
+    ensures cause { PutHasCause result (S.faults out.old) (S.faults out.new) }
+{
+    line.push_str("\n");
+    block.add(line.as_str().as_bytes(), out)
+}

@@ -1,0 +1,227 @@
+//! What is kept of a trace line from one step to the next: parts, each with the value that it spells. A value that has not
+//! changed is not spelled anew.
+
+ghost use Rattle.std.specs.Prelude.{◌≡◌, ◌+◌, ◌-◌, ◌≤◌, ◌<◌, ◌^◌, ◌++◌, length, take, get_or};
+ghost use Rattle.std.specs.Bool.{OnTrue, OnFalse};
+ghost use Rattle.m36_text.specs.Digits.{decimal_text, word_text};
+ghost use Rattle.m36_trace.specs.Spaced.{spaced, front_text};
+
+use crate::digits::last_digit;
+use crate::triples::put_word;
+use m36_text::decimal;
+use m36_word::Word;
+
+/// The first number that has too many digits for its part.
+const TOO_LONG: u64 = 1_000_000_000_000_000;
+
+/// The number of a step, in decimal, and a space.
+#[derive(Drop)]
+pub struct NumberPart {
+    pub bytes: [u8; 16],
+    /// The place of the last digit.
+    pub last: usize,
+    /// The number after it.
+    pub next: u64,
+    ghost short: { last < 15 },
+    ghost some: { 0 < next },
+    ghost small: { next ≤ 10 ^ 15 },
+    ghost spelled: { take (last + 2) bytes ≡ spaced (decimal_text (next - 1)) },
+}
+
+impl NumberPart {
+    #[tactic(auto, unfolding(m36_text::specs::Digits::decimal_text))]
+    pub fn new() -> NumberPart {
+        NumberPart {
+            bytes: *b"0               ",
+            last: 0,
+            next: 1,
+        }
+    }
+
+    /// Spells a number, and answers whether it has few enough digits. That of the next step mostly differs in its last
+    /// digit alone.
+    #[inline(always)]
+    pub fn set(&mut self, n: u64) -> bool
+        ensures { OnTrue result (self.new.next ≡ n + 1) }
+    {
+        if n == self.next && self.bytes[self.last] < b'9' {
+            self.count();
+            return true;
+        }
+        self.set_else(n)
+    }
+
+    // Spells a number that is not the next, or where another digit than the last differs.
+    #[inline(never)]
+    fn set_else(&mut self, n: u64) -> bool
+        ensures { OnTrue result (self.new.next ≡ n + 1) }
+    {
+        if n >= TOO_LONG {
+            return false;
+        }
+        if n == self.next && self.carry() {
+            return true;
+        }
+        self.spell(n);
+        true
+    }
+
+    // Spells the next number, where it has as many digits.
+    fn carry(&mut self) -> bool
+        requires { self.old.next < TOO_LONG }
+        ensures going { OnTrue result (self.new.next ≡ self.old.next + 1) }
+        ensures same { OnFalse result (self.new.next ≡ self.old.next) }
+    {
+        let mut bytes = self.bytes;
+        if !raise(&mut bytes, self.last, self.next - 1) {
+            return false;
+        }
+        self.bytes = bytes;
+        self.next += 1;
+        true
+    }
+
+    // Spells the next number, which differs in the last digit alone.
+    #[inline(always)]
+    fn count(&mut self)
+        requires { get_or self.old.bytes self.old.last 0 < 57 }
+        ensures { self.new.next ≡ self.old.next + 1 }
+    {
+        self.bytes[self.last] += 1;
+        self.next += 1;
+    }
+
+    #[inline(never)]
+    #[tactic(auto, using(crate::proofs::Numbers::decimal_short, crate::proofs::Numbers::decimal_some))]
+    fn spell(&mut self, n: u64)
+        requires { n < TOO_LONG }
+        ensures { self.new.next ≡ n + 1 }
+    {
+        let text = decimal(n);
+        self.last = put_digits(&mut self.bytes, text.as_str().as_bytes());
+        self.next = n + 1;
+    }
+}
+
+// Makes the digits of a number, of which the last is at a place, those of the next number, where it has as many.
+fn raise(bytes: &mut [u8; 16], last: usize, _n: u64) -> bool
+    requires last { last < 15 }
+    requires spelled { take (last + 2) bytes.old ≡ spaced (decimal_text _n) }
+    ensures { OnTrue result (take (last + 2) bytes.new ≡ spaced (decimal_text (_n + 1))) }
+{
+    let mut place = last;
+    'nines: while place > 0 && bytes[place] == b'9' {
+        bytes[place] = b'0';
+        place -= 1;
+    }
+    if bytes[place] >= b'9' {
+        return false;
+    }
+    bytes[place] += 1;
+    true
+}
+
+// Writes digits and a space, and answers where the last digit is.
+
+fn put_digits(bytes: &mut [u8; 16], digits: &[u8]) -> usize
+    requires some { 0 < length digits.now }
+    requires short { length digits.now ≤ 15 }
+    ensures last { result + 1 ≡ length digits.now }
+    ensures text { take (result + 2) bytes.new ≡ spaced digits.now }
+{
+    let count = digits.len();
+    bytes[..count].copy_from_slice(digits);
+    bytes[count] = b' ';
+    count - 1
+}
+
+/// A ring and a segment with a character between them, and the bar before a word of the segment.
+#[derive(Drop)]
+pub struct FrontPart<const MARK: u8> {
+    pub bytes: [u8; 8],
+    pub seg: u16,
+    pub ring: u8,
+    ghost spelled: { bytes ≡ front_text ring MARK seg },
+}
+
+impl<const MARK: u8> FrontPart<MARK> {
+    pub fn new() -> FrontPart<MARK> {
+        FrontPart {
+            bytes: front::<MARK>(0, 0),
+            seg: 0,
+            ring: 0,
+        }
+    }
+
+    /// Spells a ring and a segment, which mostly stay.
+    #[inline(always)]
+    pub fn set(&mut self, seg: u16, ring: u8)
+        requires { ring < 2 ^ 3 }
+        ensures seg { self.new.seg ≡ seg }
+        ensures ring { self.new.ring ≡ ring }
+    {
+        if seg != self.seg || ring != self.ring {
+            self.spell(seg, ring);
+        }
+    }
+
+    #[inline(never)]
+    fn spell(&mut self, seg: u16, ring: u8)
+        requires { ring < 2 ^ 3 }
+        ensures seg { self.new.seg ≡ seg }
+        ensures ring { self.new.ring ≡ ring }
+    {
+        self.bytes = front::<MARK>(seg, ring);
+        self.seg = seg;
+        self.ring = ring;
+    }
+}
+
+#[tactic(auto, unfolding(m36_text::specs::Digits::octal_text, m36_text::specs::Digits::digits))]
+fn front<const MARK: u8>(seg: u16, ring: u8) -> [u8; 8]
+    requires { ring < 2 ^ 3 }
+    ensures { result ≡ front_text ring MARK seg }
+{
+    let s = seg as u64;
+    [
+        b'0' + ring,
+        MARK,
+        last_digit(s >> 12),
+        last_digit(s >> 9),
+        last_digit(s >> 6),
+        last_digit(s >> 3),
+        last_digit(s),
+        b'|',
+    ]
+}
+
+/// A word in twelve digits, and a space.
+#[derive(Drop)]
+pub struct WordPart {
+    pub bytes: [u8; 16],
+    pub of: Word,
+    ghost spelled: { take 13 bytes ≡ spaced (word_text of) },
+}
+
+impl WordPart {
+    #[tactic(auto, unfolding(m36_text::specs::Digits::octal_text, m36_text::specs::Digits::digits))]
+    pub fn new() -> WordPart
+        ensures { result.of ≡ 0 }
+    {
+        WordPart {
+            bytes: *b"000000000000    ",
+            of: Word::ZERO,
+        }
+    }
+
+    /// Spells a word.
+    #[inline(always)]
+    pub fn set(&mut self, word: Word)
+        ensures { self.new.of ≡ word }
+    {
+        if self.of != word {
+            put_word(&mut self.bytes, 0, word);
+            self.of = word;
+        }
+    }
+}
