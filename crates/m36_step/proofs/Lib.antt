@@ -1,7 +1,11 @@
-pub mod Ends
-pub mod Reaching
-pub mod Groups
-pub mod Operations
 pub mod Direct
+pub mod Ends
+pub mod GoingOn
+pub mod Groups
+pub mod Hurrying
+pub mod Operations
 pub mod Plain
+pub mod Reaching
+mod Showing
+pub mod TallyWords
 pub mod Writing

@@ -7,15 +7,15 @@ use Rattle.m36_inst.specs.declared.operand.Operand.{Operand}
 use Rattle.m36_inst.specs.declared.operand.Operand.TheVariants as kind
 use Rattle.m36_desc.specs.Access.{ring_called}
 use Rattle.m36_desc.specs.Fields.{SdwFields}
-use Rattle.m36_model.specs.Act.{Whole, Read, Write, Transfer, Call, refer}
+use Rattle.m36_model.specs.Act.{Part, Whole, Read, Write, Transfer, Call, refer}
 use Rattle.m36_model.specs.Chain.{ChainEnd, chain_end_fields, claimed_by, pending_of, runout_of}
-use Rattle.m36_model.specs.Core.{core_store, core_put}
+use Rattle.m36_model.specs.Core.{core_store, core_put, put_one}
 use Rattle.m36_model.specs.Effect.{exec, is_absa}
 use Rattle.m36_model.specs.Fields.{FinalFields}
 use Rattle.m36_model.specs.Registers.{RegsFields}
 use Rattle.m36_model.specs.Results.{OperandFields, ring_only}
-use Rattle.m36_model.specs.Step.{Performed, no_operand, puts_from, performed, perform, tallied, operate, operate_on, operated, addressed, started, admitted, by_kind, by_direct, direct_word, addressing, transferring, request_at, outcome_after}
-use Rattle.m36_model.specs.Store.{Spot, serve, run, changes}
+use Rattle.m36_model.specs.Step.{Performed, no_operand, puts_from, performed, perform, tallied, operate, operate_on, operated, addressed, started, admitted, by_kind, by_direct, direct_word, addressing, transferring, writing, request_at, outcome_after}
+use Rattle.m36_model.specs.Store.{Spot, Core_word, serve, run, changes}
 use Rattle.m36_model.specs.Transfers.{is_taken}
 use Rattle.m36_model.specs.declared.effects.Formed.{Formed}
 use Rattle.m36_model.specs.declared.effects.Tally.{Tally}
@@ -32,11 +32,14 @@ use Rattle.m36_word.specs.Pairs.{pair_words}
 use Rattle.m36_walk.specs.Words.{run_changes}
 use Rattle.m36_walk.proofs.Claims.{changes_of_run, put_one_word}
 use Rattle.m36_word.specs.declared.pair.Pair.{Pair}
-use Rattle.m36_frequent.specs.Frequent.{loads_address, is_shift, word_read, pair_read}
+use Rattle.m36_inst.specs.Quick.{group_of}
+use Rattle.m36_inst.specs.declared.rows.Group.TheVariants as group
+use Rattle.m36_frequent.specs.Frequent.{word_read, pair_read}
 use Rattle.m36_ea.specs.Formed.{plain}
 use Rattle.m36_ea.proofs.Runs.{run_ask, run_done}
 use Rattle.m36_step.specs.Ended.{EndsFormed, end_of}
-use Rattle.m36_step.specs.Operated.{claims_of, puts_of, operated_end}
+use Rattle.m36_step.specs.Operated.{claims_of, puts_of, part_of, operated_end}
+use Rattle.m36_step.specs.declared.operated.Part as code
 use Rattle.m36_step.specs.References.{ServesRead, ServesWrite, HoldRefused}
 use Rattle.m36_step.specs.declared.ended.Ended.{Ended}
 use Rattle.m36_step.specs.declared.operated.Operated.{Operated}
@@ -44,12 +47,12 @@ use Rattle.m36_step.specs.declared.operated.Part.TheVariants as part
 use Rattle.m36_step.proofs.Ends.{operation_performed, operation_refused}
 
 -- an instruction that loads its address does not ask for its place
-pub not_absa : (e : Effect) → IsTrue (loads_address e) → is_absa e ≡ false
+pub not_absa : (e : Effect) → group_of e ≡ group.Address → is_absa e ≡ false
 not_absa effect.Absa h = cc
 not_absa _ h = refl
 
 -- nor does a shift
-pub shift_not_absa : (e : Effect) → IsTrue (is_shift e) → is_absa e ≡ false
+pub shift_not_absa : (e : Effect) → group_of e ≡ group.Shift → is_absa e ≡ false
 shift_not_absa effect.Absa h = cc
 shift_not_absa _ h = refl
 
@@ -72,17 +75,21 @@ module _ (e : Effect) (n w : ℕ) (g : RegsFields) (last : FinalFields) where
   unfolding tallied
   same_regs = refl
 
-  effect_done : (o : OperandFields) (g' : RegsFields) (words : List ℕ) (overflow : Bool) → Ok (record { regs = g'; put = words; overflow = overflow }) ≡ exec e n g last o
-      → performed g c Whole 0 (exec e n (tallied g c) last o) ≡ Ok (record { regs = g'; puts = puts_from Whole 0 words; overflow = overflow })
-  effect_done o g' words overflow h =
-      ap (λ (x : RegsFields). performed g c Whole 0 (exec e n x last o)) same_regs ∙ ap (performed g c Whole 0) (sym h)
+  effect_done : (part : Part) (o : OperandFields) (g' : RegsFields) (words : List ℕ) (overflow : Bool) → Ok (record { regs = g'; put = words; overflow = overflow }) ≡ exec e n g last o
+      → performed g c part 0 (exec e n (tallied g c) last o) ≡ Ok (record { regs = g'; puts = puts_from part 0 words; overflow = overflow })
+  effect_done part o g' words overflow h =
+      ap (λ (x : RegsFields). performed g c part 0 (exec e n x last o)) same_regs ∙ ap (performed g c part 0) (sym h)
 
   -- a program that is over its effect
+  performs_part : (part : Part) (o : OperandFields) (g' : RegsFields) (words : List ℕ) (overflow : Bool) (core : List ℕ) (claims : List Spot) (refs : List Reference) → Ok (record { regs = g'; put = words; overflow = overflow }) ≡ exec e n g last o
+      → run core_store g (perform e n g c part 0 o) (standing core claims refs) ≡ record { value = Ok (record { regs = g'; puts = puts_from part 0 words; overflow = overflow }); mid = standing core claims refs }
+  performs_part part o g' words overflow core claims refs h =
+      run_done g (performed g c part 0 (exec e n (tallied g c) last o)) (standing core claims refs)
+      ∙ ap (λ (v : Result Performed Halt). record { value = v; mid = standing core claims refs }) (effect_done part o g' words overflow h)
+
   performs : (o : OperandFields) (g' : RegsFields) (words : List ℕ) (overflow : Bool) (core : List ℕ) (claims : List Spot) (refs : List Reference) → Ok (record { regs = g'; put = words; overflow = overflow }) ≡ exec e n g last o
       → run core_store g (perform e n g c Whole 0 o) (standing core claims refs) ≡ record { value = Ok (record { regs = g'; puts = puts_from Whole 0 words; overflow = overflow }); mid = standing core claims refs }
-  performs o g' words overflow core claims refs h =
-      run_done g (performed g c Whole 0 (exec e n (tallied g c) last o)) (standing core claims refs)
-      ∙ ap (λ (v : Result Performed Halt). record { value = v; mid = standing core claims refs }) (effect_done o g' words overflow h)
+  performs = performs_part Whole
 
   operates_by : (k : Operand) → operand_of e ≡ k → last.direct ≡ None → operate e n g c ≡ by_kind e n g c k
   unfolding operate
@@ -131,6 +138,18 @@ module _ (e : Effect) (n w : ℕ) (g : RegsFields) (last : FinalFields) where
         ∙ run_ask g (request_at Write c 1) _ (standing m.core [] refs) _ served
         ∙ performs no_operand g' (word ∷ []) overflow core' (run_from place 1) refs' effect)
         stored
+
+    -- A half of a word is stored.
+    pub half_ends : (p : code.Part) (k : Operand) → operand_of e ≡ k → by_kind e n g c k ≡ writing e n g c 1 (part_of p) → (place word : ℕ) (core'' : List ℕ) → last.direct ≡ None → ServesWrite g f 1 m refs core' refs' (Ok place)
+        → Ok (record { regs = g'; put = word ∷ []; overflow = overflow }) ≡ exec e n g last no_operand
+        → core'' ≡ put_one core' (Core_word place) (part_of p) word → EndsFormed g (operated e n g w c) m.core f refs core'' refs' g' end
+    unfolding core_put changes run_from
+    half_ends p k kind by place word core'' none served effect stored =
+        operation_performed g e n w f m.core refs core' refs' g' (held.One word) (record { place = place; part = p; overflow = overflow }) core'' end
+        (ap (λ p. run core_store g p (standing m.core [] refs)) (operates_by k kind none ∙ by)
+        ∙ run_ask g (request_at Write c 1) _ (standing m.core [] refs) _ served
+        ∙ performs_part (part_of p) no_operand g' (word ∷ []) overflow core' (run_from place 1) refs' effect)
+        stored is
 
     -- A pair is read, with the first ring bracket of its segment.
     pub pair_read_ends : (got : Pair) (ring : ℕ) → operand_of e ≡ kind.R2 → last.direct ≡ None → ServesRead g f 2 m refs core' refs' (Ok (pair_words got)) → ring ≡ (sdw_in m last.at.seg).r1

@@ -1,5 +1,6 @@
 -- Kinds of answers of a turn and of going back.
 use Rattle.std.specs.Prelude.{◌≡◌, Bool, true, false, T}
+use Rattle.m36_model.specs.declared.outcome.Outcome.TheVariants.{Next}
 use Rattle.m36_step.specs.declared.turns.Turn.{Turn}
 use Rattle.m36_step.specs.declared.turns.Turn.TheVariants.{Stepped, Linked, Console, Ended, Full}
 use Rattle.m36_step.specs.declared.turns.Turn.TheVariants.{NoMemory}
@@ -26,6 +27,15 @@ IsStepOrEnd Same (Console text) = ⊥
 IsStepOrEnd Same (Ended end) = Same
 IsStepOrEnd Same Full = ⊥
 IsStepOrEnd Same NoMemory = ⊥
+
+-- a step after which another follows
+abbrev pub IsOn : Turn → Type 0
+IsOn (Stepped told) = told.outcome ≡ Next
+IsOn (Linked note) = ⊥
+IsOn (Console text) = ⊥
+IsOn (Ended end) = ⊥
+IsOn Full = ⊥
+IsOn NoMemory = ⊥
 
 -- it answers that it cannot go back, and is as before
 abbrev pub IsUnable : {S : Type 0} → S → BackAnswer → S → Type 0

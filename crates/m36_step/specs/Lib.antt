@@ -2,9 +2,12 @@ pub mod Ended
 pub mod Lending
 pub mod Operated
 pub mod References
+pub mod Shown
 pub mod Reached
 pub mod LinkNoteFields
 pub mod Answers
 pub mod Counting
 pub mod MachineFields
 pub mod MachineTurn
+pub mod Quick
+pub mod Hurry

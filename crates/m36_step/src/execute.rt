@@ -12,16 +12,14 @@ ghost use Rattle.m36_model.specs.Modification.{here};
 ghost use Rattle.m36_model.specs.Registers.{RegsFields};
 ghost use Rattle.m36_model.specs.Step.{program, decoded, decode, admitted, is_barred, started, at_once};
 ghost use Rattle.m36_model.specs.Step.{addressed, operated};
-ghost use Rattle.m36_step.specs.Ended.{EndsSo, EndsFormed, completed_end, ended_of};
+ghost use Rattle.m36_step.specs.Ended.{EndsSo, EndsFormed, completed_end};
 
 use crate::ended::{Ended, fault_here, halted, outcome_by};
-use crate::frequent::operated_plain;
 use crate::operate::operate;
-use crate::telling::tell;
 use crate::writes::write_words;
-use m36_ea::{effective, plain_address};
+use m36_ea::effective;
 use m36_inst::{Effect, Inst, Operand, Row, row};
-use m36_model::{At, Final, Formed, Halt, Held, Kind, Reference, Refs, Regs, StepRecord, Stop};
+use m36_model::{At, Final, Formed, Halt, Held, Kind, Reference, Refs, Regs, Stop};
 use m36_walk::Walk;
 use m36_word::Word;
 
@@ -184,164 +182,8 @@ fn decoded(walk: &mut Walk, regs: &mut Regs, word: Word, privileged: bool, refs:
     }
 }
 
-/// The instruction in a word, told in the record. The bit tells whether it may be privileged.
-#[cold]
-#[inline(never)]
-fn decoded_else(
-    walk: &mut Walk,
-    regs: &mut Regs,
-    word: Word,
-    privileged: bool,
-    told: &mut StepRecord,
-)
-    requires dbr { walk.old.dbr ≡ regs.old.dbr }
-    requires room { length told.old.refs.items ≤ 4 }
-    ensures ends { EndsSo regs.old (decoded regs.old word privileged (decode word)) walk.old.core
-        told.old.refs.items walk.new.core told.new.refs.items regs.new (ended_of told.new) }
-    ensures ppr { told.new.ppr ≡ told.old.ppr }
-    ensures dbr { walk.new.dbr ≡ regs.new.dbr }
-{
-    let ended = decoded(walk, regs, word, privileged, &mut told.refs);
-    tell(told, &ended);
-}
-
-/// An instruction whose tag is more than a register, as one that reads indirect words, told in the record.
-#[inline(never)]
-fn chained(
-    walk: &mut Walk,
-    regs: &mut Regs,
-    word: Word,
-    inst: &Inst,
-    row: &Row,
-    told: &mut StepRecord,
-)
-    requires dbr { walk.old.dbr ≡ regs.old.dbr }
-    requires row { IsRow row.now }
-    requires addressed { row.now.operand ≢ N }
-    requires inst { inst.now ≡ inst_of word }
-    requires room { length told.old.refs.items ≤ 4 }
-    ensures ends { EndsSo regs.old (addressed row.now.effect row.now.reg regs.old word)
-        walk.old.core told.old.refs.items walk.new.core told.new.refs.items regs.new
-        (ended_of told.new) }
-    ensures ppr { told.new.ppr ≡ told.old.ppr }
-    ensures dbr { walk.new.dbr ≡ regs.new.dbr }
-{
-    match effective(walk, regs, inst, &mut told.refs) {
-        Err(halt) => {
-            let ended = halted(Some(word), None, halt);
-            tell(told, &ended);
-        }
-        Ok(formed) => match formed.tally {
-            None => operated_plain(walk, regs, word, row, &formed.last, told),
-            Some(_) => {
-                let ended = operated(walk, regs, word, row, &formed, &mut told.refs);
-                tell(told, &ended);
-            }
-        },
-    }
-}
-
-/// An instruction that forms an address, told in the record as it goes where its tag alone forms it.
-#[inline(always)]
-fn addressed_told(
-    walk: &mut Walk,
-    regs: &mut Regs,
-    word: Word,
-    inst: &Inst,
-    row: &Row,
-    told: &mut StepRecord,
-)
-    requires dbr { walk.old.dbr ≡ regs.old.dbr }
-    requires row { IsRow row.now }
-    requires addressed { row.now.operand ≢ N }
-    requires inst { inst.now ≡ inst_of word }
-    requires room { length told.old.refs.items ≤ 4 }
-    ensures ends { EndsSo regs.old (addressed row.now.effect row.now.reg regs.old word)
-        walk.old.core told.old.refs.items walk.new.core told.new.refs.items regs.new
-        (ended_of told.new) }
-    ensures ppr { told.new.ppr ≡ told.old.ppr }
-    ensures dbr { walk.new.dbr ≡ regs.new.dbr }
-{
-    match plain_address(regs, inst) {
-        None => chained(walk, regs, word, inst, row, told),
-        Some(last) => operated_plain(walk, regs, word, row, &last, told),
-    }
-}
-
-/// The instruction in a word, told in the record.
-#[inline(always)]
-fn decoded_told(
-    walk: &mut Walk,
-    regs: &mut Regs,
-    word: Word,
-    privileged: bool,
-    told: &mut StepRecord,
-)
-    requires dbr { walk.old.dbr ≡ regs.old.dbr }
-    requires room { length told.old.refs.items ≤ 4 }
-    ensures ends { EndsSo regs.old (decoded regs.old word privileged (decode word)) walk.old.core
-        told.old.refs.items walk.new.core told.new.refs.items regs.new (ended_of told.new) }
-    ensures ppr { told.new.ppr ≡ told.old.ppr }
-    ensures dbr { walk.new.dbr ≡ regs.new.dbr }
-{
-    let inst = Inst::of_word(word);
-    match row(inst.code, inst.bit27) {
-        None => decoded_else(walk, regs, word, privileged, told),
-        Some(row) => {
-            if row.privileged {
-                return decoded_else(walk, regs, word, privileged, told);
-            }
-            match row.operand {
-                Operand::N => decoded_else(walk, regs, word, privileged, told),
-                _ => addressed_told(walk, regs, word, &inst, &row, told),
-            }
-        }
-    }
-}
-
-/// One step whose fetch is refused.
-#[cold]
-#[inline(never)]
-fn unfetched(walk: &mut Walk, regs: &mut Regs, told: &mut StepRecord)
-    requires dbr { walk.old.dbr ≡ regs.old.dbr }
-    requires room { length told.old.refs.items ≤ 3 }
-    ensures ends { EndsSo regs.old (program regs.old) walk.old.core told.old.refs.items
-        walk.new.core told.new.refs.items regs.new (ended_of told.new) }
-    ensures ppr { told.new.ppr ≡ told.old.ppr }
-    ensures dbr { walk.new.dbr ≡ regs.new.dbr }
-{
-    let ended = execute_else(walk, regs, &mut told.refs);
-    tell(told, &ended);
-}
-
-/// One step: it fetches the instruction that stands, and executes it. It is told in the record but for where the
-/// instruction stood and the registers after it.
-#[inline(always)]
-pub(crate) fn execute(walk: &mut Walk, regs: &mut Regs, told: &mut StepRecord)
-    requires dbr { walk.old.dbr ≡ regs.old.dbr }
-    requires room { length told.old.refs.items ≤ 3 }
-    ensures ends { EndsSo regs.old (program regs.old) walk.old.core told.old.refs.items
-        walk.new.core told.new.refs.items regs.new (ended_of told.new) }
-    ensures ppr { told.new.ppr ≡ told.old.ppr }
-    ensures dbr { walk.new.dbr ≡ regs.new.dbr }
-{
-    let here = regs.here();
-    match walk.try_fetch(here) {
-        None => unfetched(walk, regs, told),
-        Some(fetched) => {
-            told.refs.push(Reference {
-                at: here,
-                kind: Kind::Fetch,
-                count: 1,
-            });
-            let (word, privileged) = fetched;
-            decoded_told(walk, regs, word, privileged, told)
-        }
-    }
-}
-
-/// One step, whatever the instruction.
-fn execute_else(walk: &mut Walk, regs: &mut Regs, refs: &mut Refs) -> Ended
+/// One step: it fetches the instruction that stands, and executes it.
+pub(crate) fn execute(walk: &mut Walk, regs: &mut Regs, refs: &mut Refs) -> Ended
     requires dbr { walk.old.dbr ≡ regs.old.dbr }
     requires room { length refs.old.items ≤ 3 }
     ensures ends { EndsSo regs.old (program regs.old) walk.old.core refs.old.items walk.new.core

@@ -1,20 +1,28 @@
 //! The machine.
 
-ghost use Rattle.std.specs.Prelude.{◌≡◌, ◌+◌, ◌%◌, ◌^◌, None, IfOk};
+ghost use Rattle.std.specs.Prelude.{ℕ, ◌≡◌, ◌+◌, ◌%◌, ◌^◌, ◌<◌, ◌≤◌, [], None, IfOk};
 ghost use Rattle.std.specs.Borrow.{sem};
 ghost use Rattle.m36_model.specs.Core.{core_store};
-ghost use Rattle.m36_model.specs.Laws.{Keeps};
+ghost use Rattle.m36_model.specs.Laws.{ExecutesLdbr, Keeps};
 ghost use Rattle.m36_model.specs.Results.{moved_on};
-ghost use Rattle.m36_model.specs.Step.{record_of, state_after};
-ghost use Rattle.m36_step.specs.Ended.{untold_record};
+ghost use Rattle.m36_model.specs.Shown.{shown_of};
+ghost use Rattle.m36_model.specs.Step.{program, record_of, state_after};
+ghost use Rattle.m36_step.specs.Ended.{EndsSo, ended_of, untold_record};
+ghost use Rattle.m36_step.specs.Hurry.{states_after};
 ghost use Rattle.m36_step.specs.MachineTurn.{MachineTurns, ended_by};
+ghost use Rattle.m36_step.specs.Shown.{unshown};
+ghost use Rattle.m36_model.specs.declared.outcome.Outcome.TheVariants.{Next};
 
 use crate::execute::execute;
+use crate::hurry::hurried;
+use crate::quick::quick;
+use crate::shown::take_shown;
 use crate::stepper::{Replay, Stepper};
+use crate::telling::tell;
 use crate::turns::{BackAnswer, Turn};
 use m36_core::Core;
 use m36_isol::law_kept;
-use m36_model::{End, Outcome, Refs, Regs, StepRecord};
+use m36_model::{End, Outcome, Refs, Regs, Shown, StepRecord};
 use m36_walk::Walk;
 use m36_word::{NoMemory, Word};
 use std::alloc::Global;
@@ -43,6 +51,36 @@ impl Model for Machine {
     ghost invariant = { λ m. m.walk.dbr ≡ m.regs.dbr };
 }
 
+/// A step that is not quick, told in the record.
+#[inline(never)]
+fn told_else(walk: &mut Walk, regs: &mut Regs, told: &mut StepRecord)
+    requires dbr { walk.old.dbr ≡ regs.old.dbr }
+    ensures ends { EndsSo regs.old (program regs.old) walk.old.core [] walk.new.core
+        told.new.refs.items regs.new (ended_of told.new) }
+    ensures ppr { told.new.ppr ≡ told.old.ppr }
+    ensures dbr { walk.new.dbr ≡ regs.new.dbr }
+{
+    told.refs.clear();
+    let ended = execute(walk, regs, &mut told.refs);
+    tell(told, &ended);
+}
+
+/// One step, told in the record but for where the instruction stood and the registers after it.
+#[inline(always)]
+fn told_step(walk: &mut Walk, regs: &mut Regs, told: &mut StepRecord)
+    requires dbr { walk.old.dbr ≡ regs.old.dbr }
+    ensures ends { EndsSo regs.old (program regs.old) walk.old.core [] walk.new.core
+        told.new.refs.items regs.new (ended_of told.new) }
+    ensures ppr { told.new.ppr ≡ told.old.ppr }
+    ensures dbr { walk.new.dbr ≡ regs.new.dbr }
+{
+    told.refs.clear();
+    if quick(walk, regs, told) {
+        return;
+    }
+    told_else(walk, regs, told)
+}
+
 /// One step of a walk and registers with the same descriptor segment base register, told in a record that an earlier step
 /// may have filled.
 fn take_step(walk: &mut Walk, regs: &mut Regs, told: &mut StepRecord)
@@ -53,9 +91,8 @@ fn take_step(walk: &mut Walk, regs: &mut Regs, told: &mut StepRecord)
         ≡ state_after core_store (record { regs = regs.old; store = walk.old.core }) }
     ensures dbr { walk.new.dbr ≡ regs.new.dbr }
 {
-    told.refs.clear();
     told.ppr = regs.ppr;
-    execute(walk, regs, told);
+    told_step(walk, regs, told);
     told.after = *regs;
 }
 
@@ -125,6 +162,47 @@ impl Machine {
         law_kept();
         let Machine { walk, regs, .. } = self;
         take_step(walk, regs, told)
+    }
+
+    /// One step, of which no more is told than its line shows: with the registers after it.
+    #[inline]
+    pub fn step_shown(&mut self, shown: &mut Shown)
+        ensures shown { shown.new ≡ shown_of (record_of core_store self.old.state) }
+        ensures after { self.new.state.regs ≡ (record_of core_store self.old.state).after }
+        ensures state { self.new.state ≡ state_after core_store self.old.state }
+        ensures ended { self.new.ended ≡ self.old.ended }
+    {
+        let Machine { walk, regs, .. } = self;
+        take_shown(walk, regs, shown)
+    }
+
+    /// What `step_shown` may fill. It shows no step.
+    pub fn unshown(&self) -> Shown
+        ensures { result ≡ unshown self.now.state.regs }
+    {
+        Shown {
+            word: None,
+            at: None,
+            outcome: Outcome::Next,
+            ppr: self.regs.ppr,
+        }
+    }
+
+    /// Takes steps, at most so many, as long as the next one is quick: pages in front answer all its references, nothing
+    /// refuses it, and the next instruction follows. The answer is how many were taken; none of them is told, and none
+    /// executes an LDBR.
+    #[inline]
+    pub fn hurry(&mut self, most: u32) -> u32
+        ensures few { result ≤ most }
+        ensures state { self.new.state ≡ states_after result self.old.state }
+        ensures on { (n : ℕ) → n < result
+            → (record_of core_store (states_after n self.old.state)).outcome ≡ Next }
+        ensures plain { (n : ℕ) → n < result
+            → ExecutesLdbr (record_of core_store (states_after n self.old.state)) → ⊥ }
+        ensures ended { self.new.ended ≡ self.old.ended }
+    {
+        let Machine { walk, regs, .. } = self;
+        hurried(walk, regs, most)
     }
 
     /// Notes the outcome of a step before which the run of turns had not ended.
@@ -273,6 +351,13 @@ impl Replay for Machine {
             regs: self.regs,
             ended: self.ended,
         })
+    }
+
+    fn hurry(&mut self, most: u32) -> u32 {
+        if let None = self.ended {
+            return self.hurry(most);
+        }
+        0
     }
 
     ghost turns = { λ before turn later h. h };

@@ -149,7 +149,11 @@ pub(crate) fn hold_words(
 pub(crate) fn final_at(last: &Final) -> At
     ensures { result ≡ last.now.at }
 {
-    last.at
+    At {
+        word: last.at.word,
+        seg: last.at.seg,
+        ring: last.at.ring,
+    }
 }
 
 /// Reads the word at the end of an address, where nothing refuses it.

@@ -1,6 +1,6 @@
 //! Machines that are stepped.
 
-ghost use Rattle.std.specs.Prelude.{ℕ, ◌≡◌, ◌<◌, ◌^◌, ◌⊎◌, Option, IfOk};
+ghost use Rattle.std.specs.Prelude.{ℕ, ◌≡◌, ◌<◌, ◌≤◌, ◌^◌, ◌⊎◌, Option, IfOk};
 ghost use Rattle.m36_step.specs.Answers.{IsDone, IsService, IsStepOrEnd};
 
 use crate::turns::{BackAnswer, Turn};
@@ -67,6 +67,8 @@ pub trait Stepper {
 /// A machine whose turns are a function of its state, and of which there may be a second one.
 pub trait Replay: Stepper {
     ghost use Rattle.m36_step.specs.declared.turns.Turn.{Turn};
+    ghost use Rattle.m36_step.specs.Answers.{IsOn};
+    ghost use Rattle.m36_step.specs.Hurry.{repeated};
 
     /// What the turn from a state answers.
     ghost answer: { Self → Turn };
@@ -77,6 +79,17 @@ pub trait Replay: Stepper {
     /// A second machine in the same state. The error is want of memory alone.
     fn copy(&self, alloc: Global) -> Result<Self, NoMemory>
         ensures { IfOk result (λ other. other ≡ self.now) };
+
+    /// Takes turns, at most so many, each of which is a step after which another follows. The answer is how many were taken,
+    /// which may be none; nothing is told of them.
+    fn hurry(&mut self, most: u32) -> u32
+        ensures few { result ≤ most }
+        ensures state { self.new ≡ repeated after result self.old }
+        ensures on { (n : ℕ) → n < result → IsOn (answer (repeated after n self.old)) }
+    {
+        let _ = most;
+        0
+    }
 
     /// Each turn is that of its state.
     ghost turns: { (before : Self) (turn : Turn) (later : Self)

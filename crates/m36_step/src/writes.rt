@@ -18,6 +18,7 @@ use m36_walk::Walk;
 use m36_word::{Pair, Word};
 
 /// A word with another left half.
+#[inline(always)]
 fn with_left(old: Word, half: Word) -> Word
     requires { half < 2 ^ 18 }
     ensures { result ≡ written Left old half }
@@ -26,6 +27,7 @@ fn with_left(old: Word, half: Word) -> Word
 }
 
 /// A word with another right half.
+#[inline(always)]
 fn with_right(old: Word, half: Word) -> Word
     requires { half < 2 ^ 18 }
     ensures { result ≡ written Right old half }
@@ -34,6 +36,7 @@ fn with_right(old: Word, half: Word) -> Word
 }
 
 /// A word with a part of it written.
+#[inline(always)]
 fn with_part(part: Part, old: Word, value: Word) -> Word
     requires { PartHolds part value }
     ensures { result ≡ written (part_of part) old value }
@@ -46,7 +49,8 @@ fn with_part(part: Part, old: Word, value: Word) -> Word
 }
 
 /// Writes a word, or a half into the word as it stands.
-fn write_word(walk: &mut Walk, place: u32, part: Part, value: Word)
+#[inline(always)]
+pub(crate) fn write_word(walk: &mut Walk, place: u32, part: Part, value: Word)
     requires place { place < length walk.old.core }
     requires part { PartHolds part value }
     ensures core { walk.new.core ≡ put_one walk.old.core (Core_word place) (part_of part) value }

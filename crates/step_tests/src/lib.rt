@@ -4,11 +4,11 @@
 #[cfg(test)]
 mod addresses;
 #[cfg(test)]
+mod hurry;
+#[cfg(test)]
 mod lines;
 #[cfg(test)]
 mod machine;
-#[cfg(test)]
-mod memories;
 #[cfg(test)]
 mod references;
 #[cfg(test)]

@@ -1,9 +1,12 @@
-use Rattle.std.proofs.Common.{sym}
-use Rattle.m36_step.specs.Ended.{ended_of}
-use Rattle.m36_step.proofs.Ends.{fetches}
+use Rattle.std.proofs.Common.{refl, sym}
+use Rattle.m36_step.proofs.Ends.{fetch_refused, fetches}
 use Rattle.m36_step.proofs.execute.execute.Goals as goal
 
-pub returns-in-Some-clause-ends : goal.returns-in-Some-clause-ends
-returns-in-Some-clause-ends c =
-    let some = c.in-Some.ensures {u = tt} in
-    fetches c.args.regs.now c.args.walk.now c.args.told.now.refs.items c.try_fetch.new.self.core (sym c.requires.dbr) c.in-Some.fetched.0 c.in-Some.fetched.1 c.push.new.self.items c.decoded_told.new.walk.core c.decoded_told.new.told.refs.items c.decoded_told.new.regs (ended_of c.decoded_told.new.told) (rw c.here-here.ensures at some.serves) (rw c.here-here.ensures at some.privileged) (rw c.here-here.ensures at c.push.ensures.items) c.decoded_told.ensures.ends
+pub returns-in-Err-clause-ends : goal.returns-in-Err-clause-ends
+returns-in-Err-clause-ends c =
+    fetch_refused c.args.regs.now c.args.walk.now c.args.refs.now.items c.fetch.new.self.core (sym c.requires.dbr) c.in-Err.fault c.args.regs.now c.halted.result (rw c.here-here.ensures at (c.in-Err.ensures {u = tt}).serves) refl c.halted.ensures
+
+pub returns-in-Ok-clause-ends : goal.returns-in-Ok-clause-ends
+returns-in-Ok-clause-ends c =
+    let ok = c.in-Ok.ensures {u = tt} in
+    fetches c.args.regs.now c.args.walk.now c.args.refs.now.items c.fetch.new.self.core (sym c.requires.dbr) c.in-Ok.fetched.0 c.in-Ok.fetched.1 c.push.new.self.items c.decoded.new.walk.core c.decoded.new.refs.items c.decoded.new.regs c.decoded.result (rw c.here-here.ensures at ok.serves) (rw c.here-here.ensures at ok.privileged) (rw c.here-here.ensures at c.push.ensures.items) c.decoded.ensures.ends

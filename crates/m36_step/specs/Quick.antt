@@ -1,0 +1,84 @@
+-- How a quick step ends: nothing has refused it, and the next instruction follows.
+use Rattle.std.specs.Prelude.{ℕ, ◌≡◌, Bool, List, [], Some}
+use Rattle.m36_inst.specs.declared.effect.Effect.TheVariants as effect
+use Rattle.m36_inst.specs.declared.rows.Quick.{Quick}
+use Rattle.m36_model.specs.Act.{Act}
+use Rattle.m36_model.specs.Chain.{chain_end_fields}
+use Rattle.m36_model.specs.Core.{core_store}
+use Rattle.m36_model.specs.Fields.{FinalFields}
+use Rattle.m36_model.specs.Registers.{RegsFields}
+use Rattle.m36_model.specs.Step.{Ending, addressed, decode, decoded, operated, program}
+use Rattle.m36_model.specs.Store.{Mid, run}
+use Rattle.m36_model.specs.declared.outcome.Outcome.TheVariants.{Next}
+use Rattle.m36_model.specs.declared.place.Reference.{Reference}
+use Rattle.m36_walk.specs.Served.{standing}
+use Rattle.m36_ea.specs.Formed.{plain, formed_mid}
+use Rattle.m36_ea.specs.declared.quick.Counting.{Counting}
+use Rattle.m36_model.specs.declared.effects.Formed.{Formed}
+use Rattle.m36_step.specs.Ended.{end_of, given_end}
+use Rattle.m36_step.specs.declared.ended.Ended.{Ended}
+
+-- the end of a step that goes on
+abbrev pub next_end : ℕ → FinalFields → Ended
+next_end w last = record { word = Some w; at = Some last; outcome = Next }
+
+-- A program over core goes on to the next instruction, from where a step stands, and leaves core and
+-- the registers so. Of its references and its end a recorder tells.
+pub record GoesOn (Tells : List Reference → Ended → Type 0) (g : RegsFields) (act : Act Ending)
+    (mid : Mid (List ℕ)) (core : List ℕ) (after : RegsFields) (w : ℕ) : Type 0 where
+  pub refs : List Reference
+  pub last : FinalFields
+  pub ends : end_of (run core_store g act mid) ≡ given_end core refs after (next_end w last)
+  pub tells : Tells refs (next_end w last)
+
+-- The same, whatever references were completed before. The step has claimed nothing.
+abbrev pub Goes :
+    (List Reference → Type 0) → (List Reference → Ended → Type 0) → RegsFields → Act Ending
+    → List ℕ → List ℕ → RegsFields → ℕ → Type 0
+Goes Has Tells g act core core' after w =
+    (refs : List Reference) → Has refs → GoesOn Tells g act (standing core [] refs) core' after w
+
+-- the operation of an instruction whose address has no tally word
+abbrev pub Operates :
+    (List Reference → Type 0) → (List Reference → Ended → Type 0) → Quick → RegsFields → ℕ
+    → FinalFields → List ℕ → List ℕ → RegsFields → Type 0
+Operates Has Tells q g w last core core' after =
+    Goes Has Tells g (operated q.effect q.reg g w (chain_end_fields (plain last))) core core' after w
+
+-- the operation of an instruction whose address has counted a tally word
+abbrev pub counted_address : Counting → Formed
+counted_address c = record { last = c.last; tally = Some c.tally; place = c.place }
+
+abbrev pub OperatesCounted :
+    (List Reference → Type 0) → (List Reference → Ended → Type 0) → Quick → RegsFields → ℕ
+    → Counting → List ℕ → List ℕ → RegsFields → Type 0
+OperatesCounted Has Tells q g w c core core' after =
+    (refs : List Reference) → Has refs
+    → GoesOn Tells g (operated q.effect q.reg g w (chain_end_fields (counted_address c)))
+    (formed_mid core (counted_address c) refs) core' after w
+
+-- an instruction from its address on
+abbrev pub Addresses :
+    (List Reference → Type 0) → (List Reference → Ended → Type 0) → Quick → RegsFields → ℕ
+    → List ℕ → List ℕ → RegsFields → Type 0
+Addresses Has Tells q g w core core' after =
+    Goes Has Tells g (addressed q.effect q.reg g w) core core' after w
+
+-- an instruction from its row on, with the right to privileged instructions or without
+abbrev pub Decodes :
+    (List Reference → Type 0) → (List Reference → Ended → Type 0) → RegsFields → ℕ → List ℕ
+    → List ℕ → RegsFields → Type 0
+Decodes Has Tells g w core core' after =
+    (privileged : Bool)
+    → Goes Has Tells g (decoded g w privileged (decode w)) core core' after w
+
+-- the word is no LDBR
+abbrev pub IsNoLdbr : ℕ → Type 0
+IsNoLdbr w = (n : ℕ) → decode w ≡ Some (effect.Ldbr, n) → ⊥
+
+-- a whole step, of a word that is no LDBR
+pub record Steps (Has : List Reference → Type 0) (Tells : List Reference → Ended → Type 0)
+    (g : RegsFields) (core core' : List ℕ) (after : RegsFields) : Type 0 where
+  pub word : ℕ
+  pub no_ldbr : IsNoLdbr word
+  pub goes : Goes Has Tells g (program g) core core' after word

@@ -1,0 +1,22 @@
+-- A step of which no more is told than a line shows.
+use Rattle.std.specs.Prelude.{ℕ, List, [], None}
+use Rattle.m36_model.specs.Registers.{RegsFields}
+use Rattle.m36_model.specs.Step.{program}
+use Rattle.m36_model.specs.declared.outcome.Outcome.TheVariants.{Next}
+use Rattle.m36_model.specs.declared.place.Reference.{Reference}
+use Rattle.m36_model.specs.declared.record.Shown.{Shown}
+use Rattle.m36_step.specs.Ended.{EndsSo}
+use Rattle.m36_step.specs.declared.ended.Ended.{Ended}
+
+-- the end that is shown
+abbrev pub shown_end : Shown → Ended
+shown_end shown = record { word = shown.word; at = shown.at; outcome = shown.outcome }
+
+-- what shows no step yet
+abbrev pub unshown : RegsFields → Shown
+unshown g = record { word = None; at = None; outcome = Next; ppr = g.ppr }
+
+-- A step ends so, with some references.
+pub record EndsShown (g : RegsFields) (core core' : List ℕ) (after : RegsFields) (e : Ended) : Type 0 where
+  pub refs : List Reference
+  pub ends : EndsSo g (program g) core [] core' refs after e

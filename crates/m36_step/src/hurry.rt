@@ -1,0 +1,38 @@
+//! Quick steps, one after another, of which nothing is told.
+
+ghost use Rattle.std.specs.Prelude.{ℕ, ◌≡◌, ◌<◌, ◌≤◌};
+ghost use Rattle.m36_model.specs.Core.{core_store};
+ghost use Rattle.m36_model.specs.Laws.{ExecutesLdbr};
+ghost use Rattle.m36_model.specs.Step.{record_of};
+ghost use Rattle.m36_model.specs.declared.outcome.Outcome.TheVariants.{Next};
+ghost use Rattle.m36_step.specs.Hurry.{states_after};
+
+use crate::quick::quick;
+use crate::recorder::Untold;
+use m36_model::Regs;
+use m36_walk::Walk;
+
+/// Takes quick steps, at most so many, as long as the next one is a quick one. The answer is how many were taken.
+pub(crate) fn hurried(walk: &mut Walk, regs: &mut Regs, most: u32) -> u32
+    requires dbr { walk.old.dbr ≡ regs.old.dbr }
+    ensures few { result ≤ most }
+    ensures state { record { regs = regs.new; store = walk.new.core }
+        ≡ states_after result (record { regs = regs.old; store = walk.old.core }) }
+    ensures on { (n : ℕ) → n < result
+        → (record_of core_store
+        (states_after n (record { regs = regs.old; store = walk.old.core }))).outcome ≡ Next }
+    ensures plain { (n : ℕ) → n < result
+        → ExecutesLdbr (record_of core_store
+        (states_after n (record { regs = regs.old; store = walk.old.core }))) → ⊥ }
+    ensures dbr { walk.new.dbr ≡ regs.new.dbr }
+{
+    let mut untold = Untold;
+    let mut taken = 0;
+    while taken < most {
+        if !quick(walk, regs, &mut untold) {
+            return taken;
+        }
+        taken += 1;
+    }
+    taken
+}

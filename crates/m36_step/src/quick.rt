@@ -1,0 +1,277 @@
+//! A quick step: one that pages in front answer, and that nothing refuses.
+//!
+//! All that may refuse it is asked first. False says that the step is another, and then nothing has changed: it is taken from
+//! its beginning by `execute`.
+
+ghost use Rattle.std.specs.Prelude.{◌≡◌, ◌<◌, None, Ok, Some, IsTrue, IsFalse, length, slice_index};
+ghost use Rattle.m36_inst.specs.Quick.{IsQuick};
+ghost use Rattle.m36_inst.specs.declared.rows.Group.TheVariants as group;
+ghost use Rattle.m36_model.specs.Act.{Fetch};
+ghost use Rattle.m36_model.specs.Modification.{here};
+ghost use Rattle.m36_walk.specs.Served.{ServesWord};
+ghost use Rattle.m36_step.specs.Quick.{Operates, Addresses, Decodes, IsNoLdbr, Steps};
+
+use crate::quick_counted::{read_counted, store_counted};
+use crate::quick_pairs::{called_at, pair_operand, returned_at, stored_pair};
+use crate::quick_words::{
+    address_operand, changed_operand, lower_operand, read_operand, shift_operand, stored_operand,
+    target_operand, upper_operand,
+};
+use crate::recorder::Recorder;
+use crate::references::final_at;
+use m36_ea::{address_counted, address_through, plain_address};
+use m36_inst::{Group, Inst, Quick, quick_row};
+use m36_model::{Final, Kind, Regs};
+use m36_walk::Walk;
+use m36_word::Word;
+
+/// The operation of an instruction whose address has no tally word, and is no direct operand.
+#[inline(always)]
+fn operated<R: Recorder>(
+    walk: &mut Walk,
+    regs: &mut Regs,
+    rec: &mut R,
+    word: Word,
+    row: &Quick,
+    last: &Final,
+) -> bool
+    requires dbr { walk.old.dbr ≡ regs.old.dbr }
+    requires row { IsQuick row.now }
+    requires plain { last.now.direct ≡ None }
+    requires room { R.taken rec.old < 39 }
+    ensures went { IsTrue result → Operates (R.has rec.old) (R.tells rec.new) row.now regs.old word
+        last.now walk.old.core walk.new.core regs.new }
+    ensures grouped { IsTrue result → row.now.group ≡ group.Other → ⊥ }
+    ensures walk { IsFalse result → walk.new ≡ walk.old }
+    ensures regs { IsFalse result → regs.new ≡ regs.old }
+    ensures place { R.place rec.new ≡ R.place rec.old }
+    ensures dbr { walk.new.dbr ≡ regs.new.dbr }
+{
+    let at = final_at(last);
+    match row.group {
+        Group::Read => read_operand(walk, regs, rec, word, row, last),
+        Group::Store => stored_operand(walk, regs, rec, word, row, last),
+        Group::Change => changed_operand(walk, regs, rec, word, row, last),
+        Group::Upper => upper_operand(walk, regs, rec, word, row, last),
+        Group::Lower => lower_operand(walk, regs, rec, word, row, last),
+        Group::Address => address_operand(walk, regs, rec, word, row, last),
+        Group::Shift => shift_operand(walk, regs, rec, word, row, last),
+        Group::Transfer => target_operand(walk, regs, rec, word, row, last),
+        Group::ReadPair => pair_operand(walk, regs, rec, word, row, last),
+        Group::StorePair => stored_pair(walk, regs, rec, word, row, last),
+        Group::Call => called_at(
+            walk, regs, rec, word, row, at.seg, at.word, at.ring, last.bit,
+        ),
+        Group::Return => returned_at(
+            walk, regs, rec, word, row, at.seg, at.word, at.ring, last.bit,
+        ),
+        Group::Other => false,
+    }
+}
+
+/// An instruction with a direct operand: those that read a word take one.
+#[inline(always)]
+fn operated_directly<R: Recorder>(
+    walk: &mut Walk,
+    regs: &mut Regs,
+    rec: &mut R,
+    word: Word,
+    row: &Quick,
+    last: &Final,
+    operand: Word,
+) -> bool
+    requires dbr { walk.old.dbr ≡ regs.old.dbr }
+    requires row { IsQuick row.now }
+    requires direct { last.now.direct ≡ Some operand }
+    ensures went { IsTrue result → Operates (R.has rec.old) (R.tells rec.new) row.now regs.old word
+        last.now walk.old.core walk.new.core regs.new }
+    ensures grouped { IsTrue result → row.now.group ≡ group.Other → ⊥ }
+    ensures walk { walk.new ≡ walk.old }
+    ensures regs { IsFalse result → regs.new ≡ regs.old }
+    ensures place { R.place rec.new ≡ R.place rec.old }
+    ensures dbr { walk.new.dbr ≡ regs.new.dbr }
+{
+    match row.group {
+        Group::Read => {
+            if !m36_frequent::read_word(row.effect, row.reg as u8, regs, operand) {
+                return false;
+            }
+            rec.end(word, last);
+            true
+        }
+        _ => false,
+    }
+}
+
+/// An instruction whose address counts a tally word, where it reads a word or stores one.
+#[inline(never)]
+fn counted<R: Recorder>(
+    walk: &mut Walk,
+    regs: &mut Regs,
+    rec: &mut R,
+    word: Word,
+    row: &Quick,
+) -> bool
+    requires dbr { walk.old.dbr ≡ regs.old.dbr }
+    requires row { IsQuick row.now }
+    requires room { R.taken rec.old < 36 }
+    ensures went { IsTrue result → Addresses (R.has rec.old) (R.tells rec.new) row.now regs.old word
+        walk.old.core walk.new.core regs.new }
+    ensures grouped { IsTrue result → row.now.group ≡ group.Other → ⊥ }
+    ensures walk { IsFalse result → walk.new ≡ walk.old }
+    ensures regs { IsFalse result → regs.new ≡ regs.old }
+    ensures place { R.place rec.new ≡ R.place rec.old }
+    ensures dbr { walk.new.dbr ≡ regs.new.dbr }
+{
+    let inst = Inst::of_word(word);
+    let counting = match address_counted(walk, regs, &inst) {
+        Some(counting) => counting,
+        None => return false,
+    };
+    let tally = counting.tally;
+    rec.refer(Kind::Indirect, tally.at, 1);
+    rec.refer(Kind::Write, tally.at, 1);
+    match row.group {
+        Group::Read => read_counted(walk, regs, rec, word, row, &counting),
+        Group::Store => store_counted(walk, regs, rec, word, row, &counting),
+        _ => false,
+    }
+}
+
+/// An instruction whose tag reads an indirect word.
+#[inline(never)]
+fn chained<R: Recorder>(
+    walk: &mut Walk,
+    regs: &mut Regs,
+    rec: &mut R,
+    word: Word,
+    row: &Quick,
+) -> bool
+    requires dbr { walk.old.dbr ≡ regs.old.dbr }
+    requires row { IsQuick row.now }
+    requires room { R.taken rec.old < 36 }
+    ensures went { IsTrue result → Addresses (R.has rec.old) (R.tells rec.new) row.now regs.old word
+        walk.old.core walk.new.core regs.new }
+    ensures grouped { IsTrue result → row.now.group ≡ group.Other → ⊥ }
+    ensures walk { IsFalse result → walk.new ≡ walk.old }
+    ensures regs { IsFalse result → regs.new ≡ regs.old }
+    ensures place { R.place rec.new ≡ R.place rec.old }
+    ensures dbr { walk.new.dbr ≡ regs.new.dbr }
+{
+    let inst = Inst::of_word(word);
+    match address_through(walk, regs, &inst) {
+        None => counted(walk, regs, rec, word, row),
+        Some(through) => {
+            let last = through.last;
+            rec.refer(Kind::Indirect, through.at, through.count);
+            match last.direct {
+                Some(_) => false,
+                None => operated(walk, regs, rec, word, row, &last),
+            }
+        }
+    }
+}
+
+/// An instruction from its address on.
+#[inline(always)]
+fn addressed<R: Recorder>(
+    walk: &mut Walk,
+    regs: &mut Regs,
+    rec: &mut R,
+    word: Word,
+    row: &Quick,
+) -> bool
+    requires dbr { walk.old.dbr ≡ regs.old.dbr }
+    requires row { IsQuick row.now }
+    requires room { R.taken rec.old < 36 }
+    ensures went { IsTrue result → Addresses (R.has rec.old) (R.tells rec.new) row.now regs.old word
+        walk.old.core walk.new.core regs.new }
+    ensures grouped { IsTrue result → row.now.group ≡ group.Other → ⊥ }
+    ensures walk { IsFalse result → walk.new ≡ walk.old }
+    ensures regs { IsFalse result → regs.new ≡ regs.old }
+    ensures place { R.place rec.new ≡ R.place rec.old }
+    ensures dbr { walk.new.dbr ≡ regs.new.dbr }
+{
+    let inst = Inst::of_word(word);
+    match plain_address(regs, &inst) {
+        None => chained(walk, regs, rec, word, row),
+        Some(last) => match last.direct {
+            Some(operand) => operated_directly(walk, regs, rec, word, row, &last, operand),
+            None => operated(walk, regs, rec, word, row, &last),
+        },
+    }
+}
+
+/// The instruction in a word.
+#[inline(always)]
+fn decoded<R: Recorder>(walk: &mut Walk, regs: &mut Regs, rec: &mut R, word: Word) -> bool
+    requires dbr { walk.old.dbr ≡ regs.old.dbr }
+    requires room { R.taken rec.old < 36 }
+    ensures went { IsTrue result → Decodes (R.has rec.old) (R.tells rec.new) regs.old word
+        walk.old.core walk.new.core regs.new }
+    ensures no_ldbr { IsTrue result → IsNoLdbr word }
+    ensures walk { IsFalse result → walk.new ≡ walk.old }
+    ensures regs { IsFalse result → regs.new ≡ regs.old }
+    ensures place { R.place rec.new ≡ R.place rec.old }
+    ensures dbr { walk.new.dbr ≡ regs.new.dbr }
+{
+    let row = quick_row(word);
+    addressed(walk, regs, rec, word, row)
+}
+
+/// The instruction at a place.
+#[inline(always)]
+fn fetched<R: Recorder>(walk: &mut Walk, regs: &mut Regs, rec: &mut R, place: u32) -> bool
+    requires dbr { walk.old.dbr ≡ regs.old.dbr }
+    requires inside { place < length walk.old.core }
+    requires serves { ServesWord (λ g. g.ppr.prr ≡ regs.old.ppr.prr) Fetch walk.old walk.old.core
+        (here regs.old) (Ok (slice_index walk.old.core place)) }
+    requires room { R.taken rec.old < 35 }
+    ensures went { IsTrue result → Steps (R.has rec.old) (R.tells rec.new) regs.old walk.old.core
+        walk.new.core regs.new }
+    ensures walk { IsFalse result → walk.new ≡ walk.old }
+    ensures regs { IsFalse result → regs.new ≡ regs.old }
+    ensures place { R.place rec.new ≡ R.place rec.old }
+    ensures dbr { walk.new.dbr ≡ regs.new.dbr }
+{
+    let word = walk.peek(place);
+    rec.refer(Kind::Fetch, regs.here(), 1);
+    decoded(walk, regs, rec, word)
+}
+
+/// A quick step whose instruction lies in another page than the one before it.
+#[inline(never)]
+fn quick_elsewhere<R: Recorder>(walk: &mut Walk, regs: &mut Regs, rec: &mut R) -> bool
+    requires dbr { walk.old.dbr ≡ regs.old.dbr }
+    requires room { R.taken rec.old < 35 }
+    ensures went { IsTrue result → Steps (R.has rec.old) (R.tells rec.new) regs.old walk.old.core
+        walk.new.core regs.new }
+    ensures walk { IsFalse result → walk.new ≡ walk.old }
+    ensures regs { IsFalse result → regs.new ≡ regs.old }
+    ensures place { R.place rec.new ≡ R.place rec.old }
+    ensures dbr { walk.new.dbr ≡ regs.new.dbr }
+{
+    match walk.quick_refetch(regs.here()) {
+        Some(place) => fetched(walk, regs, rec, place),
+        None => false,
+    }
+}
+
+/// One step, where pages in front answer all its references and nothing refuses it. False says that it is another, and then
+/// nothing has changed but what stands in the recorder.
+#[inline(always)]
+pub(crate) fn quick<R: Recorder>(walk: &mut Walk, regs: &mut Regs, rec: &mut R) -> bool
+    requires dbr { walk.old.dbr ≡ regs.old.dbr }
+    requires room { R.taken rec.old < 35 }
+    ensures went { IsTrue result → Steps (R.has rec.old) (R.tells rec.new) regs.old walk.old.core
+        walk.new.core regs.new }
+    ensures walk { IsFalse result → walk.new ≡ walk.old }
+    ensures regs { IsFalse result → regs.new ≡ regs.old }
+    ensures place { R.place rec.new ≡ R.place rec.old }
+    ensures dbr { walk.new.dbr ≡ regs.new.dbr }
+{
+    match walk.quick_fetch(regs.here()) {
+        Some(place) => fetched(walk, regs, rec, place),
+        None => quick_elsewhere(walk, regs, rec),
+    }
+}

@@ -1,0 +1,232 @@
+//! Quick operations on pairs, calls and returns.
+
+ghost use Rattle.std.specs.Prelude.{◌≡◌, ◌<◌, ◌^◌, None, IsTrue, IsFalse};
+ghost use Rattle.m36_inst.specs.Quick.{IsQuick};
+ghost use Rattle.m36_inst.specs.declared.rows.Group.TheVariants as group;
+ghost use Rattle.m36_step.specs.Quick.{Operates};
+
+use crate::recorder::Recorder;
+use crate::references::final_at;
+use m36_inst::Quick;
+use m36_model::{At, Final, Kind, Regs};
+use m36_walk::{Walk, first_at};
+use m36_word::Word;
+
+/// An instruction that reads a pair.
+#[inline(always)]
+pub(crate) fn pair_operand<R: Recorder>(
+    walk: &mut Walk,
+    regs: &mut Regs,
+    rec: &mut R,
+    word: Word,
+    row: &Quick,
+    last: &Final,
+) -> bool
+    requires dbr { walk.old.dbr ≡ regs.old.dbr }
+    requires row { IsQuick row.now }
+    requires group { row.now.group ≡ group.ReadPair }
+    requires plain { last.now.direct ≡ None }
+    requires room { R.taken rec.old < 39 }
+    ensures went { IsTrue result → Operates (R.has rec.old) (R.tells rec.new) row.now regs.old word
+        last.now walk.old.core walk.new.core regs.new }
+    ensures walk { IsFalse result → walk.new ≡ walk.old }
+    ensures regs { IsFalse result → regs.new ≡ regs.old }
+    ensures place { R.place rec.new ≡ R.place rec.old }
+    ensures dbr { walk.new.dbr ≡ regs.new.dbr }
+{
+    let at = final_at(last);
+    let place = match walk.quick_read_pair(at) {
+        Some((place, _)) => place,
+        None => return false,
+    };
+    let operand = walk.peek_pair(place);
+    if !m36_frequent::read_pair(row.effect, regs, operand) {
+        return false;
+    }
+    rec.refer(Kind::Read, first_at(at, 2), 2);
+    rec.end(word, last);
+    true
+}
+
+/// An instruction that stores a pair.
+#[inline(always)]
+#[tactic(auto, unfolding(m36_walk::specs::Runs::LiesIn, m36_model::specs::Place::wrapped))]
+pub(crate) fn stored_pair<R: Recorder>(
+    walk: &mut Walk,
+    regs: &mut Regs,
+    rec: &mut R,
+    word: Word,
+    row: &Quick,
+    last: &Final,
+) -> bool
+    requires dbr { walk.old.dbr ≡ regs.old.dbr }
+    requires row { IsQuick row.now }
+    requires group { row.now.group ≡ group.StorePair }
+    requires plain { last.now.direct ≡ None }
+    requires room { R.taken rec.old < 39 }
+    ensures went { IsTrue result → Operates (R.has rec.old) (R.tells rec.new) row.now regs.old word
+        last.now walk.old.core walk.new.core regs.new }
+    ensures walk { IsFalse result → walk.new ≡ walk.old }
+    ensures regs { IsFalse result → regs.new ≡ regs.old }
+    ensures place { R.place rec.new ≡ R.place rec.old }
+    ensures dbr { walk.new.dbr ≡ regs.new.dbr }
+{
+    let at = final_at(last);
+    let place = match walk.quick_write_pair(at) {
+        Some(place) => place,
+        None => return false,
+    };
+    let _size = walk.core().len(); // at most 2^24, so both places are below it
+    let stored = m36_frequent::store_pair(row.effect, regs);
+    walk.store_pair(place, stored);
+    rec.refer(Kind::Write, first_at(at, 2), 2);
+    rec.end(word, last);
+    true
+}
+
+/// CALL6.
+#[inline(always)]
+fn called<R: Recorder>(
+    walk: &mut Walk,
+    regs: &mut Regs,
+    rec: &mut R,
+    word: Word,
+    row: &Quick,
+    last: &Final,
+) -> bool
+    requires dbr { walk.old.dbr ≡ regs.old.dbr }
+    requires row { IsQuick row.now }
+    requires group { row.now.group ≡ group.Call }
+    requires plain { last.now.direct ≡ None }
+    requires room { R.taken rec.old < 39 }
+    ensures went { IsTrue result → Operates (R.has rec.old) (R.tells rec.new) row.now regs.old word
+        last.now walk.old.core walk.new.core regs.new }
+    ensures walk { IsFalse result → walk.new ≡ walk.old }
+    ensures regs { IsFalse result → regs.new ≡ regs.old }
+    ensures place { R.place rec.new ≡ R.place rec.old }
+    ensures dbr { walk.new.dbr ≡ regs.new.dbr }
+{
+    let ring = match walk.call(final_at(last), regs.ppr) {
+        Ok(ring) => ring,
+        Err(_fault) => return false,
+    };
+    m36_xfer::enter(regs, last, ring);
+    rec.end(word, last);
+    true
+}
+
+/// RTCD.
+#[inline(always)]
+fn returned<R: Recorder>(
+    walk: &mut Walk,
+    regs: &mut Regs,
+    rec: &mut R,
+    word: Word,
+    row: &Quick,
+    last: &Final,
+) -> bool
+    requires dbr { walk.old.dbr ≡ regs.old.dbr }
+    requires row { IsQuick row.now }
+    requires group { row.now.group ≡ group.Return }
+    requires plain { last.now.direct ≡ None }
+    requires room { R.taken rec.old < 39 }
+    ensures went { IsTrue result → Operates (R.has rec.old) (R.tells rec.new) row.now regs.old word
+        last.now walk.old.core walk.new.core regs.new }
+    ensures walk { IsFalse result → walk.new ≡ walk.old }
+    ensures regs { IsFalse result → regs.new ≡ regs.old }
+    ensures place { R.place rec.new ≡ R.place rec.old }
+    ensures dbr { walk.new.dbr ≡ regs.new.dbr }
+{
+    let at = final_at(last);
+    let (place, ring) = match walk.quick_read_pair(at) {
+        Some(found) => found,
+        None => return false,
+    };
+    let pair = walk.peek_pair(place);
+    m36_xfer::leave(regs, last, pair, ring);
+    rec.refer(Kind::Read, first_at(at, 2), 2);
+    rec.end(word, last);
+    true
+}
+
+/// CALL6, by the parts of its final address.
+#[inline(never)]
+pub(crate) fn called_at<R: Recorder>(
+    walk: &mut Walk,
+    regs: &mut Regs,
+    rec: &mut R,
+    word: Word,
+    row: &Quick,
+    seg: u16,
+    number: u32,
+    ring: u8,
+    bit: u8,
+) -> bool
+    requires dbr { walk.old.dbr ≡ regs.old.dbr }
+    requires row { IsQuick row.now }
+    requires group { row.now.group ≡ group.Call }
+    requires seg { seg < 2 ^ 15 }
+    requires number { number < 2 ^ 18 }
+    requires ring { ring < 2 ^ 3 }
+    requires bit { bit < 2 ^ 6 }
+    requires room { R.taken rec.old < 39 }
+    ensures went { IsTrue result → Operates (R.has rec.old) (R.tells rec.new) row.now regs.old word
+        (record { at = record { seg = seg; word = number; ring = ring }; bit = bit; direct = None })
+        walk.old.core walk.new.core regs.new }
+    ensures walk { IsFalse result → walk.new ≡ walk.old }
+    ensures regs { IsFalse result → regs.new ≡ regs.old }
+    ensures place { R.place rec.new ≡ R.place rec.old }
+    ensures dbr { walk.new.dbr ≡ regs.new.dbr }
+{
+    let last = Final {
+        direct: None,
+        at: At {
+            word: number,
+            seg,
+            ring,
+        },
+        bit,
+    };
+    called(walk, regs, rec, word, row, &last)
+}
+
+/// RTCD, by the parts of its final address.
+#[inline(never)]
+pub(crate) fn returned_at<R: Recorder>(
+    walk: &mut Walk,
+    regs: &mut Regs,
+    rec: &mut R,
+    word: Word,
+    row: &Quick,
+    seg: u16,
+    number: u32,
+    ring: u8,
+    bit: u8,
+) -> bool
+    requires dbr { walk.old.dbr ≡ regs.old.dbr }
+    requires row { IsQuick row.now }
+    requires group { row.now.group ≡ group.Return }
+    requires seg { seg < 2 ^ 15 }
+    requires number { number < 2 ^ 18 }
+    requires ring { ring < 2 ^ 3 }
+    requires bit { bit < 2 ^ 6 }
+    requires room { R.taken rec.old < 39 }
+    ensures went { IsTrue result → Operates (R.has rec.old) (R.tells rec.new) row.now regs.old word
+        (record { at = record { seg = seg; word = number; ring = ring }; bit = bit; direct = None })
+        walk.old.core walk.new.core regs.new }
+    ensures walk { IsFalse result → walk.new ≡ walk.old }
+    ensures regs { IsFalse result → regs.new ≡ regs.old }
+    ensures place { R.place rec.new ≡ R.place rec.old }
+    ensures dbr { walk.new.dbr ≡ regs.new.dbr }
+{
+    let last = Final {
+        direct: None,
+        at: At {
+            word: number,
+            seg,
+            ring,
+        },
+        bit,
+    };
+    returned(walk, regs, rec, word, row, &last)
+}

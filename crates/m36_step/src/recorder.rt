@@ -1,0 +1,91 @@
+//! What a step leaves of itself: its references, and how it ended.
+
+ghost use Rattle.std.specs.Prelude.{ℕ, ◌≡◌, ◌+◌, ◌<◌, ◌≤◌, List, [], ◌∷◌, ◌++◌};
+ghost use Rattle.m36_model.specs.declared.place.Reference.{Reference};
+ghost use Rattle.m36_step.specs.Quick.{next_end};
+
+use m36_model::{At, Final, Kind, Outcome, Reference, StepRecord};
+use m36_word::Word;
+
+/// Notes the references of a quick step as it goes, and its end. What stands in it after a step that was not quick does not
+/// matter.
+pub(crate) trait Recorder {
+    ghost use Rattle.std.specs.Prelude.{ℕ, List};
+    ghost use Rattle.m36_model.specs.Fields.{PprFields};
+    ghost use Rattle.m36_model.specs.declared.place.Reference.{Reference};
+    ghost use Rattle.m36_step.specs.declared.ended.Ended.{Ended};
+
+    /// How many references it has room for no more.
+    ghost taken: { Self → ℕ };
+
+    /// Where the instruction stood, if it says so.
+    ghost place: { Self → PprFields };
+
+    /// What it says once these references are completed.
+    ghost has: { Self → List Reference → Type 0 };
+
+    /// What it says once the step has ended so, with these references.
+    ghost tells: { Self → List Reference → Ended → Type 0 };
+
+    /// Adds a completed reference.
+    fn refer(&mut self, kind: Kind, at: At, count: u8)
+        requires { taken self.old < 40 }
+        ensures has { (refs : List Reference) → has self.old refs
+            → has self.new (refs ++ record { kind = kind; at = at; count = count } ∷ []) }
+        ensures taken { taken self.new ≤ taken self.old + 1 }
+        ensures place { place self.new ≡ place self.old };
+
+    /// Notes the end of a step that goes on.
+    fn end(&mut self, word: Word, last: &Final)
+        ensures tells { (refs : List Reference) → has self.old refs
+            → tells self.new refs (next_end word last.now) }
+        ensures place { place self.new ≡ place self.old };
+}
+
+/// A recorder that notes nothing.
+#[derive(Clone, Copy)]
+pub(crate) struct Untold;
+
+impl Recorder for Untold {
+    ghost use Rattle.std.specs.Prelude.{ℕ, List};
+    ghost use Rattle.m36_model.specs.Fields.{PprFields};
+
+    ghost taken = { λ _. 0 };
+
+    ghost place = { λ _. record { psr = 0; prr = 0; ic = 0 } };
+
+    ghost has = { λ _ _. Unit {0} };
+
+    ghost tells = { λ _ _ _. Unit {0} };
+
+    #[inline(always)]
+    fn refer(&mut self, _kind: Kind, _at: At, _count: u8) {}
+
+    #[inline(always)]
+    fn end(&mut self, _word: Word, _last: &Final) {}
+}
+
+impl Recorder for StepRecord {
+    ghost use Rattle.std.specs.Prelude.{◌≡◌, length};
+    ghost use Rattle.m36_step.specs.Ended.{ended_of};
+
+    ghost taken = { λ told. length told.refs.items };
+
+    ghost place = { λ told. told.ppr };
+
+    ghost has = { λ told refs. told.refs.items ≡ refs };
+
+    ghost tells = { λ told refs e. (told.refs.items ≡ refs) × (ended_of told ≡ e) };
+
+    #[inline(always)]
+    fn refer(&mut self, kind: Kind, at: At, count: u8) {
+        self.refs.push(Reference { at, kind, count });
+    }
+
+    #[inline(always)]
+    fn end(&mut self, word: Word, last: &Final) {
+        self.word = Some(word);
+        self.at = Some(*last);
+        self.outcome = Outcome::Next;
+    }
+}

@@ -1,0 +1,84 @@
+//! A step of which no more is told than a line shows: its word, the final address, its outcome and where it stood.
+
+ghost use Rattle.std.specs.Prelude.{ℕ, ◌≡◌, ◌<◌, ◌≤◌, List, [], ◌∷◌, ◌++◌};
+ghost use Rattle.m36_model.specs.Core.{core_store};
+ghost use Rattle.m36_model.specs.Shown.{shown_of};
+ghost use Rattle.m36_model.specs.Step.{record_of, state_after};
+ghost use Rattle.m36_model.specs.declared.place.Reference.{Reference};
+ghost use Rattle.m36_step.specs.Quick.{next_end};
+ghost use Rattle.m36_step.specs.Shown.{EndsShown, shown_end};
+
+use crate::execute::execute;
+use crate::quick::quick;
+use crate::recorder::Recorder;
+use m36_model::{At, Final, Kind, Outcome, Refs, Regs, Shown};
+use m36_walk::Walk;
+use m36_word::Word;
+
+impl Recorder for Shown {
+    ghost use Rattle.std.specs.Prelude.{◌≡◌};
+    ghost use Rattle.m36_step.specs.Shown.{shown_end};
+
+    ghost taken = { λ _. 0 };
+
+    ghost place = { λ shown. shown.ppr };
+
+    ghost has = { λ _ _. Unit {0} };
+
+    ghost tells = { λ shown _ e. shown_end shown ≡ e };
+
+    #[inline(always)]
+    fn refer(&mut self, _kind: Kind, _at: At, _count: u8) {}
+
+    #[inline(always)]
+    fn end(&mut self, word: Word, last: &Final) {
+        self.word = Some(word);
+        self.at = Some(*last);
+        self.outcome = Outcome::Next;
+    }
+}
+
+/// A step that is not quick.
+#[inline(never)]
+fn shown_else(walk: &mut Walk, regs: &mut Regs, shown: &mut Shown)
+    requires dbr { walk.old.dbr ≡ regs.old.dbr }
+    ensures ends { EndsShown regs.old walk.old.core walk.new.core regs.new (shown_end shown.new) }
+    ensures ppr { shown.new.ppr ≡ shown.old.ppr }
+    ensures dbr { walk.new.dbr ≡ regs.new.dbr }
+{
+    let mut refs = Refs::new();
+    let ended = execute(walk, regs, &mut refs);
+    shown.word = ended.word;
+    shown.at = ended.at;
+    shown.outcome = ended.outcome;
+}
+
+/// One step, shown but for where its instruction stood.
+#[inline(always)]
+fn shown_step(walk: &mut Walk, regs: &mut Regs, shown: &mut Shown)
+    requires dbr { walk.old.dbr ≡ regs.old.dbr }
+    ensures ends { EndsShown regs.old walk.old.core walk.new.core regs.new (shown_end shown.new) }
+    ensures ppr { shown.new.ppr ≡ shown.old.ppr }
+    ensures dbr { walk.new.dbr ≡ regs.new.dbr }
+{
+    if quick(walk, regs, shown) {
+        return;
+    }
+    shown_else(walk, regs, shown)
+}
+
+/// One step of a walk and registers with the same descriptor segment base register. It is shown in what an earlier step may
+/// have filled.
+pub(crate) fn take_shown(walk: &mut Walk, regs: &mut Regs, shown: &mut Shown)
+    requires dbr { walk.old.dbr ≡ regs.old.dbr }
+    ensures shown { shown.new ≡ shown_of
+        (record_of core_store (record { regs = regs.old; store = walk.old.core })) }
+    ensures after { regs.new
+        ≡ (record_of core_store (record { regs = regs.old; store = walk.old.core })).after }
+    ensures state { record { regs = regs.new; store = walk.new.core }
+        ≡ state_after core_store (record { regs = regs.old; store = walk.old.core }) }
+    ensures dbr { walk.new.dbr ≡ regs.new.dbr }
+{
+    shown.ppr = regs.ppr;
+    shown_step(walk, regs, shown)
+}
