@@ -1,28 +1,32 @@
 //! The program `m36_bench`: how many steps the machine takes in a second.
 //!
 //! It lays two loops into core, a simple one of six instructions and a mixed one of fourteen, once in an unpaged segment and
-//! once in a paged one. It takes steps of a loop without and with trace lines, which are made and measured but not written, and
-//! prints a line for each run. The last word of the command line but `mixed` is the count of steps, in decimal: then the simple
-//! loop is run, or with the word `mixed` the mixed one, and the line has the steps a second. With no word it takes 1,000 steps of
-//! each, and prints the same every time.
+//! once in a paged one. It takes steps of a loop without and with trace lines, which are made in a block and counted but not
+//! written, and quiet ones, of which no record is made, and prints a line for each run. The last word of the command line but
+//! `mixed` and `quiet` is the count of steps, in decimal: then the simple loop is run, or with the word `mixed` the mixed one,
+//! with the word `quiet` by quiet steps alone, and the line has the steps a second. With no word it takes 1,000 steps of each,
+//! and prints the same every time.
 #![tactic(auto)]
 
 mod image;
+mod lines;
 mod running;
 
 use image::{Loop, counted, machine};
 use m36_step::Machine;
-use running::{Taken, with_lines, without_lines};
+use running::{Taken, quietly, with_lines, without_lines};
 use std::io::Print;
 use std::rt::{Clock, Env};
 use std::time::Instant;
 use std::{env, io};
 
-/// What the words ask for: the steps, None where the last word but `mixed` is no number, and the mixed loop.
+/// What the words ask for: the steps, None where the last word but `mixed` and `quiet` is no number, the mixed loop, and quiet
+/// steps.
 #[derive(Clone, Copy)]
 struct Asked {
     steps: Option<u64>,
     mixed: bool,
+    quiet: bool,
 }
 
 /// What is asked for with one more word.
@@ -30,12 +34,17 @@ fn with_word(asked: Asked, word: &str) -> Asked {
     if word == "mixed" {
         Asked {
             mixed: true,
-            steps: asked.steps,
+            ..asked
+        }
+    } else if word == "quiet" {
+        Asked {
+            quiet: true,
+            ..asked
         }
     } else {
         Asked {
             steps: word.parse::<u64>().ok(),
-            mixed: asked.mixed,
+            ..asked
         }
     }
 }
@@ -44,6 +53,7 @@ fn read_words(rt: &(impl Env + AllocGlobal)) -> io::Result<Asked> {
     let mut asked = Asked {
         steps: None,
         mixed: false,
+        quiet: false,
     };
     for arg in env::args(rt)?.skip(1) {
         asked = with_word(asked, arg.as_str());
@@ -51,13 +61,21 @@ fn read_words(rt: &(impl Env + AllocGlobal)) -> io::Result<Asked> {
     Ok(asked)
 }
 
-/// A run: the steps that are asked for, the loop, the kind of its segment, and whether lines are made.
+/// What is made of each step: a record, its line too, or nothing.
+#[derive(Clone, Copy)]
+enum Made {
+    Record,
+    Line,
+    Nothing,
+}
+
+/// A run: the steps that are asked for, the loop, the kind of its segment, and what is made of each step.
 #[derive(Clone, Copy)]
 struct Run {
     asked: Option<u64>,
     chosen: Loop,
     paged: bool,
-    lines: bool,
+    made: Made,
 }
 
 /// How a run went.
@@ -70,10 +88,10 @@ struct Went {
 
 fn take_steps(machine: &mut Machine, run: Run) -> Taken {
     let steps = run.asked.unwrap_or(1000);
-    if run.lines {
-        with_lines(machine, steps)
-    } else {
-        without_lines(machine, steps)
+    match run.made {
+        Made::Record => without_lines(machine, steps),
+        Made::Line => with_lines(machine, steps),
+        Made::Nothing => quietly(machine, steps),
     }
 }
 
@@ -96,19 +114,24 @@ fn print_steps(rt: &(impl Print + AllocGlobal), run: Run, went: Went) -> io::Res
         Loop::Simple => "",
         Loop::Mixed => "mixed, ",
     };
+    let quiet = match run.made {
+        Made::Nothing => "quiet, ",
+        _ => "",
+    };
     let name = if run.paged { "paged" } else { "unpaged" };
     let steps = went.taken.steps;
     let turns = went.turns;
-    print!(rt; "{mixed}{name}: {steps} steps, counted {turns}")
+    print!(rt; "{mixed}{quiet}{name}: {steps} steps, counted {turns}")
 }
 
 /// Prints how long the lines are, where they are made.
 fn print_lines(rt: &(impl Print + AllocGlobal), run: Run, went: Went) -> io::Result<()> {
-    if run.lines {
-        let bytes = went.taken.bytes;
-        print!(rt; ", lines of {bytes} bytes")
-    } else {
-        Ok(())
+    match run.made {
+        Made::Line => {
+            let bytes = went.taken.bytes;
+            print!(rt; ", lines of {bytes} bytes")
+        }
+        _ => Ok(()),
     }
 }
 
@@ -149,19 +172,53 @@ fn report<R: Print + Clock + AllocGlobal>(rt: &R, run: Run) -> io::Result<()> {
 }
 
 /// Takes steps of a loop in both kinds of segments, without and with lines.
-fn four_reports<R: Print + Clock + AllocGlobal>(
+fn told_reports<R: Print + Clock + AllocGlobal>(
     rt: &R,
     asked: Option<u64>,
     chosen: Loop,
 ) -> io::Result<()> {
-    for (paged, lines) in [(false, false), (false, true), (true, false), (true, true)] {
+    for (paged, made) in [
+        (false, Made::Record),
+        (false, Made::Line),
+        (true, Made::Record),
+        (true, Made::Line),
+    ] {
         let run = Run {
             asked,
             chosen,
             paged,
-            lines,
+            made,
         };
         report(rt, run)?;
+    }
+    Ok(())
+}
+
+/// Takes quiet steps of a loop in both kinds of segments.
+fn quiet_reports<R: Print + Clock + AllocGlobal>(
+    rt: &R,
+    asked: Option<u64>,
+    chosen: Loop,
+) -> io::Result<()> {
+    for paged in [false, true] {
+        let run = Run {
+            asked,
+            chosen,
+            paged,
+            made: Made::Nothing,
+        };
+        report(rt, run)?;
+    }
+    Ok(())
+}
+
+/// Takes the steps of a loop that are asked for.
+fn reports<R: Print + Clock + AllocGlobal>(rt: &R, asked: Asked, chosen: Loop) -> io::Result<()> {
+    if !asked.quiet {
+        told_reports(rt, asked.steps, chosen)?;
+    }
+    if asked.quiet || asked.steps.is_none() {
+        quiet_reports(rt, asked.steps, chosen)?;
     }
     Ok(())
 }
@@ -169,10 +226,10 @@ fn four_reports<R: Print + Clock + AllocGlobal>(
 fn main(rt: HostRuntime) -> io::Result<()> {
     let asked = read_words(&rt)?;
     if !asked.mixed {
-        four_reports(&rt, asked.steps, Loop::Simple)?;
+        reports(&rt, asked, Loop::Simple)?;
     }
     if asked.mixed || asked.steps.is_none() {
-        four_reports(&rt, asked.steps, Loop::Mixed)?;
+        reports(&rt, asked, Loop::Mixed)?;
     }
     Ok(())
 }

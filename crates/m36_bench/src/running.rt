@@ -1,8 +1,8 @@
 //! Steps of the machine, without and with their trace lines.
 
+use crate::lines::Lines;
 use m36_model::{Outcome, StepRecord};
 use m36_step::Machine;
-use m36_trace::line;
 
 /// The steps that were taken, and the bytes of their lines.
 #[derive(Clone, Copy)]
@@ -14,14 +14,14 @@ pub struct Taken {
 /// Takes a step, and answers whether another may follow.
 fn goes_on(machine: &mut Machine, told: &mut StepRecord) -> bool {
     machine.step_into(told);
-    match told.outcome {
+    another_follows(told.outcome)
+}
+
+fn another_follows(outcome: Outcome) -> bool {
+    match outcome {
         Outcome::Next => true,
         _ => false,
     }
-}
-
-fn line_length(number: u64, told: &StepRecord) -> u64 {
-    line(number, told).len() as u64
 }
 
 /// Takes so many steps, or fewer where one ends the run.
@@ -35,16 +35,43 @@ pub fn without_lines(machine: &mut Machine, steps: u64) -> Taken {
     Taken { steps, bytes: 0 }
 }
 
-/// Takes so many steps, or fewer where one ends the run, and makes the line of each.
-pub fn with_lines(machine: &mut Machine, steps: u64) -> Taken {
-    let mut bytes = 0u64;
+/// Takes so many steps, or fewer where one ends the run, and tells nothing of those that are quick.
+pub fn quietly(machine: &mut Machine, steps: u64) -> Taken {
     let mut told = machine.untold();
-    for n in 0..steps {
-        let more = goes_on(machine, &mut told);
-        bytes = bytes.wrapping_add(line_length(n.wrapping_add(1), &told));
-        if !more {
-            return Taken { steps: n, bytes };
+    let mut left = steps;
+    while left > 0 {
+        let most = left.min(1 << 20) as u32;
+        left -= machine.hurry(most) as u64;
+        if left > 0 {
+            if !goes_on(machine, &mut told) {
+                return Taken {
+                    steps: steps - left,
+                    bytes: 0,
+                };
+            }
+            left -= 1;
         }
     }
-    Taken { steps, bytes }
+    Taken { steps, bytes: 0 }
+}
+
+/// Takes so many steps, or fewer where one ends the run, and makes the line of each.
+pub fn with_lines(machine: &mut Machine, steps: u64) -> Taken {
+    let mut shown = machine.unshown();
+    let mut lines = Lines::new();
+    for n in 0..steps {
+        machine.step_shown(&mut shown);
+        lines.add(n.wrapping_add(1), &shown, machine.regs());
+        let more = another_follows(shown.outcome);
+        if !more {
+            return Taken {
+                steps: n,
+                bytes: lines.bytes(),
+            };
+        }
+    }
+    Taken {
+        steps,
+        bytes: lines.bytes(),
+    }
 }

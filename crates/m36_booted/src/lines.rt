@@ -2,6 +2,7 @@
 
 ghost use Rattle.std.specs.Prelude.{◌≡◌, ◌<◌, ◌+◌, [], ◌∷◌, ◌++◌, length, None, Some, MatchOption};
 ghost use Rattle.m36_text.specs.Lines.{as_line};
+ghost use Rattle.m36_trace.specs.TraceLine.{line_of};
 ghost use Rattle.m36_step.specs.declared.turns.Turn.TheVariants as turn;
 ghost use Rattle.m36_reading.specs.Outside.{sink_of};
 ghost use Rattle.m36_booted.specs.RunText.{characters, pieces_of, finish_line};
@@ -19,7 +20,7 @@ use m36_model::{End, Fault, StepRecord};
 use m36_outside::{Block, Put, Sink};
 use m36_ran::running::add_line;
 use m36_step::{ConsoleNote, LinkNote};
-use m36_trace::line;
+use m36_trace::TraceText;
 use m36_turns::{console_line, link_line};
 
 // The fault of a reference that may not be made.
@@ -76,12 +77,29 @@ fn add_characters<S: Sink>(note: &ConsoleNote, block: &mut Block, out: &mut S) -
     }
 }
 
+// Adds the line of step n, by the parts of it that are kept.
+#[tactic(auto, using(crate::proofs::Gathering::adding))]
+fn add_trace<S: Sink>(
+    n: u64,
+    told: &StepRecord,
+    text: &mut TraceText,
+    block: &mut Block,
+    out: &mut S,
+) -> Put
+    ensures { AddsPieces result (as_line (line_of n told.now) ∷ [])
+        (block_of block.old (sink_of S.written S.taken S.faults out.old))
+        (block_of block.new (sink_of S.written S.taken S.faults out.new)) }
+{
+    m36_trace::add_step(text, n, told, block, out)
+}
+
 /// Adds what is told of a step before which so many were taken.
 #[tactic(auto, using(crate::proofs::Gathering::adding))]
 pub(crate) fn add_step<S: Sink>(
     output: RunOutput,
     taken: u32,
     told: &StepRecord,
+    text: &mut TraceText,
     block: &mut Block,
     out: &mut S,
 ) -> Put
@@ -91,7 +109,7 @@ pub(crate) fn add_step<S: Sink>(
 {
     match output {
         RunOutput::Console => Put::Done,
-        RunOutput::Trace => add_text(line(taken as u64 + 1, told), block, out),
+        RunOutput::Trace => add_trace(taken as u64 + 1, told, text, block, out),
         RunOutput::Nothing => Put::Done,
     }
 }

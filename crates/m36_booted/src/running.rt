@@ -14,6 +14,7 @@ use m36_model::{At, End, StepRecord};
 use m36_outside::{Block, Put, Sink};
 use m36_step::{Stepper, Turn};
 use m36_super::{Coming, Super};
+use m36_trace::TraceText;
 
 /// How a run has come to its end.
 #[derive(Clone, Copy)]
@@ -132,13 +133,14 @@ fn serve<S: Sink>(
 }
 
 // Takes a step before which so many were taken, with its service. The step is told in a record that an earlier one may have
-// filled.
+// filled, and of its line only what is not that of an earlier one is spelled.
 #[tactic(auto, using(crate::proofs::Serving::stepping))]
 fn take_step<S: Sink>(
     system: &mut Super,
     taken: u32,
     output: RunOutput,
     told: &mut StepRecord,
+    text: &mut TraceText,
     block: &mut Block,
     out: &mut S,
 ) -> Progress
@@ -149,7 +151,7 @@ fn take_step<S: Sink>(
         (block_of block.new (sink_of S.written S.taken S.faults out.new)) }
 {
     system.step_told(told);
-    match add_step(output, taken, told, block, out) {
+    match add_step(output, taken, told, text, block, out) {
         Put::Failed => Progress::Cut,
         Put::Done => serve(system, taken + 1, output, block, out),
     }
@@ -199,10 +201,11 @@ pub fn run<S: Sink>(
 {
     let mut block = Block::new();
     let mut told = system.untold();
+    let mut text = TraceText::new();
     let mut taken: u32 = 0;
     let mut left = steps;
     'steps: while left > 0 {
-        match take_step(system, taken, output, &mut told, &mut block, out) {
+        match take_step(system, taken, output, &mut told, &mut text, &mut block, out) {
             Progress::On => {}
             Progress::Over(end) => {
                 return write_end(Finish::Over(end), taken + 1, denied, &mut block, out);

@@ -11,10 +11,10 @@ ghost use Rattle.m36_ran.specs.Machine.{after};
 ghost use Rattle.m36_ran.specs.RunSays.{TurnSays, TurnHasCause, EndSays, EndTakes, RunSays, RunTakes, RunLeaves, EndedHasCause};
 
 use arrayvec::ArrayString;
-use m36_model::{Outcome, StepRecord};
+use m36_model::{Outcome, Shown};
 use m36_outside::{Block, Put, Sink};
 use m36_step::Machine;
-use m36_trace::{end_line, line};
+use m36_trace::{TraceText, add_shown, end_line};
 
 /// What one step of a run came to. Its line is written or in the block but for the last case.
 #[derive(Clone, Copy)]
@@ -72,11 +72,13 @@ pub fn finish_with<S: Sink>(block: &mut Block, mut line: ArrayString<160>, out: 
     block.finish(line.as_str().as_bytes(), out)
 }
 
-/// Takes step n of a run, and adds its line. The step is told in a record that an earlier one may have filled.
+/// Takes step n of a run, and adds its line. What the line shows of the step is told where an earlier step may have told it,
+/// and only what is not that of an earlier line is spelled.
 pub fn take_turn<S: Sink>(
     machine: &mut Machine,
     n: u64,
-    told: &mut StepRecord,
+    shown: &mut Shown,
+    text: &mut TraceText,
     block: &mut Block,
     out: &mut S,
 ) -> Turn
@@ -86,9 +88,9 @@ pub fn take_turn<S: Sink>(
     ensures ended { machine.new.ended ≡ machine.old.ended }
     ensures cause { TurnHasCause result (S.faults out.old) (S.faults out.new) }
 {
-    machine.step_into(told);
-    let outcome = told.outcome;
-    match add_line(block, line(n, told), out) {
+    machine.step_shown(shown);
+    let outcome = shown.outcome;
+    match add_shown(text, n, shown, machine.regs(), block, out) {
         Put::Failed => Turn::Cut,
         Put::Done => match outcome {
             Outcome::Next => Turn::Next,
@@ -122,22 +124,28 @@ pub fn run<S: Sink>(machine: &mut Machine, steps: u32, out: &mut S) -> Ended
     ensures cause { EndedHasCause result (S.faults out.old) (S.faults out.new) }
 {
     let mut block = Block::new();
-    let mut told = machine.untold();
+    let mut shown = machine.unshown();
+    let mut text = TraceText::new();
     let mut taken: u32 = 0;
     let mut left = steps;
     'steps: while left > 0 {
-        match take_turn(machine, taken as u64 + 1, &mut told, &mut block, out) {
+        match take_turn(
+            machine,
+            taken as u64 + 1,
+            &mut shown,
+            &mut text,
+            &mut block,
+            out,
+        ) {
             Turn::Next => {}
             Turn::Last(outcome) => {
                 let ended = put_end(&mut block, &outcome, taken as u64 + 1, out);
                 // Dropped by a call: so the drop is proved once for its type.
                 drop(block);
-                drop(told);
                 return ended;
             }
             Turn::Cut => {
                 drop(block);
-                drop(told);
                 return Ended::Cut;
             }
         }
@@ -146,6 +154,5 @@ pub fn run<S: Sink>(machine: &mut Machine, steps: u32, out: &mut S) -> Ended
     }
     let ended = put_end(&mut block, &Outcome::Next, taken as u64, out);
     drop(block);
-    drop(told);
     ended
 }

@@ -1,0 +1,51 @@
+//! Trace lines that are made in a block, counted, and not written.
+
+use m36_model::{Regs, Shown};
+use m36_outside::{Block, SureSink};
+use m36_trace::{TraceText, add_shown};
+
+/// A block of more bytes may have no room for one line more.
+const ALMOST_FULL: usize = 32_000;
+
+/// Lines that are made, and the bytes of all of them.
+#[derive(Drop)]
+pub struct Lines {
+    text: TraceText,
+    block: Block,
+    bytes: u64,
+}
+
+impl Lines {
+    /// No lines.
+    pub fn new() -> Lines {
+        Lines {
+            text: TraceText::new(),
+            block: Block::new(),
+            bytes: 0,
+        }
+    }
+
+    /// Makes the line of a step.
+    pub fn add(&mut self, number: u64, shown: &Shown, after: &Regs) {
+        if self.block.bytes().len() > ALMOST_FULL {
+            self.bytes = self.bytes();
+            self.block.clear();
+        }
+        let mut nowhere = SureSink::new();
+        let _ = add_shown(
+            &mut self.text,
+            number,
+            shown,
+            after,
+            &mut self.block,
+            &mut nowhere,
+        );
+    }
+
+    /// How many bytes the lines have without their line feeds.
+    pub fn bytes(&self) -> u64 {
+        let feeds = self.block.len() as u64;
+        let bytes = self.block.bytes().len() as u64;
+        self.bytes.wrapping_add(bytes.wrapping_sub(feeds))
+    }
+}
