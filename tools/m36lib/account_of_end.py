@@ -14,6 +14,7 @@ import tempfile
 from .folder import Boot, source_of
 from .machine import Machine, Refusal
 from .recorder import Recorder, end_text
+from .words import code_entry
 
 DEFAULT_STEPS = 100_000
 MOST_WORKED_OUT = 2_000
@@ -79,7 +80,8 @@ def sentences_of_end(program, folder, image, limit):
         return []
     turns = last_turns(program, folder, image, taken)
     services = [turn for turn in turns[1:] if hasattr(turn, "after_step")]
-    return [*step_sentences(turns[0]), *(turn.text for turn in services), end_text(line)]
+    said = [turn.text for turn in services] + refused_links(services, folder)
+    return [*step_sentences(turns[0]), *said, end_text(line)]
 
 
 def last_turns(program, folder, image, taken):
@@ -120,13 +122,14 @@ def step_sentences(step):
 
 
 def chain_sentences(account):
-    """The links of the address chain, the last ones where there are many."""
+    """The steps of finding the address, the last ones where there are many."""
     links = account.chain
     if len(links) == 1 and links[0].point.ring == account.at.ring:
         return []
     shown = links[-MOST_LINKS:]
     left_out = len(links) - len(shown)
-    found = [f"The address chain has {len(links)} links; these are the last."] if left_out else []
+    many = f"Finding the address takes {len(links)} steps; these are the last."
+    found = [many] if left_out else []
     return found + [link.text for link in shown]
 
 
@@ -136,13 +139,45 @@ def refusal_sentences(account):
     for reference in refused:
         where = ""
         if reference.link is not None:
-            where = f" This is link {reference.link + 1} of the address chain."
+            where = f" This is step {reference.link + 1} of finding the address."
         rule = f" (docs/MANUAL.md, section {reference.rule})"
         found.append(f"{reference.question} {reference.answer}{where}{rule}")
     if not refused:
         outcome = account.outcome
         found.append(f"{outcome.text} (docs/MANUAL.md, section {outcome.rule})")
     return found
+
+
+# Links that the linker refused.
+
+
+def refused_links(services, folder):
+    """Why links were refused, beyond the code."""
+    refused = [turn for turn in services if getattr(turn, "code", None)]
+    return [why_refused(turn, folder) for turn in refused]
+
+
+def why_refused(turn, folder):
+    """The bracket that keeps a ring from the segment of a link; else the sentence of the code."""
+    bracket = bracket_below(turn, folder) if turn.code == "L4" else None
+    if bracket:
+        return f"Ring {turn.ring} is above {bracket}."
+    entry = code_entry(turn.code)
+    return f"{entry.word}: {entry.sentence}; {entry.advice}"
+
+
+def bracket_below(turn, folder):
+    """The bracket that the ring of a link is above (docs/LINKS.md, "The answer"); None where the
+    boot text has several segments of the link's name."""
+    name = turn.link.partition("$")[0]
+    boot = Boot((pathlib.Path(folder) / "boot").read_text(encoding="ascii"))
+    found = [segment for segment in boot.segments if name in segment.names]
+    if len(found) != 1:
+        return None
+    (segment,) = found
+    if turn.ring > segment.r3:
+        return f"R3 = {segment.r3} of {name}"
+    return f"R2 = {segment.r2} of {name}, which has no e in its mode"
 
 
 # Rights of a user.

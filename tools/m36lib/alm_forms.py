@@ -23,7 +23,9 @@ from m36lib.alm_lines import (
 )
 from m36lib.line_forms import Finding
 from m36lib.shown import quoted
+from m36lib.table import TABLE
 
+OPERATIONS = {*OPERANDS, *(row.name for row in TABLE.values())}
 TERM_WORDS = "a term is a decimal number, a symbol, or *"
 
 
@@ -220,11 +222,13 @@ def character_refused(line, raw, column):
 
 def operation_refused(line, _raw, column):
     """E3."""
-    return Finding(
+    sentence = (
         f"{line.operation}; expected an instruction of MANUAL.md, section 9, in small letters, or "
-        "one of " + " ".join(OPERANDS),
-        column,
+        "one of " + " ".join(OPERANDS)
     )
+    if line.operand and line.operand.text.split()[0] in OPERATIONS:
+        sentence += "; a label ends with a colon"
+    return Finding(sentence, column)
 
 
 RANGES = {

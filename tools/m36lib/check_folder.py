@@ -18,7 +18,7 @@ ENDS = (
         "servant",
         ["trace"],
         (
-            "Step 14: ring 1 executes lda pr2|0,* at gate_$fetch+1 (gate_.alm, line 4).",
+            "Step 14: ring 1 executes lda pr2|0,* at gate_|1 (gate_.alm, line 4).",
             "PR2 with the offset 0 points to main$start+12, in ring 4: the ring is the greater of "
             "1, which executes, and 4 in PR2.",
             "points to secret|0, in ring 4: the ring is the greatest of 4 so far, 0 in the pair, "
@@ -124,7 +124,8 @@ def check_names(program, top):
     names, sources = FolderNames(program, folder), Sources(program, folder)
     pairs = (
         (names.word(0o101, 0), "gate_$fetch"),
-        (names.word(0o101, 1), "gate_$fetch+1"),
+        (names.word(0o101, 1), "gate_|1"),
+        (names.word(0o100, 1), "main$start+1"),
         (names.word(0o102, 0o12), "secret|12"),
         (names.word(0o14, 0o100), "stack_4|100"),
         (names.word(0o24, 0o2010), "linkage_4|2010"),

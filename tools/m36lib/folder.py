@@ -80,6 +80,11 @@ def ring_segment(ring, blocks):
     return Sdw(0, ring, ring, ring, True, 0, blocks - 1, True, False, True, False, False, True, 0)
 
 
+def entry_bound(words):
+    """The entry bound of an object: the words before it can be called from higher rings."""
+    return upper(words[-2])
+
+
 def catalog_segment(segment, words):
     """The descriptor of a segment of the catalog."""
     mode = segment.mode
@@ -98,7 +103,7 @@ def catalog_segment(segment, words):
         privileged="p" in mode,
         unpaged=False,
         no_gate=not gate,
-        limit=upper(words[-2]) if gate else 0,
+        limit=entry_bound(words) if gate else 0,
     )
 
 
@@ -191,15 +196,18 @@ def source_of(program, folder, name):
 
 
 class FolderNames(Names):
-    """Names of segments and words: `gate_$fetch+1`, `main|12`, `stack_4|100`, `linkage_4|2010`.
+    """Names of segments and words: `main$start+1`, `gate_|1`, `stack_4|100`, `linkage_4|2010`.
 
-    The definitions of a file are printed when the first word of it is named."""
+    The entries of a gate are jumps, so a word after its entry bound belongs to none of them: it is
+    named after a definition that is there too, or by its number. The definitions of a file are
+    printed when the first word of it is named."""
 
     def __init__(self, program, folder):
         self.program = program
         self.path = folder.path
         self.segments = {}
         self.files = {}
+        self.entry_bounds = {}
         self.printed = {}
         self.known = {}
         for ring in range(8):
@@ -209,6 +217,8 @@ class FolderNames(Names):
             self.segments[segment.number] = segment.name
             if segment.kind != "data":
                 self.files[segment.number] = segment.file
+            if segment.kind == "gate":
+                self.entry_bounds[segment.number] = entry_bound(folder.files[segment.file])
 
     def segment(self, number):
         return self.segments.get(number) or super().segment(number)
@@ -232,7 +242,9 @@ class FolderNames(Names):
         name = self.segments.get(segment)
         if name is None:
             return super().word(segment, word)
-        before = [(place, entry) for place, entry in self.entries(segment) if place <= word]
+        bound = self.entry_bounds.get(segment, 0)
+        first = bound if word >= bound else 0
+        before = [pair for pair in self.entries(segment) if first <= pair[0] <= word]
         if not before:
             return f"{name}|{word:o}"
         place, entry = before[-1]

@@ -19,7 +19,7 @@ FORMAT = 1
 
 @dataclass(frozen=True)
 class Spot:
-    """Where an instruction is: ring of execution, segment and word, as `gate_$fetch+1` or
+    """Where an instruction is: ring of execution, segment and word, as `main$start+1` or
     `main|000005`, and the line of a source, where there is one."""
 
     ring: int
