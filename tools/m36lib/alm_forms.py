@@ -226,7 +226,7 @@ def operation_refused(line, _raw, column):
         f"{line.operation}; expected an instruction of MANUAL.md, section 9, in small letters, or "
         "one of " + " ".join(OPERANDS)
     )
-    if line.operand and line.operand.text.split()[0] in OPERATIONS:
+    if line.operand and re.split("[ \t]", line.operand.text)[0] in OPERATIONS:
         sentence += "; a label ends with a colon"
     return Finding(sentence, column)
 

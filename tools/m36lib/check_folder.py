@@ -38,6 +38,7 @@ ENDS = (
             "points to linkage_4|2010, in ring 4",
             "has the tag 46, which is a fault tag. A link has it until it is snapped.",
             "refuses the link secret$ at linkage_4|2010 with the code L4.",
+            "Ring 4 is above R3 = 1 of secret.",
             "after 1 step: link L4.",
         ),
     ),

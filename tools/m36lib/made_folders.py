@@ -144,6 +144,52 @@ start:  mme     0
 """,
     ("Step 1: ring 4 executes mme 0", "MME gives its fault.", "fault 2, MME."),
 )
+REFUSED_STEP = MadeFolder(
+    "an indirect word beyond the bound",
+    boot("re 4 4 4", "rw 4 4 4", 4),
+    """        entry   start
+start:  lda     pair,*
+        even
+pair:   oct     000101400043,000040000020
+""",
+    ("May ring 4 read data|40? No, access violation 15: word 40 is past the bound, and the last "
+     "word is 37. This is step 3 of finding the address.", "fault 20.15"),
+)
+SIX_STEPS = MadeFolder(
+    "five indirect words",
+    boot("re 4 4 4", "rw 4 4 4", 4),
+    """        entry   start
+start:  lda     one,*
+one:    zero    two,16
+two:    zero    three,16
+three:  zero    four,16
+four:   zero    five,16
+five:   zero    1024,0
+""",
+    ("Finding the address takes 6 steps; these are the last.", "fault 20.15, access violation 15."),
+)
+
+
+def refused_link(name, data, operand, *end):
+    """A folder whose first instruction has a link that is refused."""
+    source = f"        entry   start\nstart:  lda     {operand}\n"
+    return MadeFolder(name, boot("re 4 4 4", data, 4), source, end)
+
+
+LINKS = (
+    refused_link(
+        "a ring above R3", "rw 1 1 3", "data$", "code L4.", "Ring 4 is above R3 = 3 of data."
+    ),
+    refused_link(
+        "a ring above R2, and no e",
+        "rw 1 1 5",
+        "data$",
+        "code L4.",
+        "Ring 4 is above R2 = 1 of data, which has no e in its mode.",
+    ),
+    refused_link("no such segment", "rw 4 4 4", "none$", "L2: no directory that is searched has"),
+    refused_link("no such entry", "rw 4 4 4", "data$a", "L3: the segment that was found does not"),
+)
 
 
 def each_line():
@@ -164,4 +210,5 @@ EACH = MadeFolder(
     ("Step 1: ring 4 executes drl 0", "DRL gives its fault.", "fault 6, DRL."),
 )
 
-FOLDERS = (EACH, RIGHTS, LOADED, ABSENT, TOO_MUCH, UNREAD, STRANGE, MOST, OUTER, MASTER)
+ENDED = (RIGHTS, LOADED, ABSENT, TOO_MUCH, UNREAD, STRANGE, MOST, OUTER, MASTER)
+FOLDERS = (EACH, *ENDED, REFUSED_STEP, SIX_STEPS, *LINKS)
