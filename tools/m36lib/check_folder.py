@@ -172,7 +172,8 @@ def check_folder(program, work, show=print):
     """The number of things that are not as they should be."""
     list(cases.examples(program, work))
     top = work / "examples"
-    wrong = [*check_table(), *check_ends(program, top), *check_names(program, top), *check_user(program, top)]
+    wrong = [*check_table(), *check_ends(program, top), *check_names(program, top)]
+    wrong += check_user(program, top)
     wrong += check_made(program, work)
     for folder in ("servant", "hello", "pages", "search", "borrowed"):
         wrong += check_disassembly(program, top / folder)
