@@ -15,7 +15,7 @@ import sys
 HERE = pathlib.Path(__file__).resolve().parent
 CRATE = HERE.parents[1] / "crates/m36_inst"
 ROW = re.compile(r'\(b"([a-z0-9]+) *" (\w+) (\d) (\w+)((?: \w+)*)\)|(?<![\w"])_(?![\w"])')
-BLOCK = re.compile(r"static ROWS_(\d00)(_ON)?: .*?rows!\[(.*?)\];", re.S)
+BLOCK = re.compile(r"macro_rules! rows_(\d00)(_on)? .*?\$make!\[\$\(\$with\)\* \[(.*?)\]\]", re.S)
 HEAD = '''"""The instruction table, as make_table.py writes it from that of the program.
 
 A key is an operation code and whether bit 27 is on. Of each instruction the row has its name, what
