@@ -205,13 +205,18 @@ def check_predict(browser, case):
     for line in [line for line in lines if line.is_step]:
         go_to(tab, line.number)
         check_hidden(tab, line, end, len(case.steps()))
-        tab.press("End")
-        expect("End while predicting", state(tab)["position"], f"Step {line.number}")
+        for key in ("End", "f"):
+            tab.press(key)
+            expect(f"{key} while predicting", state(tab)["position"], f"Step {line.number}")
         tab.press("ArrowRight")
         found = state(tab)
         expect("→ shows the step", (found["position"], found["trace"]),
                (f"Step {line.number}", line.line))
         stays_after(tab, line.number)
+        tab.press("ArrowRight")
+        after = state(tab)["position"]
+        expect("a page told before its step", after if after.startswith("Before") else "", "")
+        go_to(tab, line.number)
     tab.press("p")
     count = len(case.steps())
     expect("p once more", state(tab)["position"], f"Step {count} of {count}")
@@ -232,7 +237,7 @@ def check_hidden(tab, line, end, count):
         shown += [text for text in texts if line.final in text and "PR" not in text]
     expect(f"{where}, what is shown all the same", shown, [])
     check_end_hidden(tab, where)
-    stays_after(tab, line.number)
+    stays_after(tab, line.number - 1)
 
 
 def stays_after(tab, number):

@@ -28,7 +28,18 @@ class AccountPanel {
       this.registers(hidden ? before : step.after, hidden ? new Set() : step.changed, before, step,
         hidden),
     );
+    this.scrollToRefusal();
     this.showTrace(step, hidden);
+  }
+
+  /* Begins at the top, unless what was refused is below the edge. */
+  scrollToRefusal() {
+    this.parent.scrollTop = 0;
+    const lines = this.parent.querySelectorAll(".sentences .refused, .sentences .ended");
+    if (!lines.length) return;
+    const panel = this.parent.getBoundingClientRect();
+    const below = lines[lines.length - 1].getBoundingClientRect().bottom - panel.bottom;
+    if (below > 0) this.parent.scrollTop = below + 12;
   }
 
   stepBefore(turn) {
@@ -116,11 +127,11 @@ class AccountPanel {
     return found;
   }
 
-  registers(values, changed, before, step, hidden) {
+  registers(values, changed, before, step, hidden, caption = "") {
     const names = this.run.registers;
     const rows = names.map((name, number) => [name, number]).filter(([name, number]) =>
       name !== "dbr" && values[number] !== "" && values[number] !== undefined);
-    const caption = hidden ? "Registers before the step" : "Registers after the step";
+    const when = hidden ? "Registers before the step" : "Registers after the step";
     const cell = ([name, number]) => element("div",
       { class: changed.has(number) ? "register changed" : "register", "data-register": name },
       element("span", { class: "label" }, REGISTER_LABELS[name] || name.toUpperCase()),
@@ -129,7 +140,7 @@ class AccountPanel {
         ? element("span", { class: "was" }, "was ", this.registerText(name, before[number]))
           : null);
     return element("div", { class: "registers" },
-      element("h3", {}, caption),
+      element("h3", {}, caption || when),
       element("div", { class: "wide" }, rows.filter(([name]) => WIDE.has(name)).map(cell)),
       element("div", { class: "pointers" },
         rows.filter(([name]) => name.startsWith("pr")).map(cell)),
@@ -189,7 +200,7 @@ class AccountPanel {
     const values = this.run.registersAfter(turn);
     if (!values.length) return [];
     const step = { outcome: { trace: "" }, next: null };
-    return [this.registers(values, new Set(), values, step, false)];
+    return [this.registers(values, new Set(), values, step, false, "Registers")];
   }
 }
 

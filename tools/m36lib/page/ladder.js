@@ -277,7 +277,7 @@ class Ladder {
     const isHidden = part.first > limit && !(part.box && part.first <= turn);
     part.node.setAttribute("visibility", isHidden ? "hidden" : "visible");
     if (part.box) {
-      const cut = limit !== Infinity && part.last > turn;
+      const cut = limit !== Infinity && part.last > limit;
       part.rect.setAttribute("width",
         cut ? Math.max(14, this.x(turn) + part.box.unit / 2 - part.box.x) : part.box.width);
       part.steps.setAttribute("visibility", isHidden || cut ? "hidden" : "visible");

@@ -3,6 +3,8 @@
 const MARK_TEXTS = [["page", "a page is referred to for the first time"],
   ["link", "the linker answers a link"],
   ["console", "the console writes"], ["fault", "a fault or a stop"]];
+const NUMBERS_TEXT = "Numbers are octal, except those of instructions and sources (there oct is "
+  + "octal), of steps, lines and faults.";
 
 const SIZES = [0.75, 0.85, 1, 1.15, 1.3, 1.5, 1.75];
 
@@ -84,7 +86,8 @@ class Page {
     this.dialog = element("dialog", { "aria-label": "Help" },
       element("h2", {}, "Keys"),
         element("table", {}, this.actions.map(([, label, title]) => row(label, title))),
-      element("h2", {}, "Marks in the ladder"), element("table", {}, MARK_TEXTS.map(mark)), close);
+      element("h2", {}, "Marks in the ladder"), element("table", {}, MARK_TEXTS.map(mark)),
+      element("h2", {}, "Numbers"), element("p", { class: "numbers" }, NUMBERS_TEXT), close);
     this.dialog.addEventListener("close", () => this.dialog && this.help());
     document.body.append(this.dialog);
     this.dialog.showModal();
@@ -121,8 +124,11 @@ class Page {
     return turn;
   }
 
+  /* Goes to a turn; while predicting past the pages that a step brings in, which would tell to what
+     it refers. */
   go(turn) {
-    const wanted = Math.max(0, Math.min(turn, this.run.count - 1));
+    let wanted = Math.max(0, Math.min(turn, this.run.count - 1));
+    while (this.predicts && this.isPage(wanted) && wanted < this.run.count - 1) wanted += 1;
     this.turn = wanted;
     this.isHidden = this.predicts && this.run.isStep(wanted);
     this.show();
@@ -136,7 +142,13 @@ class Page {
   }
 
   back() {
-    if (this.turn > 0) this.go(this.turn - 1);
+    let turn = this.turn - 1;
+    while (this.predicts && turn > 0 && this.isPage(turn)) turn -= 1;
+    if (turn >= 0) this.go(turn);
+  }
+
+  isPage(turn) {
+    return this.run.kind(turn) === "page";
   }
 
   end() {
@@ -158,6 +170,7 @@ class Page {
       let at = steps(turn, 1);
       while (at < run.count && ringAt(at) === ringAt(turn)) at = steps(at, 1);
       if (at < run.count) this.go(at);
+      else if (this.predicts) this.end();
       else this.say("The ring does not change any more.");
       return;
     }
@@ -169,6 +182,10 @@ class Page {
   }
 
   event() {
+    if (this.predicts) {
+      this.say("The next fault is hidden while you predict.");
+      return;
+    }
     const kinds = ["link", "fault", "answered"];
     const found = this.ladder.events
       .find(([turn, kind]) => turn > this.turn && kinds.includes(kind));
@@ -178,16 +195,16 @@ class Page {
 
   leaveLoop() {
     const turn = this.run.isStep(this.turn) ? afterLoop(this.run, this.turn) : -1;
-    if (turn >= 0) this.go(turn);
-    else this.say("This step is in no loop.");
+    if (turn < 0) this.say("This step is in no loop.");
+    else if (this.predicts && !this.run.isStep(turn)) this.end();
+    else this.go(turn);
   }
 
   togglePredict() {
     this.predicts = !this.predicts;
-    this.isHidden = this.predicts && this.run.isStep(this.turn);
     this.predictButton.setAttribute("aria-pressed", String(this.predicts));
     document.body.classList.toggle("predicts", this.predicts);
-    this.show();
+    this.go(this.turn);
   }
 
   resize(by) {
@@ -202,7 +219,7 @@ class Page {
 
   show() {
     const run = this.run, { turn, isHidden } = this;
-    const limit = this.predicts ? (isHidden ? turn - 1 : turn) : Infinity;
+    const limit = this.predicts ? (isHidden ? this.turnBefore() : turn) : Infinity;
     this.slider.max = String(this.predicts ? turn : run.count - 1);
     this.slider.value = String(turn);
     const place = this.place();
@@ -214,7 +231,15 @@ class Page {
     this.account.show(turn, isHidden);
     this.memory.show(turn, isHidden);
     this.ladder.show(turn, limit, SIZES[this.size]);
-    this.say(this.summary());
+    byId("live").textContent = this.summary();
+    byId("message").hidden = true;
+  }
+
+  /* The last turn that is known while this step is to be predicted. */
+  turnBefore() {
+    let turn = this.turn - 1;
+    while (turn >= 0 && this.isPage(turn)) turn -= 1;
+    return turn;
   }
 
   place() {
@@ -237,11 +262,15 @@ class Page {
     const reference = mainReference(step.references);
     const asked = reference && reference.kind !== "fetch"
       ? ` ${reference.question} ${reference.answer}` : "";
-    return `${head}${asked} ${step.outcome.text}`;
+    const effects = step.sentences.filter(({ part }) => part === "effect");
+    return [head + asked, ...effects.map(({ text }) => text), step.outcome.text].join(" ");
   }
 
+  /* Says why a key does nothing, to eyes and ears. */
   say(text) {
     byId("live").textContent = text;
+    byId("message").textContent = text;
+    byId("message").hidden = false;
   }
 }
 

@@ -163,7 +163,7 @@ class MemoryPanel {
       const words = this.run.segments.has(segment) ? this.run.segments.get(segment).words : 0;
       const count = Math.max(1, Math.ceil(words / 1024));
       const shown = count <= FEW_PAGES ? [...Array(count).keys()]
-        : this.touchedPages(pages, turn, segment, uses);
+        : this.touchedPages(pages, hidden ? turn - 1 : turn, segment, uses);
       cell.replaceChildren(
         ...shown.map((page) => this.square(segment, page, pages.get(page), turn, uses, hidden)),
         count > FEW_PAGES ? element("small", { title: `${count} pages` }, `/${count}`) : "");
@@ -172,9 +172,10 @@ class MemoryPanel {
 
   /* The pages that have been touched, and of many those about the last ones. */
   touchedPages(pages, turn, segment, uses) {
-    const touched = [...pages.keys()].filter((page) => pages.get(page) <= turn);
+    const isUsed = (page) => uses.has(`${segment} ${page}`);
+    const touched = [...pages.keys()].filter((page) => pages.get(page) <= turn || isUsed(page));
     touched.sort((a, b) => a - b);
-    const used = touched.findIndex((page) => uses.has(`${segment} ${page}`));
+    const used = touched.findIndex(isUsed);
     const first = Math.max(0, Math.min((used < 0 ? 0 : used) - 4, touched.length - MOST_SQUARES));
     return touched.slice(first, first + MOST_SQUARES);
   }
