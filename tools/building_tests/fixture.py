@@ -7,6 +7,10 @@ import subprocess
 import sys
 import time
 
+from building import kit
+
+# What rt says of itself here; a stand-in for rt says the same, since a build is as new as its kit.
+KIT = kit.ask("version")
 ROOT = pathlib.Path(__file__).resolve().parents[2]
 SECONDS = 600
 LEFT_OUT = shutil.ignore_patterns("out", ".git", "__pycache__")

@@ -5,9 +5,9 @@ import pathlib
 import re
 import shutil
 
-from building import kit, pages
+from building import pages
 
-from .fixture import copy_of, expect, give_kept, path_with, run
+from .fixture import KIT, copy_of, expect, give_kept, path_with, run
 
 OUT = "crates/m36/out"
 
@@ -18,7 +18,7 @@ def proved_copy(folder, program):
     began = pathlib.Path(folder) / "began"
     began.touch()
     shutil.copy(program, copy / OUT / "m36")
-    ran = run([copy / "prove", "--mark", began], copy, PATH=path_with(folder, kit.VERSION))
+    ran = run([copy / "prove", "--mark", began], copy, PATH=path_with(folder, KIT))
     expect(ran.status == 0, f"prove --mark: {ran}")
     return copy
 

@@ -5,9 +5,10 @@ import signal
 import subprocess
 import time
 
-from building import kit, proving
+from building import proving
 
-from .fixture import PROVED, copy_of, expect, path_with, processes_of, run, wait_until
+from .fixture import (KIT, PROVED, copy_of, expect, path_with, processes_of, run,
+                      wait_until)
 
 REFUSES = ("printf '== m36_word\\nlogic=proved\\n== m36_text\\nsrc/lib.rt:1:2: error: no\\n"
            "logic=not-proved\\n'; sleep 600")
@@ -16,7 +17,7 @@ REFUSES = ("printf '== m36_word\\nlogic=proved\\n== m36_text\\nsrc/lib.rt:1:2: e
 def case_refused(folder):
     """A crate that is not proved is named, with the log, and the rest is ended."""
     copy = copy_of(folder, ("crates", "tools"))
-    ran = run([copy / "prove"], copy, PATH=path_with(folder, kit.VERSION, REFUSES))
+    ran = run([copy / "prove"], copy, PATH=path_with(folder, KIT, REFUSES))
     expect(ran.status == 1 and "prove: m36_text is not proved" in ran.errors, f"{ran}")
     expect("src/lib.rt:1:2: error: no" in ran.errors and "out/m36.log" in ran.errors, f"{ran}")
     expect("m36_word is proved (1 of" in ran.errors, f"{ran}")
@@ -30,7 +31,7 @@ def case_does_not_compile(folder):
     does = ("printf '== m36_word\\nrt: m36_word: begins with what is kept\\n== m36_text\\n"
             "src/lib.rt:3:4: error[unknown-method]: no method\\n"
             "== summary\\nm36_text: failed (1)\\n'; exit 1")
-    ran = run([copy / "prove"], copy, PATH=path_with(folder, kit.VERSION, does))
+    ran = run([copy / "prove"], copy, PATH=path_with(folder, KIT, does))
     expect(ran.status == 1 and "prove: m36_text is not proved" in ran.errors, f"{ran}")
     expect("m36_text is proved" not in ran.errors and "m36_word is proved" in ran.errors, f"{ran}")
     expect("src/lib.rt:3:4: error[unknown-method]" in ran.errors, f"{ran}")
@@ -40,9 +41,9 @@ def case_in_turn(folder):
     """With one at a time each crate is proved by a command of its own, lowest first."""
     copy = copy_of(folder, ("crates", "tools"))
     (copy / "crates.txt").write_text("m36_text: m36_word\nm36_word:\nm36: m36_text\n")
-    ran = run([copy / "prove", "--jobs", "1"], copy, PATH=path_with(folder, kit.VERSION))
+    ran = run([copy / "prove", "--jobs", "1"], copy, PATH=path_with(folder, KIT))
     expect(ran.status == 1 and "m36_word is not proved" in ran.errors, f"an rt without lib: {ran}")
-    path = path_with(folder, kit.VERSION, "exit 9 ;;\n    lib | check) echo logic=proved; "
+    path = path_with(folder, KIT, "exit 9 ;;\n    lib | check) echo logic=proved; "
                      "basename $PWD >> ../../order")
     ran = run([copy / "prove", "--jobs", "1"], copy, PATH=path)
     expect(ran.status == 0 and "m36 is proved (3 of 3)" in ran.errors, f"{ran}")
@@ -53,11 +54,11 @@ def case_in_turn(folder):
 def case_not_built(folder):
     """A program that is not built is no success, nor is an rt that fails."""
     copy = copy_of(folder, ("crates", "tools"))
-    path = path_with(folder, kit.VERSION, PROVED, "echo no; exit 1")
+    path = path_with(folder, KIT, PROVED, "echo no; exit 1")
     ran = run([copy / "prove"], copy, PATH=path)
     expect(ran.status == 1 and "the program was not built" in ran.errors, f"{ran}")
     does = "printf '== summary\\nm36_top: failed (2)\\n'; exit 2"
-    ran = run([copy / "prove"], copy, PATH=path_with(folder, kit.VERSION, does))
+    ran = run([copy / "prove"], copy, PATH=path_with(folder, KIT, does))
     expect(ran.status == 1 and "m36_top is not proved: rt ended with status 2" in ran.errors,
            f"{ran}")
 
@@ -66,7 +67,7 @@ def case_changed_meanwhile(folder):
     """A source that is changed while it is proved is not proved."""
     copy = copy_of(folder, ("crates", "tools"))
     changes = f"echo >> ../m36_word/src/half.rt; {PROVED}"
-    ran = run([copy / "prove"], copy, PATH=path_with(folder, kit.VERSION, changes))
+    ran = run([copy / "prove"], copy, PATH=path_with(folder, KIT, changes))
     expect(ran.status == 1 and "a source was changed meanwhile" in ran.errors, f"{ran}")
     expect(run([copy / "tools/is-current"], copy).status == 1, "it counts as proved")
 
@@ -74,7 +75,7 @@ def case_changed_meanwhile(folder):
 def case_progress(folder):
     """A line comes at least every 10 seconds, and an interruption leaves nothing running."""
     copy = copy_of(folder, ("crates", "tools"))
-    path = path_with(folder, kit.VERSION, "sleep 601 --crate-name m36_word & sleep 601")
+    path = path_with(folder, KIT, "sleep 601 --crate-name m36_word & sleep 601")
     with subprocess.Popen([copy / "prove"], cwd=copy, stderr=subprocess.PIPE, text=True,
                           env={**os.environ, "PATH": path}) as ran:
         last, longest, until = time.monotonic(), 0.0, time.monotonic() + 13
