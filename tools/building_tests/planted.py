@@ -11,6 +11,9 @@ FAULTS = (
     ("script.line", "m36", "[ -n \"$M36_QUIET\" ] || ", ""),
     ("script.line", "tools/run-program", "\nshift", ""),
     # (which program runs, and when it is built)
+    ("script.tools", "tools/m36lib/program.py", "print(NOT_PROVED, file=sys.stderr, flush=True)",
+     "pass"),
+    ("script.tools", "tools/m36lib/program.py", "if not os.environ.get(\"M36_QUIET\")", "if True"),
     ("script.proved_first", "m36", "if ! \"$root/tools/is-current\"", "if true"),
     ("script.proved_first", "m36", "if ! \"$root/tools/is-current\"", "if false"),
     ("script.proved_first", "tools/is-current", "src specs proofs", "src specs"),

@@ -1,12 +1,14 @@
 """Which program the tools run: the one that is built at the top of the repository, or the installed
-m36. Nothing is built here, since that takes an hour."""
+m36."""
 
 import os
 import pathlib
 import shutil
 import subprocess
+import sys
 
 TOP = pathlib.Path(__file__).resolve().parents[2]
+NOT_PROVED = "m36: not proved on this machine; ./prove does that"
 
 
 class NoProgram(Exception):
@@ -35,8 +37,16 @@ def existing(path):
 
 
 def built():
-    """The program of the repository, where it is built and its sources are not newer."""
-    if subprocess.run([TOP / "tools/is-current"]).returncode:
-        raise NoProgram("the program is not proved, or is older than its sources: ./prove builds it, "
-                        "and M36_PROGRAM names another")
-    return str(TOP / "crates/m36/out/m36")
+    """The program of the repository, as ./m36 chooses it: the proved one if it is current. Otherwise
+    the one that tools/keep-unproved builds, in one to three minutes the first time; a line on
+    standard error says that it is not proved, unless M36_QUIET is set."""
+    program = TOP / "crates/m36/out/m36"
+    current = TOP / "tools/is-current"
+    if subprocess.run([current]).returncode == 0:
+        return str(program)
+    is_kept = subprocess.run([current, "--kept"]).returncode == 0
+    if not is_kept and subprocess.run([TOP / "tools/keep-unproved"]).returncode:
+        raise NoProgram("the program could not be built")
+    if not os.environ.get("M36_QUIET"):
+        print(NOT_PROVED, file=sys.stderr, flush=True)
+    return f"{program}.unproved"
