@@ -63,7 +63,8 @@ class Case:
 
     `files` are there before: their bytes, or a function that makes the file; "." is the mode of the
     folder. `written` are the files that the call changes. `streams` are redirections of a shell.
-    With `errors` None standard error is not read.
+    With `errors` None standard error is not read. `room` is the size that no file may exceed, and
+    `called` the name by which the program is called.
     """
 
     name: str
@@ -76,6 +77,8 @@ class Case:
     given: bytes = b""
     streams: str = ""
     memory: int | None = None
+    room: int | None = None
+    called: bytes = b""
     is_nobody: bool = False
 
 
@@ -88,6 +91,16 @@ def unreadable(path):
     """Makes a file that its owner may not read."""
     path.write_bytes(LEAST)
     path.chmod(0)
+
+
+def link_to(name):
+    """Returns a function that makes a symbolic link to a file of the folder."""
+    return lambda path: path.symlink_to(name)
+
+
+def second_name_of(name):
+    """Returns a function that makes a hard link to a file of the folder that is there already."""
+    return lambda path: path.hardlink_to(path.parent / name)
 
 
 def packed(words):
@@ -215,6 +228,39 @@ def rights_cases():
     )
 
 
+def file_cases():
+    """An object is written whole or not at all, and nothing else is changed."""
+    source = {"e.alm": b"", "g": b"other"}
+    written = {"e": packed(EMPTY_OBJECT_WORDS)}
+    for how, older in (
+        ("an older one", b"old"), ("a link to its source", link_to("e.alm")),
+        ("a link to another file", link_to("g")), ("a link to nothing", link_to("h")),
+        ("a second name of its source", second_name_of("e.alm")),
+    ):
+        yield Case(
+            f"Done: the object replaces {how}", ["alm", "e"], 0, b"", EMPTY_LISTING,
+            {**source, "e": older}, written,
+        )
+    yield Case(
+        "Done: a file has the first spare name", ["alm", "e"], 0, b"", EMPTY_LISTING,
+        {**source, ".m36-000": b"left"}, written,
+    )
+    fault = ["alm", "e"], 3, b"m36: WriteFault\n", b""
+    yield Case("WriteFault: a folder in place of the object", *fault, {**source, "e": folder_file})
+    yield Case("WriteFault: no room for the object", *fault, {**source, "e": b"old"}, room=40)
+
+
+def called_cases():
+    """The name by which the program is called is none of its words."""
+    yield Case(
+        "Done: called by a name that is not UTF-8", ["audit", "least"], 0, b"", b"audit yes\n",
+        {"least": LEAST}, called=b"m\xff",
+    )
+
+
 def all_cases():
     """Every case."""
-    return [*status_cases(), *usage_cases(), *stream_cases(), *rights_cases()]
+    return [
+        *status_cases(), *usage_cases(), *stream_cases(), *rights_cases(), *file_cases(),
+        *called_cases(),
+    ]

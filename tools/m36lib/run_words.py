@@ -27,7 +27,8 @@ STATUS_GROUP = group(
     ),
     (
         "WriteFault",
-        "the output, or a file, could not be written, so what is there may be a first part",
+        "the output, or a file, could not be written: of the output there may be a first part, and "
+        "the file is as it was",
         "look for a full disk, a closed pipe, or a file or folder without the right to write",
     ),
     (

@@ -9,26 +9,20 @@
 //! and that where no memory is found for the line, the same is printed in pieces, which need none.
 #![tactic(auto)]
 
+mod words;
+
 use m36_help::help;
-use m36_outside::{DirFolder, StdLines, StdSink, Text};
+use m36_outside::{DirFolder, StdLines, StdSink};
 use m36_text::decimal;
 use m36_top::{Status, m36, report};
 use m36_word::NoMemory;
-use std::env;
-use std::io::{self, ErrorKind, Write};
+use std::io::{self, Write};
 use std::process::ExitCode;
+use words::read_words;
 
-/// Does what the words behind the name of the program ask for. Words that are not UTF-8 are no command.
+/// Does what the words after the name of the program ask for.
 fn answer(rt: &HostRuntime) -> Result<Status, NoMemory> {
-    let args = match env::args(rt) {
-        Ok(args) => args,
-        Err(e) if e.kind() == ErrorKind::OutOfMemory => return Err(NoMemory),
-        Err(_) => return Ok(Status::Usage),
-    };
-    let mut words = Vec::new(rt.alloc());
-    for arg in args.skip(1) {
-        words.push(Text::from_bytes(rt.alloc(), arg.as_bytes())?)?;
-    }
+    let words = read_words(rt, rt.alloc())?;
     let mut folder = DirFolder::new(rt.clone()?);
     let mut lines = StdLines::new(rt.clone()?);
     let mut out = StdSink::new(rt.clone()?);

@@ -1,9 +1,8 @@
 -- Laws of files of which one is put in.
-use Rattle.std.proofs.Common.{◌≡◌, ℕ, true, List, Option, Some, None, inl, inr, refl, sym, ap, bytes_eq}
+use Rattle.std.proofs.Common.{◌≡◌, ℕ, true, List, Option, inl, inr, refl, bytes_eq}
 use Rattle.std.specs.Cmp.Lexicographic.{bytes_decides}
 use Rattle.std.proofs.lemmas.Bool.{cases_Bool}
 use Rattle.m36_outside.specs.Files.{Files, with_file}
-use Rattle.m36_outside.specs.WriteAnswer.{DiffersAtMost}
 
 -- the file that was put in is there
 pub with_file-same : (files : Files) (name : List ℕ) (content : Option (List ℕ)) → with_file name content files name ≡ content
@@ -20,20 +19,3 @@ with_file-other files name other content differs = elim (cases_Bool (bytes_eq ot
   | inl e ↦ absurd (differs ((bytes_decides other name).0 e))
   | inr e ↦ rw e refl
 ]
-
--- a file put in as it is changes nothing
-with_file_at : (files : Files) (name other : List ℕ) → with_file name (files name) files other ≡ files other
-unfolding with_file
-with_file_at files name other = elim (cases_Bool (bytes_eq other name)) [
-  | inl e ↦ rw e (ap files (sym ((bytes_decides other name).0 e)))
-  | inr e ↦ rw e refl
-]
-
-pub with_file_as_is : (files : Files) (name : List ℕ) → with_file name (files name) files ≡ files
-with_file_as_is files name = λ i other. with_file_at files name other i
-
--- files that are as they were differ in no file
-pub differs_by_nothing : (files : Option Files) (name : List ℕ) → DiffersAtMost files files name
-differs_by_nothing None name = record { left = None; files = refl }
-differs_by_nothing (Some files) name =
-    record { left = files name; files = ap (λ f. Some f) (sym (with_file_as_is files name)) }

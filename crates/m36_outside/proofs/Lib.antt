@@ -12,6 +12,7 @@ pub mod Grown
 pub mod LinesTaken
 mod MemoryBlocks
 mod Names
+mod Replaced
 pub mod Risen
 mod Signalled
 mod Taken

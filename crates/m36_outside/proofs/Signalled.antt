@@ -7,7 +7,7 @@ use Rattle.std.specs.declared.io.ErrorKind.{ErrorKind}
 use Rattle.std.specs.declared.io.ErrorKind.TheVariants.{NotFound, WriteZero, Interrupted}
 use Rattle.m36_outside.specs.Chunk.{AddSays, ChunkHasError}
 use Rattle.m36_outside.specs.Signals.{Signals, IsFault, GivesUp}
-use Rattle.m36_outside.specs.System.{OpenHasError, ReadHasError, FileHasError, PutHasError, refusal_of}
+use Rattle.m36_outside.specs.System.{OpenHasError, ReadHasError, PutHasError, refusal_of}
 use Rattle.m36_outside.specs.declared.folder.ReadAnswer.{ReadAnswer}
 use Rattle.m36_outside.specs.declared.folder.ReadAnswer.TheVariants as read
 use Rattle.m36_outside.specs.declared.reading.Chunk.{Chunk}
@@ -212,16 +212,3 @@ put_error_behind put.Done old new before after signals none noted =
     signals_behind old new before after signals none noted
 put_error_behind put.Failed old new before after fault none noted =
     gives_up_behind old new before after fault none noted
-
--- a file was made, and written
-pub file_has_error :
-    (answer : Put) (name : List ℕ) (old new : List ErrorKind)
-    → PutHasError answer old new → FileHasError answer name old new
-file_has_error put.Done name old new signals = signals
-file_has_error put.Failed name old new fault = record { why = inr (inl fault) }
-
--- it could not be made
-pub made_not :
-    (name : List ℕ) (kind : ErrorKind) (old new : List ErrorKind)
-    → new ≡ old ++ kind ∷ [] → FileHasError put.Failed name old new
-made_not name kind old new noted = record { why = inr (inr (kind, noted)) }

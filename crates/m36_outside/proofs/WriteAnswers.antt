@@ -1,17 +1,19 @@
 -- What the answer to a write says where it is that of a file: the folder does not tell its files.
 use Rattle.std.proofs.Common.{◌≡◌, ℕ, List, None, refl, sym, subst}
 use Rattle.std.specs.declared.io.ErrorKind.{ErrorKind}
+use Rattle.m36_outside.specs.NameCalls.{ReplaceCalls}
 use Rattle.m36_outside.specs.Put.{PutHasCause}
-use Rattle.m36_outside.specs.System.{FileHasError, NotesDone, WriteHasError, WriteTakes, write_answer_of}
+use Rattle.m36_outside.specs.System.{FileHasError, NotesWrite, WriteCalls, WriteHasError, WriteTakes, write_answer_of}
 use Rattle.m36_outside.specs.WriteAnswer.{WriteSays, WriteHasCause}
 use Rattle.m36_outside.specs.declared.folder.WriteAnswer.{WriteAnswer}
 use Rattle.m36_outside.specs.declared.folder.WriteAnswer.TheVariants as write
+use Rattle.m36_outside.specs.declared.name_calls.NameCall.{NameCall}
 use Rattle.m36_outside.specs.declared.sink.Put.{Put}
 use Rattle.m36_outside.specs.declared.sink.Put.TheVariants.{Done, Failed}
 
 says : (put : Put) (name content : List ℕ) → WriteSays (write_answer_of put) None None name content
 says Done name content = refl
-says Failed name content = record { left = None; files = refl }
+says Failed name content = refl
 
 pub write_says :
     (put : Put) (answer : WriteAnswer) (name content : List ℕ)
@@ -35,15 +37,27 @@ write_failed put answer is failed = subst (λ p. answer ≡ write_answer_of p) f
 
 takes :
     (put : Put) (old new : List (List ℕ)) (content : List ℕ)
-    → NotesDone put old new content → WriteTakes (write_answer_of put) old new content
+    → NotesWrite put old new content → WriteTakes (write_answer_of put) old new content
 takes Done old new content took = took
 takes Failed old new content took = took
 
 pub write_takes :
     (put : Put) (answer : WriteAnswer) (old new : List (List ℕ)) (content : List ℕ)
-    → answer ≡ write_answer_of put → NotesDone put old new content → WriteTakes answer old new content
+    → answer ≡ write_answer_of put → NotesWrite put old new content → WriteTakes answer old new content
 write_takes put answer old new content is took =
     subst (λ a. WriteTakes a old new content) (sym is) (takes put old new content took)
+
+calls :
+    (put : Put) (name : List ℕ) (old new : List NameCall)
+    → ReplaceCalls put name old new → WriteCalls (write_answer_of put) name old new
+calls Done name old new replaced = replaced
+calls Failed name old new kept = kept
+
+pub write_calls :
+    (put : Put) (answer : WriteAnswer) (name : List ℕ) (old new : List NameCall)
+    → answer ≡ write_answer_of put → ReplaceCalls put name old new → WriteCalls answer name old new
+write_calls put answer name old new is made =
+    subst (λ a. WriteCalls a name old new) (sym is) (calls put name old new made)
 
 error :
     (put : Put) (name : List ℕ) (old new : List ErrorKind)

@@ -10,6 +10,7 @@ pub mod Given
 pub mod MemFolder
 pub mod MemLines
 pub mod MemSink
+pub mod NameCalls
 pub mod Passing
 pub mod Piece
 pub mod Put

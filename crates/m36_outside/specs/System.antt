@@ -1,7 +1,8 @@
 -- What the calls of the system answered, as it was noted.
-use Rattle.std.specs.Prelude.{ℕ, ◌≡◌, List, [], ◌∷◌, ◌++◌, ◌⊎◌, ⊤, Contains, IsUtf8}
+use Rattle.std.specs.Prelude.{ℕ, ◌≡◌, List, [], ◌∷◌, ◌++◌, ◌⊎◌, ⊤, Contains, IsUtf8, replicate}
 use Rattle.std.specs.declared.io.ErrorKind.{ErrorKind}
-use Rattle.std.specs.declared.io.ErrorKind.TheVariants.{NotFound}
+use Rattle.std.specs.declared.io.ErrorKind.TheVariants.{NotFound, AlreadyExists}
+use Rattle.m36_outside.specs.NameCalls.{FailsBy, ReplaceCalls}
 use Rattle.m36_outside.specs.Signals.{Signals, GivesUp}
 use Rattle.m36_outside.specs.declared.folder.ReadAnswer.{ReadAnswer}
 use Rattle.m36_outside.specs.declared.folder.ReadAnswer.TheVariants as read
@@ -9,6 +10,7 @@ use Rattle.m36_outside.specs.declared.folder.WriteAnswer.{WriteAnswer}
 use Rattle.m36_outside.specs.declared.folder.WriteAnswer.TheVariants as write
 use Rattle.m36_outside.specs.declared.lines.Piece.{Piece}
 use Rattle.m36_outside.specs.declared.lines.Piece.TheVariants as piece
+use Rattle.m36_outside.specs.declared.name_calls.NameCall.{NameCall}
 use Rattle.m36_outside.specs.declared.sink.Put.{Put}
 use Rattle.m36_outside.specs.declared.sink.Put.TheVariants.{Done, Failed}
 
@@ -16,8 +18,7 @@ use Rattle.m36_outside.specs.declared.sink.Put.TheVariants.{Done, Failed}
 abbrev pub slash : ℕ
 slash = 47
 
--- Done was answered where these bytes went through a call, whole: all that was taken through a
--- flush, or a content into a file.
+-- Done was answered where these bytes went through a flush, whole.
 abbrev pub NotesDone : Put → List (List ℕ) → List (List ℕ) → List ℕ → Type 0
 NotesDone Done old new bytes = new ≡ old ++ bytes ∷ []
 NotesDone Failed old new bytes = ⊤
@@ -79,23 +80,43 @@ abbrev pub write_answer_of : Put → WriteAnswer
 write_answer_of Done = write.Written
 write_answer_of Failed = write.Failed
 
--- No file was written: it has the name of none, or a write gave up, or one error came by which no
--- file was made.
+-- No file was written: it has the name of none; or, after spare names that files had already, the
+-- calls failed.
 pub record WritesNot (name : List ℕ) (old new : List ErrorKind) : Type 0 where
-  pub why : NamesNoFile name ⊎ (GivesUp old new ⊎ ((kind : ErrorKind) × (new ≡ old ++ kind ∷ [])))
+  pub why :
+      NamesNoFile name ⊎ ((count : ℕ) × FailsBy (old ++ replicate count AlreadyExists) new)
 
--- Failed was answered where no file was written, and Done behind signals alone.
+-- Failed was answered where no file was written. On Done the only errors are those of spare names
+-- that files had already, and then signals.
 abbrev pub FileHasError : Put → List ℕ → List ErrorKind → List ErrorKind → Type 0
-FileHasError Done name old new = Signals old new
+FileHasError Done name old new =
+    (count : ℕ) × Signals (old ++ replicate count AlreadyExists) new
 FileHasError Failed name old new = WritesNot name old new
 
--- the answers of a folder, where a file took the content: Written is Done of the file that was made
+-- Nothing was noted, or a first part of the content.
+pub record NotesPart (old new : List (List ℕ)) (content : List ℕ) : Type 0 where
+  pub why :
+      (new ≡ old)
+      ⊎ ((part : List ℕ) × (rest : List ℕ) × (content ≡ part ++ rest) × (new ≡ old ++ part ∷ []))
+
+-- what a file that is written took of a content
+abbrev pub NotesWrite : Put → List (List ℕ) → List (List ℕ) → List ℕ → Type 0
+NotesWrite Done old new content = new ≡ old ++ content ∷ []
+NotesWrite Failed old new content = NotesPart old new content
+
+-- The answers of a folder, by those of the file. A directory never answers that no memory was
+-- found for a write.
 abbrev pub WriteTakes : WriteAnswer → List (List ℕ) → List (List ℕ) → List ℕ → Type 0
-WriteTakes write.Written old new content = NotesDone Done old new content
-WriteTakes write.Failed old new content = NotesDone Failed old new content
-WriteTakes write.NoMemory old new content = ⊤
+WriteTakes write.Written old new content = NotesWrite Done old new content
+WriteTakes write.Failed old new content = NotesWrite Failed old new content
+WriteTakes write.NoMemory old new content = ⊥
+
+abbrev pub WriteCalls : WriteAnswer → List ℕ → List NameCall → List NameCall → Type 0
+WriteCalls write.Written name old new = ReplaceCalls Done name old new
+WriteCalls write.Failed name old new = ReplaceCalls Failed name old new
+WriteCalls write.NoMemory name old new = ⊥
 
 abbrev pub WriteHasError : WriteAnswer → List ℕ → List ErrorKind → List ErrorKind → Type 0
 WriteHasError write.Written name old new = FileHasError Done name old new
 WriteHasError write.Failed name old new = FileHasError Failed name old new
-WriteHasError write.NoMemory name old new = ⊤
+WriteHasError write.NoMemory name old new = ⊥

@@ -3,9 +3,10 @@
 use Rattle.std.specs.Prelude.{ℕ, List}
 use Rattle.std.specs.declared.io.ErrorKind.{ErrorKind}
 use Rattle.m36_outside.specs.FolderCalls.{Asked, Wrote}
+use Rattle.m36_outside.specs.declared.name_calls.NameCall.{NameCall}
 
 -- a folder: its calls, the pieces that its files gave, the bytes that each file which was made
--- took, and the errors of the system
+-- took, the calls that change names, and the errors of the system
 pub record FolderTold : Type 0 where
   pub reads : ℕ
   pub writes : ℕ
@@ -13,6 +14,7 @@ pub record FolderTold : Type 0 where
   pub wrote : List Wrote
   pub given : List (List ℕ)
   pub taken : List (List ℕ)
+  pub names : List NameCall
   pub errors : List ErrorKind
 
 -- an input: the pieces that it gave, and the errors of the system

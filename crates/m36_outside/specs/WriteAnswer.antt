@@ -5,16 +5,10 @@ use Rattle.m36_outside.specs.Files.{Files, with_told_file}
 use Rattle.m36_outside.specs.declared.folder.WriteAnswer.{WriteAnswer}
 use Rattle.m36_outside.specs.declared.folder.WriteAnswer.TheVariants.{Written, Failed, NoMemory}
 
--- No file but the named one differs: it has some bytes now, or is not there. Whether the files are
--- told stays.
-pub record DiffersAtMost (old new : Option Files) (name : List ℕ) : Type 0 where
-  pub left : Option (List ℕ)
-  pub files : new ≡ with_told_file name left old
-
 -- what the answer says of the files before and after
 abbrev pub WriteSays : WriteAnswer → Option Files → Option Files → List ℕ → List ℕ → Type 0
 WriteSays Written old new name content = new ≡ with_told_file name (Some content) old
-WriteSays Failed old new name content = DiffersAtMost old new name
+WriteSays Failed old new name content = new ≡ old
 WriteSays NoMemory old new name content = new ≡ old
 
 -- A failed write made the count of faults rise, and every other write left it.

@@ -3,17 +3,17 @@
 ghost use Rattle.std.specs.Prelude.{[], ◌∷◌, ◌++◌, ◌≡◌, ◌≤◌, ◌<◌, ◌^◌, None, MatchOption};
 ghost use Rattle.m36_outside.specs.Given.{ReadGives};
 ghost use Rattle.m36_outside.specs.ReadAnswer.{IsWithinLimit, ReadHasCause};
-ghost use Rattle.m36_outside.specs.System.{ReadHasError, WriteHasError, WriteTakes, FileHasError, NotesDone, NamesFile, NamesNoFile, refusal_of, write_answer_of};
+ghost use Rattle.m36_outside.specs.System.{ReadHasError, WriteHasError, WriteTakes, WriteCalls, NamesFile, NamesNoFile, refusal_of, write_answer_of};
 ghost use Rattle.m36_outside.specs.WriteAnswer.{WriteSays, WriteHasCause};
 
 use crate::faults::{after_put, after_read};
+use crate::file_notes::FileNotes;
 use crate::folder::{Folder, ReadAnswer, WriteAnswer};
 use crate::folder_calls::FolderCalls;
 use crate::passed::Passed;
 use crate::reading::read_alone;
+use crate::replacing::write_file;
 use crate::sink::Put;
-use crate::text::Text;
-use crate::writing::write_alone;
 use std::alloc::Global;
 use std::fs::File;
 use std::io::ErrorKind;
@@ -24,8 +24,10 @@ use std::rt::Files;
 const SLASH: u8 = b'/';
 
 /// The files of the current directory. It does not tell them. Contracts see its two counts of faults, its calls, the
-/// pieces that the files which it read gave, the bytes that each file which it made took, and the errors that the system
-/// answered.
+/// pieces that the files which it read gave, the bytes that each file which it made took, the calls that change names, and
+/// the errors that the system answered.
+///
+/// A file is written whole or not at all: `replacing.rt` says how.
 ///
 /// A name that is not UTF-8, or that has a slash, is that of no file of the directory: a read of it answers Absent, and a
 /// write of it Failed. A file that the system reports as not found is Absent. Every other refusal and error of the system
@@ -37,15 +39,6 @@ pub struct DirFolder<R> {
     calls: FolderCalls,
     notes: FileNotes,
     rt: R,
-}
-
-/// Notes of the files: the pieces that those which were read gave, of which an empty one is the end, the bytes that each
-/// one which was made took, and the errors that the system answered.
-#[derive(Drop)]
-pub struct FileNotes {
-    pub given: Passed<Text>,
-    pub taken: Passed<Text>,
-    pub errors: Passed<ErrorKind>,
 }
 
 impl<R> Model for DirFolder<R> {
@@ -61,6 +54,7 @@ impl<R> Model for DirFolder<R> {
       wrote = f.calls.wrote.entries;
       given = f.notes.given.entries;
       taken = f.notes.taken.entries;
+      names = f.notes.names.entries;
       errors = f.notes.errors.entries;
     } };
 
@@ -77,6 +71,7 @@ impl<R: Files + Drop> DirFolder<R> {
           wrote = [];
           given = [];
           taken = [];
+          names = [];
           errors = [];
         } }
     {
@@ -87,6 +82,7 @@ impl<R: Files + Drop> DirFolder<R> {
             notes: FileNotes {
                 given: Passed::new(),
                 taken: Passed::new(),
+                names: Passed::new(),
                 errors: Passed::new(),
             },
             rt,
@@ -117,6 +113,7 @@ impl<R: Files + Drop> Folder for DirFolder<R> {
         ensures outside { NamesNoFile name.now → result ≡ ReadAnswer.Absent }
         ensures gives { ReadGives result self.old.given self.new.given }
         ensures taken { self.new.taken ≡ self.old.taken }
+        ensures names { self.new.names ≡ self.old.names }
         ensures error { ReadHasError result name.now self.old.errors self.new.errors }
     {
         let answer = read_file(&self.rt, alloc, name, &mut self.notes);
@@ -135,9 +132,11 @@ impl<R: Files + Drop> Folder for DirFolder<R> {
         ensures other_count { self.new.reads ≡ self.old.reads }
 
         ensures outside { NamesNoFile name.now
-            → (result ≡ WriteAnswer.Failed) × (self.new.taken ≡ self.old.taken) }
+            → (result ≡ WriteAnswer.Failed)
+            × (self.new.taken ≡ self.old.taken) × (self.new.names ≡ self.old.names) }
         ensures took { WriteTakes result self.old.taken self.new.taken content.now }
         ensures given { self.new.given ≡ self.old.given }
+        ensures names { WriteCalls result name.now self.old.names self.new.names }
         ensures error { WriteHasError result name.now self.old.errors self.new.errors }
     {
         let put = write_file(&self.rt, name, content, &mut self.notes);
@@ -154,6 +153,7 @@ fn read_file<R: Files>(rt: &R, alloc: Global, name: &[u8], notes: &mut FileNotes
     ensures outside { NamesNoFile name.now → result ≡ ReadAnswer.Absent }
     ensures gives { ReadGives result notes.old.given.entries notes.new.given.entries }
     ensures taken { notes.new.taken.entries ≡ notes.old.taken.entries }
+    ensures names { notes.new.names.entries ≡ notes.old.names.entries }
     ensures error { ReadHasError result name.now notes.old.errors.entries notes.new.errors.entries }
 {
     let Some(name) = name_of_file(name) else {
@@ -179,31 +179,6 @@ fn refusal(kind: ErrorKind) -> ReadAnswer
     }
 }
 
-/// Makes a file of the current directory anew.
-fn write_file<R: Files>(rt: &R, name: &[u8], content: &[u8], notes: &mut FileNotes) -> Put
-    ensures outside { NamesNoFile name.now
-        → (result ≡ Put.Failed) × (notes.new.taken.entries ≡ notes.old.taken.entries) }
-    ensures took { NotesDone result notes.old.taken.entries notes.new.taken.entries content.now }
-    ensures given { notes.new.given.entries ≡ notes.old.given.entries }
-    ensures error { FileHasError result name.now notes.old.errors.entries notes.new.errors.entries }
-{
-    let Some(name) = name_of_file(name) else {
-        return Put::Failed;
-    };
-    match File::create(rt, name) {
-        Ok(file) => {
-            let mut taken = Passed::new();
-            let answer = write_alone(file, content, &mut taken, &mut notes.errors);
-            notes.taken.note(&taken);
-            answer
-        }
-        Err(e) => {
-            notes.errors.note(&e.kind());
-            Put::Failed
-        }
-    }
-}
-
 /// The answer of the folder by that of the file.
 fn write_answer(put: Put) -> WriteAnswer
     ensures { result ≡ write_answer_of put }
@@ -215,7 +190,7 @@ fn write_answer(put: Put) -> WriteAnswer
 }
 
 /// The name as text, where it can be that of a file of the current directory: it is UTF-8 and has no slash.
-fn name_of_file(name: &[u8]) -> Option<&str>
+pub fn name_of_file(name: &[u8]) -> Option<&str>
     ensures { MatchOption result
         (NamesNoFile name.now)
         (λ text. (text.now ≡ name.now) × NamesFile name.now) }

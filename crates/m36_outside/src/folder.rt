@@ -32,7 +32,7 @@ pub enum ReadAnswer {
 pub enum WriteAnswer {
     /// The file has this content, and nothing else.
     Written,
-    /// The file could not be written, and may have any content or none. The count of write faults rose.
+    /// The file could not be written, and is as it was. The count of write faults rose.
     Failed,
     /// No memory was found. Nothing changed.
     NoMemory,

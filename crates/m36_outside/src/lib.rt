@@ -6,7 +6,7 @@
 //!
 //! - A [`Folder`] has files by their names. No read changes a file. A read that neither fails nor wants memory gives the
 //!   file's bytes, or answers Absent exactly where there is no such file, and TooLarge exactly where the file has more than
-//!   16,777,216 bytes. A write sets the named file alone, and where it failed no other file differs.
+//!   16,777,216 bytes. A write sets the named file alone, and where it failed no file differs.
 //! - [`Lines`] are input that is taken in pieces, from the beginning on. A call that does not fail tells the end exactly
 //!   where nothing is left.
 //! - A [`Sink`] has what was written to it. A put adds the piece at the end, and where it failed a first part of the piece.
@@ -28,10 +28,10 @@
 //! input the pieces that it gave, and a sink those that it took. [`Passed`] carries that, and has no bytes: nothing that
 //! passed is kept. So a caller's contract can say, of every object, what it asked for and what it put by the answers.
 //!
-//! What is of the system goes through `noted.rt`, which notes what each call of std answered, and is proved over every
-//! reader and writer. By it the adapters prove that a put which is done wrote all and flushed it, that what is read of a
-//! file is all that it gave, that what a signal breaks off is made again, and that a failure has an error behind it. What a
-//! real file holds, or a terminal has left, is not told: what std says of the system is taken as it is.
+//! What is of the system goes through `noted.rt` and `name_calls.rt`, which note what each call of std answered. The first is
+//! proved over every reader and writer. By it the adapters prove that a put which is done wrote all and flushed it, that what is read of a
+//! file is all that it gave, that a file is replaced whole or not at all, that what a signal breaks off is made again, and
+//! that a failure has an error behind it. What a real file holds, or a terminal has left, is not told: what std says of the system is taken as it is.
 //!
 //! A caller composes these contracts by the laws in `proofs/`: `Grown` for what several puts wrote, `LinesTaken` for the
 //! pieces that they put, `Completes` for puts in a loop, `Gathered` for pieces that were gathered in a block, `Risen` for
@@ -43,15 +43,18 @@ mod calls;
 pub mod directory;
 mod faults;
 mod file_list;
+mod file_notes;
 pub mod folder;
 mod folder_calls;
 pub mod lines;
 pub mod memory_folder;
 pub mod memory_lines;
 pub mod memory_sink;
+mod name_calls;
 mod noted;
 pub mod passed;
 mod reading;
+mod replacing;
 pub mod sink;
 pub mod spelled;
 pub mod standard_input;

@@ -126,7 +126,6 @@ impl Folder for MemFolder {
         answer
     }
 
-    #[tactic(auto, using(crate::proofs::FilesKept::differs_by_nothing))]
     fn write(&mut self, alloc: Global, name: &[u8], content: &[u8]) -> WriteAnswer
         ensures says { WriteSays result
             (Some (file_named self.old.files)) (Some (file_named self.new.files)) name.now content.now }

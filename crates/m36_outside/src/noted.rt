@@ -1,4 +1,4 @@
-//! A writer and a reader of std that note what passes through them.
+//! Notes of what passes through a writer and a reader of std.
 //!
 //! These are the calls of the system, and what is noted beside each is what it answered. Each is proved over every
 //! reader and writer, and tells of one that tells its bytes that they moved as noted.
@@ -46,25 +46,22 @@ impl Entries<ErrorKind> for Passed<ErrorKind> {
     ghost entries = { λ kinds. kinds.entries };
 }
 
-/// A writer, with notes of the bytes that it took, of those that were taken at each flush, and of its errors.
+/// Notes of a writer: of the bytes that it took, of those that were taken at each flush, and of its errors.
 #[derive(Drop)]
-pub struct NotedWriter<W> {
-    pub inner: W,
+pub struct WriterNotes {
     pub taken: Passed<u8>,
     pub flushed: Passed<Text>,
     pub errors: Passed<ErrorKind>,
 }
 
-impl<W: Write> NotedWriter<W> {
-    /// The writer, of which nothing is noted yet.
-    pub fn new(inner: W) -> NotedWriter<W>
-        ensures inner { result.inner ≡ inner }
+impl WriterNotes {
+    /// Nothing is noted yet.
+    pub fn new() -> WriterNotes
         ensures taken { result.taken.entries ≡ [] }
         ensures flushed { result.flushed.entries ≡ [] }
         ensures errors { result.errors.entries ≡ [] }
     {
-        NotedWriter {
-            inner,
+        WriterNotes {
             taken: Passed::new(),
             flushed: Passed::new(),
             errors: Passed::new(),
@@ -73,15 +70,15 @@ impl<W: Write> NotedWriter<W> {
 
     /// Writes once. None says that the writer answered an error, or took nothing of bytes that are some; Some(0) that a
     /// signal broke in. In both one error was noted.
-    pub fn write(&mut self, bytes: &[u8]) -> Option<usize>
+    pub fn write<W: Write>(&mut self, writer: &mut W, bytes: &[u8]) -> Option<usize>
         requires some { 1 ≤ length bytes.now }
         ensures bound { IfSome result (λ count. count ≤ length bytes.now) }
         ensures taken { MatchOption result
             (self.new.taken.entries ≡ self.old.taken.entries)
             (λ count. self.new.taken.entries ≡ self.old.taken.entries ++ take count bytes.now) }
         ensures inner { MatchOption result
-            (Keeps (W.contents self.old.inner) (W.contents self.new.inner))
-            (λ count. Appends (W.contents self.old.inner) (W.contents self.new.inner) (take count bytes.now)) }
+            (Keeps (W.contents writer.old) (W.contents writer.new))
+            (λ count. Appends (W.contents writer.old) (W.contents writer.new) (take count bytes.now)) }
         ensures flushed { self.new.flushed.entries ≡ self.old.flushed.entries }
         ensures failed { IfNone result (IsFault self.old.errors.entries self.new.errors.entries) }
         ensures signal { IfSome result (λ count. count ≡ 0 →
@@ -89,7 +86,7 @@ impl<W: Write> NotedWriter<W> {
         ensures sure { IfSome result (λ count. 1 ≤ count →
             self.new.errors.entries ≡ self.old.errors.entries) }
     {
-        match self.inner.write(bytes) {
+        match writer.write(bytes) {
             Ok(0) => {
                 self.errors.note(&ErrorKind::WriteZero);
                 None
@@ -110,16 +107,16 @@ impl<W: Write> NotedWriter<W> {
 
     /// Flushes what was written, once and again where a signal broke in, and tells whether that was done.
     #[tactic(auto, using(crate::proofs::Consumed::pieces, crate::proofs::Signalled::trying))]
-    pub fn flush(&mut self) -> bool
+    pub fn flush<W: Write>(&mut self, writer: &mut W) -> bool
         ensures taken { self.new.taken.entries ≡ self.old.taken.entries }
-        ensures inner { Keeps (W.contents self.old.inner) (W.contents self.new.inner) }
+        ensures inner { Keeps (W.contents writer.old) (W.contents writer.new) }
         ensures done { OnTrue result
             (self.new.flushed.entries ≡ self.old.flushed.entries ++ self.old.taken.entries ∷ []) }
         ensures sure { OnTrue result (Signals self.old.errors.entries self.new.errors.entries) }
         ensures failed { OnFalse result (GivesUp self.old.errors.entries self.new.errors.entries) }
     {
         for _turn in 0..u64::MAX {
-            match self.inner.flush() {
+            match writer.flush() {
                 Ok(()) => {
                     self.flushed.note(&self.taken);
                     return true;

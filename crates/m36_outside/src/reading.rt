@@ -62,6 +62,7 @@ pub fn read_alone<R: Read + Drop>(
     given: &mut Passed<Text>,
     errors: &mut Passed<ErrorKind>,
 ) -> ReadAnswer
+    ensures told { IfSome (R.remaining reader) (λ bytes. ReadSays result (Some bytes)) }
     ensures limit { IsWithinLimit result }
     ensures gives { ReadGives result given.old.entries given.new.entries }
     ensures error { OpenHasError result errors.old.entries errors.new.entries }

@@ -68,7 +68,12 @@ impl<R: Print + Drop> Sink for StdSink<R> {
         ensures error { PutHasError result self.old.errors self.new.errors }
     {
         let mut taken = Passed::new();
-        let answer = write_alone(io::writer(&self.rt), piece, &mut taken, &mut self.errors);
+        let answer = write_alone(
+            &mut io::writer(&self.rt),
+            piece,
+            &mut taken,
+            &mut self.errors,
+        );
         self.taken.note(&taken);
         self.faults = after_put(self.faults, answer);
         answer
@@ -91,7 +96,7 @@ impl<R: Print + Drop> Sink for StdSink<R> {
         }
         let mut taken = Passed::new();
         let answer = write_alone(
-            io::writer(&self.rt),
+            &mut io::writer(&self.rt),
             block.bytes(),
             &mut taken,
             &mut self.errors,

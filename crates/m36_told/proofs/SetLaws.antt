@@ -4,7 +4,6 @@ use Rattle.std.proofs.lemmas.List.{append_assoc, take_more, take-append-drop, dr
 use Rattle.m36_outside.specs.Counts.{Rose}
 use Rattle.m36_outside.specs.Files.{Files, with_told_file}
 use Rattle.m36_outside.specs.FolderCalls.{Wrote}
-use Rattle.m36_outside.specs.WriteAnswer.{DiffersAtMost}
 use Rattle.m36_outside.specs.declared.folder.WriteAnswer.{WriteAnswer}
 use Rattle.m36_outside.specs.declared.folder.WriteAnswer.TheVariants.{Written, Failed, NoMemory}
 use Rattle.m36_reading.specs.declared.setting.Set.{Set}
@@ -58,14 +57,14 @@ pub set_failed :
     (sets : List Set) (i : ℕ) (set : Set) (name content : List ℕ) (now : Option Files) (was : List Wrote) (count : ℕ) (old new : FolderState)
     → i < length sets → set ≡ get_or sets i set → now ≡ with_sets (take i sets) old.files
     → was ≡ old.wrote ++ writes_of (take i sets) → count ≡ old.write_faults → name ≡ set.name → content ≡ set.content
-    → DiffersAtMost now new.files name → new.wrote ≡ was ++ (name, content, Failed) ∷ [] → Rose count new.write_faults
+    → new.files ≡ now → new.wrote ≡ was ++ (name, content, Failed) ∷ [] → Rose count new.write_faults
     → SetFailed sets old new
-set_failed sets i set name content now was count old new inside at so_far wrote_far counted named filled differs wrote rose = record {
+set_failed sets i set name content now was count old new inside at so_far wrote_far counted named filled same wrote rose = record {
   before = take i sets;
   last = set;
   others = drop (i + 1) sets;
   are = parted sets i set inside at;
-  files = subst (λ f. DiffersAtMost f new.files set.name) so_far (subst (λ n. DiffersAtMost now new.files n) named differs);
+  files = same ∙ so_far;
   wrote = write_is Failed set name content old.wrote was new.wrote (writes_of (take i sets)) named filled wrote_far wrote;
   cause = subst (λ c. Rose c new.write_faults) counted rose;
 }

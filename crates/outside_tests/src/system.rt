@@ -90,49 +90,106 @@ fn folder_refuses_names(rt: HostRuntime) -> Result<(), Fail> {
     Ok(())
 }
 
-/// What is written to the device that takes every byte, and to the one that is always full.
-const DEVICES: &[(&str, &[u8], WriteAnswer)] = &[
-    ("/dev/null", b"dis\n", WriteAnswer::Written),
-    ("/dev/null", b"", WriteAnswer::Written),
-    ("/dev/full", b"dis\n", WriteAnswer::Failed),
+/// What a link leads to: a file, nothing, the device that takes every byte, and the one that is always full.
+const LINKED: &[&str] = &[
+    "m36_outside_source",
+    "m36_outside_gone",
+    "/dev/null",
+    "/dev/full",
 ];
 
-/// What a folder answers to a write to a device, which it reaches by a link of the current directory.
-fn written<F: Folder>(
+/// Whether a write under the name of a link replaces the link, and no file that it leads to.
+fn link_is_replaced<F: Folder>(
     rt: &impl Files,
     alloc: Global,
     folder: &mut F,
-    device: &str,
-    bytes: &[u8],
-) -> io::Result<WriteAnswer> {
+    to: &str,
+) -> io::Result<bool> {
+    fs::write(rt, "m36_outside_source", b"source\n")?;
     // A run that was killed may have left the link.
-    let _ = fs::remove_file(rt, "m36_outside_device");
-    symlink(rt, device, "m36_outside_device")?;
-    let answer = folder.write(alloc, b"m36_outside_device", bytes);
-    fs::remove_file(rt, "m36_outside_device")?;
-    Ok(answer)
+    let _ = fs::remove_file(rt, "m36_outside_link");
+    symlink(rt, to, "m36_outside_link")?;
+    let told = folder.write(alloc, b"m36_outside_link", b"object\n") == WriteAnswer::Written
+        && !fs::symlink_metadata(rt, "m36_outside_link")?.is_symlink()
+        && reads(
+            folder,
+            alloc,
+            b"m36_outside_link",
+            Due::Content(b"object\n"),
+        )
+        && reads(
+            folder,
+            alloc,
+            b"m36_outside_source",
+            Due::Content(b"source\n"),
+        )
+        && reads(folder, alloc, b"m36_outside_gone", Due::Absent);
+    fs::remove_file(rt, "m36_outside_link")?;
+    fs::remove_file(rt, "m36_outside_source")?;
+    Ok(told)
 }
 
-fn devices_answer<F: Folder>(
+fn links_are_replaced<F: Folder>(
     rt: &(impl Abort + Files),
     alloc: Global,
     folder: &mut F,
 ) -> io::Result<()> {
-    for (device, bytes, want) in DEVICES {
-        assert!(rt;
-            written(rt, alloc, folder, device, bytes)? == *want,
-            "{device}"
-        );
+    for to in LINKED {
+        assert!(rt; link_is_replaced(rt, alloc, folder, to)?, "{to}");
     }
     Ok(())
 }
 
 #[test]
-fn folder_writes_to_devices(rt: HostRuntime) -> Result<(), Fail> {
+fn folder_replaces_links(rt: HostRuntime) -> Result<(), Fail> {
     let mut folder = DirFolder::new(rt.clone()?);
-    let answered = devices_answer(&rt, rt.alloc(), &mut folder);
+    let answered = links_are_replaced(&rt, rt.alloc(), &mut folder);
     drop(folder);
     answered?;
+    Ok(())
+}
+
+/// Whether a write goes on to the next spare name where files have the first two, which stay.
+fn spares_are_kept<F: Folder>(rt: &impl Files, alloc: Global, folder: &mut F) -> io::Result<bool> {
+    let name = b"m36_outside_spared";
+    for spare in [".m36-000", ".m36-001"] {
+        fs::write(rt, spare, b"kept\n")?;
+    }
+    let told = folder.write(alloc, name, b"object\n") == WriteAnswer::Written
+        && reads(folder, alloc, name, Due::Content(b"object\n"))
+        && reads(folder, alloc, b".m36-000", Due::Content(b"kept\n"))
+        && reads(folder, alloc, b".m36-001", Due::Content(b"kept\n"))
+        && reads(folder, alloc, b".m36-002", Due::Absent);
+    for file in [".m36-000", ".m36-001", "m36_outside_spared"] {
+        fs::remove_file(rt, file)?;
+    }
+    Ok(told)
+}
+
+/// Whether a write that fails leaves what has the name, and no spare file: a directory has the name.
+fn failure_changes_nothing<F: Folder>(
+    rt: &impl Files,
+    alloc: Global,
+    folder: &mut F,
+) -> io::Result<bool> {
+    // A run that was killed may have left the directory.
+    let _ = fs::remove_dir(rt, "m36_outside_directory");
+    fs::create_dir(rt, "m36_outside_directory")?;
+    let told = folder.write(alloc, b"m36_outside_directory", b"x") == WriteAnswer::Failed
+        && fs::symlink_metadata(rt, "m36_outside_directory")?.is_dir()
+        && reads(folder, alloc, b".m36-000", Due::Absent);
+    fs::remove_dir(rt, "m36_outside_directory")?;
+    Ok(told)
+}
+
+#[test]
+fn folder_uses_a_spare_file(rt: HostRuntime) -> Result<(), Fail> {
+    let mut folder = DirFolder::new(rt.clone()?);
+    let kept = spares_are_kept(&rt, rt.alloc(), &mut folder);
+    let same = failure_changes_nothing(&rt, rt.alloc(), &mut folder);
+    drop(folder);
+    assert!(rt; kept?);
+    assert!(rt; same?);
     Ok(())
 }
 

@@ -5,10 +5,13 @@ use Rattle.m36_outside.proofs.writing.write_alone.Goals as goal
 
 pub returns-clause-taken : goal.returns-clause-taken
 returns-clause-taken g c =
-    put_says_behind c.write_whole-answer.result c.args.taken.now.entries c.note.new.self.entries c.new-to.result.taken.entries c.write_whole-answer.new.to.taken.entries c.args.bytes.now
-    c.write_whole-answer.ensures.taken c.new-to.ensures.taken c.note.ensures
+    put_says_behind c.write_whole-answer.result c.args.taken.now.entries c.note.new.self.entries c.new-notes.result.taken.entries c.write_whole-answer.new.notes.taken.entries c.args.bytes.now
+    c.write_whole-answer.ensures.taken c.new-notes.ensures.taken c.note.ensures
 
 pub returns-clause-error : goal.returns-clause-error
 returns-clause-error g c =
-    put_error_behind c.write_whole-answer.result c.args.errors.now.entries c.note-2.new.self.entries c.new-to.result.errors.entries c.write_whole-answer.new.to.errors.entries
-    c.write_whole-answer.ensures.error c.new-to.ensures.errors c.note-2.ensures
+    put_error_behind c.write_whole-answer.result c.args.errors.now.entries c.note-2.new.self.entries c.new-notes.result.errors.entries c.write_whole-answer.new.notes.errors.entries
+    c.write_whole-answer.ensures.error c.new-notes.ensures.errors c.note-2.ensures
+
+pub returns-clause-inner : goal.returns-clause-inner
+returns-clause-inner g c = c.write_whole-answer.ensures.inner

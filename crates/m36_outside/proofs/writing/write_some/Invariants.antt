@@ -6,9 +6,9 @@ use Rattle.m36_outside.proofs.writing.write_some.Given as goal
 -- Nothing was written yet, and each turn so far noted a signal.
 abbrev pub invariant-loop-turn : goal.invariant-loop-turn
 invariant-loop-turn g l = record {
-  taken : l.to.taken.entries ≡ l.fn.to.taken.entries;
-  inner : Keeps (g.W.Write.contents l.fn.to.inner) (g.W.Write.contents l.to.inner);
-  flushed : l.to.flushed.entries ≡ l.fn.to.flushed.entries;
-  signals : Signals l.fn.to.errors.entries l.to.errors.entries;
-  turns : length l.fn.to.errors.entries + l._turn ≤ length l.to.errors.entries;
+  taken : l.notes.taken.entries ≡ l.fn.notes.taken.entries;
+  inner : Keeps (g.W.Write.contents l.fn.writer) (g.W.Write.contents l.writer);
+  flushed : l.notes.flushed.entries ≡ l.fn.notes.flushed.entries;
+  signals : Signals l.fn.notes.errors.entries l.notes.errors.entries;
+  turns : length l.fn.notes.errors.entries + l._turn ≤ length l.notes.errors.entries;
 }

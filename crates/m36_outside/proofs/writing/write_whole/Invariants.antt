@@ -6,10 +6,10 @@ use Rattle.m36_outside.proofs.writing.write_whole.Given as goal
 -- So many of the bytes were written, from the beginning on, and nothing was flushed.
 abbrev pub invariant-loop-done : goal.invariant-loop-done
 invariant-loop-done g l = record {
-  taken : l.to.taken.entries ≡ l.fn.to.taken.entries ++ take l.done l.bytes;
-  inner : Appends (g.W.Write.contents l.fn.to.inner) (g.W.Write.contents l.to.inner) (take l.done l.bytes);
-  flushed : l.to.flushed.entries ≡ l.fn.to.flushed.entries;
-  signals : Signals l.fn.to.errors.entries l.to.errors.entries;
+  taken : l.notes.taken.entries ≡ l.fn.notes.taken.entries ++ take l.done l.bytes;
+  inner : Appends (g.W.Write.contents l.fn.writer) (g.W.Write.contents l.writer) (take l.done l.bytes);
+  flushed : l.notes.flushed.entries ≡ l.fn.notes.flushed.entries;
+  signals : Signals l.fn.notes.errors.entries l.notes.errors.entries;
   room : l.done ≤ length l.bytes;
 }
 

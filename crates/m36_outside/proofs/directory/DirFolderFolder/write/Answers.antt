@@ -2,8 +2,8 @@
 use Rattle.std.proofs.Common.{ℕ, ◌≤◌, [], ◌∷◌, ◌++◌, ap, subst, ◌∙◌}
 use Rattle.m36_outside.specs.Told.{FolderTold}
 use Rattle.m36_outside.specs.WriteAnswer.{WriteHasCause}
-use Rattle.m36_outside.specs.System.{WriteTakes, WriteHasError}
-use Rattle.m36_outside.proofs.WriteAnswers.{write_says, write_cause, write_failed, write_takes, write_error}
+use Rattle.m36_outside.specs.System.{WriteCalls, WriteTakes, WriteHasError}
+use Rattle.m36_outside.proofs.WriteAnswers.{write_says, write_cause, write_failed, write_takes, write_calls, write_error}
 use Rattle.m36_outside.proofs.directory.DirFolderFolder.write.Goals as goal
 
 pub returns-clause-says : goal.returns-clause-says
@@ -20,6 +20,7 @@ returns-clause-outside g c =
     λ none. let both = c.write_file-put.ensures.outside none in (
       write_failed c.write_file-put.result c.write_answer-answer.result c.write_answer-answer.ensures both.0,
       both.1 ∙ ap (λ (s : FolderTold). s.taken) c.self.view_is,
+      both.2 ∙ ap (λ (s : FolderTold). s.names) c.self.view_is,
     )
 
 pub returns-clause-took : goal.returns-clause-took
@@ -31,6 +32,11 @@ pub returns-clause-error : goal.returns-clause-error
 returns-clause-error g c =
     subst (λ l. WriteHasError c.write_answer-answer.result c.args.name.now l c.write_file-put.new.notes.errors.entries) (ap (λ (s : FolderTold). s.errors) c.self.view_is)
     (write_error c.write_file-put.result c.write_answer-answer.result c.args.name.now c.self.inside.notes.errors.entries c.write_file-put.new.notes.errors.entries c.write_answer-answer.ensures c.write_file-put.ensures.error)
+
+pub returns-clause-names : goal.returns-clause-names
+returns-clause-names g c =
+    subst (λ l. WriteCalls c.write_answer-answer.result c.args.name.now l c.write_file-put.new.notes.names.entries) (ap (λ (s : FolderTold). s.names) c.self.view_is)
+    (write_calls c.write_file-put.result c.write_answer-answer.result c.args.name.now c.self.inside.notes.names.entries c.write_file-put.new.notes.names.entries c.write_answer-answer.ensures c.write_file-put.ensures.names)
 
 pub returns-clause-given : goal.returns-clause-given
 returns-clause-given g c = c.write_file-put.ensures.given ∙ ap (λ (s : FolderTold). s.given) c.self.view_is

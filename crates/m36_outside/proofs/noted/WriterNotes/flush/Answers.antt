@@ -4,7 +4,7 @@ use Rattle.std.specs.declared.io.ErrorKind.TheVariants.{Interrupted}
 use Rattle.m36_outside.specs.Signals.{IsFault}
 use Rattle.m36_outside.proofs.Consumed.{keeps_on}
 use Rattle.m36_outside.proofs.Signalled.{signals_more, turns_more, gives_up_at, gives_up_last}
-use Rattle.m36_outside.proofs.noted.NotedWriter.flush.Goals as goal
+use Rattle.m36_outside.proofs.noted.WriterNotes.flush.Goals as goal
 
 pub loop-turn-preserved : goal.loop-turn-preserved
 loop-turn-preserved g c =
@@ -15,7 +15,7 @@ loop-turn-preserved g c =
     let signal : next ≡ now ++ Interrupted ∷ [] = first_of (search rules, grind arith) in
     record {
       taken = c.loop-turn.invariant.taken;
-      inner = keeps_on (held c.args.self.now.inner) (held c.loop-turn.self.inner) (held c.flush.new.self) c.loop-turn.invariant.inner c.flush.ensures.bytes;
+      inner = keeps_on (held c.args.writer.now) (held c.loop-turn.writer) (held c.flush.new.self) c.loop-turn.invariant.inner c.flush.ensures.bytes;
       flushed = c.loop-turn.invariant.flushed;
       signals = signals_more start now next c.loop-turn.invariant.signals signal;
       turns = turns_more start now next Interrupted c.loop-turn._turn c.loop-turn.invariant.turns signal;
@@ -25,7 +25,7 @@ loop-turn-preserved g c =
 pub returns-in-Ok-clause-inner : goal.returns-in-Ok-clause-inner
 returns-in-Ok-clause-inner g c =
     let held = g.W.Write.contents in
-    keeps_on (held c.args.self.now.inner) (held c.loop-turn.self.inner) (held c.flush.new.self) c.loop-turn.invariant.inner c.flush.ensures.bytes
+    keeps_on (held c.args.writer.now) (held c.loop-turn.writer) (held c.flush.new.self) c.loop-turn.invariant.inner c.flush.ensures.bytes
 
 pub returns-in-Ok-clause-sure : goal.returns-in-Ok-clause-sure
 returns-in-Ok-clause-sure g c = c.loop-turn.invariant.signals
@@ -34,7 +34,7 @@ returns-in-Ok-clause-sure g c = c.loop-turn.invariant.signals
 pub returns-then-not-note_error-clause-inner : goal.returns-then-not-note_error-clause-inner
 returns-then-not-note_error-clause-inner g c =
     let held = g.W.Write.contents in
-    keeps_on (held c.args.self.now.inner) (held c.loop-turn.self.inner) (held c.flush.new.self) c.loop-turn.invariant.inner c.flush.ensures.bytes
+    keeps_on (held c.args.writer.now) (held c.loop-turn.writer) (held c.flush.new.self) c.loop-turn.invariant.inner c.flush.ensures.bytes
 
 pub returns-then-not-note_error-clause-failed : goal.returns-then-not-note_error-clause-failed
 returns-then-not-note_error-clause-failed g c =

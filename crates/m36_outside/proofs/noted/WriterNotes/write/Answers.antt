@@ -3,11 +3,11 @@ use Rattle.std.proofs.Common.{◌≡◌, ℕ, take, subst, rules, arith}
 use Rattle.std.specs.Io.KnownBytes.{Appends}
 use Rattle.m36_outside.proofs.Appended.{keeps_nothing, appends_nothing}
 use Rattle.m36_outside.proofs.Signalled.{zero_is_fault}
-use Rattle.m36_outside.proofs.noted.NotedWriter.write.Goals as goal
+use Rattle.m36_outside.proofs.noted.WriterNotes.write.Goals as goal
 
 pub returns-in-Ok-eq0-clause-inner : goal.returns-in-Ok-eq0-clause-inner
 returns-in-Ok-eq0-clause-inner g c =
-    let old = g.W.Write.contents c.args.self.now.inner in
+    let old = g.W.Write.contents c.args.writer.now in
     let new = g.W.Write.contents c.write.new.self in
     let none : c.in-Ok-eq0.field-0 ≡ 0 = first_of (search rules, grind arith) in
     keeps_nothing old new (subst (λ (n : ℕ). Appends old new (take n c.args.bytes.now)) none c.in-Ok-eq0.ensures.bytes)
@@ -18,4 +18,4 @@ returns-in-Ok-eq0-clause-failed g c =
 
 pub returns-then-note_error-clause-inner : goal.returns-then-note_error-clause-inner
 returns-then-note_error-clause-inner g c =
-    appends_nothing (g.W.Write.contents c.args.self.now.inner) (g.W.Write.contents c.write.new.self) c.in-Err.ensures.bytes
+    appends_nothing (g.W.Write.contents c.args.writer.now) (g.W.Write.contents c.write.new.self) c.in-Err.ensures.bytes

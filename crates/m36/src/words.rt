@@ -1,0 +1,44 @@
+//! The words of the command line.
+
+use m36_outside::Text;
+use m36_word::NoMemory;
+use std::alloc::Global;
+use std::env::{Env, FillError};
+
+/// How many bytes are tried first for a word.
+const FIRST_LENGTH: usize = 256;
+
+/// Reads the words after the name of the program, each as the bytes that it is.
+pub fn read_words(env: &impl Env, alloc: Global) -> Result<Vec<Text>, NoMemory> {
+    let mut words = Vec::new(alloc);
+    for number in 1..usize::MAX {
+        match read_word(env, alloc, number)? {
+            Some(word) => words.push(word)?,
+            None => return Ok(words),
+        }
+    }
+    Err(NoMemory)
+}
+
+/// Reads the word with this number. None says that there is no such word.
+fn read_word(env: &impl Env, alloc: Global, number: usize) -> Result<Option<Text>, NoMemory> {
+    let mut buffer = vec![in alloc; 0u8; FIRST_LENGTH]?;
+    for _turn in 0..usize::BITS {
+        match env.arg(number, buffer.as_mut_slice()) {
+            Ok(count) => {
+                let word = Text::from_bytes(alloc, &buffer.as_slice()[..count])?;
+                return Ok(Some(word));
+            }
+            Err(FillError::NotPresent) => return Ok(None),
+            Err(FillError::TooLong) => double(&mut buffer)?,
+        }
+    }
+    Err(NoMemory)
+}
+
+/// Doubles the length of a buffer.
+fn double(buffer: &mut Vec<u8>) -> Result<(), NoMemory> {
+    let length = buffer.len();
+    buffer.resize(length.saturating_add(length), 0)?;
+    Ok(())
+}

@@ -1,0 +1,93 @@
+//! How a file of the current directory is written: whole, or not at all.
+//!
+//! The content goes into a spare file, whose name no file had. Only when it took all of the content does it get the name
+//! of the file, by one call of the system. On every failure it is removed, and the file is as it was.
+
+ghost use Rattle.std.specs.Prelude.{◌≡◌, Some, IfSome};
+ghost use Rattle.m36_outside.specs.NameCalls.{ReplaceCalls, SpareUsed, SpareErrors};
+ghost use Rattle.m36_outside.specs.Put.{PutSays};
+ghost use Rattle.m36_outside.specs.System.{FileHasError, NotesWrite, PutHasError, NamesNoFile};
+
+use crate::directory::name_of_file;
+use crate::file_notes::FileNotes;
+use crate::name_calls::{make_spare, remove, rename};
+use crate::passed::Passed;
+use crate::sink::Put;
+use crate::writing::write_alone;
+use std::io::Write;
+use std::rt::Files;
+
+/// Makes a file of the current directory, in place of the one that may have the name.
+pub fn write_file<R: Files>(rt: &R, name: &[u8], content: &[u8], notes: &mut FileNotes) -> Put
+    ensures outside { NamesNoFile name.now
+        → (result ≡ Put.Failed)
+        × (notes.new.taken.entries ≡ notes.old.taken.entries)
+        × (notes.new.names.entries ≡ notes.old.names.entries) }
+    ensures took { NotesWrite result notes.old.taken.entries notes.new.taken.entries content.now }
+    ensures given { notes.new.given.entries ≡ notes.old.given.entries }
+    ensures names { ReplaceCalls result name.now notes.old.names.entries notes.new.names.entries }
+    ensures error { FileHasError result name.now notes.old.errors.entries notes.new.errors.entries }
+{
+    let Some(name) = name_of_file(name) else {
+        return Put::Failed;
+    };
+    match make_spare(rt, &mut notes.names, &mut notes.errors) {
+        Some((spare, file)) => replace(rt, file, spare.as_str(), name, content, notes),
+        None => Put::Failed,
+    }
+}
+
+/// Writes the content to the spare file and gives it the name. Where one of these fails, the spare file is removed.
+fn replace<R: Files>(
+    rt: &R,
+    mut file: R::File,
+    spare: &str,
+    name: &str,
+    content: &[u8],
+    notes: &mut FileNotes,
+) -> Put
+    ensures took { NotesWrite result notes.old.taken.entries notes.new.taken.entries content.now }
+    ensures given { notes.new.given.entries ≡ notes.old.given.entries }
+    ensures names { SpareUsed result spare.now name.now notes.old.names.entries notes.new.names.entries }
+    ensures error { SpareErrors result notes.old.errors.entries notes.new.errors.entries }
+{
+    let answer = fill(&mut file, content, notes);
+    // The file is closed before it gets its name.
+    drop(file);
+    match answer {
+        Put::Done => give_name(rt, spare, name, notes),
+        Put::Failed => {
+            remove(rt, spare, &mut notes.names, &mut notes.errors);
+            Put::Failed
+        }
+    }
+}
+
+/// Writes the content to a file.
+fn fill<W: Write>(file: &mut W, content: &[u8], notes: &mut FileNotes) -> Put
+    ensures took { NotesWrite result notes.old.taken.entries notes.new.taken.entries content.now }
+    ensures inner { IfSome (W.contents file.old)
+        (λ held. PutSays result (Some held) (W.contents file.new) content.now) }
+    ensures given { notes.new.given.entries ≡ notes.old.given.entries }
+    ensures names { notes.new.names.entries ≡ notes.old.names.entries }
+    ensures error { PutHasError result notes.old.errors.entries notes.new.errors.entries }
+{
+    let mut taken = Passed::new();
+    let answer = write_alone(file, content, &mut taken, &mut notes.errors);
+    notes.taken.note(&taken);
+    answer
+}
+
+/// Gives the spare file the name, and removes it where that fails.
+fn give_name<R: Files>(rt: &R, spare: &str, name: &str, notes: &mut FileNotes) -> Put
+    ensures taken { notes.new.taken.entries ≡ notes.old.taken.entries }
+    ensures given { notes.new.given.entries ≡ notes.old.given.entries }
+    ensures names { SpareUsed result spare.now name.now notes.old.names.entries notes.new.names.entries }
+    ensures error { SpareErrors result notes.old.errors.entries notes.new.errors.entries }
+{
+    if rename(rt, spare, name, &mut notes.names, &mut notes.errors) {
+        return Put::Done;
+    }
+    remove(rt, spare, &mut notes.names, &mut notes.errors);
+    Put::Failed
+}
