@@ -51,10 +51,7 @@ impl Memories {
     pub fn new(alloc: Global) -> Result<Memories, NoMemory>
         ensures { IfOk result (λ m. (core : List ℕ) (dbr : DbrFields) → AreRight core dbr m) }
     {
-        let room = match NonZeroUsize::new(ENTRIES) {
-            Some(room) => room,
-            None => return Err(NoMemory),
-        };
+        let room = NonZeroUsize::new(ENTRIES).unwrap();
         let sdws = LruCache::new(alloc, room)?;
         let ptws = LruCache::new(alloc, room)?;
         Ok(Memories {
