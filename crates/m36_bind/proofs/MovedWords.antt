@@ -1,16 +1,16 @@
 -- The words of a component with their parts moved, word by word.
-use Rattle.std.proofs.Common.{ℕ, zero, suc, ◌≡◌, ◌+◌, ◌-◌, ◌*◌, ◌^◌, ◌<◌, ◌≤◌, Bool, true, false, cond, ◌&&◌, ◌||◌, eqb, ltb, leb, not, List, [], ◌∷◌, length, refl, sym, ap, subst, ◌∙◌, arith, true≢false}
+use Rattle.std.proofs.Common.{ℕ, zero, suc, ◌≡◌, ◌+◌, ◌*◌, ◌/◌, ◌^◌, ◌<◌, ◌≤◌, Bool, true, false, cond, ◌&&◌, ◌||◌, eqb, ltb, leb, not, List, [], ◌∷◌, length, refl, sym, ap, subst, ◌∙◌, arith, true≢false}
 use Rattle.std.specs.Prelude.{slice_index, slice_set}
 use Rattle.std.specs.List.{Contains}
 use Rattle.std.proofs.lemmas.List.{length-set, get_or-set_same, get_or-set_other}
 use Rattle.std.proofs.lemmas.Bool.{and_parts, eqb-true, eq-eqb, ne_eqb, lt-ltb, leb-true}
 use Rattle.obj36_parts.specs.Fields.{RelocFields}
+use Rattle.obj36_parts.specs.Halves.{left}
 use Rattle.obj36_parts.specs.Sections.{place_number}
 use Rattle.obj36_parts.specs.ObjectSegment.{part_of, order_of, are_rising}
 use Rattle.m36_relocate.specs.Words.{stands_in, place_in, moved_at, one_moved, words_moved, word_moved}
-use Rattle.m36_bind.specs.Meaning.{overlap}
 use Rattle.m36_relocate.specs.declared.layout.Moving.{Moving}
-use Rattle.m36_bind.proofs.WordParts.{put_in, cut_to, number_put, put_below, put_got, put_kept, word_puts}
+use Rattle.m36_bind.proofs.WordParts.{overlap, cut_to, number_put, put_below, put_got, put_kept, put_first, word_puts}
 
 -- ---- one word
 
@@ -100,6 +100,24 @@ module _ (m : Moving) (statics : Bool) (i : ℕ) where
       word_kept rs k (one_by m statics i r w) (one_below r w small) part apart.2 (λ s among is. none s (suc among.0, omega (arith, among.1), among.2) is)
       ∙ one_kept r k w (at m statics i r) refl apart.0 part (λ is. none r (zero, omega arith, refl) is) small
 
+  one_first : (r : RelocFields) (w : ℕ) (b : Bool) → at m statics i r ≡ b → r.part ≤ 2 → (b ≡ true → r.part ≡ 0 → ⊥) → w < 2 ^ 36
+      → left (one_by m statics i r w) / 2 ^ 15 ≡ left w / 2 ^ 15
+  unfolding one_by
+  one_first r w true is few other small =
+      ap (λ b. left (cond b (word_moved m r w) w) / 2 ^ 15) is ∙ ap (λ x. left x / 2 ^ 15) (word_puts m r w)
+      ∙ put_first r.part w (number_put m r.target r.part (part_of r.part w)) few (other refl) small
+  one_first r w false is few other small = ap (λ b. left (cond b (word_moved m r w) w) / 2 ^ 15) is
+
+  -- bits 0 to 2 stay where no relocation names the left half
+  pub word_first : (rs : List RelocFields) (w : ℕ) → w < 2 ^ 36 → AreApart (at m statics i) rs
+      → ((r : RelocFields) → Contains rs r → at m statics i r ≡ true → r.part ≡ 0 → ⊥)
+      → left (word_by m statics i rs w) / 2 ^ 15 ≡ left w / 2 ^ 15
+  unfolding word_by AreApart
+  word_first [] w small apart none = refl
+  word_first (r ∷ rs) w small apart none =
+      word_first rs (one_by m statics i r w) (one_below r w small) apart.2 (λ s among is. none s (suc among.0, omega (arith, among.1), among.2) is)
+      ∙ one_first r w (at m statics i r) refl apart.0 (λ is. none r (zero, omega arith, refl) is) small
+
   one_moved_part : (r : RelocFields) (w : ℕ) → at m statics i r ≡ true → part_of r.part (one_by m statics i r w) ≡ cut_to r.part (number_put m r.target r.part (part_of r.part w))
   unfolding one_by
   one_moved_part r w is =
@@ -180,7 +198,7 @@ never_both j k m n apart = by (eqb j m) (eqb k n) refl refl
     by true false e f = refl
     by false b e f = refl
 
-parts_apart : (j k : ℕ) → (j ≡ k → ⊥) → (j + k ≡ 2 → ⊥) → overlap j k ≡ false
+pub parts_apart : (j k : ℕ) → (j ≡ k → ⊥) → (j + k ≡ 2 → ⊥) → overlap j k ≡ false
 parts_apart j k other sum =
     let whole = never_both j k 0 2 (λ a b. sum (omega (arith, a, b))) in
     let low = never_both j k 2 0 (λ a b. sum (omega (arith, a, b))) in

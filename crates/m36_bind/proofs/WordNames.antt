@@ -1,12 +1,12 @@
 -- What the moved words of components name.
-use Rattle.std.proofs.Common.{ℕ, zero, suc, ◌≡◌, ◌+◌, ◌-◌, ◌*◌, ◌%◌, ◌^◌, ◌<◌, ◌≤◌, Bool, true, false, cond, ◌&&◌, eqb, ltb, leb, not, List, [], ◌∷◌, length, refl, sym, ap, ◌∙◌, arith, true≢false}
+use Rattle.std.proofs.Common.{ℕ, zero, suc, ◌≡◌, ◌+◌, ◌-◌, ◌*◌, ◌/◌, ◌%◌, ◌^◌, ◌<◌, ◌≤◌, Bool, true, false, cond, ◌&&◌, eqb, ltb, leb, not, List, [], ◌∷◌, length, refl, sym, ap, ◌∙◌, arith, true≢false}
 use Rattle.std.specs.Prelude.{slice_index}
 use Rattle.std.specs.List.{list_all, Contains}
 use Rattle.std.proofs.lemmas.Bool.{and_parts, eqb-true, ltb-true, leb-true, eq-eqb, lt-ltb, le-ltb, cond-true, cond-false}
 use Rattle.obj36_parts.specs.Fields.{RelocFields}
 use Rattle.obj36_parts.specs.PartsFields.{PartsFields}
 use Rattle.obj36_parts.specs.Sections.{is_text_section, place_number}
-use Rattle.obj36_parts.specs.Halves.{offset_in}
+use Rattle.obj36_parts.specs.Halves.{left, offset_in}
 use Rattle.obj36_parts.specs.ObjectSegment.{is_newer, inner_statics, outer_statics, part_of, last_place, is_place, is_relocation, order_of, is_well_formed}
 use Rattle.obj36_parts.specs.declared.section.Section.{Section}
 use Rattle.obj36_parts.specs.declared.section.Section.TheVariants.{Text, Linkage, Symbol, Static}
@@ -15,10 +15,10 @@ use Rattle.m36_relocate.specs.Fields.{ShapeFields}
 use Rattle.m36_relocate.specs.Layout.{shape_of, meant, number_moved}
 use Rattle.m36_relocate.specs.Words.{stands_in, place_in, words_in, offset_raised, below_zero, part_fits, one_fits, all_fit}
 use Rattle.m36_bind.specs.Components.{PlacedFields, moving}
-use Rattle.m36_bind.specs.Meaning.{overlap, Moves, IsMovedWord}
+use Rattle.m36_bind.specs.Meaning.{Moves, IsMovedWord}
 use Rattle.m36_relocate.specs.declared.layout.Moving.{Moving}
-use Rattle.m36_bind.proofs.WordParts.{cut_to, number_put}
-use Rattle.m36_bind.proofs.MovedWords.{at, word_by, word_kept, word_part, AreApart, AreOf, rising_apart}
+use Rattle.m36_bind.proofs.WordParts.{overlap, cut_to, number_put, first_field, offset_field, right_field}
+use Rattle.m36_bind.proofs.MovedWords.{at, word_by, word_kept, word_first, word_part, AreApart, AreOf, rising_apart, parts_apart}
 use Rattle.m36_bind.proofs.Images.{IsWithin, number_names}
 
 -- ---- the relocations of a word
@@ -104,6 +104,15 @@ module _ (frame : ShapeFields) (p : PlacedFields) (formed : is_well_formed p.par
       let h = and_parts (stands_in statics r) (eqb (place_in p.shape statics r) i) here in
       none r (record { among = among; stands = h.0; place = eqb-true (place_in p.shape statics r) i h.1 }))
 
+  pub first_kept : (w : ℕ) → w < 2 ^ 36 → ((r : RelocFields) → Moves p statics i r → r.part ≡ 0 → ⊥)
+      → left (word_by (moving frame p) statics i p.parts.relocations w) / 2 ^ 15 ≡ left w / 2 ^ 15
+  unfolding at
+  first_kept w small none =
+      word_first (moving frame p) statics i p.parts.relocations w small apart
+      (λ r among here.
+      let h = and_parts (stands_in statics r) (eqb (place_in p.shape statics r) i) here in
+      none r (record { among = among; stands = h.0; place = eqb-true (place_in p.shape statics r) i h.1 }))
+
 -- ---- the parts that fit
 
 fits_at : (m : Moving) (statics : Bool) (words : List ℕ) (rs : List RelocFields) (r : RelocFields) → all_fit m statics words rs ≡ true → Contains rs r → one_fits m statics words r ≡ true
@@ -177,5 +186,15 @@ word_means bound p statics i w within formed shaped fits is small =
           ap (λ n. meant frame r.target n) number ∙ number_names bound p within r.target (part_of r.part w) there;
       below = λ r moves two high.
           ap (λ n. part_of n new) (sym two) ∙ moved r moves ∙ ap (λ n. cut_to n (number_put m r.target n (part_of n w))) two ∙ below_in m r.target w high;
-      stays = λ part few none. part_kept frame p formed shaped statics i w part small few none;
+      first_bits = λ none.
+          first_field new ∙ ap (λ n. n % 2 ^ 3) (first_kept frame p formed shaped statics i w small none) ∙ sym (first_field w);
+      offset_bits = λ others.
+          offset_field new
+          ∙ part_kept frame p formed shaped statics i w 2 small (omega arith) (λ r moves. ap (λ n. overlap n 2) (others r moves))
+          ∙ sym (offset_field w);
+      right_bits = λ none.
+          right_field new
+          ∙ part_kept frame p formed shaped statics i w 1 small (omega arith)
+          (λ r moves. parts_apart r.part 1 (none r moves) (λ both. none r moves (omega (arith, both))))
+          ∙ sym (right_field w);
     }

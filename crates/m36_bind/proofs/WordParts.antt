@@ -1,14 +1,18 @@
 -- The parts of a word of which one is moved.
-use Rattle.std.proofs.Common.{ℕ, zero, suc, ◌≡◌, ◌+◌, ◌*◌, ◌/◌, ◌%◌, ◌^◌, ◌<◌, ◌≤◌, Bool, true, false, cond, eqb, refl, sym, ap, ◌∙◌, arith, true≢false}
+use Rattle.std.proofs.Common.{ℕ, zero, suc, ◌≡◌, ◌+◌, ◌*◌, ◌/◌, ◌%◌, ◌^◌, ◌<◌, ◌≤◌, Bool, false, cond, ◌&&◌, ◌||◌, eqb, refl, sym, ap, ◌∙◌, arith, true≢false}
 use Rattle.std.proofs.lemmas.Bool.{ne_eqb, cond-false}
 use Rattle.obj36_parts.specs.Fields.{RelocFields}
 use Rattle.obj36_parts.specs.Halves.{left, right, offset_in, joined}
 use Rattle.obj36_parts.specs.ObjectSegment.{part_of}
+use Rattle.m36_word.specs.Field.{field}
 use Rattle.obj36_parts.specs.declared.section.Section.{Section}
 use Rattle.m36_relocate.specs.Layout.{number_moved}
 use Rattle.m36_relocate.specs.Words.{with_offset, offset_raised, word_moved}
-use Rattle.m36_bind.specs.Meaning.{overlap}
 use Rattle.m36_relocate.specs.declared.layout.Moving.{Moving}
+
+-- whether two parts of a word that relocations name have bits in common
+abbrev pub overlap : ℕ → ℕ → Bool
+overlap j k = eqb j k || (eqb j 0 && eqb k 2) || (eqb j 2 && eqb k 0)
 
 left_is : (l r : ℕ) → left (joined l r) ≡ l % 2 ^ 18
 unfolding left joined
@@ -25,6 +29,10 @@ joined_below l r = omega arith
 left_back : (w v : ℕ) → w < 2 ^ 36 → left (joined (left w) v) ≡ left w
 unfolding left joined
 left_back w v small = omega arith
+
+left_below : (w : ℕ) → w < 2 ^ 36 → left w < 2 ^ 18
+unfolding left
+left_below w small = omega arith
 
 right_back : (w v : ℕ) → right (joined v (right w)) ≡ right w
 unfolding right joined
@@ -78,6 +86,32 @@ put_kept (suc (suc zero)) (suc zero) w v a b apart small = right_back w (left w 
 put_kept (suc (suc zero)) (suc (suc zero)) w v a b apart small = absurd (true≢false apart)
 put_kept n (suc (suc (suc k))) w v a b apart small = absurd (omega (arith, b))
 put_kept (suc (suc (suc n))) k w v a b apart small = absurd (omega (arith, a))
+
+-- bits 0 to 2 stay where another part than the left half is put
+pub put_first : (n w v : ℕ) → n ≤ 2 → (n ≡ 0 → ⊥) → w < 2 ^ 36 → left (put_in n w v) / 2 ^ 15 ≡ left w / 2 ^ 15
+unfolding put_in with_offset
+put_first zero w v few other small = absurd (other refl)
+put_first (suc zero) w v few other small = ap (λ l. l / 2 ^ 15) (left_back w v small)
+put_first (suc (suc zero)) w v few other small =
+    let l : left (joined (left w / 2 ^ 15 * 2 ^ 15 + v % 2 ^ 15) (right w)) ≡ (left w / 2 ^ 15 * 2 ^ 15 + v % 2 ^ 15) % 2 ^ 18 =
+    left_is (left w / 2 ^ 15 * 2 ^ 15 + v % 2 ^ 15) (right w) in
+    let below : left w < 2 ^ 18 = left_below w small in
+    omega (arith, l, below)
+put_first (suc (suc (suc n))) w v few other small = absurd (omega (arith, few))
+
+-- ---- the fields of a word
+
+pub first_field : (w : ℕ) → field w 0 3 ≡ left w / 2 ^ 15 % 2 ^ 3
+unfolding left
+first_field w = omega arith
+
+pub offset_field : (w : ℕ) → field w 3 15 ≡ part_of 2 w
+unfolding part_of left offset_in
+offset_field w = omega arith
+
+pub right_field : (w : ℕ) → field w 18 18 ≡ part_of 1 w
+unfolding part_of right
+right_field w = omega arith
 
 -- ---- the number that a relocation puts there
 

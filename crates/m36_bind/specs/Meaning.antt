@@ -5,7 +5,7 @@
 -- object the image of what they named in their component. All else is as it was, and nothing else
 -- stands there but the zero words that even.
 use Rattle.std.specs.Prelude.{ℕ, ◌≡◌, ◌+◌, ◌*◌, ◌%◌, ◌^◌, ◌<◌, ◌≤◌, ◌⊎◌, Bool}
-use Rattle.std.specs.Prelude.{true, false, ◌&&◌, ◌||◌, nat_lt, nat_eq, if◌then◌else◌, List, []}
+use Rattle.std.specs.Prelude.{true, false, nat_lt, if◌then◌else◌, List, []}
 use Rattle.std.specs.Prelude.{◌∷◌, length, slice_index, slice_get, Some, None, Ok}
 use Rattle.std.specs.List.{Contains}
 use Rattle.obj36_parts.specs.Fields.{DefFields, RelocFields, LinkFields}
@@ -14,9 +14,9 @@ use Rattle.obj36_parts.specs.Sections.{later_section}
 use Rattle.obj36_parts.specs.ObjectSegment.{is_well_formed, definition_names}
 use Rattle.obj36_parts.specs.ObjectSegment.{version_of, head_words, left_part}
 use Rattle.obj36_parts.specs.ObjectSegment.{to_section, to_segment, to_entry, to_own_entry}
-use Rattle.obj36_parts.specs.ObjectSegment.{offset_part, part_of}
+use Rattle.obj36_parts.specs.ObjectSegment.{right_part, offset_part, part_of}
 use Rattle.obj36_parts.specs.declared.definition.Named.{Named}
-use Rattle.m36_word.specs.Field.{offset_limit}
+use Rattle.m36_word.specs.Field.{field, offset_limit}
 use Rattle.obj36_parts.specs.declared.section.Section.{Section}
 use Rattle.m36_bindfile.specs.declared.line.BindLine.{BindLine}
 use Rattle.m36_bindfile.specs.BindFile.{bind_lines, asks_newer, retained_names}
@@ -58,13 +58,6 @@ NamesImage bound p section old target new =
 
 -- ---- words
 
--- whether two parts of a word that relocations name have bits in common: bits 3 to 17 are in the
--- left half
-abbrev pub overlap : ℕ → ℕ → Bool
-overlap j k =
-    nat_eq j k || (nat_eq j left_part && nat_eq k offset_part)
-    || (nat_eq j offset_part && nat_eq k left_part)
-
 -- The relocation is the component's, and names a part of the word of this number of its text, or of
 -- its static words.
 pub record Moves (p : PlacedFields) (statics : Bool) (i : ℕ) (r : RelocFields) : Type 0 where
@@ -73,8 +66,9 @@ pub record Moves (p : PlacedFields) (statics : Bool) (i : ℕ) (r : RelocFields)
   pub place : place_in p.shape statics r ≡ i
 
 -- What stands for a word of a component: each relocated part names the image of what it named, but
--- that bits 3 to 17 which are below zero count from where the component's words begin; each other
--- part is as it was.
+-- that bits 3 to 17 which are below zero count from where the component's words begin. Bits 0 to 2
+-- are as they were unless the whole left half is relocated, also where bits 3 to 17 are; bits 3 to
+-- 17 unless they or the left half are; and the right half unless it is.
 pub record IsMovedWord (bound : PartsFields) (p : PlacedFields) (statics : Bool)
     (i old new : ℕ) : Type 0 where
   pub names : (r : RelocFields) → Moves p statics i r
@@ -83,9 +77,12 @@ pub record IsMovedWord (bound : PartsFields) (p : PlacedFields) (statics : Bool)
   pub below : (r : RelocFields) → Moves p statics i r → r.part ≡ offset_part
       → offset_limit ≤ part_of offset_part old
       → part_of offset_part new ≡ below_zero p.bases r.target (part_of offset_part old) % 2 ^ 15
-  pub stays : (part : ℕ) → part ≤ offset_part
-      → ((r : RelocFields) → Moves p statics i r → overlap r.part part ≡ false)
-      → part_of part new ≡ part_of part old
+  pub first_bits : ((r : RelocFields) → Moves p statics i r → r.part ≡ left_part → ⊥)
+      → field new 0 3 ≡ field old 0 3
+  pub offset_bits : ((r : RelocFields) → Moves p statics i r → r.part ≡ right_part)
+      → field new 3 15 ≡ field old 3 15
+  pub right_bits : ((r : RelocFields) → Moves p statics i r → r.part ≡ right_part → ⊥)
+      → field new 18 18 ≡ field old 18 18
 
 -- ---- where components stand
 
