@@ -6,7 +6,7 @@ use Rattle.alm_parse.specs.declared.line.Line36.{Line36}
 use Rattle.obj36_parts.specs.declared.section.Section.{Section}
 use Rattle.obj36_parts.specs.declared.section.Section.TheVariants.{Text, Linkage, Symbol, Static}
 use Rattle.alm_lines.specs.Arguments.{first_arg, second_arg, symbol_in, number_in, words_of_args, section_in}
-use Rattle.alm_lines.specs.Spots.{start, count_in, place, grown_in, entered, moved_by, below, end_of}
+use Rattle.alm_lines.specs.Spots.{start, count_in, place, grown_in, entered, size_of, moved_by, below, end_of}
 use Rattle.alm_asm.specs.Words.{instruction_word, halves_word, words_by, words_of_line, words_from}
 use Rattle.obj36_parts.specs.Sections.{same_section}
 use Rattle.alm_asm.specs.Laws.{holds_words}
@@ -103,6 +103,33 @@ starts_empty Static = refl
 pub places_count : (text : List ℕ) (tables : Tables) (section : Section) (above : List Line36) → holds_words section ≡ true
     → count_in section (end_of text start above) ≡ length (words_from text tables section [] start above)
 places_count text tables section above p = all_counted section text tables [] start above p (starts_empty section)
+
+-- a line's size is the count of the words that it places
+sized_by : (text : List ℕ) (tables : Tables) (spot : Spot) (arguments : List Arg) (d : Deed) → size_of d arguments (place spot) ≡ length (words_by text tables spot arguments d)
+sized_by text tables spot arguments deed.Nothing = refl
+sized_by text tables spot arguments (deed.Instruction code bit27) = refl
+sized_by text tables spot arguments deed.Entry = refl
+sized_by text tables spot arguments deed.Segdef = refl
+sized_by text tables spot arguments deed.Equ = refl
+sized_by text tables spot arguments deed.Use = refl
+sized_by text tables spot arguments deed.Words = refl
+sized_by text tables spot arguments deed.Zero = refl
+sized_by text tables spot arguments deed.Block = sym (length-replicate (number_in (second_arg arguments)) 0)
+sized_by text tables spot arguments deed.Even = sym (length-replicate (place spot % 2) 0)
+sized_by text tables spot arguments deed.Bound = refl
+
+same_self : (section : Section) → same_section section section ≡ true
+same_self Text = refl
+same_self Linkage = refl
+same_self Symbol = refl
+same_self Static = refl
+
+pub sizes_count : (text : List ℕ) (tables : Tables) (spot : Spot) (line : Line36)
+    → size_of line.deed line.args (place spot) ≡ length (words_of_line text tables spot.section spot line)
+unfolding words_of_line
+sizes_count text tables spot line =
+    sized_by text tables spot line.args line.deed
+    ∙ sym (ap (λ b. length (cond b (words_by text tables spot line.args line.deed) [])) (same_self spot.section))
 
 follow_from : (text : List ℕ) (tables : Tables) (section : Section) (words : List ℕ) (spot : Spot) (above lines : List Line36)
     → words_from text tables section words spot (above ++ lines) ≡ words_from text tables section (words_from text tables section words spot above) (end_of text spot above) lines

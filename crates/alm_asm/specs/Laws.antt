@@ -21,11 +21,11 @@ use Rattle.alm_lines.specs.Expressions.{sum_of}
 use Rattle.alm_asm.specs.Assembly.{parts_of, refusal_of}
 use Rattle.alm_lines.specs.Sums.{half_of, offset_of}
 use Rattle.alm_lines.specs.Symbols.{sum_named}
-use Rattle.alm_lines.specs.Spots.{start, count_in, end_of}
+use Rattle.alm_lines.specs.Spots.{start, count_in, place, size_of, end_of}
 use Rattle.alm_lines.specs.SpotFields.{Spot}
 use Rattle.alm_asm.specs.Links.{link_of, link_place}
 use Rattle.alm_asm.specs.Marks.{operand_part}
-use Rattle.alm_asm.specs.Words.{pointed_inst, inst_by, halves_word, words_from}
+use Rattle.alm_asm.specs.Words.{pointed_inst, inst_by, halves_word, words_of_line, words_from}
 use Rattle.alm_lines.specs.Layout.{symbols_from}
 use Rattle.alm_lines.specs.Refusals.{has_room}
 use Rattle.alm_lines.specs.declared.refusal.Room.TheVariants.{Offset}
@@ -47,6 +47,14 @@ PlacesCount =
     → holds_words section ≡ true
     → count_in section (end_of text start above)
     ≡ length (words_from text tables section [] start above)
+
+-- The size of a line, whatever the line is, is the count of the words that it places in the section
+-- in which it stands.
+abbrev pub SizesCount : Type 0
+SizesCount =
+    (text : List ℕ) (tables : Tables) (spot : Spot) (line : Line36)
+    → size_of line.deed line.args (place spot)
+    ≡ length (words_of_line text tables spot.section spot line)
 
 -- The words of lines follow those of the lines above them.
 abbrev pub WordsFollow : Type 0

@@ -13,8 +13,8 @@ use Rattle.obj36_parts.specs.declared.section.Section.{Section}
 use Rattle.obj36_parts.specs.ObjectSegment.{linkage_register}
 use Rattle.obj36_parts.specs.Sections.{same_section}
 use Rattle.alm_lines.specs.Sums.{half_of, offset_of}
-use Rattle.alm_lines.specs.Arguments.{first_arg, second_arg, terms_in, words_of_args}
-use Rattle.alm_lines.specs.Spots.{place, size_of, below}
+use Rattle.alm_lines.specs.Arguments.{first_arg, second_arg, terms_in, number_in, words_of_args}
+use Rattle.alm_lines.specs.Spots.{place, below}
 use Rattle.alm_lines.specs.Expressions.{sum_of}
 use Rattle.alm_asm.specs.Links.{link_of, link_place}
 use Rattle.alm_lines.specs.SpotFields.{Spot}
@@ -92,10 +92,8 @@ words_by text tables spot arguments deed.Equ = []
 words_by text tables spot arguments deed.Use = []
 words_by text tables spot arguments deed.Words = words_of_args [] arguments
 words_by text tables spot arguments deed.Zero = halves_word text tables spot arguments ∷ []
-words_by text tables spot arguments deed.Block =
-    replicate (size_of deed.Block arguments (place spot)) 0
-words_by text tables spot arguments deed.Even =
-    replicate (size_of deed.Even arguments (place spot)) 0
+words_by text tables spot arguments deed.Block = replicate (number_in (second_arg arguments)) 0
+words_by text tables spot arguments deed.Even = replicate (place spot % 2) 0
 words_by text tables spot arguments deed.Bound = []
 
 -- what a line places in a section
