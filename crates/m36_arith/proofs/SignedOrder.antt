@@ -1,5 +1,7 @@
 -- Signed sums, differences and order of numbers below twice a half, told by the numbers plus that half.
-use Rattle.std.proofs.Common.{ℕ, ◌≡◌, ◌+◌, ◌-◌, ◌*◌, ◌<◌, ◌≤◌, Bool, not, ◌&&◌, nat_lt, nat_le, ℤ, pos, ◌+ℤ◌, ◌-ℤ◌, ap, arith}
+use Rattle.std.proofs.Common.{ℕ, ◌≡◌, ◌+◌, ◌-◌, ◌*◌, ◌%◌, ◌<◌, ◌≤◌, Bool, true, false, not, ◌&&◌, nat_lt, nat_le, ℤ, pos, ◌+ℤ◌, ◌-ℤ◌, refl, ap, ◌∙◌, inl, inr, arith}
+use Rattle.std.proofs.lemmas.Bool.{cases_lt}
+use Rattle.std.proofs.Math.Nat.{mod-eq_of_lt, mod-eq-sub-mod}
 use Rattle.std.specs.Prelude.{int_le, int_lt}
 use Rattle.std.proofs.lemmas.Int.{ints}
 use Rattle.m36_word.specs.Bits.{of_bit}
@@ -44,3 +46,67 @@ pub is_less_is : (half a b x y : ℕ) → (a < half → x ≡ a + half) → (hal
 unfolding is_less
 is_less_is half a b x y al ah bl bh =
     less half x y (signed half a) (signed half b) (biased_is half a x al ah) (biased_is half b y bl bh)
+
+-- a sum modulo twice the half
+sum_below : (half t : ℕ) → t < 2 * half → t % (2 * half) ≡ t
+sum_below half t low = mod-eq_of_lt low
+
+sum_above : (half t : ℕ) → 2 * half ≤ t → t < 4 * half → t % (2 * half) + 2 * half ≡ t
+sum_above half t high fits =
+    let less : t - 2 * half < 2 * half = omega arith in
+    let e : t % (2 * half) ≡ t - 2 * half = mod-eq-sub-mod high ∙ mod-eq_of_lt less in
+    rw e (omega arith)
+
+-- overflow by the signs of both numbers
+both_low : (half a b : ℕ) (carry : Bool) → a < half → b < half → sum_overflow half a b carry ≡ nat_le half (a + b + of_bit carry)
+both_low half a b carry p q =
+    sum_overflow_is half a b carry (a + half) (b + half) (λ _. refl) (λ h. absurd (omega arith)) (λ _. refl) (λ h. absurd (omega arith)) ∙ grind arith
+
+both_high : (half a b : ℕ) (carry : Bool) → half ≤ a → a < 2 * half → half ≤ b → b < 2 * half → sum_overflow half a b carry ≡ nat_lt (a + b + of_bit carry) (3 * half)
+both_high half a b carry p s q t =
+    sum_overflow_is half a b carry (a - half) (b - half) (λ h. absurd (omega arith)) (λ _. omega arith) (λ h. absurd (omega arith)) (λ _. omega arith) ∙ grind arith
+
+first_low : (half a b : ℕ) (carry : Bool) → a < half → half ≤ b → b < 2 * half → sum_overflow half a b carry ≡ false
+first_low half a b carry p q t =
+    sum_overflow_is half a b carry (a + half) (b - half) (λ _. refl) (λ h. absurd (omega arith)) (λ h. absurd (omega arith)) (λ _. omega arith) ∙ grind arith
+
+first_high : (half a b : ℕ) (carry : Bool) → half ≤ a → a < 2 * half → b < half → sum_overflow half a b carry ≡ false
+first_high half a b carry p s q =
+    sum_overflow_is half a b carry (a - half) (b + half) (λ h. absurd (omega arith)) (λ _. omega arith) (λ _. refl) (λ h. absurd (omega arith)) ∙ grind arith
+
+bit_at_most : (on : Bool) → of_bit on ≤ 1
+bit_at_most false = omega arith
+bit_at_most true = omega arith
+
+-- a sum overflows where neither number has its sign: by the sign of the sum and of the first number
+pub high_sum_of_low : (half a b : ℕ) (carry : Bool) → a < half → b < 2 * half → half ≤ (a + b + of_bit carry) % (2 * half) → nat_lt b half ≡ sum_overflow half a b carry
+high_sum_of_low half a b carry p t s =
+    let bit = bit_at_most carry in
+    elim (cases_lt b half) [
+      | inl q ↦ let o = both_low half a b carry p q in let e = sum_below half (a + b + of_bit carry) (omega arith) in grind arith
+      | inr q ↦ let o = first_low half a b carry p q t in grind arith
+    ]
+
+pub high_sum_of_high : (half a b : ℕ) (carry : Bool) → half ≤ a → a < 2 * half → b < 2 * half → half ≤ (a + b + of_bit carry) % (2 * half) → nat_lt a half ≡ sum_overflow half a b carry
+high_sum_of_high half a b carry p f t s =
+    let bit = bit_at_most carry in
+    elim (cases_lt b half) [
+      | inl q ↦ let o = first_high half a b carry p f q in grind arith
+      | inr q ↦ let o = both_high half a b carry p f q t in let e = sum_above half (a + b + of_bit carry) (omega arith) (omega arith) in grind arith
+    ]
+
+pub low_sum_of_high : (half a b : ℕ) (carry : Bool) → half ≤ a → a < 2 * half → b < 2 * half → (a + b + of_bit carry) % (2 * half) < half → nat_le half b ≡ sum_overflow half a b carry
+low_sum_of_high half a b carry p f t s =
+    let bit = bit_at_most carry in
+    elim (cases_lt b half) [
+      | inl q ↦ let o = first_high half a b carry p f q in grind arith
+      | inr q ↦ let o = both_high half a b carry p f q t in let e = sum_above half (a + b + of_bit carry) (omega arith) (omega arith) in grind arith
+    ]
+
+pub low_sum_of_low : (half a b : ℕ) (carry : Bool) → a < half → b < 2 * half → (a + b + of_bit carry) % (2 * half) < half → nat_le half a ≡ sum_overflow half a b carry
+low_sum_of_low half a b carry p t s =
+    let bit = bit_at_most carry in
+    elim (cases_lt b half) [
+      | inl q ↦ let o = both_low half a b carry p q in let e = sum_below half (a + b + of_bit carry) (omega arith) in grind arith
+      | inr q ↦ let o = first_low half a b carry p q t in grind arith
+    ]

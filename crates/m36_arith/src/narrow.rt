@@ -32,15 +32,19 @@ fn is_outside(half: u64, total: u64) -> bool
     !(half <= total && total < 3 * half)
 }
 
-/// The signed sum of two numbers and a carry does not fit.
-#[tactic(auto, using(crate::proofs::SignedOrder::sum_overflow_is))]
+/// The signed sum of two numbers and a carry does not fit: neither number has the sign of the sum modulo twice the half.
 pub fn sum_overflows(half: u64, x: u64, y: u64, carry_in: bool) -> bool
     requires half { half ≤ 2 ^ 35 }
     requires first { x < 2 * half }
     requires second { y < 2 * half }
     ensures { result ≡ sum_overflow half x y carry_in }
 {
-    is_outside(half, biased(half, x) + biased(half, y) + of_bit(carry_in))
+    let sum = (x + y + of_bit(carry_in)) % (2 * half);
+    if half <= sum {
+        x < half && y < half
+    } else {
+        half <= x && half <= y
+    }
 }
 
 /// The signed difference of two numbers and a borrow does not fit.

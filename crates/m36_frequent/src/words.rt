@@ -98,11 +98,12 @@ fn tell_sum(s: Sum36, regs: &mut Regs)
     ensures value { regs.new ≡ with_indicators (zn_carry_overflow s regs.old.ind) regs.old }
     ensures mask { regs.new.ind.mask ≡ regs.old.ind.mask }
 {
-    let before = regs.ind.overflow;
     regs.ind.zero = s.zero;
     regs.ind.negative = s.negative;
     regs.ind.carry = s.carry;
-    regs.ind.overflow = before || s.overflow;
+    if s.overflow {
+        regs.ind.overflow = true;
+    }
 }
 
 /// The accumulator becomes a sum.

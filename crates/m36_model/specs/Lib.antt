@@ -14,6 +14,7 @@
 pub mod Faults
 pub mod Fields
 pub mod Registers
+pub mod References
 pub mod Act
 pub mod Store
 pub mod Place

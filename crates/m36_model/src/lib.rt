@@ -16,12 +16,14 @@ pub mod laws;
 pub mod outcome;
 pub mod place;
 pub mod record;
+pub mod references;
 pub mod registers;
 pub mod worked;
 
 pub use effects::{Effect36, Formed, Held, Operand36, Tally};
 pub use endings::{End, LinkCode};
 pub use outcome::{Fault, Final, Halt, Outcome, Refusal, Stop};
-pub use place::{At, Kind, Reference, Refs};
+pub use place::{At, Kind, Reference};
 pub use record::{Shown, StepRecord};
+pub use references::Refs;
 pub use registers::{Ind, Ppr, Regs};

@@ -1,8 +1,7 @@
-//! Places that a step refers to, and the references that it has completed.
+//! Places that a step refers to, and references to them.
 
 ghost use Rattle.std.specs.Prelude.{◌≡◌};
 
-use arrayvec::ArrayVec;
 use std::marker::Model;
 
 /// A word of a segment, and the ring of the reference to it.
@@ -68,6 +67,3 @@ impl Default for Reference {
         }
     }
 }
-
-/// The completed references of one step, in order.
-pub type Refs = ArrayVec<Reference, 40>;

@@ -1,7 +1,7 @@
 //! The record of one step.
 
 use crate::outcome::{Final, Outcome};
-use crate::place::Refs;
+use crate::references::Refs;
 use crate::registers::{Ppr, Regs};
 use m36_word::Word;
 

@@ -3,8 +3,8 @@ use Rattle.std.proofs.Common.{ℕ, ◌≡◌, ◌∙◌, refl, sym, ap, subst, B
 use Rattle.m36_inst.specs.Fields.{InstFields}
 use Rattle.m36_inst.specs.Instruction.{inst_of}
 use Rattle.m36_inst.specs.Lookup.{row_at}
-use Rattle.m36_inst.specs.Operands.{operand_of, is_privileged, takes_direct}
-use Rattle.m36_inst.specs.Quick.{group_of, quick_of, quick_row_of, operand_in, direct_in, IsQuick, IsGrouped, Fits}
+use Rattle.m36_inst.specs.Operands.{operand_of, is_privileged}
+use Rattle.m36_inst.specs.Quick.{group_of, quick_of, quick_row_of, IsQuick, Fits}
 use Rattle.m36_inst.proofs.Grouped.{grouped}
 use Rattle.m36_inst.specs.declared.effect.Effect.{Effect}
 use Rattle.m36_inst.specs.declared.effect.Effect.TheVariants as effect
@@ -14,11 +14,10 @@ use Rattle.m36_inst.specs.declared.rows.Group.{Group}
 use Rattle.m36_inst.specs.declared.rows.Group.TheVariants as group
 use Rattle.m36_inst.specs.declared.rows.Quick.{Quick}
 use Rattle.m36_inst.specs.declared.rows.Row.{Row}
-use Rattle.m36_desc.specs.Fields.{SdwFields}
 use Rattle.m36_desc.specs.Access.{ring_called}
 use Rattle.m36_word.specs.Pairs.{pair_words}
 use Rattle.m36_word.specs.declared.pair.Pair.{Pair}
-use Rattle.m36_model.specs.Act.{Act, Read, Write, Fetch, Transfer, Call}
+use Rattle.m36_model.specs.Act.{Act, Fetch, Transfer, Call}
 use Rattle.m36_model.specs.Chain.{chain_end_fields}
 use Rattle.m36_model.specs.Core.{core_store, core_put, put_one}
 use Rattle.m36_model.specs.Effect.{exec, is_absa}

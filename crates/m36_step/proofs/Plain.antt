@@ -1,5 +1,5 @@
 -- How an instruction ends whose address has no tally word, by what its references and its effect gave.
-use Rattle.std.proofs.Common.{ℕ, ◌≡◌, ◌∙◌, refl, sym, ap, Bool, true, false, not, ◌&&◌, IsTrue, List, [], ◌∷◌, Option, Some, None, Result, Ok, Err, slice_set}
+use Rattle.std.proofs.Common.{ℕ, ◌≡◌, ◌∙◌, refl, sym, ap, Bool, true, false, not, ◌&&◌, List, [], ◌∷◌, Option, Some, None, Result, Ok, slice_set}
 use Rattle.m36_inst.specs.Operands.{operand_of, takes_direct, is_privileged}
 use Rattle.m36_inst.specs.declared.effect.Effect.{Effect}
 use Rattle.m36_inst.specs.declared.effect.Effect.TheVariants as effect
@@ -8,7 +8,7 @@ use Rattle.m36_inst.specs.declared.operand.Operand.TheVariants as kind
 use Rattle.m36_desc.specs.Access.{ring_called}
 use Rattle.m36_desc.specs.Fields.{SdwFields}
 use Rattle.m36_model.specs.Act.{Part, Whole, Read, Write, Transfer, Call, refer}
-use Rattle.m36_model.specs.Chain.{ChainEnd, chain_end_fields, claimed_by, pending_of, runout_of}
+use Rattle.m36_model.specs.Chain.{ChainEnd, chain_end_fields}
 use Rattle.m36_model.specs.Core.{core_store, core_put, put_one}
 use Rattle.m36_model.specs.Effect.{exec, is_absa}
 use Rattle.m36_model.specs.Fields.{FinalFields}
@@ -18,12 +18,8 @@ use Rattle.m36_model.specs.Step.{Performed, no_operand, puts_from, performed, pe
 use Rattle.m36_model.specs.Store.{Spot, Core_word, serve, run, changes}
 use Rattle.m36_model.specs.Transfers.{is_taken}
 use Rattle.m36_model.specs.declared.effects.Formed.{Formed}
-use Rattle.m36_model.specs.declared.effects.Tally.{Tally}
 use Rattle.m36_model.specs.declared.effects.Held.TheVariants as held
-use Rattle.m36_model.specs.declared.outcome.Fault.{Fault}
-use Rattle.m36_model.specs.declared.outcome.Outcome.TheVariants.{Faulted}
 use Rattle.m36_model.specs.declared.outcome.Halt.{Halt}
-use Rattle.m36_model.specs.declared.outcome.Halt.TheVariants as halt
 use Rattle.m36_model.specs.declared.place.Reference.{Reference}
 use Rattle.m36_walk.specs.Memory.{Memory}
 use Rattle.m36_walk.specs.Runs.{run_from}
@@ -37,14 +33,14 @@ use Rattle.m36_inst.specs.declared.rows.Group.TheVariants as group
 use Rattle.m36_frequent.specs.Frequent.{word_read, pair_read}
 use Rattle.m36_ea.specs.Formed.{plain}
 use Rattle.m36_ea.proofs.Runs.{run_ask, run_done}
-use Rattle.m36_step.specs.Ended.{EndsFormed, end_of}
+use Rattle.m36_step.specs.Ended.{EndsFormed}
 use Rattle.m36_step.specs.Operated.{claims_of, puts_of, part_of, operated_end}
 use Rattle.m36_step.specs.declared.operated.Part as code
-use Rattle.m36_step.specs.References.{ServesRead, ServesWrite, HoldRefused}
+use Rattle.m36_step.specs.References.{ServesRead, ServesWrite}
 use Rattle.m36_step.specs.declared.ended.Ended.{Ended}
 use Rattle.m36_step.specs.declared.operated.Operated.{Operated}
 use Rattle.m36_step.specs.declared.operated.Part.TheVariants as part
-use Rattle.m36_step.proofs.Ends.{operation_performed, operation_refused}
+use Rattle.m36_step.proofs.Ends.{operation_performed}
 
 -- an instruction that loads its address does not ask for its place
 pub not_absa : (e : Effect) → group_of e ≡ group.Address → is_absa e ≡ false
@@ -190,34 +186,6 @@ module _ (e : Effect) (n w : ℕ) (g : RegsFields) (last : FinalFields) where
           ∙ performs (word_read got) g' (word ∷ []) overflow core'' (run_from place 1) refs'' effect)
           stored
 
-  -- The Write is refused.
-  pub change_refused : (m m' : Memory) (refs : List Reference) (core' : List ℕ) (refs' : List Reference) (core'' : List ℕ) (refs'' : List Reference) (got : ℕ) (end : Ended) → operand_of e ≡ kind.Rw → last.direct ≡ None → ServesRead g f 1 m refs core' refs' (Ok (got ∷ [])) → m'.core ≡ core'
-      → HoldRefused g w last m' refs' core'' refs'' end → EndsFormed g (operated e n g w c) m.core f refs core'' refs'' g end
-  change_refused m m' refs core' refs' core'' refs'' got end k none read same h =
-      operation_refused g e n w f m.core refs core'' refs'' g held.Empty (halt.Fault h.fault) end
-      (changes_by m refs core' refs' g false (done_end g false) refl m' core'' refs'' got k none read same
-      ∙ run_ask g (request_at Write c 1) _ (standing m'.core [] refs') _ h.serves
-      ∙ run_done g (Err (halt.Fault h.fault)) (standing core'' [] refs''))
-      refl h.told
-
-  -- A pair may not be read, or not be written.
-  module _ (m : Memory) (refs : List Reference) (core' : List ℕ) (refs' : List Reference) (fault : Fault) (end : Ended) (none : last.direct ≡ None) (told : end ≡ record { word = Some w; at = Some last; outcome = Faulted fault }) where
-    pub pair_read_refused : operand_of e ≡ kind.R2 → ServesRead g f 2 m refs core' refs' (Err fault) → EndsFormed g (operated e n g w c) m.core f refs core' refs' g end
-    pair_read_refused k served =
-        operation_refused g e n w f m.core refs core' refs' g held.Empty (halt.Fault fault) end
-        (ap (λ p. run core_store g p (standing m.core [] refs)) (operates_by kind.R2 k none)
-        ∙ run_ask g (request_at Read c 2) _ (standing m.core [] refs) _ served
-        ∙ run_done g (Err (halt.Fault fault)) (standing core' [] refs'))
-        refl told
-
-    pub pair_write_refused : operand_of e ≡ kind.W2 → ServesWrite g f 2 m refs core' refs' (Err fault) → EndsFormed g (operated e n g w c) m.core f refs core' refs' g end
-    pair_write_refused k served =
-        operation_refused g e n w f m.core refs core' refs' g held.Empty (halt.Fault fault) end
-        (ap (λ p. run core_store g p (standing m.core [] refs)) (operates_by kind.W2 k none)
-        ∙ run_ask g (request_at Write c 2) _ (standing m.core [] refs) _ served
-        ∙ run_done g (Err (halt.Fault fault)) (standing core' [] refs'))
-        refl told
-
   -- Nothing is referenced: the operand is direct, or the address alone is used, or a transfer is not taken, or its target is examined and not touched.
   module _ (core : List ℕ) (refs : List Reference) (g' : RegsFields) (overflow : Bool) (end : Ended) (is : end ≡ done_end g' overflow) where
     pub direct_ends : (operand : ℕ) → operand_of e ≡ kind.R → last.direct ≡ Some operand → takes_direct e ≡ true
@@ -273,26 +241,7 @@ module _ (e : Effect) (n w : ℕ) (g : RegsFields) (last : FinalFields) where
         ∙ ap (λ (x : ℕ). run core_store g (perform e n g c Whole 0 (ring_only x)) (standing core [] refs)) (sym is_ring)
         ∙ performs (ring_only ring) g' [] overflow core [] refs effect)
 
-  -- A target may not be called.
-  pub call_refused : (d : SdwFields) (core : List ℕ) (refs : List Reference) (fault : Fault) (end : Ended) → operand_of e ≡ kind.Call6 → last.direct ≡ None
-      → serve core_store g (standing core [] refs) (request Call last.at 1 []) ≡ served_by (request Call last.at 1 []) core [] refs (Err fault)
-      → end ≡ record { word = Some w; at = Some last; outcome = Faulted fault } → EndsFormed g (operated e n g w c) core f refs core refs g end
-  call_refused d core refs fault end k none served told =
-      operation_refused g e n w f core refs core refs g held.Empty (halt.Fault fault) end
-      (ap (λ p. run core_store g p (standing core [] refs)) (operates_by kind.Call6 k none)
-      ∙ run_ask g (request_at Call c 1) _ (standing core [] refs) _ served
-      ∙ run_done g (Err (halt.Fault fault)) (standing core [] refs))
-      refl told
-
 module _ (e : Effect) (n w : ℕ) (g : RegsFields) where
-  -- An address without a tally word has claimed none.
-  pub without_tally : (f : Formed) (core : List ℕ) (refs : List Reference) (core' : List ℕ) (refs' : List Reference) (g' : RegsFields) (end : Ended) → f.tally ≡ None
-      → EndsFormed g (operated e n g w (chain_end_fields (plain f.last))) core (plain f.last) refs core' refs' g' end
-      → EndsFormed g (operated e n g w (chain_end_fields f)) core f refs core' refs' g' end
-  without_tally f core refs core' refs' g' end none ends =
-      ap (λ (t : Option Tally). end_of (run core_store g (operated e n g w (record { last = f.last; pending = pending_of t; runout = runout_of t })) (standing core (claimed_by t f.place) refs))) none
-      ∙ ends
-
   starts_addressed : (k : Operand) → (k ≡ kind.N → ⊥) → started e n g w k ≡ addressed e n g w
   starts_addressed kind.N forms = absurd (forms refl)
   starts_addressed _ forms = refl

@@ -1,5 +1,5 @@
 -- How a quick step ends whose address reads an indirect word or counts a tally word.
-use Rattle.std.proofs.Common.{ℕ, ◌≡◌, ◌≢◌, ◌∙◌, refl, sym, ap, false, not, ◌&&◌, Bool, List, [], ◌∷◌, ◌++◌, None, Some, Option, Result, Ok, slice_index, slice_set}
+use Rattle.std.proofs.Common.{ℕ, ◌≡◌, ◌≢◌, ◌∙◌, refl, sym, ap, false, Bool, List, [], ◌∷◌, ◌++◌, None, Some, Option, Result, Ok, slice_index, slice_set}
 use Rattle.std.proofs.Common.{get_or-set_other}
 use Rattle.m36_inst.specs.Fields.{InstFields}
 use Rattle.m36_inst.specs.Instruction.{inst_of}
@@ -17,7 +17,7 @@ use Rattle.m36_model.specs.Fields.{FinalFields}
 use Rattle.m36_model.specs.Registers.{RegsFields}
 use Rattle.m36_model.specs.Results.{OperandFields}
 use Rattle.m36_model.specs.Step.{Performed, no_operand, operate, operate_on, by_kind, performed, puts_with, request_at, tallied, with_tally}
-use Rattle.m36_model.specs.Store.{Spot, Core_word, run, changes}
+use Rattle.m36_model.specs.Store.{Core_word, run, changes}
 use Rattle.m36_model.specs.declared.effects.Formed.{Formed}
 use Rattle.m36_model.specs.declared.effects.Held.TheVariants as held
 use Rattle.m36_model.specs.declared.outcome.Halt.{Halt}
@@ -32,8 +32,7 @@ use Rattle.m36_frequent.specs.Frequent.{IsDone, word_read}
 use Rattle.m36_ea.specs.Formed.{formed_from, ended, formed_mid, plain}
 use Rattle.m36_ea.specs.declared.quick.Counting.{Counting}
 use Rattle.m36_ea.proofs.Runs.{run_ask, run_done}
-use Rattle.m36_step.specs.Operated.{claims_of, puts_of}
-use Rattle.m36_step.specs.Quick.{next_end, counted_address, GoesOn, Operates, OperatesCounted, Addresses}
+use Rattle.m36_step.specs.Quick.{next_end, counted_address, Operates, OperatesCounted, Addresses}
 use Rattle.m36_step.specs.References.{read_served}
 use Rattle.m36_step.specs.declared.ended.Ended.{Ended}
 use Rattle.m36_step.specs.declared.operated.Part.TheVariants as part

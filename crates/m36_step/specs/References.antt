@@ -1,6 +1,6 @@
 -- How core serves the references of an operand, at the end of an address chain that has claimed its
 -- tally word alone.
-use Rattle.std.specs.Prelude.{ℕ, ◌≡◌, List, [], Some, Result, Ok, Err}
+use Rattle.std.specs.Prelude.{ℕ, ◌≡◌, List, [], Result, Ok, Err}
 use Rattle.m36_desc.specs.Fields.{SdwFields}
 use Rattle.m36_model.specs.Act.{Read, Write}
 use Rattle.m36_model.specs.Chain.{chain_end_fields, claimed_by}
@@ -13,12 +13,8 @@ use Rattle.m36_model.specs.declared.outcome.Fault.{Fault}
 use Rattle.m36_model.specs.declared.place.Reference.{Reference}
 use Rattle.m36_walk.specs.Memory.{Memory}
 use Rattle.m36_walk.specs.Served.{standing, sdw_in, answer_of_words}
-use Rattle.m36_model.specs.declared.outcome.Halt.TheVariants as halt
-use Rattle.m36_model.specs.Fields.{FinalFields}
-use Rattle.m36_ea.specs.Formed.{formed_mid, plain}
-use Rattle.m36_step.specs.Ended.{halted_end}
+use Rattle.m36_ea.specs.Formed.{formed_mid}
 use Rattle.m36_step.specs.Operated.{claims_with}
-use Rattle.m36_step.specs.declared.ended.Ended.{Ended}
 
 -- words that are read, or the refusal
 abbrev pub read_served :
@@ -54,11 +50,3 @@ abbrev pub ServesWrite :
 ServesWrite g f count m refs core refs' place =
     serve core_store g (formed_mid m.core f refs) (request_at Write (chain_end_fields f) count)
     ≡ write_served (sdw_in m f.last.at.seg) core f count refs' place
-
--- A Write of one word at the end of an address without a tally word is refused, and the step ends by
--- its fault.
-pub record HoldRefused (g : RegsFields) (w : ℕ) (last : FinalFields) (m : Memory)
-    (refs : List Reference) (core : List ℕ) (refs' : List Reference) (end : Ended) : Type 0 where
-  pub fault : Fault
-  pub serves : ServesWrite g (plain last) 1 m refs core refs' (Err fault)
-  pub told : end ≡ halted_end (Some w) (Some last) (halt.Fault fault)

@@ -109,7 +109,8 @@ fn execute_transfer(row: &Row, regs: &mut Regs, last: &Final, put: &mut Held) ->
         ≡ refused_here regs.old (exec row.now.effect row.now.reg regs.old last.now o) }
     ensures put { PutsFor (operand_of row.now.effect) (words_of_held put.new) }
 {
-    m36_xfer::transfer(row.effect, regs, last);
+    let taken = m36_xfer::is_taken(row.effect, regs);
+    m36_xfer::transfer(row.effect, taken, regs, last);
     *put = Held::Empty;
     false
 }

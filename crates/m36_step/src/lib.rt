@@ -10,11 +10,11 @@
 //! registers and words as they were but for the marks of the references that were completed. No step ends for want of
 //! memory.
 //!
-//! Frequent instructions on a word or a pair, shifts, transfers, CALL6 and RTCD go a shorter way by the same parts: a
-//! reference answers a word or a place alone, the effect is made in the registers, and the record is filled as the step
-//! goes. Where the reference to a word, or to the target of a transfer, does not answer, nothing has changed, and the step
-//! goes on from there as every other does; the fault of a pair, of a call, or of the Write of a word that was read, is told at
-//! once.
+//! A step begins as a quick one: pages in front answer all its references, and nothing refuses it. All that may refuse it
+//! is asked before anything is written, so where the answer is no, nothing has changed, and the step is taken from its
+//! beginning as every other is. Frequent instructions on a word, a half or a pair, shifts, transfers, CALL6 and RTCD are
+//! quick, by an address that reads at most one indirect word or an ITS pair, or counts a tally word. What is noted of a
+//! quick step is up to its recorder: [`Machine::hurry`] takes quick steps and notes nothing.
 //!
 //! Whatever answers turns is a [`Stepper`]: a [`Turn`] is a step, a service that the step before it calls for, or says how the
 //! run has ended. The traits' relations are the contracts of their methods. A `Machine` is one, and a [`Replay`], whose turns

@@ -81,6 +81,20 @@ fn told_step(walk: &mut Walk, regs: &mut Regs, told: &mut StepRecord)
     told_else(walk, regs, told)
 }
 
+/// Copies the registers, field by field: a struct of this size is else copied by a call.
+#[inline(always)]
+fn copy_registers(from: &Regs, to: &mut Regs)
+    ensures copied { to.new ≡ from.now }
+{
+    to.a = from.a;
+    to.q = from.q;
+    to.x = from.x;
+    to.pr = from.pr;
+    to.dbr = from.dbr;
+    to.ppr = from.ppr;
+    to.ind = from.ind;
+}
+
 /// One step of a walk and registers with the same descriptor segment base register, told in a record that an earlier step
 /// may have filled.
 fn take_step(walk: &mut Walk, regs: &mut Regs, told: &mut StepRecord)
@@ -93,7 +107,7 @@ fn take_step(walk: &mut Walk, regs: &mut Regs, told: &mut StepRecord)
 {
     told.ppr = regs.ppr;
     told_step(walk, regs, told);
-    told.after = *regs;
+    copy_registers(regs, &mut told.after);
 }
 
 /// A record that tells of no step yet.

@@ -3,7 +3,7 @@
 //! All that may refuse it is asked first. False says that the step is another, and then nothing has changed: it is taken from
 //! its beginning by `execute`.
 
-ghost use Rattle.std.specs.Prelude.{◌≡◌, ◌<◌, None, Ok, Some, IsTrue, IsFalse, length, slice_index};
+ghost use Rattle.std.specs.Prelude.{◌≡◌, ◌<◌, ◌^◌, None, Ok, Some, IsTrue, IsFalse, length, slice_index};
 ghost use Rattle.m36_inst.specs.Quick.{IsQuick};
 ghost use Rattle.m36_inst.specs.declared.rows.Group.TheVariants as group;
 ghost use Rattle.m36_model.specs.Act.{Fetch};
@@ -12,7 +12,7 @@ ghost use Rattle.m36_walk.specs.Served.{ServesWord};
 ghost use Rattle.m36_step.specs.Quick.{Operates, Addresses, Decodes, IsNoLdbr, Steps};
 
 use crate::quick_counted::{read_counted, store_counted};
-use crate::quick_pairs::{called_at, pair_operand, returned_at, stored_pair};
+use crate::quick_pairs::{called, pair_operand, returned, stored_pair};
 use crate::quick_words::{
     address_operand, changed_operand, lower_operand, read_operand, shift_operand, stored_operand,
     target_operand, upper_operand,
@@ -21,9 +21,60 @@ use crate::recorder::Recorder;
 use crate::references::final_at;
 use m36_ea::{address_counted, address_through, plain_address};
 use m36_inst::{Group, Inst, Quick, quick_row};
-use m36_model::{Final, Kind, Regs};
+use m36_model::{At, Final, Kind, Regs};
 use m36_walk::Walk;
 use m36_word::Word;
+
+/// The operation of an instruction of another group than those of `operated`, by the parts of its final address. It is not
+/// compiled into `operated`, which would be too large then to be compiled into its callers.
+#[inline(never)]
+fn operated_apart<R: Recorder>(
+    walk: &mut Walk,
+    regs: &mut Regs,
+    rec: &mut R,
+    word: Word,
+    row: &Quick,
+    seg: u16,
+    number: u32,
+    ring: u8,
+    bit: u8,
+) -> bool
+    requires dbr { walk.old.dbr ≡ regs.old.dbr }
+    requires row { IsQuick row.now }
+    requires seg { seg < 2 ^ 15 }
+    requires number { number < 2 ^ 18 }
+    requires ring { ring < 2 ^ 3 }
+    requires bit { bit < 2 ^ 6 }
+    requires room { R.taken rec.old < 39 }
+    ensures went { IsTrue result → Operates (R.has rec.old) (R.tells rec.new) row.now regs.old word
+        (record { at = record { seg = seg; word = number; ring = ring }; bit = bit; direct = None })
+        walk.old.core walk.new.core regs.new }
+    ensures grouped { IsTrue result → row.now.group ≡ group.Other → ⊥ }
+    ensures walk { IsFalse result → walk.new ≡ walk.old }
+    ensures regs { IsFalse result → regs.new ≡ regs.old }
+    ensures place { R.place rec.new ≡ R.place rec.old }
+    ensures dbr { walk.new.dbr ≡ regs.new.dbr }
+{
+    let last = Final {
+        direct: None,
+        at: At {
+            word: number,
+            seg,
+            ring,
+        },
+        bit,
+    };
+    match row.group {
+        Group::Upper => upper_operand(walk, regs, rec, word, row, &last),
+        Group::Lower => lower_operand(walk, regs, rec, word, row, &last),
+        Group::Shift => shift_operand(walk, regs, rec, word, row, &last),
+        Group::ReadPair => pair_operand(walk, regs, rec, word, row, &last),
+        Group::StorePair => stored_pair(walk, regs, rec, word, row, &last),
+        Group::Call => called(walk, regs, rec, word, row, &last),
+        Group::Return => returned(walk, regs, rec, word, row, &last),
+        _ => false,
+    }
+}
 
 /// The operation of an instruction whose address has no tally word, and is no direct operand.
 #[inline(always)]
@@ -52,20 +103,11 @@ fn operated<R: Recorder>(
         Group::Read => read_operand(walk, regs, rec, word, row, last),
         Group::Store => stored_operand(walk, regs, rec, word, row, last),
         Group::Change => changed_operand(walk, regs, rec, word, row, last),
-        Group::Upper => upper_operand(walk, regs, rec, word, row, last),
-        Group::Lower => lower_operand(walk, regs, rec, word, row, last),
         Group::Address => address_operand(walk, regs, rec, word, row, last),
-        Group::Shift => shift_operand(walk, regs, rec, word, row, last),
         Group::Transfer => target_operand(walk, regs, rec, word, row, last),
-        Group::ReadPair => pair_operand(walk, regs, rec, word, row, last),
-        Group::StorePair => stored_pair(walk, regs, rec, word, row, last),
-        Group::Call => called_at(
+        _ => operated_apart(
             walk, regs, rec, word, row, at.seg, at.word, at.ring, last.bit,
         ),
-        Group::Return => returned_at(
-            walk, regs, rec, word, row, at.seg, at.word, at.ring, last.bit,
-        ),
-        Group::Other => false,
     }
 }
 

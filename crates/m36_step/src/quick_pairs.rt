@@ -1,6 +1,6 @@
 //! Quick operations on pairs, calls and returns.
 
-ghost use Rattle.std.specs.Prelude.{◌≡◌, ◌<◌, ◌^◌, None, IsTrue, IsFalse};
+ghost use Rattle.std.specs.Prelude.{◌≡◌, ◌<◌, None, IsTrue, IsFalse};
 ghost use Rattle.m36_inst.specs.Quick.{IsQuick};
 ghost use Rattle.m36_inst.specs.declared.rows.Group.TheVariants as group;
 ghost use Rattle.m36_step.specs.Quick.{Operates};
@@ -8,7 +8,7 @@ ghost use Rattle.m36_step.specs.Quick.{Operates};
 use crate::recorder::Recorder;
 use crate::references::final_at;
 use m36_inst::Quick;
-use m36_model::{At, Final, Kind, Regs};
+use m36_model::{Final, Kind, Regs};
 use m36_walk::{Walk, first_at};
 use m36_word::Word;
 
@@ -86,7 +86,7 @@ pub(crate) fn stored_pair<R: Recorder>(
 
 /// CALL6.
 #[inline(always)]
-fn called<R: Recorder>(
+pub(crate) fn called<R: Recorder>(
     walk: &mut Walk,
     regs: &mut Regs,
     rec: &mut R,
@@ -117,7 +117,7 @@ fn called<R: Recorder>(
 
 /// RTCD.
 #[inline(always)]
-fn returned<R: Recorder>(
+pub(crate) fn returned<R: Recorder>(
     walk: &mut Walk,
     regs: &mut Regs,
     rec: &mut R,
@@ -147,86 +147,4 @@ fn returned<R: Recorder>(
     rec.refer(Kind::Read, first_at(at, 2), 2);
     rec.end(word, last);
     true
-}
-
-/// CALL6, by the parts of its final address.
-#[inline(never)]
-pub(crate) fn called_at<R: Recorder>(
-    walk: &mut Walk,
-    regs: &mut Regs,
-    rec: &mut R,
-    word: Word,
-    row: &Quick,
-    seg: u16,
-    number: u32,
-    ring: u8,
-    bit: u8,
-) -> bool
-    requires dbr { walk.old.dbr ≡ regs.old.dbr }
-    requires row { IsQuick row.now }
-    requires group { row.now.group ≡ group.Call }
-    requires seg { seg < 2 ^ 15 }
-    requires number { number < 2 ^ 18 }
-    requires ring { ring < 2 ^ 3 }
-    requires bit { bit < 2 ^ 6 }
-    requires room { R.taken rec.old < 39 }
-    ensures went { IsTrue result → Operates (R.has rec.old) (R.tells rec.new) row.now regs.old word
-        (record { at = record { seg = seg; word = number; ring = ring }; bit = bit; direct = None })
-        walk.old.core walk.new.core regs.new }
-    ensures walk { IsFalse result → walk.new ≡ walk.old }
-    ensures regs { IsFalse result → regs.new ≡ regs.old }
-    ensures place { R.place rec.new ≡ R.place rec.old }
-    ensures dbr { walk.new.dbr ≡ regs.new.dbr }
-{
-    let last = Final {
-        direct: None,
-        at: At {
-            word: number,
-            seg,
-            ring,
-        },
-        bit,
-    };
-    called(walk, regs, rec, word, row, &last)
-}
-
-/// RTCD, by the parts of its final address.
-#[inline(never)]
-pub(crate) fn returned_at<R: Recorder>(
-    walk: &mut Walk,
-    regs: &mut Regs,
-    rec: &mut R,
-    word: Word,
-    row: &Quick,
-    seg: u16,
-    number: u32,
-    ring: u8,
-    bit: u8,
-) -> bool
-    requires dbr { walk.old.dbr ≡ regs.old.dbr }
-    requires row { IsQuick row.now }
-    requires group { row.now.group ≡ group.Return }
-    requires seg { seg < 2 ^ 15 }
-    requires number { number < 2 ^ 18 }
-    requires ring { ring < 2 ^ 3 }
-    requires bit { bit < 2 ^ 6 }
-    requires room { R.taken rec.old < 39 }
-    ensures went { IsTrue result → Operates (R.has rec.old) (R.tells rec.new) row.now regs.old word
-        (record { at = record { seg = seg; word = number; ring = ring }; bit = bit; direct = None })
-        walk.old.core walk.new.core regs.new }
-    ensures walk { IsFalse result → walk.new ≡ walk.old }
-    ensures regs { IsFalse result → regs.new ≡ regs.old }
-    ensures place { R.place rec.new ≡ R.place rec.old }
-    ensures dbr { walk.new.dbr ≡ regs.new.dbr }
-{
-    let last = Final {
-        direct: None,
-        at: At {
-            word: number,
-            seg,
-            ring,
-        },
-        bit,
-    };
-    returned(walk, regs, rec, word, row, &last)
 }

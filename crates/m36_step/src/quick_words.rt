@@ -269,7 +269,7 @@ pub(crate) fn target_operand<R: Recorder>(
     ensures dbr { walk.new.dbr ≡ regs.new.dbr }
 {
     if !m36_xfer::is_taken(row.effect, regs) {
-        m36_xfer::transfer(row.effect, regs, last);
+        m36_xfer::transfer(row.effect, false, regs, last);
         rec.end(word, last);
         return true;
     }
@@ -280,7 +280,7 @@ pub(crate) fn target_operand<R: Recorder>(
     if !walk.quick_transfer(at) {
         return false;
     }
-    m36_xfer::transfer(row.effect, regs, last);
+    m36_xfer::transfer(row.effect, true, regs, last);
     rec.end(word, last);
     true
 }

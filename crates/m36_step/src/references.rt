@@ -1,8 +1,7 @@
 //! The references of an operand: words that are read, and words that are to be written.
 
-ghost use Rattle.std.specs.Prelude.{ℕ, ◌≡◌, ◌+◌, ◌<◌, ◌≤◌, ◌^◌, [], ◌∷◌, ◌++◌, Ok, IfOk, IfSome, IfNone, length};
+ghost use Rattle.std.specs.Prelude.{ℕ, ◌≡◌, ◌+◌, ◌<◌, ◌≤◌, ◌^◌, [], ◌∷◌, ◌++◌, IfOk, length};
 ghost use Rattle.m36_word.specs.Pairs.{pair_words};
-ghost use Rattle.m36_ea.specs.Formed.{plain};
 ghost use Rattle.m36_model.specs.Results.{words_of_pairs};
 ghost use Rattle.m36_model.specs.Step.{aligned_at};
 ghost use Rattle.m36_walk.specs.Runs.{LiesIn};
@@ -153,54 +152,5 @@ pub(crate) fn final_at(last: &Final) -> At
         word: last.at.word,
         seg: last.at.seg,
         ring: last.at.ring,
-    }
-}
-
-/// Reads the word at the end of an address, where nothing refuses it.
-#[inline(always)]
-#[tactic(auto, unfolding(m36_model::specs::Store::changes))]
-pub(crate) fn try_read(walk: &mut Walk, regs: &Regs, last: &Final, refs: &mut Refs) -> Option<Word>
-    requires dbr { walk.old.dbr ≡ regs.now.dbr }
-    requires room { length refs.old.items < 40 }
-    ensures serves { IfSome result (λ w. ServesRead regs.now (plain last.now) 1 walk.old
-        refs.old.items walk.new.core refs.new.items (Ok (w ∷ []))) }
-    ensures walk { IfNone result (walk.new ≡ walk.old) }
-    ensures refs { IfNone result (refs.new ≡ refs.old) }
-    ensures dbr { walk.new.dbr ≡ walk.old.dbr }
-    ensures len { length walk.new.core ≡ length walk.old.core }
-    ensures count { length refs.new.items ≤ length refs.old.items + 1 }
-{
-    let at = final_at(last);
-    match walk.try_read(at, procedure_segment(regs)) {
-        Some(word) => {
-            complete(refs, Kind::Read, at, 1);
-            Some(word)
-        }
-        None => None,
-    }
-}
-
-/// Examines a Write of the word at the end of an address, where nothing refuses it. The answer is its place.
-#[inline(always)]
-#[tactic(auto, unfolding(m36_model::specs::Store::changes))]
-pub(crate) fn try_hold(walk: &mut Walk, regs: &Regs, last: &Final, refs: &mut Refs) -> Option<u32>
-    requires dbr { walk.old.dbr ≡ regs.now.dbr }
-    requires room { length refs.old.items < 40 }
-    ensures serves { IfSome result (λ a. ServesWrite regs.now (plain last.now) 1 walk.old
-        refs.old.items walk.new.core refs.new.items (Ok a)) }
-    ensures inside { IfSome result (λ a. a < length walk.new.core) }
-    ensures walk { IfNone result (walk.new ≡ walk.old) }
-    ensures refs { IfNone result (refs.new ≡ refs.old) }
-    ensures dbr { walk.new.dbr ≡ walk.old.dbr }
-    ensures len { length walk.new.core ≡ length walk.old.core }
-    ensures count { length refs.new.items ≤ length refs.old.items + 1 }
-{
-    let at = final_at(last);
-    match walk.try_hold(at) {
-        Some(place) => {
-            complete(refs, Kind::Write, at, 1);
-            Some(place)
-        }
-        None => None,
     }
 }

@@ -74,11 +74,13 @@ fn go(taken: bool, regs: &mut Regs, f: &Final)
     }
 }
 
-/// TRA and the conditional transfers but TOV, done in the registers. They put no words.
+/// TRA and the conditional transfers but TOV, done in the registers: `taken` says whether the transfer is taken. They put no
+/// words.
 #[tactic(auto, unfolding(m36_model::specs::Effect::exec))]
 #[inline(always)]
-pub fn transfer(effect: Effect, regs: &mut Regs, f: &Final)
-    requires { IsTrue (is_transfer effect) }
+pub fn transfer(effect: Effect, taken: bool, regs: &mut Regs, f: &Final)
+    requires transfer { IsTrue (is_transfer effect) }
+    requires taken { taken ≡ is_taken effect regs.old }
     ensures value { (n : ℕ) (o : OperandFields)
         → exec effect n regs.old f.now o ≡ leaves regs.new }
     ensures kind { operand_of effect ≡ T }
@@ -94,7 +96,7 @@ pub fn transfer(effect: Effect, regs: &mut Regs, f: &Final)
         | Effect::Tnc
         | Effect::Tmoz
         | Effect::Tpnz
-        | Effect::Ttf => go(is_taken(effect, regs), regs, f),
+        | Effect::Ttf => go(taken, regs, f),
         _ => unreachable!(),
     }
 }

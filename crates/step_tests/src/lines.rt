@@ -3,9 +3,8 @@
 ghost use Rattle.std.specs.Prelude.{◌<◌, ◌^◌};
 
 use crate::setting::{NO_INDICATORS, pointer};
-use arrayvec::ArrayVec;
 use m36_desc::Dbr;
-use m36_model::{At, Fault, Final, Ind, Outcome, Ppr, Regs, StepRecord, Stop};
+use m36_model::{At, Fault, Final, Ind, Outcome, Ppr, Refs, Regs, StepRecord, Stop};
 use m36_trace::{end_line, line};
 use m36_word::Word;
 
@@ -19,7 +18,7 @@ fn told(
     outcome: Outcome,
 ) -> StepRecord {
     StepRecord {
-        refs: ArrayVec::new(),
+        refs: Refs::new(),
         after: Regs {
             a: Word::low(a),
             q: Word::ZERO,

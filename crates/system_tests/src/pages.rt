@@ -48,8 +48,8 @@ fn reference(place: (u16, u32)) -> Reference {
 // References to two words.
 fn references(first: (u16, u32), second: (u16, u32)) -> Refs {
     let mut refs = Refs::new();
-    let _ = refs.try_push(reference(first));
-    let _ = refs.try_push(reference(second));
+    refs.push(reference(first));
+    refs.push(reference(second));
     refs
 }
 

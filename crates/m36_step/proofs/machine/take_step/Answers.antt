@@ -9,7 +9,7 @@ pub returns-clause-told : goal.returns-clause-told
 returns-clause-told c =
     let s : State (List ℕ) = record { regs = c.args.regs.now; store = c.args.walk.now.core } in
     let ends = c.told_step.ensures.ends in
-    rw (c.told_step.ensures.ppr, ap (λ (x : RegsFields). x.ppr) c.regs.view_is, c.regs-2.view_is) (sym (step_told s c.told_step.new.walk.core c.told_step.new.told.refs.items c.told_step.new.regs (ended_of c.told_step.new.told) ends))
+    rw (c.told_step.ensures.ppr, ap (λ (x : RegsFields). x.ppr) c.regs.view_is, c.copy_registers.ensures.copied) (sym (step_told s c.told_step.new.walk.core c.told_step.new.told.refs.items c.told_step.new.regs (ended_of c.told_step.new.told) ends))
 
 pub returns-clause-state : goal.returns-clause-state
 returns-clause-state c =
