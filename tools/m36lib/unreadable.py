@@ -1,7 +1,8 @@
 """Which file a ReadFault or a WriteFault may be about: m36 does not name it.
 
 The files that a command reads and writes follow from its words (docs/COMMANDS.md). Of these the
-ones that are there and can't be read, or written, are named; there may be none.
+ones that are there and can't be read, or replaced, are named; there may be none. A file that is
+written is replaced, so it takes the right to write the folder, and not the file.
 """
 
 import os
@@ -10,6 +11,10 @@ import stat
 from m36lib.commands import FILE, option_named
 from m36lib.shown import quoted
 from m36lib.texts import read_text
+
+
+# The commands that write files.
+WRITERS = ("alm", "bind", "make")
 
 
 def operand_of(words):
@@ -47,27 +52,30 @@ def files_read(words):
 
 def files_written(words):
     """The files that a command writes, except the many of `make`."""
-    return [operand_of(words)] if words[0] in ("alm", "bind") else []
+    return [operand_of(words)] if words[0] in WRITERS and words[0] != "make" else []
 
 
-def fault_of(name, right, what):
-    """Why a file can't be read or written, or None where it is absent, or can be."""
+def fault_of(name):
+    """Why a file can't be read, or None where it is absent, or can be."""
     try:
         mode = os.stat(name).st_mode
     except (OSError, ValueError):
         return None
     if stat.S_ISDIR(mode):
         return f"{quoted(name)} is a folder"
-    return None if os.access(name, right) else f"there is no right to {what} {quoted(name)}"
+    return None if os.access(name, os.R_OK) else f"there is no right to read {quoted(name)}"
 
 
 def unreadable(words):
     """The first file that can't be read, in words, or None."""
-    found = (fault_of(name, os.R_OK, "read") for name in files_read(words))
-    return next(filter(None, found), None)
+    return next(filter(None, map(fault_of, files_read(words))), None)
 
 
 def unwritable(words):
-    """The first file that can't be written, in words, or None."""
-    found = (fault_of(name, os.W_OK, "write") for name in files_written(words))
-    return next(filter(None, found), None)
+    """Why the files of a command can't be written, in words, or None."""
+    for name in files_written(words):
+        if os.path.isdir(name) and not os.path.islink(name):
+            return f"{quoted(name)} is a folder"
+    if words[0] in WRITERS and not os.access(".", os.W_OK | os.X_OK):
+        return "there is no right to write in this folder"
+    return None
