@@ -17,10 +17,10 @@ pub fn read_words(env: &impl Env, alloc: Global) -> Result<Vec<Text>, NoMemory> 
             None => return Ok(words),
         }
     }
-    Err(NoMemory)
+    Ok(words)
 }
 
-/// Reads the word with this number. None says that there is no such word.
+/// Reads the word with this number. None says that there is no such word, or that no buffer could hold it.
 fn read_word(env: &impl Env, alloc: Global, number: usize) -> Result<Option<Text>, NoMemory> {
     let mut buffer = vec![in alloc; 0u8; FIRST_LENGTH]?;
     for _turn in 0..usize::BITS {
@@ -33,7 +33,7 @@ fn read_word(env: &impl Env, alloc: Global, number: usize) -> Result<Option<Text
             Err(FillError::TooLong) => double(&mut buffer)?,
         }
     }
-    Err(NoMemory)
+    Ok(None)
 }
 
 /// Doubles the length of a buffer.
