@@ -32,7 +32,8 @@ fn is_outside(half: u64, total: u64) -> bool
     !(half <= total && total < 3 * half)
 }
 
-/// The signed sum of two numbers and a carry does not fit: neither number has the sign of the sum modulo twice the half.
+/// The signed sum of two numbers and a carry does not fit: neither number has the sign of the
+/// sum modulo twice the half.
 pub fn sum_overflows(half: u64, x: u64, y: u64, carry_in: bool) -> bool
     requires half { half ≤ 2 ^ 35 }
     requires first { x < 2 * half }

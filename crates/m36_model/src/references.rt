@@ -8,7 +8,7 @@ use std::marker::Model;
 /// The most references of one step.
 const MOST: usize = 40;
 
-/// The completed references of one step, in order: 40 at most. Clearing the list only sets its length.
+/// The completed references of one step, in order: at most 40. Clearing only sets the length.
 #[derive(Drop)]
 pub struct Refs {
     /// The references, followed by places that mean nothing.

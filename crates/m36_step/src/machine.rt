@@ -81,7 +81,7 @@ fn told_step(walk: &mut Walk, regs: &mut Regs, told: &mut StepRecord)
     told_else(walk, regs, told)
 }
 
-/// Copies the registers, field by field: a struct of this size is else copied by a call.
+/// Copies the registers field by field. LLVM copies a struct of this size by a call.
 #[inline(always)]
 fn copy_registers(from: &Regs, to: &mut Regs)
     ensures copied { to.new ≡ from.now }

@@ -25,8 +25,9 @@ use m36_model::{At, Final, Kind, Regs};
 use m36_walk::Walk;
 use m36_word::Word;
 
-/// The operation of an instruction of another group than those of `operated`, by the parts of its final address. It is not
-/// compiled into `operated`, which would be too large then to be compiled into its callers.
+/// The operation of an instruction whose group is not in `operated`, by the parts of its final
+/// address. It is a function of its own because `operated` with all groups is too large to be
+/// inlined: the compiler then ignores `inline(always)`.
 #[inline(never)]
 fn operated_apart<R: Recorder>(
     walk: &mut Walk,

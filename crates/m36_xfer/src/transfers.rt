@@ -74,8 +74,8 @@ fn go(taken: bool, regs: &mut Regs, f: &Final)
     }
 }
 
-/// TRA and the conditional transfers but TOV, done in the registers: `taken` says whether the transfer is taken. They put no
-/// words.
+/// TRA and the conditional transfers except TOV, done in the registers. `taken` says whether the
+/// transfer is taken. They store no words.
 #[tactic(auto, unfolding(m36_model::specs::Effect::exec))]
 #[inline(always)]
 pub fn transfer(effect: Effect, taken: bool, regs: &mut Regs, f: &Final)
