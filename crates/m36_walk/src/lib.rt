@@ -16,7 +16,6 @@
 
 mod asks;
 mod front;
-mod hot;
 mod marks;
 mod place;
 mod quick;

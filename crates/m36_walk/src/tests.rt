@@ -179,6 +179,28 @@ fn at(seg: u16, word: u32, ring: u8) -> At
     At { word, seg, ring }
 }
 
+/// Fetches as a step does: from the page that was fetched from last, from another one in front, or by the tables.
+fn fetch_quickly(walk: &mut Walk, place: At) {
+    if walk.quick_fetch(place).is_some() || walk.quick_refetch(place).is_some() {
+        return;
+    }
+    drop(walk.fetch(place));
+}
+
+/// Reads a word as a step does: from a page in front, or by the tables.
+fn read_quickly(walk: &mut Walk, place: At) {
+    if walk.quick_read(place).is_none() {
+        drop(walk.read(place, 1));
+    }
+}
+
+/// Examines a word to be written as a step does: in a page in front, or by the tables.
+fn hold_quickly(walk: &mut Walk, place: At) {
+    if walk.quick_write(place).is_none() {
+        drop(walk.hold(place, 1));
+    }
+}
+
 /// A reference of one of ten kinds. The last two are refused: by the ring, and by the bound.
 fn refer(walk: &mut Walk, kind: u32, seg: u16, word: u32)
     requires seg { seg < 64 }
@@ -187,11 +209,11 @@ fn refer(walk: &mut Walk, kind: u32, seg: u16, word: u32)
     let place = at(seg, word, 4);
     match kind {
         0 => drop(walk.fetch(place)),
-        1 => drop(walk.try_fetch(place)),
+        1 => fetch_quickly(walk, place),
         2 => drop(walk.read(place, 0)),
-        3 => drop(walk.try_read(place, 1)),
+        3 => read_quickly(walk, place),
         4 => drop(walk.write(place, Word::low(kind as u64))),
-        5 => drop(walk.try_hold(place)),
+        5 => hold_quickly(walk, place),
         6 => drop(walk.read_pair(place, seg)),
         7 => drop(walk.read_block(place, seg)),
         8 => drop(walk.read(at(seg, word, 5), seg)),
