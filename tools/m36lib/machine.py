@@ -6,7 +6,8 @@
 
 Each line is written with a line `~` after it, whose answer `? ~` ends its own. A session takes at
 most 1 MiB of input: before that a new one is begun and taken to the same step, which the caller
-does not see. A machine whose caller dies ends, since its input ends."""
+does not see. A machine whose caller dies ends, since its input ends; an interruption from the
+keyboard reaches the caller alone."""
 
 import os
 import subprocess
@@ -45,6 +46,7 @@ class Session:
             stdout=subprocess.PIPE,
             stderr=self.errors,
             bufsize=0,
+            start_new_session=True,
         )
         self.written = 0
         self.rest = bytearray()
