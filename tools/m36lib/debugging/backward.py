@@ -1,12 +1,11 @@
 """Goes back: to positions that the history of the run names, or in pieces that are traced again."""
 
-from .forward import split_watched
-from .lines import steps_of
-from .runs import watched_at_once
+from .lines import piece_size
+from .runs import GO_STEPS
 from .stop import Stop, Watchpoint
 
 FIRST_PIECE = 256
-LARGEST_PIECE = 50_000
+LARGEST_PIECE = 1 << 15
 AT_START = "This is the start of the run."
 
 
@@ -70,8 +69,10 @@ class Backward:
                 stop = Stop(last, "interrupt", "Interrupted.")
                 break
             first = max(0, last - size)
+            if size > LARGEST_PIECE:
+                first = (last - 1) // GO_STEPS * GO_STEPS
             stop = self.last_reason(first, last, watches, places)
-            last, size = first, min(size * 8, LARGEST_PIECE)
+            last, size = first, size * 8
         if stop is None:
             return self.go_back_to(0)
         self.set_step(stop.step)
@@ -79,20 +80,32 @@ class Backward:
 
     def last_reason(self, first, last, watches, places):
         """The Stop at the last position from `first` on and before `last` that has a reason."""
-        found = []
-        for taken, before, after in self.again(first, last, watches):
-            position = taken.number - 1
-            changed = [index for index in range(len(watches)) if before[index] != after[index]]
-            if changed or taken.place in places:
-                found.append((position, taken, changed, before, after))
-        for position, taken, changed, before, after in reversed(found):
-            if changed:
-                index = changed[0]
-                return changes_stop(position, watches[index], before[index], after[index])
-            if position < self.step and not self.is_repeated(position):
-                stop = self.break_stop(position, places[taken.place])
-                if stop:
-                    return stop
+        found, at = [], first
+        values = self.values_at(first, watches)
+        while at < last:
+            count = piece_size(at, min(last - at, LARGEST_PIECE))
+            piece, watched, run = self.traced(at, count, watches)
+            changed = watched.changes(values) if watched else []
+            for index in sorted({*piece.at_places(places), *changed}):
+                before = watched.values[index - 1] if watched and index else values
+                after = watched.values[index] if watched else values
+                found.append((piece.taken(index), before, after))
+            values = watched.values[-1] if watched and watched.values else values
+            at = run.step
+        for taken, before, after in reversed(found):
+            stop = self.reason_before(taken, watches, before, after, places)
+            if stop:
+                return stop
+        return None
+
+    def reason_before(self, taken, watches, before, after, places):
+        """The Stop before a step, or None."""
+        position = taken.number - 1
+        for watch, old, new in zip(watches, before, after):
+            if old != new:
+                return changes_stop(position, watch, old, new)
+        if taken.place in places and not self.is_repeated(position):
+            return self.break_stop(position, places[taken.place])
         return None
 
     def is_repeated(self, position):
@@ -100,29 +113,9 @@ class Backward:
         return any(line.startswith("link ")
                    for _, line in self.history.services_between(position, position))
 
-    def again(self, first, last, watches):
-        """The steps from one position to another, with what is watched before and after each."""
-        lines = [watch.what.line for watch in watches]
-        at = first
-        values = self.values_at(first, watches)
-        while at < last:
-            run = self.runs.at(at)
-            if watches:
-                answer = run.watch(min(last - at, watched_at_once(lines)), lines)
-                traced, found = split_watched(answer, watches)
-                where = run.ask(["where"])[0][0]
-            else:
-                traced, where = run.trace(last - at)
-                found = None
-            for index, taken in enumerate(steps_of(traced, where)):
-                after = found[index] if found else values
-                yield taken, values, after
-                values = after
-            at = run.step
-
     def values_at(self, step, watches):
         run = self.runs.at(step)
-        return [watch.what.value(run.ask([watch.what.line])[0]) for watch in watches]
+        return tuple(watch.what.value(run.ask([watch.what.line])[0]) for watch in watches)
 
 
 def changes_stop(position, watch, before, after):

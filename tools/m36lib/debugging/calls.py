@@ -7,9 +7,7 @@ instruction after it."""
 
 from typing import NamedTuple
 
-from .lines import CALLS, INDEXED_SUBROUTINES, RETURNS, SUBROUTINES, numbers_of, text_of
-
-PUSHES = CALLS | SUBROUTINES | INDEXED_SUBROUTINES
+from .lines import PUSHES, RETURNS, after_place
 
 
 class Call(NamedTuple):
@@ -29,11 +27,6 @@ class Call(NamedTuple):
 
 def depth_of(call):
     return call.depth if call else 0
-
-
-def after_place(place):
-    segment, word = numbers_of(place)
-    return text_of(segment, (word + 1) % (1 << 18))
 
 
 def follow(call, taken):

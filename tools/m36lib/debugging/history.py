@@ -3,8 +3,8 @@ console did, and its end. Steps are numbered from 1; a position is a number of s
 
 from bisect import bisect_right
 
-from .calls import follow
-from .lines import ABSA, LDBR
+from .calls import follow, listed
+from .lines import ABSA, LDBR, after_place
 
 
 class Changes:
@@ -47,11 +47,26 @@ class History:
         self.loads = []
         self.unsure_after = None
 
-    def add(self, taken):
-        """Takes note of a step, if it is the next one that is not known."""
-        if taken.number != self.known + 1:
+    def add(self, piece):
+        """Takes note of the steps of a piece that are the next ones that are not known."""
+        after = self.known + 1 - piece.first
+        if not 0 <= after < len(piece):
             return
-        self.known = taken.number
+        for index in self.changed_in(piece):
+            if index >= after:
+                self.add_step(piece.taken(index))
+        self.known = piece.first + len(piece) - 1
+
+    def changed_in(self, piece):
+        """The indexes of the steps of a piece that may call, return or change the ring, and of
+        those after which the linker or the console answered."""
+        codes = piece.with_codes()
+        returns = {after_place(piece.taken(index).place) for index in codes}
+        returns.update(call.back for call in listed(self.calls.last()))
+        return sorted({*codes, *piece.services, *piece.with_other_ring(),
+                       *piece.before_places(returns)})
+
+    def add_step(self, taken):
         call = follow(self.calls.last(), taken)
         if call is not self.calls.last():
             self.calls.put(taken.number, call)
