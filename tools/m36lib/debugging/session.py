@@ -102,6 +102,10 @@ class Session(Forward, Backward):
         """The place of the next instruction, as `main$start+11`."""
         return self.world.names.word(self.registers.segment, self.registers.word)
 
+    def ring_since(self):
+        """The number of steps taken when the run came into the ring in which it is."""
+        return self.history.rings.since(self.step)
+
     def is_sure(self):
         """False after ABSA or LDBR in a folder: then going back is not sure to be the same run."""
         after = self.history.unsure_after
@@ -216,8 +220,16 @@ class Session(Forward, Backward):
 
     def drop(self, number):
         """Deletes a breakpoint or a watchpoint."""
-        if self.breaks.pop(number, None) is None and self.watches.pop(number, None) is None:
+        self.stopper(number)
+        self.breaks.pop(number, None)
+        self.watches.pop(number, None)
+
+    def stopper(self, number):
+        """The breakpoint or the watchpoint of a number."""
+        found = self.breaks.get(number) or self.watches.get(number)
+        if found is None:
             raise NotThere(f"there is no breakpoint or watchpoint {number}")
+        return found
 
     def active_breaks(self):
         """The breakpoints that are enabled, by their places."""

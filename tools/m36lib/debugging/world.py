@@ -49,6 +49,12 @@ class World:
         """The segments at the start of the run, as record.SegmentHeader."""
         return image_segments(self.read) if self.image else folder_segments(self.read)
 
+    def descriptors(self):
+        """The segments at the start of the run: pairs of a number and a descriptor."""
+        if self.image:
+            return list(self.read.segments())
+        return sorted(self.read.descriptors().items())
+
     def problems(self):
         """A sentence for each object that is not what its source assembles to."""
         return [source.problem for source in self.sources.all() if source.problem]

@@ -1,0 +1,59 @@
+"""What can follow on a line that a user has begun: commands, places and registers."""
+
+from . import command_table
+from .front import INFO
+
+REGISTERS = [f"x{number}" for number in range(8)] + [f"pr{number}" for number in range(8)]
+REGISTERS += ["a", "q", "ind"]
+OF_PLACES = {"break", "tbreak", "until", "list", "disassemble", "x", "print", "watch", "who"}
+OF_REGISTERS = {"print", "watch", "who"}
+OF_NUMBERS = {"delete", "enable", "disable", "condition"}
+
+
+def choices(session, line, word):
+    """The words that begin as this one does and may stand at the end of the line."""
+    before = line[: len(line) - len(word)].split()
+    if not before:
+        found = [name for each in command_table.COMMANDS
+                 for name in (each.name, *each.others) if len(name) > 2 or name == word]
+    else:
+        found = arguments(session, before[0], word)
+    return sorted({each for each in found if each.startswith(word)})
+
+
+def arguments(session, name, word):
+    """What may follow the name of a command."""
+    try:
+        command = command_table.find(name.partition("/")[0]).name
+    except command_table.Unknown:
+        return []
+    found = []
+    if command in OF_PLACES:
+        found += places(session, word)
+    if command in OF_REGISTERS:
+        found += REGISTERS
+    if command in OF_NUMBERS:
+        found += [str(number) for number in (*session.breaks, *session.watches)]
+    if command == "info":
+        found += [name for name in INFO if len(name) > 1]
+    if command == "help":
+        found += [each.name for each in command_table.COMMANDS] + ["places", "expressions"]
+    return found
+
+
+def places(session, word):
+    """Segments, and the entries and labels of the one that the word names."""
+    numbers = session.world.numbers
+    name, mark, _ = word.partition("$")
+    if mark and name in numbers:
+        return [f"{name}${label}" for label in labels(session, numbers[name])]
+    here = labels(session, session.registers.segment)
+    return [f"{each}$" for each in numbers if not each[-2:-1] == "_"] + [
+        f"{each}|" for each in numbers] + here
+
+
+def labels(session, segment):
+    """The entries and the labels of a segment."""
+    names = session.world.names
+    entries = [entry for _, entry in names.entries(segment)] if hasattr(names, "entries") else []
+    return [*entries, *session.world.labels(segment)]
