@@ -63,7 +63,7 @@ class Run(Session):
 
     def begin_forward(self, step):
         """Starts to take `go` steps up to a step at most this one, without waiting for them."""
-        count = (step - self.step) // GO_STEPS
+        count = (step - self.position()) // GO_STEPS
         if count:
             text = ("go\n~\n" * count).encode()
             self.written += len(text)
