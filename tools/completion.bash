@@ -42,3 +42,4 @@ _m36() {
 }
 
 complete -F _m36 m36
+complete -f -W "-e --echo --help" m36-debug

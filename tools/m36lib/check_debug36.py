@@ -15,7 +15,7 @@ from .made_folders import FOLDERS
 
 HERE = pathlib.Path(__file__).resolve().parents[2]
 DEBUG36 = HERE / "tools/debug36"
-DOCUMENT = cases.ROOT / "docs/DEBUGGER.md"
+DOCUMENTS = ("docs/DEBUGGER.md", "docs/guide/whose-stack.md", "docs/guide/write.md")
 BLOCK = re.compile(r"^```debug (\S+)(?: (\S+))?\n(.*?)^```$", re.M | re.S)
 MOST_SECONDS = 120
 WAIT = 20
@@ -84,17 +84,22 @@ def made(program, work, name, source):
 
 
 def check_transcripts(program, work):
-    """The transcripts of the document are what the debugger writes."""
-    blocks = BLOCK.findall(DOCUMENT.read_text()) if DOCUMENT.exists() else []
-    if not blocks:
-        yield f"{DOCUMENT.name} has no transcript"
-    for name, image, block in blocks:
-        folder = example(program, name, work)
-        commands = [line[2:] for line in block.splitlines() if line.startswith("> ")]
-        found, _, _ = run(program, folder, commands, "--echo", what=image or ".")
-        kept = found[found.index("> "):] if block.startswith("> ") else found
-        if kept != block:
-            yield f"the transcript of {name} is not what the debugger writes:\n{kept}"
+    """The transcripts of the documents are what the debugger writes."""
+    for document in DOCUMENTS:
+        blocks = BLOCK.findall((cases.ROOT / document).read_text())
+        if not blocks:
+            yield f"{document} has no transcript"
+        for name, image, block in blocks:
+            found = transcript(program, example(program, name, work), image or ".", block)
+            if found != block:
+                yield f"{document}: of {name} the debugger writes\n{found}"
+
+
+def transcript(program, folder, what, block):
+    """What the debugger writes from the first command of a transcript on."""
+    commands = [line[2:] for line in block.splitlines() if line.startswith("> ")]
+    found, _, _ = run(program, folder, commands, "--echo", what=what)
+    return found[found.find("> "):]
 
 
 def check_statuses(program, work):

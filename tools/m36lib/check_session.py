@@ -252,6 +252,13 @@ def check_rings(session, facts):
 
 
 CHECKS = (check_steps, check_breaks, check_watches, check_calls, check_rings)
+STEPS = (check_steps,)
+KINDS = (
+    (cases.examples, CHECKS),
+    (cases.sessions, STEPS),
+    (cases.folder_cases, STEPS),
+    (cases.image_cases, STEPS),
+)
 
 
 def check_renewed(program, case, facts):
@@ -267,13 +274,15 @@ def check_renewed(program, case, facts):
 def check_session(program, work, show=print):
     """The number of things that are not as they should be."""
     wrong, runs = [], 0
-    for case in cases.examples(program, work):
-        runs += 1
-        facts = Facts(program, case)
-        for check in CHECKS:
-            with Session(program, str(case.folder), case.image) as session:
-                wrong += [f"{case.name}: {line}" for line in check(session, facts)]
-        wrong += [f"{case.name}: {line}" for line in check_renewed(program, case, facts)]
+    for kind, checks in KINDS:
+        for case in kind(program, work):
+            runs += 1
+            facts = Facts(program, case)
+            for check in checks:
+                with Session(program, str(case.folder), case.image) as session:
+                    wrong += [f"{case.name}: {line}" for line in check(session, facts)]
+            if kind is cases.examples:
+                wrong += [f"{case.name}: {line}" for line in check_renewed(program, case, facts)]
     for line in wrong:
         show(line)
     show(f"session: {runs} runs debugged forward and back, {len(wrong)} things wrong")

@@ -369,7 +369,7 @@ def split_condition(text):
 
 def is_place(text):
     """The text names a place, and is no expression."""
-    return not set(text) & set("[]()&=<>! ") and (
+    return text == "." or not set(text) & set("[]()&=<>! ") and (
         bool(set(text) & set("|$:")) or re.fullmatch(r"[A-Za-z_]\w*", text) is not None
         and conditions.register_value(text) is None)
 

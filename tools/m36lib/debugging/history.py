@@ -62,7 +62,7 @@ class History:
         those after which the linker or the console answered."""
         codes = piece.with_codes()
         returns = {after_place(piece.taken(index).place) for index in codes}
-        returns.update(call.back for call in listed(self.calls.last()))
+        returns.update(call.back for call in listed(self.calls.at(piece.first - 1)))
         return sorted({*codes, *piece.services, *piece.with_other_ring(),
                        *piece.before_places(returns)})
 
