@@ -56,7 +56,8 @@ SERVANT = (
     ("x 00077|0", "00077|0 none"),
     ("backtrace", "#0 ring 1 gate_$fetch gate_.alm:2 in gate_$fetch, called in step 6|"
      "#1 ring 4 main$start+4 main.alm:6 in main$start, the start"),
-    ("trace 1", "6 4 00100|000004 400010713120 4:00101|000000 000100000004 000000000000 ...... next"),
+    ("trace 1",
+     "6 4 00100|000004 400010713120 4:00101|000000 000100000004 000000000000 ...... next"),
     ("print nowhere|0", "? there is no segment nowhere"),
     ("print main|9", "? 9 is no octal number; a decimal one has a point after it, as 18."),
     ("print 8", "? 8 is no octal number; a decimal one has a point after it, as 18."),
@@ -166,10 +167,10 @@ def check_numbers(program, work):
                 "condition 9 a == 1", "tbreak gate_$fetch", "run", "info b")
     parts = ("Breakpoint 1 at gate_$fetch", "Breakpoint 2 at gate_|1, gate_.alm:4",
              "Watchpoint 3: secret|0 is 123456701234", "3 watch on secret|0 hits 0", "", "",
-             "Breakpoint 2: gate_|1.|step 13 ring 1 gate_|1", "2 break on gate_|1 gate_.alm:4 if "
-             "a == 7 hits 1|3 watch off", "", "no breakpoints and no watchpoints",
-             "? there is no breakpoint or watchpoint 9", "? there is no breakpoint 9", "Breakpoint 4",
-             "Breakpoint 4: gate_$fetch.|step 6", "no breakpoints and no watchpoints")
+             "Breakpoint 2: gate_|1.|step 13 ring 1 gate_|1", "2 break on gate_|1 gate_.alm:4 "
+             "if a == 7 hits 1|3 watch off", "", "no breakpoints and no watchpoints",
+             "? there is no breakpoint or watchpoint 9", "? there is no breakpoint 9",
+             "Breakpoint 4", "Breakpoint 4: gate_$fetch.|step 6", "no breakpoints and no watchpoints")
     with Session(program, str(example(program, "servant", work))) as session:
         yield from check_answers(session, tuple(zip(commands, parts)), True)
 

@@ -11,6 +11,7 @@ from .machine import Machine, seg_line
 MOST_STEPS = 150
 MOST_PLACES = 6
 MOST_WORDS = 4
+MOST_WRONG = 10
 SMALL_INPUT = 300
 REGISTERS = {"a": (0, 1), "q": (0, 3), "x1": (1, 2), "ind": (0, 5)}
 
@@ -200,7 +201,8 @@ def check_watches(session, facts):
         session.drop(added.number)
         session.go_to(facts.last)
         stop = session.who(session.watched(name))
-        expected = (changed[-1] - 1, values[changed[-1] - 1], values[changed[-1]]) if changed else None
+        last = changed[-1] if changed else 0
+        expected = (last - 1, values[last - 1], values[last]) if changed else None
         found = (stop.step, stop.before, stop.after) if stop else None
         yield from compare(f"who {name}", found, expected)
 
@@ -271,19 +273,27 @@ def check_renewed(program, case, facts):
                 yield f"with little input step {step} differs"
 
 
+def check_case(program, case, checks):
+    """What is wrong in a run."""
+    facts = Facts(program, case)
+    for check in checks:
+        with Session(program, str(case.folder), case.image) as session:
+            yield from check(session, facts)
+    if checks is CHECKS:
+        yield from check_renewed(program, case, facts)
+
+
 def check_session(program, work, show=print):
-    """The number of things that are not as they should be."""
-    wrong, runs = [], 0
+    """The number of things that are not as they should be. After many the rest is left out."""
+    wrong, runs = 0, 0
     for kind, checks in KINDS:
         for case in kind(program, work):
             runs += 1
-            facts = Facts(program, case)
-            for check in checks:
-                with Session(program, str(case.folder), case.image) as session:
-                    wrong += [f"{case.name}: {line}" for line in check(session, facts)]
-            if kind is cases.examples:
-                wrong += [f"{case.name}: {line}" for line in check_renewed(program, case, facts)]
-    for line in wrong:
-        show(line)
-    show(f"session: {runs} runs debugged forward and back, {len(wrong)} things wrong")
-    return len(wrong)
+            for line in check_case(program, case, checks):
+                wrong += 1
+                show(f"{case.name}: {line}")
+                if wrong >= MOST_WRONG:
+                    show(f"session: {wrong} things wrong in {runs} runs; the rest was not tried")
+                    return wrong
+    show(f"session: {runs} runs debugged forward and back, {wrong} things wrong")
+    return wrong

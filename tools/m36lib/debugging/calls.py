@@ -1,9 +1,8 @@
 """The calls in which a run is: who called whom, from which ring.
 
-A Call is pushed by CALL6, TSPn and TSXn. RTCD pops the call after whose site it goes on; where there
-is none, the innermost one that was made from the segment to which it goes. A call by TSPn or TSXn,
-and one by CALL6 that is left by a transfer through a pointer, is popped by a transfer to the
-instruction after it."""
+A Call is pushed by CALL6, TSPn and TSXn. RTCD pops the innermost call after whose site it goes on.
+If there is none, it pops the innermost one that was made from the segment to which it goes. A
+transfer to the instruction after the innermost call pops that call."""
 
 from typing import NamedTuple
 

@@ -28,8 +28,8 @@ GROUPS = (
     Group("Forward", (
         command("step s si stepi", "[N]", "Takes N steps, or one. A breakpoint or a watchpoint "
                 "stops several.", "step", True),
-        command("next n ni nexti over", "[N]", "Takes a step, but goes through a call (CALL6, TSPn, "
-                "TSXn) up to its return.", "next", True),
+        command("next n ni nexti over", "[N]", "Takes a step, but goes through a call "
+                "(CALL6, TSPn, TSXn) up to its return.", "next", True),
         command("finish out fin", "", "Goes on until the innermost call has returned.", "finish",
                 True),
         command("continue c go cont", "[N]", "Goes on to a breakpoint, a watchpoint or the end; "
@@ -150,8 +150,8 @@ def overview():
                 lines.append(f"  {form}")
                 form = ""
             lines.append(f"  {form:{FORM_WIDTH}} {first_sentence(each.text)}")
-    return [*lines, "", "`help COMMAND` describes one. `help places` and `help expressions` say how "
-            "to write them."]
+    return [*lines, "", "`help COMMAND` describes one. `help places` and `help expressions` say "
+            "how to write them."]
 
 
 def first_sentence(text):

@@ -9,14 +9,17 @@ that begins with `? `, and `front.refused` counts these."""
 import re
 
 from . import command_table, conditions, places, show
+from .command_words import (
+    Refused, console_lines, count_of, examined_count, is_place, no_more, numbers_in,
+    split_condition, split_name,
+)
 from .conditions import BadCondition, Condition
 from .lines import numbers_of, text_of
 from .places import NoPlace
 from .session import NotThere
 from .watched import is_register
 
-LISTED, CODE_LISTED, TRACED = 10, 10, 10
-MOST_EXAMINED = 4_096
+LISTED, CODE_LISTED, TRACED, MOST_TRACED = 10, 10, 10, 100_000
 EXAMINE = re.compile(r"/([0-9]*)([a-z]?)$")
 FORMATS = {
     "o": show.octal_lines,
@@ -32,10 +35,6 @@ INFO = {
     "rings": "rings", "segments": "segments", "files": "segments", "source": "list",
     "line": "here", "program": "why", "console": "console",
 }
-
-
-class Refused(Exception):
-    """A command can't be done; says why."""
 
 
 class Front:
@@ -302,7 +301,7 @@ class Front:
 
     def do_trace(self, rest):
         last = self.session.step
-        first = last - min(count_of(rest, TRACED), MOST_EXAMINED) + 1
+        first = last - min(count_of(rest, TRACED), MOST_TRACED) + 1
         self.write_all(self.session.trace(first, last))
 
     def do_console(self, rest):
@@ -315,7 +314,8 @@ class Front:
         if not rest:
             raise Refused("info about what? breakpoints, registers, frame, rings, segments, "
                           "source, console")
-        what = INFO.get(rest) or INFO.get(next((name for name in INFO if name.startswith(rest)), ""))
+        named = rest if rest in INFO else next((it for it in INFO if it.startswith(rest)), None)
+        what = INFO.get(named)
         if what is None:
             raise Refused(f"there is no information about {rest}")
         if what == "breakpoints":
@@ -349,58 +349,3 @@ class Front:
             self.write(line)
         else:
             self.write_all(f"console: {text}" for text in console_lines(written))
-
-
-def split_name(words):
-    """The name of a command and what follows: `x/8o` has its form after the name."""
-    name, rest = words[0], words[1].strip() if len(words) > 1 else ""
-    if name.startswith("x/"):
-        return "x", f"{name[1:]} {rest}"
-    return name, rest
-
-
-def split_condition(text):
-    """A place, and the condition after `if`."""
-    if text.startswith("if "):
-        return "", text[3:]
-    place, _, condition = text.partition(" if ")
-    return place.strip(), condition.strip() or None
-
-
-def is_place(text):
-    """The text names a place, and is no expression."""
-    return text == "." or not set(text) & set("[]()&=<>! ") and (
-        bool(set(text) & set("|$:")) or re.fullmatch(r"[A-Za-z_]\w*", text) is not None
-        and conditions.register_value(text) is None)
-
-
-def count_of(text, default, least=1):
-    if not text and default is not None:
-        return default
-    if not text.isdecimal() or int(text) < least or len(text) > 10:
-        raise Refused(f"{text or 'nothing'} is no number of {least} or more")
-    return int(text)
-
-
-def examined_count(text):
-    count = count_of(text, 1)
-    if count > MOST_EXAMINED:
-        raise Refused(f"at most {MOST_EXAMINED} at once")
-    return count
-
-
-def numbers_in(text):
-    return [count_of(word, None) for word in text.replace(",", " ").split()]
-
-
-def no_more(text):
-    if text:
-        raise Refused(f"{text} is not expected")
-
-
-def console_lines(text):
-    """What the console has written, as lines; characters that can't be shown as `?`."""
-    lines = text.split("\n")
-    if not lines[-1]:
-        lines.pop()
-    return [show.plain(line) for line in lines]

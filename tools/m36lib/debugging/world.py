@@ -4,7 +4,6 @@ memory as the account of a step asks for it."""
 import pathlib
 import re
 
-from ..disassemble import row_of
 from ..explain import explain
 from ..fields import dbr_of
 from ..folder import BOOTED_DBR, FIRST_LINKAGE, FIRST_STACK, Folder, FolderNames, NoSources, Sources
@@ -136,7 +135,7 @@ def numbers_of(boot):
 
 
 def word_of_line(source, line):
-    """The first word of a line of a source, or of the next line that has one; None after the last."""
+    """The first word of a line of a source, or of the next line that has one; None if none has."""
     found = [(at, word) for word, at in source.places.items() if at >= line]
     return min(found)[1] if found else None
 
@@ -148,9 +147,3 @@ def loaded_dbr(run, final):
     first = word - word % 2
     even, odd = run.ask([seg_line(segment, first), seg_line(segment, first + 1)])
     return dbr_of(word_in(even) or 0, word_in(odd) or 0)
-
-
-def is_call(word):
-    """The instruction calls: CALL6, TSPn or TSXn."""
-    row = row_of(word) if word is not None else None
-    return row is not None and row.effect in ("Call6", "TspN", "TsxN")
