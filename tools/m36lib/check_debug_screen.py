@@ -10,7 +10,7 @@ from .check_debug36 import DEBUG36, ENDLESS, example, made
 
 WAIT = 30
 SIZE = ("110", "50")
-HEADINGS = ("registers", "calls", "trace", "next")
+HEADINGS = ("registers", "rings", "calls", "trace", "next")
 
 
 class Pane:
@@ -97,6 +97,7 @@ def wrong_screen(text, coloured):
     if missing:
         yield f"the screen has no {missing}"
     for part in ("=>    4  in: lda pr2|0,*", "pr2 4:00100|000010 00  main$start+10",
+                 "ring 1 executes since step 6; asked in: ring 1 by pr7, ring 4 by pr0 pr1 pr2",
                  "#0  ring 1  gate_|1", "7 1 00101|000000", "May ring 4 read main$start+10? Yes"):
         if part not in text:
             yield f"the screen has no {part!r}"

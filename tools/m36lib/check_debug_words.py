@@ -12,7 +12,7 @@ SERVANT = (
     ("print 10.", "10. = 12 octal, 10 decimal"),
     ("print a", "a = 000100000004"),
     ("print $pr2", "pr2 = 4:00100|000010 00"),
-    ("print ring", "ring = 1 octal, 1 decimal"),
+    ("p/o ring", "ring = 1 octal, 1 decimal"),
     ("print segment", "segment = 101 octal, 65 decimal"),
     ("print step", "step = 6 octal, 6 decimal"),
     ("print ring + 2 - 1", "ring + 2 - 1 = 2 octal, 2 decimal"),
@@ -170,7 +170,8 @@ def check_numbers(program, work):
              "Breakpoint 2: gate_|1.|step 13 ring 1 gate_|1", "2 break on gate_|1 gate_.alm:4 "
              "if a == 7 hits 1|3 watch off", "", "no breakpoints and no watchpoints",
              "? there is no breakpoint or watchpoint 9", "? there is no breakpoint 9",
-             "Breakpoint 4", "Breakpoint 4: gate_$fetch.|step 6", "no breakpoints and no watchpoints")
+             "Breakpoint 4", "Breakpoint 4: gate_$fetch.|step 6",
+             "no breakpoints and no watchpoints")
     with Session(program, str(example(program, "servant", work))) as session:
         yield from check_answers(session, tuple(zip(commands, parts)), True)
 

@@ -38,8 +38,9 @@ GROUPS = (
         command("until u advance", "PLACE", "Goes on until the next instruction is at a place.",
                 "until"),
         command("run r", "", "Goes to the start, and on from there as `continue` does.", "run"),
+        command("start", "", "Goes to the start of the run.", "start"),
         command("goto jump-to", "STEP", "Goes to where STEP steps have been taken, forward or "
-                "back. `goto 0` is the start.", "goto"),
+                "back.", "goto"),
     )),
     Group("Back", (
         command("back reverse-step rs rsi reverse-stepi", "[N]", "Goes back N steps, or one.",
@@ -83,7 +84,7 @@ GROUPS = (
                 "disassemble"),
         command("registers regs", "", "Shows all registers.", "registers"),
         command("print p", "EXPRESSION|PLACE", "Shows the value of an expression or of a register, "
-                "or a place with its word.", "print"),
+                "or a place with its word. A form as in `p/o` makes no difference.", "print"),
         command("x", "/NF PLACE", "Shows N words from a place on, as F: o octal, d decimal, c "
                 "characters, i instructions, p pairs. `x/8o secret|0`.", "examine", True),
         command("backtrace bt where", "", "Shows the calls in which the run is, with their rings.",

@@ -12,11 +12,13 @@ class Refused(Exception):
 
 
 def split_name(words):
-    """The name of a command and what follows: `x/8o` has its form after the name."""
+    """The name of a command and what follows: `x/8o` has its form after the name. That of `print`
+    is left out."""
     name, rest = words[0], words[1].strip() if len(words) > 1 else ""
-    if name.startswith("x/"):
-        return "x", f"{name[1:]} {rest}"
-    return name, rest
+    before, form, after = name.partition("/")
+    if before == "x" and form:
+        return "x", f"/{after} {rest}"
+    return before, rest
 
 
 def split_condition(text):

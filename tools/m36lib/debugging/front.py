@@ -124,6 +124,10 @@ class Front:
         self.session.go_to(0)
         self.stopped(self.session.go())
 
+    def do_start(self, rest):
+        no_more(rest)
+        self.stopped(self.session.go_to(0))
+
     def do_goto(self, rest):
         self.stopped(self.session.go_to(count_of(rest, None, least=0)))
 

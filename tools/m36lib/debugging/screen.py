@@ -58,6 +58,7 @@ class Screen:
         parts = [
             (self.title(), self.source(source_count)),
             ("registers", self.registers()),
+            ("rings", self.rings()),
             ("calls", self.calls()),
             ("trace", self.trace()),
         ]
@@ -103,6 +104,17 @@ class Screen:
             pair = [shown(f"pr{each}", texts[each].ljust(width)) for each in (number, number + 1)]
             lines.append("  ".join(pair).rstrip())
         return lines
+
+    def rings(self):
+        """The ring that executes, and the rings in which the pointer registers ask."""
+        registers = self.session.registers
+        asking = {}
+        for number, pointer in enumerate(registers.pr):
+            asking.setdefault(max(pointer.ring, registers.ring), []).append(f"pr{number}")
+        asked = ", ".join(f"{self.paint.ring(ring)} by {' '.join(names)}"
+                          for ring, names in sorted(asking.items()))
+        since = self.session.ring_since()
+        return [f"{self.paint.ring(registers.ring)} executes since step {since}; asked in: {asked}"]
 
     def calls(self):
         lines = show.frame_lines(self.session)
