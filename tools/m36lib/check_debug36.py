@@ -245,6 +245,18 @@ def check_signals(program, work):
             yield f"interrupted while it waits the status is {debugger.returncode}"
 
 
+def check_killed_program(program, work):
+    """A program that is ended from outside ends the debugger, with its status."""
+    folder = example(program, "hello", work)
+    with start(program, folder) as debugger:
+        read_until(debugger, "main.alm:")
+        for number in children(debugger.pid):
+            os.kill(number, signal.SIGKILL)
+        _, err = debugger.communicate("step\n", WAIT)
+        if debugger.returncode != 70 or "Traceback" in err or "ended with status -9" not in err:
+            yield f"with a killed program the status is {debugger.returncode}: {err!r}"
+
+
 def check_pipes(program, work):
     """A reader that goes away is no error; a full disk is one."""
     folder = example(program, "hello", work)
@@ -302,13 +314,21 @@ def check_unsure(program, work):
 
 CHECKS = (
     check_transcripts, check_statuses, check_stale, check_hostile, check_answers, check_help,
-    check_signals, check_pipes, check_long, check_unsure,
+    check_signals, check_killed_program, check_pipes, check_long, check_unsure,
 )
+
+
+def found_by(check, *given):
+    """The lines of a check; if it breaks, that is one of them."""
+    try:
+        yield from check(*given)
+    except Exception as error:  # pylint: disable=broad-except
+        yield f"{check.__name__}: {type(error).__name__}: {error}"
 
 
 def check_debug36(program, work, show=print):
     """The number of things that are not as they should be."""
-    wrong = [line for check in CHECKS for line in check(program, work)]
+    wrong = [line for check in CHECKS for line in found_by(check, program, work)]
     for line in wrong:
         show(line)
     show(f"debug36: {len(CHECKS)} checks through a pipe, {len(wrong)} things wrong")

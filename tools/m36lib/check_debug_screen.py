@@ -6,7 +6,7 @@ import shutil
 import subprocess
 import time
 
-from .check_debug36 import DEBUG36, ENDLESS, example, made
+from .check_debug36 import DEBUG36, ENDLESS, example, found_by, made
 
 WAIT = 30
 SIZE = ("110", "50")
@@ -129,7 +129,7 @@ def check_debug_screen(program, work, show=print):
     if not shutil.which("tmux"):
         show("skipped: the debugger on a terminal was not tried: there is no tmux")
         return 0
-    wrong = [line for check in CHECKS for line in check(program, work)]
+    wrong = [line for check in CHECKS for line in found_by(check, program, work)]
     for line in wrong:
         show(line)
     show(f"debug screen: {len(CHECKS)} sessions under tmux, {len(wrong)} things wrong")

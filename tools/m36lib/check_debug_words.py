@@ -1,6 +1,6 @@
 """Checks of what the debugger reads and shows, against what was worked out by hand."""
 
-from .check_debug36 import example, made
+from .check_debug36 import example, found_by, made
 from .debugging import Session
 from .debugging.front import Front
 
@@ -181,7 +181,7 @@ CHECKS = (check_servant, check_say, check_depths, check_numbers)
 
 def check_debug_words(program, work, show=print):
     """The number of things that are not as they should be."""
-    wrong = [line for check in CHECKS for line in check(program, work)]
+    wrong = [line for check in CHECKS for line in found_by(check, program, work)]
     for line in wrong:
         show(line)
     tries = len(SERVANT) + len(SERVANT_PARTS) + len(SAY)

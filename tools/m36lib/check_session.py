@@ -4,6 +4,7 @@ what follows from the answers of the program alone, step by step."""
 import random
 
 from . import cases
+from .check_debug36 import found_by
 from .check_machine import whole_run
 from .debugging import Session
 from .machine import Machine, seg_line
@@ -278,9 +279,9 @@ def check_case(program, case, checks):
     facts = Facts(program, case)
     for check in checks:
         with Session(program, str(case.folder), case.image) as session:
-            yield from check(session, facts)
+            yield from found_by(check, session, facts)
     if checks is CHECKS:
-        yield from check_renewed(program, case, facts)
+        yield from found_by(check_renewed, program, case, facts)
 
 
 def check_session(program, work, show=print):

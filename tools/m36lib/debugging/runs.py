@@ -61,13 +61,19 @@ class Run(Session):
         self.process.kill()
         super().close()
 
+    def send(self, text):
+        """Writes lines whose answers are read later."""
+        self.written += len(text)
+        try:
+            self.process.stdin.write(text.encode("ascii"))
+        except BrokenPipeError:
+            raise self.refusal() from None
+
     def begin_forward(self, step):
         """Starts to take `go` steps up to a step at most this one, without waiting for them."""
         count = (step - self.position()) // GO_STEPS
         if count:
-            text = ("go\n~\n" * count).encode()
-            self.written += len(text)
-            self.process.stdin.write(text)
+            self.send("go\n~\n" * count)
             self.expected += count
 
     def finish_forward(self):
@@ -86,9 +92,7 @@ class Run(Session):
 
     def skip(self, count):
         """Takes up to so many steps, without keeping what the program prints of them."""
-        text = f"step {count}\n~\n".encode()
-        self.written += len(text)
-        self.process.stdin.write(text)
+        self.send(f"step {count}\n~\n")
         tail = b""
         while not (tail == END or tail.endswith(b"\n" + END)):
             piece = os.read(self.process.stdout.fileno(), 1 << 16)
