@@ -3,6 +3,7 @@ memory as the account of a step asks for it."""
 
 import pathlib
 import re
+import time
 
 from ..explain import explain
 from ..fields import dbr_of
@@ -12,9 +13,11 @@ from ..image import read_image
 from ..machine import seg_line, word_in
 from ..memory import FlatMemory, LoadedMemory, SeenCore
 from ..names import Names
+from ..stale import changed_at
 
 LOOKED_AT = 16
 MOST_WORKED_OUT = 20_000
+MOST_SECONDS = 1.0
 LABEL = re.compile(r"\s*([A-Za-z][\w.]*):")
 
 
@@ -55,8 +58,26 @@ class World:
         return sorted(self.read.descriptors().items())
 
     def problems(self):
-        """A sentence for each object that is not what its source assembles to."""
-        return [source.problem for source in self.sources.all() if source.problem]
+        """A sentence for each object that is not what its source assembles to. Sources are
+        assembled for a second; of the other objects the times of the files decide."""
+        if self.image:
+            return []
+        began, found = time.monotonic(), {}
+        for segment, file in self.sources.files.items():
+            if file not in found:
+                in_time = time.monotonic() - began < MOST_SECONDS
+                found[file] = self.problem(segment) if in_time else self.problem_by_time(file)
+        return [problem for problem in found.values() if problem]
+
+    def problem(self, segment):
+        source = self.sources.of(segment)
+        return source.problem if source else None
+
+    def problem_by_time(self, file):
+        source, made = changed_at(self.path / f"{file}.alm"), changed_at(self.path / file)
+        if source and made and source > made:
+            return f"{file}.alm was changed after {file} was assembled"
+        return None
 
     def labels(self, segment):
         """The labels of a segment's source with the words where they are."""
