@@ -34,13 +34,15 @@ HOSTILE = """\" main: \x1b[31mred\x1b]0;title\x07 \u202e <b>
 start: lda 0,dl \" \x1b[2J\x9b31m
  tra start
 """
-# A program that answers otherwise than the machine: A is 123456 in each answer to `regs`, the third
-# step says that its outcome is fault 7, and each word is one more than it is.
+# A program that answers otherwise than the machine: A is 123456 in each answer to `regs`, step 3 has
+# the outcome `fault 7` and step 13, the last one, `stop tag`, word 2 of main is 77, and the console
+# writes another word.
 WRAPPER = """#!/bin/sh
 [ "$1" = debug ] || exec PROGRAM "$@"
 PROGRAM "$@" | sed -u \
  -e 's/^a [0-7]* q/a 000000123456 q/' -e 's/^\\(3 .*\\) next$/\\1 fault 7/' \
- -e 's/^\\(00100|000002\\) .*/\\1 000000000077/'
+ -e 's/^\\(00100|000002\\) .*/\\1 000000000077/' -e 's/^console hello/console jello/' \
+ -e 's/^\\(13 .*\\) dis$/\\1 stop tag/'
 """
 
 
@@ -158,12 +160,12 @@ def check_answers(program, work):
     wrapper.write_text(WRAPPER.replace("PROGRAM", program))
     wrapper.chmod(0o755)
     commands = ["step 3", "why", "registers", "print a", "x main$start+2", "print [main|2]",
-                "watch a", "trace 1"]
+                "watch a", "trace 1", "continue", "console"]
     out, err, status = run(wrapper, folder, commands)
     expected = ("a 000000123456", "a = 000000123456", "Watchpoint 1: a is 000000123456",
-                "main$start+2  000000000077", "[main|2] = 77 octal", "next$", "fault 7")
-    shown = [part for part in expected if part != "next$"]
-    missing = [part for part in shown if part not in out]
+                "main$start+2  000000000077", "[main|2] = 77 octal", "fault 7", "console: jello",
+                "\njello\n", "did otherwise; the trace line is right: 13 0 00101|000001")
+    missing = [part for part in expected if part not in out]
     if missing or status:
         yield f"with other answers of the program {missing} is not shown: {out} {err}"
 
