@@ -107,9 +107,11 @@ DEPTHS = (0, 1, 0, 1, 0, 1, 2, 1, 0, 0, 1, 0, 0, 0, 1, 0, 1, 0, 1)
 
 def answers(session, commands):
     """What each command writes, as one line with single blanks and `|` between lines."""
+    lines = []
+    front = Front(session, lines.append)
     for command in commands:
-        lines = []
-        Front(session, lines.append).do(command)
+        lines.clear()
+        front.do(command)
         yield "|".join(" ".join(line.split()) for line in lines)
 
 
@@ -176,7 +178,24 @@ def check_numbers(program, work):
         yield from check_answers(session, tuple(zip(commands, parts)), True)
 
 
-CHECKS = (check_servant, check_say, check_depths, check_numbers)
+def check_frames(program, work):
+    """The places of calls, and values that are shown at each stop."""
+    commands = ("up", "up", "list", "down", "down", "frame 1", "frame 2", "display [main|14]",
+                "display pr2.word - 1", "back", "undisplay 1", "step", "undisplay", "undisplay 7",
+                "display x9")
+    parts = ("#1 ring 4 main$start+4 main.alm:6 in main$start, the start|main.alm:6 call6 gate_",
+             "? this is the outermost call", "6 call6 gate_$fetch", "#0 ring 1 gate_$fetch",
+             "? this is the innermost call", "#1 ring 4 main$start+4", "? there is no such call",
+             "1: [main|14] = 7 octal, 7 decimal", "2: pr2.word - 1 = 7 octal, 7 decimal",
+             "|1: [main|14] = 7 octal, 7 decimal|2: pr2.word - 1 = 7 octal, 7 decimal", "",
+             "|2: pr2.word - 1 = 7 octal, 7 decimal", "", "? there is no display 7",
+             "? there is no entry and no label x9 in gate_")
+    with Session(program, str(example(program, "servant", work))) as session:
+        session.go_to(6)
+        yield from check_answers(session, tuple(zip(commands, parts)), True)
+
+
+CHECKS = (check_servant, check_say, check_depths, check_numbers, check_frames)
 
 
 def check_debug_words(program, work, show=print):

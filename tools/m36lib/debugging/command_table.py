@@ -89,6 +89,14 @@ GROUPS = (
                 "characters, i instructions, p pairs. `x/8o secret|0`.", "examine", True),
         command("backtrace bt where", "", "Shows the calls in which the run is, with their rings.",
                 "backtrace"),
+        command("frame f", "[N]", "Shows where call N of the backtrace is; `list` starts there.",
+                "frame"),
+        command("up", "", "Shows the next outer call.", "up"),
+        command("down", "", "Shows the next inner call.", "down"),
+        command("display", "[EXPRESSION|PLACE]", "Shows a value at each stop from now on; without "
+                "one all that are shown.", "display"),
+        command("undisplay", "[NUMBER..]", "Shows these values no more; all without a number.",
+                "undisplay"),
         command("rings", "", "Shows the ring that executes, and in which ring each pointer "
                 "register asks.", "rings"),
         command("segments", "", "Shows the segments, and what each ring may do with them at the "

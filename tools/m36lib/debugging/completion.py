@@ -1,7 +1,7 @@
 """What can follow on a line that a user has begun: commands, places and registers."""
 
 from . import command_table
-from .front import INFO
+from .looking import INFO
 
 REGISTERS = [f"x{number}" for number in range(8)] + [f"pr{number}" for number in range(8)]
 REGISTERS += ["a", "q", "ind"]

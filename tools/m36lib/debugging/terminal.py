@@ -15,6 +15,7 @@ except ImportError:
 
 PROMPT = "(m36) "
 MOST_HISTORY = 1_000
+FOLLOWED = ("examine", "list")
 
 
 def history_file():
@@ -37,6 +38,18 @@ class TerminalFront(Front):
             self.write_all(self.drawn.lines())
         else:
             super().show_stop()
+
+
+def repeated(line):
+    """What an empty line after this one stands for: the same again, or the words or lines that
+    follow those that were shown."""
+    try:
+        command = command_table.find(line.split()[0].partition("/")[0])
+    except command_table.Unknown:
+        return ""
+    if command.method in FOLLOWED:
+        return command.name
+    return line if command.repeats else ""
 
 
 class Lines:
@@ -72,14 +85,8 @@ class Lines:
         line = input(PROMPT).strip()
         if not line:
             return self.last
-        self.last = line if self.repeats(line) else ""
+        self.last = repeated(line)
         return line
-
-    def repeats(self, line):
-        try:
-            return command_table.find(line.split()[0].partition("/")[0]).repeats
-        except command_table.Unknown:
-            return False
 
     def keep(self):
         """Writes the history; that it can't be written is no error."""
