@@ -81,6 +81,9 @@ SERVANT_PARTS = (
     ("list main:6", "6 call6 gate_$fetch"),
     ("will", "The address is gate_|1, in ring 1, which executes."),
     ("disassemble main$start 3", "main$start+2 000010352000 epp2 8"),
+    ("break in", "Breakpoint 1 at gate_|1, gate_.alm:4"),
+    ("step", "Breakpoint 1: gate_|1.|step 7 ring 1 gate_|1"),
+    ("step", "step 8 ring 1 gate_|2|gate_.alm:5"),
 )
 # Characters of examples/say, whose line is seven words after start.
 SAY = (("x/4c main$line", r'main$start+7 "hell" "o, w" "orld" "\012\000\000\000"'),)

@@ -16,7 +16,6 @@ PLANTED = (
     fault("session", "forward.py", "lambda _, call: depth_of(call) <= depth",
           "lambda _, call: depth_of(call) < depth"),
     fault("session", "forward.py", "taken.next_ring != taken.ring", "taken.next_ring < taken.ring"),
-    fault("session", "forward.py", "breaks=count > 1", "breaks=True"),
     fault("session", "forward.py", "self.report_services(position + 1, reached)",
           "self.report_services(position, reached)"),
     fault("session", "forward.py", "while stop.reason == \"step\" and self.has_snapped():",

@@ -19,9 +19,8 @@ class Forward:
     """The moves of a session that go forward. Each returns the Stop that it comes to."""
 
     def forward(self, count=1):
-        """Takes so many steps. Breakpoints and watchpoints stop it, except that a single step is
-        taken whatever is there."""
-        return self.go_forward(count, breaks=count > 1)
+        """Takes so many steps. Breakpoints and watchpoints stop it, after one step at least."""
+        return self.go_forward(count)
 
     def go(self, most=MOST_OF_GO):
         """Goes on to a breakpoint, a watchpoint or the end."""
