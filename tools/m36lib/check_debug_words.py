@@ -87,13 +87,15 @@ SERVANT_PARTS = (
 )
 # Characters of examples/say, whose line is seven words after start.
 SAY = (("x/4c main$line", r'main$start+7 "hell" "o, w" "orld" "\012\000\000\000"'),)
-# Calls in one segment, and the number of them after each step.
+# Calls in one segment, and the number of them after each step. `deeper` returns out of two.
 CALLS = """ entry start
 start: tsp2 sub
  tsx1 other
  tsp3 outer
  stcd pr6|20
  call6 far
+ stcd pr6|20
+ call6 deep
  stcd pr6|20
  nop 0
 again: call6 near
@@ -104,8 +106,11 @@ outer: tsp4 inner
 inner: tra pr4|0
 far: tra pr6|20,*
 near: rtcd pr6|20
+deep: stcd pr6|22
+ call6 deeper
+deeper: rtcd pr6|20
 """
-DEPTHS = (0, 1, 0, 1, 0, 1, 2, 1, 0, 0, 1, 0, 0, 0, 1, 0, 1, 0, 1)
+DEPTHS = (0, 1, 0, 1, 0, 1, 2, 1, 0, 0, 1, 0, 0, 1, 1, 2, 0, 0, 0, 1, 0, 1, 0, 1)
 
 
 def answers(session, commands):
@@ -163,6 +168,11 @@ def check_leaving(session):
                 move()
                 if session.step != after[0]:
                     yield f"{move.__name__} from {step} goes to {session.step}, not {after[0]}"
+        before = [other for other in range(step) if DEPTHS[other] <= DEPTHS[step]]
+        session.go_to(step)
+        session.back_over()
+        if step and session.step != before[-1]:
+            yield f"back over from {step} goes to {session.step}, not {before[-1]}"
 
 
 def check_numbers(program, work):

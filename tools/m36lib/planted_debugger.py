@@ -23,7 +23,7 @@ PLANTED = (
     fault("session", "backward.py", "position = taken.number - 1", "position = taken.number"),
     fault("session", "backward.py", "in reversed(found):", "in found:"),
     fault("session", "backward.py", "and not self.is_repeated(position)", ""),
-    fault("session", "backward.py", "call.depth > depth + 1", "call.depth > depth + 2"),
+    fault("words", "backward.py", "call.depth > depth + 1", "call.depth > depth + 2"),
     fault("session", "backward.py", "self.go_back_to(since - 1", "self.go_back_to(since"),
     fault("session", "backward.py", "else values\n            at = run.step",
           "else ()\n            at = run.step"),
