@@ -241,6 +241,15 @@ def check_signals(program, work):
         if debugger.returncode:
             yield f"after an interruption the status is {debugger.returncode}"
     with start(program, folder) as debugger:
+        debugger.stdin.write("step 500000\nwho main|0\n")
+        debugger.stdin.flush()
+        read_until(debugger, "step 500000")
+        time.sleep(0.5)
+        os.killpg(debugger.pid, signal.SIGINT)
+        out, _ = debugger.communicate("quit\n", WAIT)
+        if "Interrupted." not in out or debugger.returncode:
+            yield f"an interruption does not stop `who`: {out[-300:]}"
+    with start(program, folder) as debugger:
         read_until(debugger, "step 0")
         os.killpg(debugger.pid, signal.SIGINT)
         if debugger.wait(WAIT) != 130:

@@ -65,9 +65,6 @@ class Backward:
         last, size, stop = self.step, FIRST_PIECE, None
         self.interrupted = False
         while stop is None and last > 0 and (watches or places):
-            if self.interrupted:
-                stop = Stop(last, "interrupt", "Interrupted.")
-                break
             first = max(0, last - size)
             if size > LARGEST_PIECE:
                 first = (last - 1) // GO_STEPS * GO_STEPS
@@ -83,6 +80,8 @@ class Backward:
         found, at = [], first
         values = self.values_at(first, watches)
         while at < last:
+            if self.interrupted:
+                return Stop(last, "interrupt", "Interrupted.")
             count = piece_size(at, min(last - at, LARGEST_PIECE))
             piece, watched, run = self.traced(at, count, watches)
             changed = watched.changes(values) if watched else []
