@@ -53,6 +53,10 @@ SERVANT = (
     ("x/2d main$start", f"main$start {0o000000213004} {NEGATIVE}"),
     ("x/p pr6|25", "stack_4|124 000100400043 000005000000 its 4:00100|000005 00 main$start+5"),
     ("x/2i .", "=> gate_$fetch 000001710000 tra 1|gate_|1 200000235120 lda pr2|0,*"),
+    ("x/i $pc", "=> gate_$fetch 000001710000 tra 1"),
+    ("x *main|14", "main$start+14 000000000007"),
+    ("info registers a", "a = 000100000004"),
+    ("backtrace 1", "#0 ring 1 gate_$fetch gate_.alm:2 in gate_$fetch, called in step 6"),
     ("x 00077|0", "00077|0 none"),
     ("backtrace", "#0 ring 1 gate_$fetch gate_.alm:2 in gate_$fetch, called in step 6|"
      "#1 ring 4 main$start+4 main.alm:6 in main$start, the start"),
@@ -178,7 +182,8 @@ def check_leaving(session):
 def check_numbers(program, work):
     """Breakpoints and watchpoints by their numbers: disabled, deleted, temporary, with hits."""
     commands = ("tbreak gate_$fetch", "break gate_:3 if a == 7", "watch secret|0", "info b",
-                "disable 3", "delete 1", "run", "info b", "delete", "info b", "delete 9",
+                "disable 3", "delete 1", "run", "info b", "delete breakpoints",
+                "info b", "delete 9",
                 "condition 9 a == 1", "tbreak gate_$fetch", "run", "info b")
     parts = ("Breakpoint 1 at gate_$fetch", "Breakpoint 2 at gate_|1, gate_.alm:4",
              "Watchpoint 3: secret|0 is 123456701234", "3 watch on secret|0 hits 0", "", "",

@@ -87,8 +87,8 @@ GROUPS = (
                 "or a place with its word. A form as in `p/o` makes no difference.", "print"),
         command("x", "/NF PLACE", "Shows N words from a place on, as F: o octal, d decimal, c "
                 "characters, i instructions, p pairs. `x/8o secret|0`.", "examine", True),
-        command("backtrace bt where", "", "Shows the calls in which the run is, with their rings.",
-                "backtrace"),
+        command("backtrace bt where", "[N]", "Shows the calls in which the run is, with their "
+                "rings; N of them.", "backtrace"),
         command("frame f", "[N]", "Shows where call N of the backtrace is; `list` starts there.",
                 "frame"),
         command("up", "", "Shows the next outer call.", "up"),

@@ -121,8 +121,8 @@ class Looking:
         self.last_examined = (segment, word + count), count // (1 + (letter == "p")), letter
 
     def do_backtrace(self, rest):
-        no_more(rest)
-        self.write_all(show.frame_lines(self.session))
+        lines = show.frame_lines(self.session)
+        self.write_all(lines[: count_of(rest, len(lines))])
 
     def do_frame(self, rest):
         number = count_of(rest, self.frame_number, least=0)
@@ -192,6 +192,10 @@ class Looking:
         if not rest:
             raise Refused("info about what? breakpoints, registers, frame, rings, segments, "
                           "source, console")
+        name, _, operand = rest.partition(" ")
+        if operand and "registers".startswith(name):
+            self.do_print(operand)
+            return
         named = rest if rest in INFO else next((it for it in INFO if it.startswith(rest)), None)
         what = INFO.get(named)
         if what is None:

@@ -8,7 +8,7 @@
     pr6|40                       a word by a pointer register, as an instruction would have it
     pr6                          the word to which it points
     loop                         an entry or a label of the segment in which the run is
-    .                            the place of the next instruction
+    .  $pc                       the place of the next instruction
 
 Words are octal, as the program prints them; `40.` with a point after it is decimal. Lines are
 decimal. `+N` and `-N` may follow any of these except a line."""
@@ -43,9 +43,9 @@ class Places:
 
     def find(self, text, view=None):
         """Segment and word. The registers are those of a view, or of the session."""
-        text = text.strip()
+        text = text.strip().removeprefix("*")
         registers = (view or self.session).registers
-        if not text or text == ".":
+        if text in ("", ".", "$pc"):
             return registers.segment, registers.word
         if text.isdecimal():
             return self.line(registers.segment, int(text), text)
