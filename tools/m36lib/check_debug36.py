@@ -34,7 +34,7 @@ HOSTILE = """\" main: \x1b[31mred\x1b]0;title\x07 \u202e <b>
 start: lda 0,dl \" \x1b[2J\x9b31m
  tra start
 """
-# A program that answers otherwise than the machine: A is 123456 in each answer to `regs`, step 3 has
+# A program that answers otherwise than the machine: A is 123456 in answers to `regs`, step 3 has
 # the outcome `fault 7` and step 13, the last one, `stop tag`, word 2 of main is 77, and the console
 # writes another word.
 WRAPPER = """#!/bin/sh

@@ -172,7 +172,8 @@ class Front(Looking):
         self.write(f"Breakpoint {number} stops " + (f"if {condition}" if condition else "always"))
 
     def do_delete(self, rest):
-        numbers = numbers_in(rest.removeprefix("breakpoints")) or [*self.session.breaks, *self.session.watches]
+        everything = [*self.session.breaks, *self.session.watches]
+        numbers = numbers_in(rest.removeprefix("breakpoints")) or everything
         for number in numbers:
             self.session.drop(number)
 
