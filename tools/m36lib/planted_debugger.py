@@ -33,8 +33,8 @@ PLANTED = (
           "self.service_steps.append(taken.number + 1)"),
     fault("session", "watched.py", "8 + 7 * number", "7 + 7 * number"),
     fault("session", "watched.py", "if values != before:", "if values[0] != before[0] or index:"),
-    fault("session", "session.py", "            self.step = step\n"
-          "            self.known_registers = {}", "            self.step = step"),
+    fault("session", "session.py", "if self.step not in self.known_registers:",
+          "if not self.known_registers:"),
     fault("session", "session.py", "self.runs.at(first - 1).trace(last - first + 1)",
           "self.runs.at(first).trace(last - first + 1)"),
     fault("session", "session.py", "if added.condition is None or", "if"),

@@ -51,11 +51,11 @@ class Backward:
         stop = self.search_back([Watchpoint(None, what)], {})
         if stop.reason in ("watch", "interrupt"):
             return stop
-        self.set_step(step)
+        self.step = step
         return None
 
     def go_back_to(self, step, reason="step", text=""):
-        self.set_step(step)
+        self.step = step
         if not step:
             reason, text = "begin", AT_START
         return self.stopped(Stop(step, reason, text))
@@ -72,7 +72,7 @@ class Backward:
             last, size = first, size * 8
         if stop is None:
             return self.go_back_to(0)
-        self.set_step(stop.step)
+        self.step = stop.step
         return self.stopped(stop)
 
     def last_reason(self, first, last, watches, places):

@@ -84,7 +84,7 @@ class Forward:
             stop, reached = self.piece(position, count, look)
             self.report_services(position + 1, reached)
             position, size = reached, min(size * 8, LARGEST_PIECE)
-        self.set_step(position)
+        self.step = position
         if stop is None:
             stop = Stop(position, limit, limit_text(limit, position - start))
         return self.stopped(self.end_stop(stop) if self.ended else stop)

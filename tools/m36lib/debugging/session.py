@@ -173,12 +173,12 @@ class Session(Forward, Backward):
         start."""
         if not self.step:
             return None, None
-        step, known = self.step, self.known_registers
-        self.step, self.known_registers = step - 1, {}
+        step = self.step
+        self.step = step - 1
         try:
             return self.account(), self.trace(step, step)[0]
         finally:
-            self.step, self.known_registers = step, known
+            self.step = step
 
     def trace(self, first, last):
         """The trace lines of the steps from one number to another, with those of the linker and
@@ -269,14 +269,9 @@ class Session(Forward, Backward):
         if step > self.history.known:
             return self.go_forward(step - self.step, breaks=False, watches=[])
         self.report_services(self.step + 1, step)
-        self.set_step(step)
+        self.step = step
         stop = Stop(step, "step", "")
         return self.stopped(self.end_stop() if self.ended else stop)
-
-    def set_step(self, step):
-        if step != self.step:
-            self.step = step
-            self.known_registers = {}
 
     def stopped(self, stop):
         self.stop = stop
