@@ -8,6 +8,7 @@ from .check_debug36 import found_by
 from .check_machine import whole_run
 from .debugging import Session
 from .machine import Machine, seg_line
+from .made_images import PAIR, image, its, op, sdw
 
 MOST_STEPS = 150
 MOST_PLACES = 6
@@ -256,11 +257,27 @@ def check_rings(session, facts):
 
 CHECKS = (check_steps, check_breaks, check_watches, check_calls, check_rings)
 STEPS = (check_steps,)
+# A program that clears a descriptor, through a segment over the descriptors: it reads a word of
+# segment 2, clears the descriptor of that segment, and reads the word again, which is refused.
+CLEARED = image(
+    [op("lda", PAIR, 0o20), op("stz", PAIR + 2, 0o20), op("lda", PAIR, 0o20)],
+    pair=[*its(2, 0), *its(3, 4)],
+    more={3: sdw(0)},
+)
+
+
+def changed_tables(program, work):
+    """An image whose program changes its own tables."""
+    (work / "cleared").write_text(CLEARED)
+    yield cases.Case("a descriptor that is cleared", work, "cleared")
+
+
 KINDS = (
     (cases.examples, CHECKS),
     (cases.sessions, STEPS),
     (cases.folder_cases, STEPS),
     (cases.image_cases, STEPS),
+    (changed_tables, STEPS),
 )
 
 
