@@ -156,9 +156,10 @@ def check_depths(program, work):
         for _ in DEPTHS[1:]:
             session.forward()
             found.append(len(session.frames()) - 1)
-        if tuple(found) != DEPTHS:
+        if tuple(found) == DEPTHS:
+            yield from check_leaving(session)
+        else:
             yield f"calls: {found}, not {list(DEPTHS)}"
-        yield from check_leaving(session)
 
 
 def check_leaving(session):
