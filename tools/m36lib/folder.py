@@ -4,7 +4,6 @@ The program has accepted the folder before it is read here: nothing of it is che
 places come from the program's own prints, and lines of sources from its listings."""
 
 import pathlib
-import shutil
 import subprocess
 import tempfile
 
@@ -170,8 +169,13 @@ def listing_places(lines):
 def assembled(program, folder, name):
     """The object that the source NAME.alm is assembled to, and its listing; or None and what the
     program says. Nothing is written in the folder."""
+    return assembled_text(program, name, (pathlib.Path(folder) / f"{name}.alm").read_bytes())
+
+
+def assembled_text(program, name, data):
+    """The same of a source NAME.alm with these bytes."""
     with tempfile.TemporaryDirectory() as copy:
-        shutil.copy(pathlib.Path(folder) / f"{name}.alm", copy)
+        (pathlib.Path(copy) / f"{name}.alm").write_bytes(data)
         done = subprocess.run([program, "alm", name], cwd=copy, capture_output=True,
                               stdin=subprocess.DEVNULL, timeout=MOST_SECONDS)
         if done.returncode:
