@@ -8,7 +8,7 @@ from ..table import TABLE
 from .catalog import word_at
 from .definitions import OWN, Definitions
 from .elements import element_at, layout_of
-from .hover_words import (
+from ..hover_words import (
     BOOT_LINES, KINDS, OPERATIONS, POINTERS, SECTIONS, modifier_words, pointer_number,
 )
 

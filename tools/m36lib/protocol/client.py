@@ -26,6 +26,7 @@ class Client:
         self.received = queue.Queue()
         self.kept = []
         self.errors = b""
+        self.is_ready = False
         self.readers = [threading.Thread(target=it, daemon=True)
                         for it in (self.read_all, self.read_errors)]
         for reader in self.readers:
