@@ -1,6 +1,7 @@
 """Tests of both servers with input that is no message: each is answered by the error of its
 protocol, and the server goes on."""
 
+import concurrent.futures
 import os
 import pathlib
 import random
@@ -99,7 +100,7 @@ def debug_adapter(program):
             client.send({"seq": number, "type": "request", "command": "initialize",
                          "arguments": {"adapterID": "m36"}})
             try:
-                found = client.wait_for(lambda it: it.get("request_seq") in (0, 1), f"{data[:60]!r}")
+                found = client.wait_for(lambda it: it.get("request_seq") in (0, 1), f"{data[:60]}")
                 client.wait_for(lambda it: it.get("request_seq") == number, "a request after it")
             except NoReply as why:
                 return [*wrong, str(why)]
@@ -115,41 +116,48 @@ def piped(words, data, program, **settings):
     return done.returncode, done.stdout, done.stderr
 
 
+def all_of(one, cases):
+    """What is wrong by each of the cases, some of which run side by side."""
+    with concurrent.futures.ThreadPoolExecutor(os.cpu_count()) as pool:
+        return [line for lines in pool.map(lambda case: one(*case), cases) for line in lines]
+
+
 def cut_off(program):
     """The input ends at each place of a message: an error, status 1, and no more."""
-    wrong = []
     message = bytes_of({"jsonrpc": "2.0", "id": 1, "method": "initialize", "params": {},
                         "seq": 1, "type": "request", "command": "initialize"})
-    for server in (LSP, DAP):
-        for length in (1, 15, 20, 21, 30, len(message) - 1):
-            status, output, errors = piped([server], message[:length], program)
-            if status != 1 or b"the input ends" not in output or errors:
-                wrong.append(f"{server.name} after {length} bytes: {status} {output} {errors}")
-        status, output, errors = piped([server], b"", program)
-        if (status, output, errors) != (1, b"", b""):
-            wrong.append(f"{server.name} without input: {status} {output} {errors}")
-    return wrong
+
+    def one(server, length):
+        status, output, errors = piped([server], message[:length], program)
+        said = b"the input ends" in output if length else not output
+        if status != 1 or not said or errors:
+            yield f"{server.name} after {length} bytes: {status} {output} {errors}"
+
+    lengths = (0, 1, 20, 21, 30, len(message) - 1)
+    return all_of(one, [(server, length) for server in (LSP, DAP) for length in lengths])
 
 
 def drawn(program):
     """Random bytes, and messages in which bytes were changed: no server breaks."""
-    wrong = []
     draw = random.Random(36)
     whole = b"".join(bytes_of({"jsonrpc": "2.0", "id": number, "method": method, "params": {},
                                "seq": number, "type": "request", "command": method})
                      for number, method in enumerate(("initialize", "textDocument/hover", "launch",
                                                       "threads", "next", "shutdown")))
-    for server in (LSP, DAP):
-        for _ in range(12):
-            data = bytearray(whole * 3)
-            for _ in range(draw.randrange(1, 40)):
-                data[draw.randrange(len(data))] = draw.randrange(256)
-            if draw.random() < 0.2:
-                data = bytearray(draw.randbytes(2000))
-            status, _, errors = piped([server], bytes(data), program)
-            if status not in (0, 1) or errors:
-                wrong.append(f"{server.name}: status {status}, {errors[-300:]}")
-    return wrong
+
+    def changed():
+        data = bytearray(whole * 3)
+        for _ in range(draw.randrange(1, 40)):
+            data[draw.randrange(len(data))] = draw.randrange(256)
+        return bytes(data)
+
+    def one(server, data):
+        status, _, errors = piped([server], data, program)
+        if status not in (0, 1) or errors:
+            yield f"{server.name}: {data[:99]!r}: status {status}, {errors[-300:]}"
+
+    inputs = [changed() for _ in range(6)] + [draw.randbytes(2000)]
+    return all_of(one, [(server, data) for server in (LSP, DAP) for data in inputs])
 
 
 def no_reader(program):
@@ -171,14 +179,13 @@ def no_reader(program):
 
 def words(_program):
     """Words that are wrong, and the help."""
-    wrong = []
-    for server in (LSP, DAP):
-        for given, expected in ((["--help"], 0), (["-h"], 0), (["x"], 2), (["--stdio", "x"], 2)):
-            status = subprocess.run([server, *given], capture_output=True, stdin=subprocess.DEVNULL,
-                                    timeout=SECONDS).returncode
-            if status != expected:
-                wrong.append(f"{server.name} {given}: status {status}")
-    return wrong
+    def one(server, given, expected):
+        status = piped([server, *given], b"", "none")[0]
+        if status != expected:
+            yield f"{server.name} {given}: status {status}"
+
+    cases = ((["--help"], 0), (["-h"], 0), (["x"], 2), (["--stdio", "x"], 2), (["--stdio"], 1))
+    return all_of(one, [(server, *case) for server in (LSP, DAP) for case in cases])
 
 
 TESTS = (language_server, debug_adapter, cut_off, drawn, no_reader, words)

@@ -8,7 +8,8 @@ import traceback
 
 from ..protocol.inbox import END
 from ..protocol.members import WrongMember, is_of, optional
-from ..protocol.messages import BadMessage, bytes_of
+from ..protocol.messages import BadMessage
+from ..protocol.serve import NoReader
 from ..shown import plain
 
 
@@ -48,8 +49,7 @@ class Channel:
     def send(self, message):
         """Writes a message with its number."""
         self.sent += 1
-        self.output.write(bytes_of({"seq": self.sent, **message}))
-        self.output.flush()
+        self.output.send({"seq": self.sent, **message})
 
     def event(self, name, **body):
         """Sends an event."""
@@ -88,7 +88,7 @@ class Channel:
             body = self.body_of(number, command, message)
         except (Refused, WrongMember) as why:
             self.fail(number, command, f"{plain(command)}: {why}")
-        except (Ended, BrokenPipeError):
+        except (Ended, NoReader):
             raise
         except Exception as why:  # pylint: disable=broad-except
             traceback.print_exc(file=sys.stderr)
@@ -97,7 +97,11 @@ class Channel:
             self.respond(number, command, success=True, **({} if body is None else {"body": body}))
         later, self.later = self.later, []
         for action in later:
-            action()
+            self.perform(action)
+
+    def perform(self, action):
+        """Does what comes after a response."""
+        action()
 
     def body_of(self, number, command, message):
         """The body of the response."""
@@ -115,6 +119,15 @@ class Channel:
                     and is_of(arguments.get("requestId"), int)
                     and arguments["requestId"] == number)
         return self.inbox.any(is_wanted)
+
+    def has_waiting(self):
+        """Whether something waits."""
+        return self.inbox.any(lambda _: True)
+
+    def take_waiting(self):
+        """Answers what waits, up to the end of the input."""
+        while self.has_waiting() and not self.inbox.any(lambda item: item is END):
+            self.take(self.inbox.take())
 
     def is_waited_for(self, commands):
         """Whether one of these commands waits, or the input has ended."""

@@ -7,7 +7,8 @@ import traceback
 
 from ..protocol.inbox import END
 from ..protocol.members import WrongMember, count, is_of, member, objects, optional
-from ..protocol.messages import BadMessage, bytes_of
+from ..protocol.messages import BadMessage
+from ..protocol.serve import NoReader
 from ..shown import plain
 from .checks import NoAnswer, check, is_about
 from .definitions import Definitions
@@ -74,12 +75,14 @@ class Server:
             else:
                 self.take(item)
 
+    def close(self):
+        """Nothing is left running."""
+
     # Messages.
 
     def send(self, message):
         """Writes a message."""
-        self.output.write(bytes_of({"jsonrpc": "2.0", **message}))
-        self.output.flush()
+        self.output.send({"jsonrpc": "2.0", **message})
 
     def send_error(self, number, code, text):
         """Answers a request with an error."""
@@ -109,6 +112,8 @@ class Server:
             self.send_error(number, why.code, str(why))
         except WrongMember as why:
             self.send_error(number, WRONG_PARAMETERS, f"{method}: {why}")
+        except NoReader:
+            raise
         except Exception as why:  # pylint: disable=broad-except
             traceback.print_exc(file=sys.stderr)
             self.send_error(number, INTERNAL_ERROR, f"{type(why).__name__}: {why}")

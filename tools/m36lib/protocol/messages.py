@@ -51,10 +51,10 @@ class MessageReader:
         """Reads a header, and returns the length that it gives; None at the end of the input."""
         found, count = None, 0
         while (line := self.stream.readline(MOST_OF_LINE)) not in (b"\r\n", b"\n"):
-            if not line:
-                if count:
-                    raise BadMessage("the input ends within a header")
+            if not line and not count:
                 return None
+            if not line.endswith(b"\n") and len(line) < MOST_OF_LINE:
+                raise BadMessage("the input ends within a header")
             count += 1
             match = LENGTH.fullmatch(line)
             if count > MOST_LINES or not HEADER.fullmatch(line):

@@ -1,0 +1,175 @@
+"""The requests that move the run, and how its stops are reported."""
+
+import threading
+
+from ..protocol.members import member, optional
+from ..words import entries_of
+from .channel import Refused
+
+SECONDS = 0.05
+STOPPING = ("pause", "disconnect", "terminate", "restart")
+# By the reason of a stop (m36lib.debugging.stop).
+REASONS = {
+    "begin": "entry", "step": "step", "break": "breakpoint", "watch": "data breakpoint",
+    "ring": "step", "return": "step", "end": "exception", "limit": "pause", "interrupt": "pause",
+}
+FINE_END = "end dis "
+
+
+class Watcher:
+    """While the run moves, looks for requests that stop it, and interrupts the session."""
+
+    def __init__(self, session, is_wanted):
+        self.session = session
+        self.is_wanted = is_wanted
+        self.is_over = threading.Event()
+        self.thread = threading.Thread(target=self.look, daemon=True)
+
+    def __enter__(self):
+        self.thread.start()
+
+    def __exit__(self, *_):
+        self.is_over.set()
+        self.thread.join()
+
+    def look(self):
+        while not self.is_over.wait(SECONDS):
+            if self.is_wanted():
+                self.session.interrupt()
+
+
+class Moves:
+    """Moves of the session."""
+
+    def __init__(self, adapter):
+        self.adapter = adapter
+        self.stops_at_rings = False
+        self.is_moving = False
+
+    def handlers(self):
+        return {
+            "continue": self.continued, "next": self.next, "stepIn": self.step_in,
+            "stepOut": self.step_out, "stepBack": self.step_back,
+            "reverseContinue": self.reverse_continued, "pause": self.pause,
+            "exceptionInfo": self.exception_info, "setExceptionBreakpoints": self.set_filters,
+        }
+
+    @property
+    def session(self):
+        return self.adapter.session
+
+    # Requests.
+
+    def continued(self, arguments):
+        self.begin(arguments, self.forward)
+        return {"allThreadsContinued": True}
+
+    def reverse_continued(self, arguments):
+        self.begin(arguments, self.session.back_go)
+
+    def next(self, arguments):
+        self.begin(arguments, self.session.over)
+
+    def step_in(self, arguments):
+        self.begin(arguments, self.session.forward)
+
+    def step_out(self, arguments):
+        if len(self.session.frames()) < 2:
+            raise Refused("the run is in no call that could return")
+        self.begin(arguments, self.session.out)
+
+    def step_back(self, arguments):
+        granularity = optional(arguments, "granularity", str, "line")
+        move = self.session.back if granularity == "instruction" else self.session.back_over
+        self.begin(arguments, move)
+
+    def pause(self, arguments):
+        """Between moves there is nothing to stop: it is said again that the run stands."""
+        member(arguments, "threadId", int)
+        self.adapter.after(lambda: self.report(self.session.stop, "pause"))
+
+    def set_filters(self, arguments):
+        self.stops_at_rings = "ring" in member(arguments, "filters", list)
+
+    def exception_info(self, _arguments):
+        """What the end of the run means."""
+        end = self.session.ended
+        if not end:
+            raise Refused("the run has not ended")
+        entries = entries_of(end)
+        sentences = [f"{entry.sentence}; {entry.advice}" for entry in entries]
+        return {
+            "exceptionId": end,
+            "description": " ".join(sentences) or end,
+            "breakMode": "always",
+        }
+
+    # Moving.
+
+    def forward(self):
+        """Goes on to a breakpoint or the end, or to a change of ring where these are asked for."""
+        return self.session.to_ring() if self.stops_at_rings else self.session.go()
+
+    def begin(self, arguments, move):
+        """Makes a move once the request is answered."""
+        member(arguments, "threadId", int)
+        if not self.adapter.is_configured:
+            raise Refused("expected configurationDone first")
+        if self.is_moving:
+            raise Refused("the run goes on: pause it first")
+        self.adapter.after(lambda: self.run(move))
+
+    def run(self, move):
+        """Makes a move, and reports where it stops."""
+        if self.session.ended and move == self.forward:
+            self.finished()
+            return
+        self.is_moving = True
+        try:
+            stop = self.stop_of(move)
+        finally:
+            self.is_moving = False
+        if stop:
+            self.report(stop)
+
+    def stop_of(self, move):
+        """The stop of a move; None where the session has ended. Other requests that come meanwhile
+        are answered on the way, if the move can be taken up again after them."""
+        can_resume = move in (self.forward, self.session.back_go)
+        while True:
+            self.adapter.variables.forget()
+            with Watcher(self.session, self.adapter.has_waiting if can_resume else self.is_to_stop):
+                stop = move()
+            if not can_resume or stop.reason != "interrupt" or self.is_to_stop():
+                return stop
+            self.adapter.take_waiting()
+            if self.adapter.opened is None:
+                return None
+
+    def is_to_stop(self):
+        """Whether a request waits that stops the run."""
+        return self.adapter.is_waited_for(STOPPING)
+
+    # Reports.
+
+    def report(self, stop, reason=None):
+        """Reports a stop."""
+        reason = reason or REASONS[stop.reason]
+        if stop.reason == "end" and stop.end.startswith(FINE_END):
+            reason = "pause"
+        body = {"reason": reason, "threadId": 1, "allThreadsStopped": True}
+        text = stop.text
+        if stop.reason == "break":
+            text = f"A breakpoint at {self.session.place_name()}."
+        if text:
+            body["description"] = body["text"] = text
+        hit = self.adapter.breakpoints.hit(stop)
+        if hit:
+            body["reason"], body["hitBreakpointIds"] = hit
+        self.adapter.event("stopped", **body)
+
+    def finished(self):
+        """The run had ended already, and goes on: the session is over."""
+        status = 0 if self.session.ended.startswith(FINE_END) else 6
+        self.adapter.event("exited", exitCode=status)
+        self.adapter.event("terminated")
