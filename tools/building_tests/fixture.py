@@ -55,7 +55,7 @@ def run(words, folder, given="", **environment):
     return Ran(ran.returncode, ran.stdout, ran.stderr)
 
 
-def copy_of(folder, parts=("crates", "docs", "examples", "tools", "vectors", "bench")):
+def copy_of(folder, parts=("crates", "docs", "editors", "examples", "tools", "vectors", "bench")):
     """Copies the repository without what was built, with the times of its files."""
     to = pathlib.Path(folder) / "copy"
     for name in parts:

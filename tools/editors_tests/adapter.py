@@ -264,6 +264,29 @@ def dies(program):
     return wrong
 
 
+def hangs(program):
+    """A program that does not answer is ended with the session."""
+    wrong = []
+    with tempfile.TemporaryDirectory() as room:
+        folder = assembled(program, "servant", room)
+        with Editor(stub(room, "exec sleep 99")) as client:
+            client.request("initialize", adapterID="m36")
+            client.send({"seq": 9, "type": "request", "command": "launch",
+                         "arguments": {"program": str(folder)}})
+            wait_until(lambda: children_of(client.process.pid))
+            children = children_of(client.process.pid)
+            client.process.terminate()
+            try:
+                client.process.wait(SECONDS)
+            except subprocess.TimeoutExpired:
+                wrong.append("the adapter does not end")
+        if not children or not wait_until(lambda: not any(map(is_running, children))):
+            wrong.append(f"a program that hangs is left: {children}")
+        for child in filter(is_running, children):
+            os.kill(child, signal.SIGKILL)
+    return wrong
+
+
 def stale(program):
     """An object that is not of its source is named, and lines of it are refused."""
     with tempfile.TemporaryDirectory() as room, Editor(program) as client:
@@ -282,5 +305,5 @@ def stale(program):
 
 TESTS = (
     transcript, both_ways, answers_of_the_program, nothing_is_left, paused_and_changed, refused,
-    dies, stale,
+    dies, hangs, stale,
 )

@@ -45,9 +45,10 @@ def opened(client, path, text):
 
 
 def files_of(folder):
-    """The files of a folder, with their bytes and times."""
-    return {path: (path.read_bytes(), path.stat().st_mtime_ns)
-            for path in sorted(folder.rglob("*")) if path.is_file()}
+    """The time of a folder, which a new file changes, and its files with their bytes and times."""
+    files = {path: (path.read_bytes(), path.stat().st_mtime_ns)
+             for path in sorted(folder.rglob("*")) if path.is_file()}
+    return folder.stat().st_mtime_ns, files
 
 
 def transcript(program):
@@ -113,7 +114,8 @@ def without_a_program(_program):
         with start(f"{room}/none") as client:
             client.send({"jsonrpc": "2.0", "id": 0, "method": "initialize", "params": {}})
             client.send({"jsonrpc": "2.0", "method": "initialized", "params": {}})
-            found = client.wait_for(lambda it: it.get("method") == "window/showMessage", "a message")
+            found = client.wait_for(
+                lambda it: it.get("method") == "window/showMessage", "a message")
             if "M36_PROGRAM" not in found["params"]["message"]:
                 return [f"no reason: {found}"]
             client.send({"jsonrpc": "2.0", "method": "textDocument/didOpen", "params": {

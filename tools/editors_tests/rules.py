@@ -8,7 +8,7 @@ from m36lib.effect import EffectRefused, Given
 from m36lib.effects_control import CONTROL
 from m36lib.effects_table import DATA
 from m36lib.explain import READS
-from m36lib.hover_words import REGISTERS, TALLIES, modifier_words
+from m36lib.hover_words import modifier_words
 from m36lib.names import PLAIN
 from m36lib.registers import Dbr, Indicators, Pointer, Registers
 from m36lib.rule_words import KINDS, notes_of, rule_of
@@ -79,8 +79,9 @@ def whole(_program):
         if "{" in text or "  " in text or not text.endswith("."):
             wrong.append(f"{row.name}: {text}")
     wrong += [f"no words for {kind}" for kind in {it.operand for it in TABLE.values()} - set(KINDS)]
-    modifiers = [*TALLIES, "*", *REGISTERS, *(f"{it}*" for it in REGISTERS),
-                 *(f"*{it}" for it in REGISTERS), *"01234567", "0*", "*7"]
+    registers = "n au qu du ic al ql dl x0 x1 x2 x3 x4 x5 x6 x7 0 1 2 3 4 5 6 7".split()
+    modifiers = ["*", *"i id di ad sd".split(), *registers, *(f"{it}*" for it in registers),
+                 *(f"*{it}" for it in registers)]
     wrong += [f"no words for the modifier {it}" for it in modifiers if not modifier_words(it)]
     return wrong + [f"words for {it}" for it in ("x8", "**", "", "8") if modifier_words(it)]
 

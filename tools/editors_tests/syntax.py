@@ -41,9 +41,9 @@ qa!
 """
 VIM_MAKE = """
 silent make
-call writefile(map(filter(getqflist(), {_, it -> it.valid}),
-      \\ {_, it -> fnamemodify(bufname(it.bufnr), ':p') . ' ' . it.lnum . ' ' . it.col . ' ' . it.text}),
-      \\ 'list')
+let found = filter(getqflist(), {_, it -> it.valid})
+call map(found, {_, it -> [fnamemodify(bufname(it.bufnr), ':p'), it.lnum, it.col, it.text]})
+call writefile(map(found, {_, it -> join(it)}), 'list')
 qa!
 """
 # A source in which each group occurs, and the group of each word of it.
@@ -165,7 +165,8 @@ def emacs_shows(_program):
     if missing("emacs"):
         return []
     expected = (("start", "font-lock-function-name-face"), ("call6", "font-lock-keyword-face"),
-                ("con_$stop", "font-lock-variable-name-face"), ("bss", "font-lock-preprocessor-face"),
+                ("con_$stop", "font-lock-variable-name-face"),
+                ("bss", "font-lock-preprocessor-face"),
                 ('"lda 5', "font-lock-comment-face"), ("lxx", "nil"))
     with tempfile.TemporaryDirectory() as room:
         path = pathlib.Path(room) / "a.alm"

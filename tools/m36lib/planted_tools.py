@@ -28,7 +28,7 @@ def is_reported(words, fault):
     with a fault planted in it, and says what is wrong."""
     with tempfile.TemporaryDirectory() as room:
         copy = pathlib.Path(room)
-        for folder in ("tools", "examples", "docs", "vectors"):
+        for folder in ("tools", "examples", "editors", "docs", "vectors"):
             shutil.copytree(
                 TOP / folder, copy / folder, ignore=shutil.ignore_patterns("__pycache__")
             )

@@ -1,5 +1,5 @@
-"""Breakpoints as an editor sets them: by lines of a source, by names, by addresses, and of words and
-registers that change. Each request gives all of its kind anew."""
+"""Breakpoints as an editor sets them: by lines of a source, by names, by addresses, and of words
+and registers that change. Each request gives all of its kind anew."""
 
 import pathlib
 

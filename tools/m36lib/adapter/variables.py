@@ -198,7 +198,7 @@ class Variables:
                         memoryReference=address_of(segment, word))
 
     def watched_name(self, arguments, name):
-        """What is watched where a variable of this name is: a part of a register is the register."""
+        """What is watched where a variable of this name is."""
         if optional(arguments, "variablesReference", int, 0) and name in (
                 "segment", "ring", "word", "bit"):
             raise Refused("the whole pointer register can be watched")

@@ -1,5 +1,5 @@
-"""Where a name is defined: a symbol in its source, an entry of another segment in the source of that
-segment, a name of a boot text in its line or its source."""
+"""Where a name is defined: a symbol in its source, an entry of another segment in the source of
+that segment, a name of a boot text in its line or its source."""
 
 from typing import NamedTuple
 
