@@ -8,6 +8,8 @@ import subprocess
 import tempfile
 import time
 
+from m36lib import cases
+from m36lib.made_folders import FOLDERS
 from m36lib.protocol.client import Client, NoReply
 
 from .language import is_running, stub, wait_until
@@ -287,6 +289,20 @@ def hangs(program):
     return wrong
 
 
+def unsure(program):
+    """After ABSA the console says once that going back is not sure."""
+    made = next(folder for folder in FOLDERS if folder.name == "ABSA and LDBR")
+    with tempfile.TemporaryDirectory() as room, Editor(program) as client:
+        folder = pathlib.Path(room) / "loaded"
+        cases.make_folder(program, folder, made)
+        client.begin(folder)
+        client.event("stopped")
+        for _ in range(3):
+            client.move("stepIn")
+        said = [it for it in client.kept if "not sure" in it.get("body", {}).get("output", "")]
+        return [] if len(said) == 1 else [f"it is said {len(said)} times"]
+
+
 def stale(program):
     """An object that is not of its source is named, and lines of it are refused."""
     with tempfile.TemporaryDirectory() as room, Editor(program) as client:
@@ -305,5 +321,5 @@ def stale(program):
 
 TESTS = (
     transcript, both_ways, answers_of_the_program, nothing_is_left, paused_and_changed, refused,
-    dies, hangs, stale,
+    dies, hangs, unsure, stale,
 )

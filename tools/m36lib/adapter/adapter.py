@@ -92,6 +92,10 @@ class Adapter(Channel):
 
     def perform(self, action):
         """As that of a channel. If the program ends meanwhile, so does the session."""
+        super().perform(lambda: self.perform_here(action))
+
+    def perform_here(self, action):
+        """Does what comes after a response."""
         try:
             action()
         except (Refusal, BrokenPipeError) as why:

@@ -100,8 +100,14 @@ class Channel:
             self.perform(action)
 
     def perform(self, action):
-        """Does what comes after a response."""
-        action()
+        """Does what comes after a response. If it breaks, the session goes on."""
+        try:
+            action()
+        except (Ended, NoReader):
+            raise
+        except Exception as why:  # pylint: disable=broad-except
+            traceback.print_exc(file=sys.stderr)
+            self.event("output", category="important", output=f"{type(why).__name__}: {why}\n")
 
     def body_of(self, number, command, message):
         """The body of the response."""

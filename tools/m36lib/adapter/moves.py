@@ -14,6 +14,7 @@ REASONS = {
     "ring": "step", "return": "step", "end": "exception", "limit": "pause", "interrupt": "pause",
 }
 FINE_END = "end dis "
+UNSURE = "The run has executed ABSA or LDBR, so going back is not sure to lead to the same states."
 
 
 class Watcher:
@@ -45,6 +46,7 @@ class Moves:
         self.adapter = adapter
         self.stops_at_rings = False
         self.is_moving = False
+        self.was_sure = True
 
     def handlers(self):
         return {
@@ -154,6 +156,9 @@ class Moves:
 
     def report(self, stop, reason=None):
         """Reports a stop."""
+        if self.was_sure and not self.session.is_sure():
+            self.was_sure = False
+            self.adapter.say(UNSURE, "important")
         reason = reason or REASONS[stop.reason]
         if stop.reason == "end" and stop.end.startswith(FINE_END):
             reason = "pause"

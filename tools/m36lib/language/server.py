@@ -148,6 +148,15 @@ class Server:
             self.notifications[method](parameters)
         except WrongMember as why:
             self.log(f"{method}: {why}")
+        except NoReader:
+            raise
+        except Exception as why:  # pylint: disable=broad-except
+            self.broken(method, why)
+
+    def broken(self, what, why):
+        """Something in the server broke: it goes on, and says so."""
+        traceback.print_exc(file=sys.stderr)
+        self.log(f"{what}: {type(why).__name__}: {why}")
 
     def log(self, text):
         """A line for the editor's log."""
@@ -238,6 +247,9 @@ class Server:
             problems = check(self.program, self.workspace, document)
         except NoAnswer as why:
             self.log(str(why))
+            problems = []
+        except Exception as why:  # pylint: disable=broad-except
+            self.broken("the check of a text", why)
             problems = []
         answer = {"uri": uri, "diagnostics": [self.diagnostic(document, it) for it in problems]}
         if document.version is not None:
