@@ -4,6 +4,7 @@
 "use strict";
 
 const childProcess = require("child_process");
+const path = require("path");
 const vscode = require("vscode");
 
 const LANGUAGES = ["alm", "m36boot"];
@@ -159,6 +160,14 @@ async function startServer(context) {
   );
 }
 
+// Without a launch.json the folder of the text that is shown is debugged.
+function resolveDebugConfiguration(_folder, config) {
+  const editor = vscode.window.activeTextEditor;
+  if (config.program || !editor) return config;
+  const program = path.dirname(editor.document.uri.fsPath);
+  return { type: "m36", request: "launch", name: "m36", stopOnEntry: true, ...config, program };
+}
+
 function activate(context) {
   const createDebugAdapterDescriptor = () => {
     const { program, words } = commandOf("debugAdapter");
@@ -166,6 +175,7 @@ function activate(context) {
   };
   context.subscriptions.push(
     vscode.debug.registerDebugAdapterDescriptorFactory("m36", { createDebugAdapterDescriptor }),
+    vscode.debug.registerDebugConfigurationProvider("m36", { resolveDebugConfiguration }),
   );
   return startServer(context);
 }

@@ -3,6 +3,7 @@ sources of the examples. An editor that is not there is named, and its test skip
 
 import importlib.util
 import json
+import os
 import pathlib
 import re
 import shutil
@@ -14,7 +15,8 @@ from m36lib.alm_lines import OPERANDS
 from m36lib.syntax_names import FILES
 from m36lib.table import TABLE
 
-TOP = pathlib.Path(__file__).resolve().parents[2]
+HERE = pathlib.Path(__file__).resolve().parent
+TOP = HERE.parents[1]
 EDITORS = TOP / "editors"
 SECONDS = 60
 NAMES = {row.name for row in TABLE.values()}
@@ -204,4 +206,29 @@ def pygments_shows(_program):
     return wrong
 
 
-TESTS = (names, vim_shows, vim_makes, emacs_shows, pygments_shows)
+def code_runs(program):
+    """The extension of VS Code, with a stand-in for the editor: reports, hover, definitions, and
+    how the debug adapter is started."""
+    if missing("node"):
+        return []
+    folder = TOP / "examples/say"
+    text = (folder / "main.alm").read_text().replace("stcd", "stcq")
+    given = {"extension": str(EDITORS / "vscode/extension.js"), "server": str(TOP / "tools/lsp36"),
+             "adapter": "m36-dap", "path": str(folder / "main.alm"), "text": text}
+    done = subprocess.run(
+        ["node", HERE / "code.js", json.dumps(given)], capture_output=True, text=True,
+        timeout=SECONDS, env={**os.environ, "M36_PROGRAM": str(program)})
+    if done.returncode:
+        return [f"VS Code: {done.stderr[-500:]}"]
+    found = json.loads(done.stdout)
+    expected = {
+        "codes": ["E3"], "range": [5, 1, 5, 5], "severity": 0, "hover": True,
+        "definition": f"{folder.as_uri()}/say_.alm", "adapter": "m36-dap",
+        "config": {"type": "m36", "request": "launch", "name": "m36", "stopOnEntry": True,
+                   "program": str(folder)},
+    }
+    return [f"VS Code: {name} is {found.get(name)}, not {value}"
+            for name, value in expected.items() if found.get(name) != value]
+
+
+TESTS = (names, vim_shows, vim_makes, emacs_shows, pygments_shows, code_runs)
