@@ -104,7 +104,7 @@ class Adapter(Channel):
             self.lost()
 
     def lost(self):
-        """The program has ended: the editor is told that the session is over."""
+        """The session is over, and the editor is informed."""
         self.close()
         self.event("terminated")
 

@@ -119,12 +119,12 @@ class Channel:
 
     def is_cancelled(self, number):
         """Whether a request that waits cancels this one."""
-        def is_wanted(item):
+        def matches(item):
             arguments = item.get("arguments") if isinstance(item, dict) else None
             return (isinstance(arguments, dict) and item.get("command") == "cancel"
                     and is_of(arguments.get("requestId"), int)
                     and arguments["requestId"] == number)
-        return self.inbox.any(is_wanted)
+        return self.inbox.any(matches)
 
     def has_waiting(self):
         """Whether something waits."""
@@ -137,6 +137,6 @@ class Channel:
 
     def is_waited_for(self, commands):
         """Whether one of these commands waits, or the input has ended."""
-        def is_wanted(item):
+        def matches(item):
             return item is END or isinstance(item, dict) and item.get("command") in commands
-        return self.inbox.any(is_wanted)
+        return self.inbox.any(matches)

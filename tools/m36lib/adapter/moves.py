@@ -20,9 +20,9 @@ UNSURE = "The run has executed ABSA or LDBR, so going back is not sure to lead t
 class Watcher:
     """While the run moves, looks for requests that stop it, and interrupts the session."""
 
-    def __init__(self, session, is_wanted):
+    def __init__(self, session, must_stop):
         self.session = session
-        self.is_wanted = is_wanted
+        self.must_stop = must_stop
         self.is_over = threading.Event()
         self.thread = threading.Thread(target=self.look, daemon=True)
 
@@ -35,7 +35,7 @@ class Watcher:
 
     def look(self):
         while not self.is_over.wait(SECONDS):
-            if self.is_wanted():
+            if self.must_stop():
                 self.session.interrupt()
 
 
@@ -86,7 +86,7 @@ class Moves:
         self.begin(arguments, move)
 
     def pause(self, arguments):
-        """Between moves there is nothing to stop: it is said again that the run stands."""
+        """Between moves there is nothing to stop: the stop is reported again."""
         member(arguments, "threadId", int)
         self.adapter.after(lambda: self.report(self.session.stop, "pause"))
 

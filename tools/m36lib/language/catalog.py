@@ -1,10 +1,11 @@
 """A boot text as far as an editor needs it, also while it is being written.
 
-Nothing here decides whether a text is refused: lines that do not have their form are left out."""
+Nothing here decides whether a text is refused: lines that do not have their form are left out. A
+line has one character for each byte."""
 
 from typing import NamedTuple
 
-from ..line_forms import BOOT, column_of, form_of, malformed
+from ..line_forms import BOOT, form_of, malformed
 
 
 class CatalogSegment(NamedTuple):
@@ -60,9 +61,21 @@ class Catalog:
                     return segment
         return None
 
+    def targets(self, name, file):
+        """What the search finds for a name in the source of a file: a segment for each segment
+        that this file is, or the one that is found without a directory of its own."""
+        directories = [segment.directory for segment in self.of_file(file)] or [None]
+        found = (self.find(name, directory) for directory in dict.fromkeys(directories))
+        return [segment for segment in found if segment]
+
     def of_directory(self, directory):
         """The first segment of a directory, or None."""
         return next((it for it in self.segments if it.directory == directory), None)
+
+
+def start_of(words, index):
+    """The column, counted from 0, at which a word of a line begins."""
+    return sum(len(word) + 1 for word in words[:index])
 
 
 def word_at(line, column):
@@ -70,7 +83,7 @@ def word_at(line, column):
     None where there is none."""
     words = line.split(" ")
     for index, word in enumerate(words):
-        start = column_of(words, index) - 1
-        if start <= column <= start + len(word.encode("utf-8", "surrogateescape")) and word:
+        start = start_of(words, index)
+        if word and start <= column <= start + len(word):
             return words, index
     return words, None

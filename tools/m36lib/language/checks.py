@@ -5,7 +5,6 @@ text as the editor has it. Of a boot text that folder has the files of the segme
 sources beside it assemble to, and otherwise the objects and data as they are."""
 
 import functools
-import os
 import pathlib
 import re
 import subprocess
@@ -229,6 +228,6 @@ def is_about(document, changed):
     """Whether the problems of a document depend on another one that has changed."""
     if document is changed:
         return True
-    same = bool(document.path and changed.path) and os.path.dirname(
-        document.path) == os.path.dirname(changed.path)
-    return same and document.is_boot()
+    if not document.is_boot() or not changed.path:
+        return False
+    return document.path.parent == changed.path.parent

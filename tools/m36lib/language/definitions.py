@@ -5,7 +5,7 @@ from typing import NamedTuple
 
 from ..line_forms import FILE
 from ..texts import Text
-from .catalog import Catalog, word_at
+from .catalog import Catalog, start_of, word_at
 from .documents import uri_of
 from .elements import definition_in, element_at, layout_of
 from .places import PlacedText
@@ -82,17 +82,12 @@ class Definitions:
         catalog, text = self.catalog()
         if not catalog:
             return []
-        referring = catalog.of_file(self.document.path.stem)
-        directories = [segment.directory for segment in referring] or [None]
-        targets = [catalog.find(name, directory) for directory in directories]
-        places = [self.of_entry(text, it, name, entry) for it in dict.fromkeys(
-            target.line for target in targets if target) for it in [self.by_line(catalog, it)]]
-        return list(dict.fromkeys(places))
-
-    @staticmethod
-    def by_line(catalog, line):
-        """The segment of a line of the boot text."""
-        return next(segment for segment in catalog.segments if segment.line == line)
+        found = []
+        for segment in catalog.targets(name, self.document.path.stem):
+            place = self.of_entry(text, segment, name, entry)
+            if place not in found:
+                found.append(place)
+        return found
 
     def of_entry(self, boot, segment, name, entry):
         """Where an entry of a segment is defined: in its source, or else in the boot text."""
@@ -120,8 +115,7 @@ class Definitions:
         number = segment.names[name]
         words = boot.lines()[number - 1].split(" ")
         index = 1 if words[0] == "name" else 2
-        column = sum(len(word) + 1 for word in words[:index])
-        return in_line(self.boot_path, boot, number, column, len(name))
+        return in_line(self.boot_path, boot, number, start_of(words, index), len(name))
 
     def of_boot_word(self, words, index):
         """What a word of a boot text names: a directory, a segment, a file or an entry."""

@@ -1,4 +1,4 @@
-"""What stands at a place of a source: a label, an operation, or a part of an operand."""
+"""What is at a place of a source: a label, an operation, or a part of an operand."""
 
 from typing import NamedTuple
 

@@ -5,7 +5,7 @@ from ..alm_lines import OCTAL, OPERANDS, SIGNED
 from ..line_forms import BOOT, FILE, form_of
 from ..rule_words import capital, notes_of, rule_of
 from ..table import TABLE
-from .catalog import word_at
+from .catalog import start_of, word_at
 from .definitions import OWN, Definitions
 from .elements import element_at, layout_of
 from ..hover_words import (
@@ -40,7 +40,7 @@ def operation_words(name):
 
 
 def number_words(value, digits):
-    """A number in decimal and octal; a negative one as it is stored in so many digits."""
+    """A number in decimal and octal; a negative one as it is stored, with this many digits."""
     if value < 0:
         return [f"{value} decimal is {value % 8**digits:0{digits}o} octal in two's complement"]
     return [f"{value} decimal is {value:o} octal"]
@@ -131,12 +131,11 @@ class Hovers:
         catalog, text = self.definitions.catalog()
         if not catalog:
             return [f"A link to {name}; there is no boot text in this folder"]
-        referring = catalog.of_file(self.document.path.stem)
-        directory = referring[0].directory if referring else None
-        segment = catalog.find(name, directory)
-        if not segment:
+        segments = catalog.targets(name, self.document.path.stem)
+        if not segments:
             return [f"A link to {name}: the boot text has no segment of this name where it is "
                     "searched"]
+        segment = segments[0]
         paragraphs = [f"A link to **{name}**, line {segment.line} of boot:",
                       f"`{text.lines()[segment.line - 1]}`", self.rings_of(segment)]
         place = self.definitions.in_sources(segment.file, entry) if entry else None
@@ -165,7 +164,7 @@ class Hovers:
         form = form_of(raw, BOOT)
         if index is None or not form:
             return None
-        start = self.document.place_of(number, sum(len(word) + 1 for word in words[:index]) + 1)
+        start = self.document.place_of(number, start_of(words, index) + 1)
         range_ = self.document.range_of(start, start + len(words[index]))
         if index == 0:
             return [f"**{form}**", BOOT_LINES[form.word]], range_

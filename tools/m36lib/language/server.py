@@ -134,11 +134,11 @@ class Server:
 
     def is_cancelled(self, number):
         """Whether a message that waits cancels a request."""
-        def is_wanted(item):
+        def matches(item):
             parameters = item.get("params") if isinstance(item, dict) else None
             return (isinstance(parameters, dict) and item.get("method") == "$/cancelRequest"
                     and is_of(number, type(parameters.get("id"))) and parameters["id"] == number)
-        return self.inbox.any(is_wanted)
+        return self.inbox.any(matches)
 
     def take_notification(self, method, parameters):
         """Takes a notification; what is wrong with it is logged, since it has no answer."""

@@ -66,10 +66,10 @@ class Client:
         """Sends a message."""
         self.write(bytes_of(message))
 
-    def wait_for(self, is_wanted, what="a message"):
-        """The first message that is wanted, of those that are kept and those that come."""
+    def wait_for(self, matches, what="a message"):
+        """The first message that matches, of those that are kept and those that come."""
         for message in self.kept:
-            if is_wanted(message):
+            if matches(message):
                 self.kept.remove(message)
                 return message
         while True:
@@ -79,7 +79,7 @@ class Client:
                 raise NoReply(f"no reply in {MOST_SECONDS} seconds: {what}") from None
             if message is None:
                 raise NoReply(f"the server ended before {what}: {self.errors.decode()[-500:]}")
-            if is_wanted(message):
+            if matches(message):
                 return message
             self.kept.append(message)
 

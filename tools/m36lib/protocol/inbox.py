@@ -51,7 +51,7 @@ class Inbox:
                 self.changed.wait()
             return self.waiting.popleft() if self.waiting else None
 
-    def any(self, is_wanted):
-        """Whether an item that waits is wanted."""
+    def any(self, matches):
+        """Whether one of the items that wait matches."""
         with self.changed:
-            return any(is_wanted(item) for item in self.waiting)
+            return any(matches(item) for item in self.waiting)
