@@ -32,12 +32,12 @@ FILTERS = [{"filter": "ring", "label": "A change of ring", "default": False}]
 
 
 def refusal_text(refusal):
-    """What the program said when it refused, with the sentence of its code."""
+    """What the program said when it refused, with what its code means and what to do."""
     lines = refusal.text.splitlines()
     text = "; ".join(plain(line) for line in lines) or f"m36 ended with status {refusal.status}"
     match = next(filter(None, map(REFUSAL.fullmatch, lines)), None)
     entry = code_entry(match[2]) if match else None
-    return f"{text}: {entry.sentence}" if entry else text
+    return f"{text}: {entry.sentence}; {entry.advice}" if entry else text
 
 
 class Adapter(Channel):

@@ -21,7 +21,7 @@ CANCELLED = -32800
 FULL_TEXT = 1
 ERROR_MESSAGE, LOG_MESSAGE = 1, 4
 CAPABILITIES = {
-    "textDocumentSync": {"openClose": True, "change": FULL_TEXT},
+    "textDocumentSync": {"openClose": True, "change": FULL_TEXT, "save": True},
     "definitionProvider": True,
     "hoverProvider": True,
 }
@@ -57,6 +57,7 @@ class Server:
             "initialized": self.initialized,
             "textDocument/didOpen": self.did_open,
             "textDocument/didChange": self.did_change,
+            "textDocument/didSave": self.did_save,
             "textDocument/didClose": self.did_close,
         }
 
@@ -220,13 +221,23 @@ class Server:
             self.put(document, member(change, "text", str))
 
     def put(self, document, text):
-        """Takes the text of a document, and has what depends on it checked."""
+        """Takes the text of a document."""
         uri, version = member(document, "uri", str), optional(document, "version", int)
         self.workspace.put(uri, text, version)
+        self.changed(uri)
+
+    def changed(self, uri):
+        """Has what depends on a document checked."""
         changed = self.workspace.documents[uri]
         for other in self.workspace.documents.values():
             if is_about(other, changed):
                 self.unchecked[other.uri] = True
+
+    def did_save(self, parameters):
+        """Other files of the folder may have changed too: a boot text is checked again."""
+        uri = member(member(parameters, "textDocument", dict), "uri", str)
+        if uri in self.workspace.documents:
+            self.changed(uri)
 
     def did_close(self, parameters):
         uri = member(member(parameters, "textDocument", dict), "uri", str)
