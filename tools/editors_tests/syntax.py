@@ -91,12 +91,16 @@ def names(_program):
     return wrong
 
 
-def missing(name):
-    """Whether an editor is not there, which is then named."""
-    if shutil.which(name):
-        return False
-    print(f"skipped: the test with {name}, which is not on the path")
-    return True
+def missing(name, *features):
+    """Whether an editor is not there, or lacks a feature: it is named then."""
+    if not shutil.which(name):
+        print(f"skipped: the test with {name}, which is not on the path")
+        return True
+    said = subprocess.run([name, "--version"], capture_output=True, text=True, timeout=SECONDS)
+    lacking = [feature for feature in features if feature not in said.stdout]
+    if lacking:
+        print(f"skipped: the test with {name}, which is built without {' '.join(lacking)}")
+    return bool(lacking)
 
 
 def vim(script, path, room, **environment):
@@ -117,7 +121,7 @@ def vim_groups(path, room):
 
 def vim_shows(_program):
     """What Vim shows of a source, and that it finds no error in the examples."""
-    if missing("vim"):
+    if missing("vim", "+eval", "+syntax"):
         return []
     wrong = []
     with tempfile.TemporaryDirectory() as work:
@@ -144,7 +148,7 @@ def vim_shows(_program):
 
 def vim_makes(program):
     """`:make` puts a refusal of a source and of a boot text into the quickfix list."""
-    if missing("vim"):
+    if missing("vim", "+eval", "+syntax"):
         return []
     wrong = []
     with tempfile.TemporaryDirectory() as work:
