@@ -2,6 +2,7 @@
 
 import os
 import pathlib
+import random
 import shutil
 import signal
 import subprocess
@@ -21,6 +22,26 @@ SERVER = TOP / "tools/dap36"
 SECONDS = 20
 LOOP = " entry b\nb: tra b\n"
 BOOT = "frames 24\nwork >u\nsegment >u a a object re 4 4 4\nstart 4 a$b\n"
+# The members of requests, and what they may be given.
+MEMBERS = {
+    "threads": "", "stackTrace": "threadId startFrame levels", "scopes": "frameId",
+    "variables": "variablesReference start count", "evaluate": "expression context",
+    "disassemble": "memoryReference offset instructionOffset instructionCount",
+    "readMemory": "memoryReference offset count", "source": "sourceReference source",
+    "setBreakpoints": "source breakpoints", "setFunctionBreakpoints": "breakpoints",
+    "setInstructionBreakpoints": "breakpoints", "setDataBreakpoints": "breakpoints",
+    "dataBreakpointInfo": "name variablesReference", "setExceptionBreakpoints": "filters",
+    "continue": "threadId", "next": "threadId", "stepIn": "threadId", "stepOut": "threadId",
+    "stepBack": "threadId granularity", "reverseContinue": "threadId", "pause": "threadId",
+    "exceptionInfo": "threadId", "restart": "", "cancel": "requestId",
+}
+VALUES = (
+    None, True, 1, 0, -1, 5, 67, 2**40, 1.5, "a", "", "\0", "pr2", "0x8000000", "-0x1",
+    "main$start", "00100|000000", "(" * 200, "a +", "main$start+", "\u00e9|0", [], [1], {}, {"path": "x"},
+    {"sourceReference": 67}, {"sourceReference": -5}, [{"line": 1}], [{"line": -1}],
+    [{"name": "main$start"}], [{"dataId": "a"}], [{"instructionReference": "0x8000000"}],
+    [{"instructionReference": "0x8000000", "offset": -(10**12)}],
+)
 
 
 def assembled(program, example, room):
@@ -303,6 +324,23 @@ def unsure(program):
         return [] if len(said) == 1 else [f"it is said {len(said)} times"]
 
 
+def drawn_requests(program):
+    """Requests with members of any kind: each is answered, and nothing breaks."""
+    draw = random.Random(36)
+    with tempfile.TemporaryDirectory() as room, Editor(program) as client:
+        client.begin(assembled(program, "servant", room))
+        client.event("stopped")
+        for _ in range(400):
+            command = draw.choice(list(MEMBERS))
+            arguments = {name: draw.choice(VALUES) for name in MEMBERS[command].split()}
+            if "threadId" in arguments and draw.random() < 0.8:
+                arguments["threadId"] = 1
+            client.request(command, **arguments)
+            client.kept.clear()
+        client.end()
+    return [client.errors.decode()[-500:]] if client.errors else []
+
+
 def stale(program):
     """An object that is not of its source is named, and lines of it are refused."""
     with tempfile.TemporaryDirectory() as room, Editor(program) as client:
@@ -321,5 +359,5 @@ def stale(program):
 
 TESTS = (
     transcript, both_ways, answers_of_the_program, nothing_is_left, paused_and_changed, refused,
-    dies, hangs, unsure, stale,
+    dies, hangs, unsure, drawn_requests, stale,
 )

@@ -2,11 +2,15 @@
 
 import os
 import pathlib
+import random
 import shutil
 import signal
 import tempfile
 import time
 
+from m36lib.language.definitions import Definitions
+from m36lib.language.documents import Workspace, uri_of
+from m36lib.language.hovers import Hovers
 from m36lib.protocol.client import Client
 
 from .transcript import LanguagePlayer
@@ -15,6 +19,12 @@ HERE = pathlib.Path(__file__).resolve().parent
 TOP = HERE.parents[1]
 SERVER = TOP / "tools/lsp36"
 SECONDS = 20
+# What comes into a text that is being written.
+PIECES = (
+    "a", "b:", "*", "+", "-", "|", "$", ",", '"', " ", "\t", "\n", "\r", "\r\n", "pr6", "*text$",
+    "con_$write", "12", "9" * 20, "dl", "\u00e9", "\U0001f600", "\0", "equ ", "use ", "aci ", " oct ",
+    "segment ", "start 4 ", "main",
+)
 
 
 def start(program, **environment):
@@ -189,7 +199,38 @@ def long_and_foreign_texts(program):
     return wrong
 
 
+def drawn_text(draw, text):
+    """A text in which some pieces are lost, and others come in."""
+    for _ in range(draw.randrange(1, 5)):
+        place = draw.randrange(len(text) + 1)
+        put = "".join(draw.choice(PIECES) for _ in range(draw.randrange(3)))
+        text = text[:place] + put + text[place + draw.randrange(8) :]
+    return text
+
+
+def texts_that_are_written(_program):
+    """Half-written texts: hovers and definitions at any place do not break, and places are the same
+    on the way to the client and back."""
+    draw = random.Random(36)
+    folder = TOP / "examples/say"
+    for _ in range(300):
+        workspace = Workspace()
+        for name in ("main.alm", "boot"):
+            text = drawn_text(draw, (folder / name).read_text(encoding="utf-8"))
+            workspace.put(uri_of(folder / name), text, 1)
+        for document in workspace.documents.values():
+            for _ in range(8):
+                position = {"line": draw.randrange(12), "character": draw.randrange(40)}
+                place = document.place_at(position)
+                if document.place_at(document.position_of(place)) != place:
+                    return [f"{document.data!r}: place {place} is another one on the way back"]
+                for found in Definitions(workspace, document).at(place):
+                    found.location()
+                Hovers(workspace, document).at(place)
+    return []
+
+
 TESTS = (
     transcript, examples_are_right, answers_of_the_program, without_a_program,
-    ended_while_it_checks, long_and_foreign_texts,
+    ended_while_it_checks, long_and_foreign_texts, texts_that_are_written,
 )

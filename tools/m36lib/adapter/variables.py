@@ -167,7 +167,7 @@ class Variables:
             variable("kind", header.kind or "segment"),
             variable("mode", mode),
             variable("brackets", f"{header.r1} {header.r2} {header.r3}"),
-            variable("words", f"{header.words:o}"),
+            variable("words", f"{header.words:o} octal"),
         ]
         return found + self.groups(header.number, 0, header.words)
 
