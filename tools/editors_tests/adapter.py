@@ -37,8 +37,8 @@ MEMBERS = {
 }
 VALUES = (
     None, True, 1, 0, -1, 5, 67, 2**40, 1.5, "a", "", "\0", "pr2", "0x8000000", "-0x1",
-    "main$start", "00100|000000", "(" * 200, "a +", "main$start+", "\u00e9|0", [], [1], {}, {"path": "x"},
-    {"sourceReference": 67}, {"sourceReference": -5}, [{"line": 1}], [{"line": -1}],
+    "main$start", "00100|000000", "(" * 200, "a +", "main$start+", "\u00e9|0", [], [1], {},
+    {"path": "x"}, {"sourceReference": 67}, {"sourceReference": -5}, [{"line": 1}], [{"line": -1}],
     [{"name": "main$start"}], [{"dataId": "a"}], [{"instructionReference": "0x8000000"}],
     [{"instructionReference": "0x8000000", "offset": -(10**12)}],
 )

@@ -22,8 +22,8 @@ SECONDS = 20
 # What comes into a text that is being written.
 PIECES = (
     "a", "b:", "*", "+", "-", "|", "$", ",", '"', " ", "\t", "\n", "\r", "\r\n", "pr6", "*text$",
-    "con_$write", "12", "9" * 20, "dl", "\u00e9", "\U0001f600", "\0", "equ ", "use ", "aci ", " oct ",
-    "segment ", "start 4 ", "main",
+    "con_$write", "12", "9" * 20, "dl", "\u00e9", "\U0001f600", "\0", "equ ", "use ",
+    "aci ", " oct ", "segment ", "start 4 ", "main",
 )
 
 
