@@ -15,14 +15,14 @@ class NoProgram(Exception):
     """There is no program to run."""
 
 
-def find_program():
+def find_program(may_build=True):
     """The path of the program: M36_PROGRAM where it is set, that of the repository, or the one that
     was installed with the tool, or else is on the path."""
     given = os.environ.get("M36_PROGRAM")
     if given:
         return existing(pathlib.Path(given).resolve())
     if (TOP / "crates.txt").is_file():
-        return built()
+        return built(may_build)
     installed = TOP / "m36"
     found = str(installed) if installed.is_file() else shutil.which("m36")
     if found:
@@ -36,7 +36,7 @@ def existing(path):
     return str(path)
 
 
-def built():
+def built(may_build):
     """The program of the repository, as ./m36 chooses it: the proved one if it is current. Otherwise
     the one that tools/keep-unproved builds, in one to three minutes the first time; a line on
     standard error says that it is not proved, unless M36_QUIET is set."""
@@ -45,6 +45,9 @@ def built():
     if subprocess.run([current]).returncode == 0:
         return str(program)
     is_kept = subprocess.run([current, "--kept"]).returncode == 0
+    if not is_kept and not may_build:
+        raise NoProgram("the program is not built, or is older than its sources: ./m36 --help "
+                        "builds it")
     if not is_kept and subprocess.run([TOP / "tools/keep-unproved"]).returncode:
         raise NoProgram("the program could not be built")
     if not os.environ.get("M36_QUIET"):
