@@ -310,6 +310,19 @@ def hangs(program):
     return wrong
 
 
+def folder_of_a_text(program):
+    """A source or a boot text means its folder."""
+    wrong = []
+    with tempfile.TemporaryDirectory() as room:
+        folder = assembled(program, "servant", room)
+        for name in ("boot", "gate_.alm"):
+            with Editor(program) as client:
+                answer = client.begin(folder / name)
+                if not answer["success"] or client.event("stopped")["reason"] != "entry":
+                    wrong.append(f"{name}: {answer}")
+    return wrong
+
+
 def unsure(program):
     """After ABSA the console says once that going back is not sure."""
     made = next(folder for folder in FOLDERS if folder.name == "ABSA and LDBR")
@@ -359,5 +372,5 @@ def stale(program):
 
 TESTS = (
     transcript, both_ways, answers_of_the_program, nothing_is_left, paused_and_changed, refused,
-    dies, hangs, unsure, drawn_requests, stale,
+    dies, hangs, folder_of_a_text, unsure, drawn_requests, stale,
 )

@@ -6,6 +6,7 @@ The groups of requests are in moves.py, breakpoints.py, variables.py and memory.
 import pathlib
 
 from ..debugging import Session
+from ..language.documents import BOOT, SOURCE_SUFFIX
 from ..machine import Refusal
 from ..recorder import console_written
 from ..refusals import REFUSAL
@@ -132,6 +133,8 @@ class Adapter(Channel):
         """The folder or the image that is debugged."""
         path = pathlib.Path(member(arguments, "program", str))
         try:
+            if path.is_file() and (path.suffix == SOURCE_SUFFIX or path.name == BOOT):
+                path = path.parent
             if path.exists():
                 return path.resolve()
         except (OSError, ValueError):
