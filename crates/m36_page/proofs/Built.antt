@@ -206,6 +206,11 @@ away_stay p core new now k seg page away = record {
       same_holder p new j (λ x q h. (away.left j x q h).0) (λ x q h. away.stay j x q h other)
       (get_or p.holders j None) (get_or new.holders j None) refl refl;
   words = λ a out. away.others a (out seg page away.held);
+  kept = λ x w out.
+      away.kept_others x w
+      (λ same.
+      let P : ℕ → ℕ → Type 0 = λ a b. Holds p k a b in
+      out (subst (λ a. P a (w / 1024)) (sym same.0) (subst (P seg) (sym same.1) away.held)));
 }
 
 held_some : (p : PagerFields) (k seg page : ℕ) → Holds p k seg page → get_or p.holders k None ≡ None → ⊥
@@ -249,7 +254,7 @@ emptied_none p core k s none = record {
   empty = none;
   spot = λ x q h. absurd (held_some p k x q h none);
   same = λ still. (refl, refl);
-  others = record { holders = λ j other. refl; words = λ a out. refl };
+  others = record { holders = λ j other. refl; words = λ a out. refl; kept = λ x w out. refl };
   stays = λ x q frame has e apart. e;
   out = λ x q has e. e;
 }

@@ -179,6 +179,7 @@ brought_same p core seg page refs resident = record {
   spot = λ out. absurd (was_out (frame_of p core seg page) out resident);
   away = λ x q out holds. absurd (was_out (frame_of p core seg page) out resident);
   words = λ a other others range. inl refl;
+  others_kept = λ x w out. refl;
 }
 
 pub settled_by : (p : PagerFields) (core : List ℕ) → IsPager p → Reads p core → HasFrames p core → length core ≤ 2 ^ 24 → IsSettled p core
@@ -270,6 +271,7 @@ brought p core mid gone left new now k seg page refs s marks emptied taken free 
           ap (λ a. get_or now a 0) (sym (emptied.kept.shape.spots seg page)) ∙ taken.spot ∙ ap (λ n. resident_ptw (n + k)) emptied.kept.shape.first;
       away = λ x q out holds. brought_away p core mid gone left new now k seg page x q s emptied taken out holds;
       words = λ a other others range. brought_word p core mid gone left new now k seg page refs a marks emptied taken other others range;
+      others_kept = λ x w out. taken.kept x w ∙ emptied.others.kept x w out;
     }
 
 -- where a frame is free not all are pinned

@@ -43,12 +43,15 @@ abbrev pub OthersHold : PagerFields → PagerFields → ℕ → Type 0
 OthersHold old new k =
     (j : ℕ) → j ≢ k → slice_index_or new.holders j None ≡ slice_index_or old.holders j None
 
--- They do, and of core no word has changed but the page table word of the page that frame k held.
+-- Frames other than frame k hold the pages that they held. Of core only the page table word of the
+-- page in frame k may have changed, and of the words kept only those of that page.
 pub record OthersStay (old : PagerFields) (core : List ℕ) (new : PagerFields) (now : List ℕ)
     (k : ℕ) : Type 0 where
   pub holders : OthersHold old new k
   pub words : (a : ℕ) → ((seg page : ℕ) → Holds old k seg page → a ≢ spot_of old seg page)
       → slice_index now a ≡ slice_index core a
+  pub kept : (s w : ℕ) → (Holds old k s (w / 1024) → ⊥)
+      → kept_word new s w ≡ kept_word old s w
 
 -- a core word of a table, counted from 0
 abbrev pub IsTableWord : List TableFields → ℕ → Type 0
@@ -124,7 +127,8 @@ IsPassed at core now a =
 -- A page was brought in. Frames other than frame k hold the pages that they held, so at most one
 -- page was put away. Of core no words have changed but those of frame k, the page table words of
 -- the two pages, in which no mark is on, and used marks, which were put off, of pages that the
--- references do not pin.
+-- references do not pin. Of the words kept only those of the page that was put away may have
+-- changed.
 pub record IsBrought (old : PagerFields) (core : List ℕ) (new : PagerFields) (now : List ℕ)
     (seg page : ℕ) (refs : List Reference) : Type 0 where
   pub kept : IsKept old core new now
@@ -140,3 +144,5 @@ pub record IsBrought (old : PagerFields) (core : List ℕ) (new : PagerFields) (
       → ((s q : ℕ) → Holds old k s q → a ≢ spot_of old s q)
       → IsOutside (1024 * (old.first + k)) 1024 a
       → IsPassed (IsFreeSpot old refs) core now a
+  pub others_kept : (s w : ℕ) → (Holds old k s (w / 1024) → ⊥)
+      → kept_word new s w ≡ kept_word old s w
