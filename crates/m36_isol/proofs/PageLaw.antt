@@ -122,7 +122,7 @@ module _ (frames : ℕ) where
       -- a page of the core before the step is one of the core after it
       let after : (seg page : ℕ) → Holds core seg page → Holds (stepped_memory old).core seg page = λ seg page holds p absent. let before : IsPage core seg page = record { sdw = p.sdw; live = sym (same_descriptors core (stepped_memory old).core step.descriptors seg) ∙ p.live; begins = p.begins } in holds before (sym (step.pages seg page before) ∙ absent) in
       let refs : Each (On (Holds new.memory.core)) (record_of core_store (core_state old)).refs.items = each_two (On (Holds core)) (StaysIn moved.before moved.after) (On (Holds new.memory.core)) (λ e holds stay. stayed frames (stepped_memory old) new.memory moved e.at.seg (e.at.word / 1024) stay (after e.at.seg (e.at.word / 1024) holds)) _ (all_held g ready.dbr core ready.laid old.memory.kept) service.stay in
-      let at : HoldsAt new.memory.core here.at = brought_by frames (stepped_memory old) new.memory moved here.at.seg (here.at.word / 1024) _ refl service.brought in
+      let at : HoldsAt new.memory.core here.at = brought_by frames (stepped_memory old) new.memory moved here.at.seg (here.at.word / 1024) _ refl (λ none. none_apart _ service.frame none service.brought) in
       let reaches = next_reaches k g ready.dbr core ready.laid old.memory.kept new.memory.core image.laid new.memory.kept flat here fault.outcome fault.number refs at ready.reaches in
       record {
         dbr = ap (λ (r : RegsFields). r.dbr) served.regs ∙ ready.dbr;

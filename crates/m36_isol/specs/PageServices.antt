@@ -1,23 +1,66 @@
 -- Page services: an instruction that ends at a page in no frame is started again once the page is
 -- in a frame. How often that is at most.
-use Rattle.std.specs.Prelude.{◌≡◌, ◌≢◌, ℕ, zero, suc, ◌+◌, ◌/◌, List, None}
+use Rattle.std.specs.Prelude.{◌≡◌, ◌≢◌, ℕ, zero, suc, ◌+◌, ◌*◌, ◌/◌, ◌<◌, ◌≤◌, ◌⊎◌, List}
+use Rattle.std.specs.Prelude.{slice_index, Some}
 use Rattle.m36_model.specs.Registers.{RegsFields}
 use Rattle.m36_model.specs.Store.{State}
 use Rattle.m36_model.specs.StoreLaw.{Each}
 use Rattle.m36_model.specs.Core.{core_store}
+use Rattle.m36_model.specs.Place.{without_used}
 use Rattle.m36_model.specs.Step.{indirect_words, record_of, state_after}
-use Rattle.m36_model.specs.BootedCore.{booted_dbr, IsLaid}
+use Rattle.m36_model.specs.BootedCore.{booted_dbr, table_at, resident_ptw, absent_ptw}
+use Rattle.m36_model.specs.BootedCore.{IsPage, page_word, IsLaid}
 use Rattle.m36_model.specs.Residence.{Paged, IsMoved, StaysIn}
 use Rattle.m36_model.specs.PagedStep.{IsPageFault, IsPresent}
 use Rattle.m36_model.specs.declared.place.Reference.{Reference}
 
--- The page comes into a frame. Any page may give way, but for those that the instruction has
--- referenced; no content changes.
+-- a page of the image is in this frame
+pub record Occupies (core : List ℕ) (seg page frame : ℕ) : Type 0 where
+  pub is : IsPage core seg page
+  pub word : page_word core seg page ≡ resident_ptw frame
+
+-- no reference is to this page
+abbrev pub IsUnreferenced : List Reference → ℕ → ℕ → Type 0
+IsUnreferenced refs seg page =
+    Each (λ e. (e.at.seg ≡ seg) × (e.at.word / 1024 ≡ page) → ⊥) refs
+
+-- The page table word of a page at this core word: the page is in a frame, and no reference is to
+-- it.
+pub record MayLoseUsed (core : List ℕ) (refs : List Reference) (a : ℕ) : Type 0 where
+  pub seg : ℕ
+  pub page : ℕ
+  pub frame : ℕ
+  pub occupies : Occupies core seg page frame
+  pub free : IsUnreferenced refs seg page
+  pub is : table_at seg + page ≡ a
+
+abbrev pub IsOutsideFrame : ℕ → ℕ → Type 0
+IsOutsideFrame frame a = (a < 1024 * frame) ⊎ (1024 * frame + 1024 ≤ a)
+
+-- A page service. The page comes into one frame, and the page that was in this frame, if any, goes.
+-- Which frame it is, is free, but a page that the instruction has referenced stays. No content
+-- changes. The page table words of the two pages are given exactly. Every other core word outside of
+-- the frame is as it was, but the used marks of pages without a reference may be off. The words that
+-- are kept for every page but the one that goes are as they were.
 pub record IsPageService
     (frames seg page : ℕ) (refs : List Reference) (old new : Paged) : Type 0 where
   pub moved : IsMoved frames old new
-  pub brought : moved.after seg page ≢ None
   pub stay : Each (StaysIn moved.before moved.after) refs
+  pub frame : ℕ
+  pub brought : moved.after seg page ≡ Some frame
+  pub comes : slice_index new.core (table_at seg + page) ≡ resident_ptw frame
+  pub goes :
+      (s q : ℕ) → Occupies old.core s q frame
+      → slice_index new.core (table_at s + q) ≡ absent_ptw
+  pub words :
+      (a : ℕ) → a ≢ table_at seg + page
+      → ((s q : ℕ) → Occupies old.core s q frame → a ≢ table_at s + q)
+      → IsOutsideFrame frame a
+      → (slice_index new.core a ≡ slice_index old.core a)
+      ⊎ (MayLoseUsed old.core refs a
+      × (slice_index new.core a ≡ without_used (slice_index old.core a)))
+  pub kept :
+      (s w : ℕ) → (Occupies old.core s (w / 1024) frame → ⊥) → new.kept s w ≡ old.kept s w
 
 -- the state of a processor over paged memory
 pub record PagedState : Type 0 where

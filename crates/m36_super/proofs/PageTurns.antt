@@ -43,16 +43,29 @@ not_absence v n e f g =
     let k : number_of v ≡ 17 = ap number_of e in
     omega arith
 
-pub lacking_page : (core : List ℕ) (frames seg w : ℕ) → IsLaid core frames → Lacks core seg w → IsPage core seg (w / 1024)
+-- a page that is in no frame
+pub record IsAbsent (core : List ℕ) (seg page : ℕ) : Type 0 where
+  pub is : IsPage core seg page
+  pub word : page_word core seg page ≡ absent_ptw
+
+pub lacking_page : (core : List ℕ) (frames seg w : ℕ) → IsLaid core frames → Lacks core seg w → IsAbsent core seg (w / 1024)
 unfolding place
 lacking_page core frames seg w laid lacks = by_sdw (core_sdw core booted_dbr seg) refl lacks
   where
-    by_parts : (d : SdwFields) → core_sdw core booted_dbr seg ≡ Ok d → (a b : Bool) → within d w ≡ b → when_ordered a (place_within b (core_spot core booted_dbr d seg w)) ≡ Err absence → IsPage core seg (w / 1024)
-    by_parts d live true true inside e = page_of_word core frames laid seg w d live inside
+    by_page : (d : SdwFields) → core_sdw core booted_dbr seg ≡ Ok d → within d w ≡ true → core_spot core booted_dbr d seg w ≡ Err absence → (page_word core seg (w / 1024) ≡ absent_ptw) ⊎ ((frame : ℕ) × IsInFrame core frames seg (w / 1024) frame) → page_word core seg (w / 1024) ≡ absent_ptw
+    by_page d live inside e (inl word) = word
+    by_page d live inside e (inr k) =
+        let found = resident_spot core frames laid seg w k.0 d live inside k.1 in
+        cc
+
+    by_parts : (d : SdwFields) → core_sdw core booted_dbr seg ≡ Ok d → (a b : Bool) → within d w ≡ b → when_ordered a (place_within b (core_spot core booted_dbr d seg w)) ≡ Err absence → IsAbsent core seg (w / 1024)
+    by_parts d live true true inside e =
+        let is = page_of_word core frames laid seg w d live inside in
+        record { is = is; word = by_page d live inside e (laid.pages seg (w / 1024) is) }
     by_parts d live true false inside e = absurd (not_absence (Err (violation out_of_segment_bounds)) 20 e refl refl)
     by_parts d live false b inside e = absurd (not_absence (Err (violation illegal_ring_order)) 20 e refl refl)
 
-    by_sdw : (v : Result SdwFields Refusal) → core_sdw core booted_dbr seg ≡ v → place_by v (λ d. core_spot core booted_dbr d seg w) w ≡ Err absence → IsPage core seg (w / 1024)
+    by_sdw : (v : Result SdwFields Refusal) → core_sdw core booted_dbr seg ≡ v → place_by v (λ d. core_spot core booted_dbr d seg w) w ≡ Err absence → IsAbsent core seg (w / 1024)
     by_sdw (Err why) live e = absurd (laid.dead seg why live (ap number_of e))
     by_sdw (Ok d) live e = by_parts d live (in_order d) (within d w) refl e
 
