@@ -57,15 +57,16 @@ file_sdw catalog files i =
 
 pub stack_has : (files : List (List ℕ)) (lay : Option LayFields) (ring : ℕ) → ring < 8 → booted_words files lay (stack_segment ring) ≡ stack_words ring
 stack_has files lay ring lt =
-    stack_here files lay (8 + ring) (lt-ltb (8 + ring) 16 (omega (arith, lt)))
+    stack_here files lay (8 + ring) (le-ltb (8 + ring) 8 (omega arith)) (lt-ltb (8 + ring) 16 (omega (arith, lt)))
     ∙ ap (λ r. stack_words r) (let same : 8 + ring - 8 ≡ ring = omega arith in same)
 
 pub linkage_has : (files : List (List ℕ)) (lay : Option LayFields) (ring : ℕ) → ring < 8 → booted_words files lay (linkage_segment ring) ≡ linkage_words lay ring
 linkage_has files lay ring lt =
-    linkage_here files lay (16 + ring) (le-ltb (16 + ring) 16 (omega arith)) (lt-ltb (16 + ring) 24 (omega (arith, lt)))
+    linkage_here files lay (16 + ring) (le-ltb (16 + ring) 8 (omega arith)) (le-ltb (16 + ring) 16 (omega arith)) (lt-ltb (16 + ring) 24 (omega (arith, lt)))
     ∙ ap (λ r. linkage_words lay r) (let same : 16 + ring - 16 ≡ ring = omega arith in same)
 
 pub file_has : (files : List (List ℕ)) (lay : Option LayFields) (i : ℕ) → booted_words files lay (catalog_number i) ≡ file_at files i
 file_has files lay i =
-    file_here files lay (64 + i) (le-ltb (64 + i) 16 (omega arith)) (le-ltb (64 + i) 24 (omega arith))
+    file_here files lay (64 + i) (le-ltb (64 + i) 8 (omega arith)) (le-ltb (64 + i) 16 (omega arith)) (le-ltb (64 + i) 24 (omega arith))
+    (le-ltb (64 + i) 64 (omega arith))
     ∙ ap (λ n. file_at files n) (let same : 64 + i - 64 ≡ i = omega arith in same)

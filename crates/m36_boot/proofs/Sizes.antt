@@ -146,20 +146,23 @@ chosen_false : {A : Type 0} (b : Bool) (x y : A) → b ≡ false → cond b x y 
 chosen_false true x y e = absurd (cc)
 chosen_false false x y e = refl
 
-pub stack_here : (files : List (List ℕ)) (lay : Option LayFields) (seg : ℕ) → nat_lt seg 16 ≡ true
+pub stack_here : (files : List (List ℕ)) (lay : Option LayFields) (seg : ℕ) → nat_lt seg 8 ≡ false → nat_lt seg 16 ≡ true
     → booted_words files lay seg ≡ stack_words (seg - 8)
 unfolding booted_words
-stack_here files lay seg e = chosen_true (nat_lt seg 16) _ _ e
+stack_here files lay seg d e = chosen_false (nat_lt seg 8) _ _ d ∙ chosen_true (nat_lt seg 16) _ _ e
 
-pub linkage_here : (files : List (List ℕ)) (lay : Option LayFields) (seg : ℕ) → nat_lt seg 16 ≡ false → nat_lt seg 24 ≡ true
+pub linkage_here : (files : List (List ℕ)) (lay : Option LayFields) (seg : ℕ) → nat_lt seg 8 ≡ false → nat_lt seg 16 ≡ false → nat_lt seg 24 ≡ true
     → booted_words files lay seg ≡ linkage_words lay (seg - 16)
 unfolding booted_words
-linkage_here files lay seg e f = chosen_false (nat_lt seg 16) _ _ e ∙ chosen_true (nat_lt seg 24) _ _ f
+linkage_here files lay seg d e f =
+    chosen_false (nat_lt seg 8) _ _ d ∙ chosen_false (nat_lt seg 16) _ _ e ∙ chosen_true (nat_lt seg 24) _ _ f
 
-pub file_here : (files : List (List ℕ)) (lay : Option LayFields) (seg : ℕ) → nat_lt seg 16 ≡ false → nat_lt seg 24 ≡ false
-    → booted_words files lay seg ≡ file_at files (seg - 64)
+pub file_here : (files : List (List ℕ)) (lay : Option LayFields) (seg : ℕ) → nat_lt seg 8 ≡ false → nat_lt seg 16 ≡ false → nat_lt seg 24 ≡ false
+    → nat_lt seg 64 ≡ false → booted_words files lay seg ≡ file_at files (seg - 64)
 unfolding booted_words
-file_here files lay seg e f = chosen_false (nat_lt seg 16) _ _ e ∙ chosen_false (nat_lt seg 24) _ _ f
+file_here files lay seg d e f g =
+    chosen_false (nat_lt seg 8) _ _ d ∙ chosen_false (nat_lt seg 16) _ _ e ∙ chosen_false (nat_lt seg 24) _ _ f
+    ∙ chosen_false (nat_lt seg 64) _ _ g
 
 given_fit : (words : List ℕ) (o : Option SegmentFields) (seg : ℕ) (file : List ℕ) (d : SdwFields) → words ≡ file
     → catalog_segment seg o file ≡ Some d → length words ≤ 16 * (d.bound + 1)
@@ -179,19 +182,19 @@ blocks_fit catalog files lay seg d is e =
             | inl here ↦
                 let size = stack_size (seg - 8) in
                 fits_by (booted_words files lay seg) (stack_words (seg - 8)) d (ring_segment seg (seg - 8) stack_pages)
-                (stack_here files lay seg here.0) (the_same _ _ d refl here.1) (omega (arith, size))
+                (stack_here files lay seg stacks.0 here.0) (the_same _ _ d refl here.1) (omega (arith, size))
             | inr linkages ↦
                 elim (choice (nat_lt seg 24) _ _ d linkages.1) [
                   | inl here ↦
                       let size = linkage_size (seg - 16) lay is in
                       fits_by (booted_words files lay seg) (linkage_words lay (seg - 16)) d (ring_segment seg (seg - 16) linkage_pages)
-                      (linkage_here files lay seg linkages.0 here.0) (the_same _ _ d refl here.1) (omega (arith, size))
+                      (linkage_here files lay seg stacks.0 linkages.0 here.0) (the_same _ _ d refl here.1) (omega (arith, size))
                   | inr rest ↦
                       elim (choice (nat_lt seg 64) _ _ d rest.1) [
                         | inl gap ↦ never d gap.1
                         | inr catalogued ↦
                             given_fit (booted_words files lay seg) (slice_get catalog.segments (seg - 64)) seg (file_at files (seg - 64)) d
-                            (file_here files lay seg linkages.0 rest.0) catalogued.1
+                            (file_here files lay seg stacks.0 linkages.0 rest.0 catalogued.0) catalogued.1
                       ]
                 ]
           ]

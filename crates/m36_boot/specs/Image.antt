@@ -120,8 +120,8 @@ paged_of image = paged_by image.core image.pager
 
 -- ---- the image
 
--- The core and the registers of a booted image that starts by an answer, where every page
--- is put away.
+-- A booted image that starts by an answer. Every page is put away. Size, core, pager and registers
+-- define the image; the content of its segments and the flat memory follow from these.
 pub record IsImage
     (catalog : CatalogFields) (files : List (List ℕ)) (s : SnapFields) (image : Image)
     : Type 0 where
@@ -129,11 +129,12 @@ pub record IsImage
   pub core : (a : ℕ) → slice_index image.core a ≡ booted_word catalog files a
   pub pager :
       image.pager ≡ pager_given wired_frames catalog.frames (booted_tables catalog files s.lay)
+  pub regs : image.regs ≡ start_regs catalog.start.ring s
+  -- what follows
   pub content :
       (seg w : ℕ)
       → content_of image.pager image.core seg w ≡ booted_content catalog files s.lay seg w
   pub flat : flat_of (paged_of image) ≡ booted_flat catalog files s
-  pub regs : image.regs ≡ start_regs catalog.start.ring s
 
 -- A core is laid, and its pager has the pages of its segments and no others, each at its word of a
 -- page table. It has pageable frames enough for each instruction.

@@ -154,8 +154,11 @@ linkage_by ring (Some l) = if nat_eq ring l.ring then lot_of l ++ l.words else [
 unfoldable pub linkage_words : Option LayFields → ℕ → List ℕ
 linkage_words lay ring = linkage_by ring lay
 
+-- The words of a segment by its number: none where the image has no such segment.
 unfoldable pub booted_words : List (List ℕ) → Option LayFields → ℕ → List ℕ
 booted_words files lay seg =
-    if nat_lt seg first_linkage then stack_words (seg - first_stack)
+    if nat_lt seg first_stack then []
+    else if nat_lt seg first_linkage then stack_words (seg - first_stack)
     else if nat_lt seg behind_rings then linkage_words lay (seg - first_linkage)
+    else if nat_lt seg first_segment then []
     else file_at files (catalog_index seg)
