@@ -1,6 +1,9 @@
 -- Steps with page services, over a processor and its pager.
-use Rattle.std.proofs.Common.{◌≡◌, refl, sym, ◌∙◌, ap, subst, inl, inr, arith}
-use Rattle.std.specs.Prelude.{ℕ, suc, ◌/◌, ◌≤◌, ◌⊎◌, Bool, true, false, List, [], ◌∷◌, length, All, Option, Some, None, IsSome, Result, Ok, Err}
+use Rattle.std.proofs.Common.{◌≡◌, refl, sym, ◌∙◌, ap, subst, inl, inr, arith, eq-eqb}
+use Rattle.std.proofs.lemmas.Bool.{and_from}
+use Rattle.std.proofs.lemmas.List.Folds.{list_any_at}
+use Rattle.std.specs.List.{list_any}
+use Rattle.std.specs.Prelude.{ℕ, suc, ◌+◌, ◌*◌, ◌/◌, ◌<◌, ◌≤◌, ◌⊎◌, Bool, true, false, List, [], ◌∷◌, length, slice_index, slice_index_or, All, Option, Some, None, Result, Ok, Err}
 use Rattle.m36_desc.specs.Fields.{SdwFields}
 use Rattle.m36_desc.specs.Access.{in_order}
 use Rattle.m36_desc.specs.Violations.{out_of_segment_bounds, illegal_ring_order}
@@ -8,12 +11,12 @@ use Rattle.m36_model.specs.Fields.{AtFields}
 use Rattle.m36_model.specs.Registers.{RegsFields}
 use Rattle.m36_model.specs.Store.{Spot, State, violation, within, place, place_by, place_within, when_ordered}
 use Rattle.m36_model.specs.StoreLaw.{Each}
-use Rattle.m36_model.specs.Core.{core_store}
-use Rattle.m36_model.specs.Place.{core_sdw, core_spot}
+use Rattle.m36_model.specs.Core.{core_store, unmarked}
+use Rattle.m36_model.specs.Place.{core_sdw, core_spot, without_used}
 use Rattle.m36_model.specs.Step.{record_of, state_after}
 use Rattle.m36_model.specs.Flat.{Flat}
-use Rattle.m36_model.specs.BootedCore.{booted_dbr, IsPage, IsLaid}
-use Rattle.m36_model.specs.Residence.{Lacks, absence, StaysIn}
+use Rattle.m36_model.specs.BootedCore.{booted_dbr, table_at, resident_ptw, absent_ptw, IsPage, page_word, IsInFrame, IsLaid}
+use Rattle.m36_model.specs.Residence.{Lacks, absence, ptw_of_page, StaysIn}
 use Rattle.m36_model.specs.PagedStep.{IsPresent, IsFlatStep, IsPageFault, IsAbsaStep}
 use Rattle.m36_model.specs.declared.outcome.Fault.{Fault}
 use Rattle.m36_model.specs.declared.outcome.Outcome.{Outcome}
@@ -21,13 +24,15 @@ use Rattle.m36_model.specs.declared.outcome.Outcome.TheVariants.{Next, Faulted}
 use Rattle.m36_model.specs.declared.outcome.Refusal.{Refusal}
 use Rattle.m36_model.specs.declared.place.Reference.{Reference}
 use Rattle.m36_model.specs.declared.record.StepRecord.{StepRecord}
+use Rattle.m36_isol.specs.PageServices.{Occupies, IsUnreferenced, MayLoseUsed, IsOutsideFrame}
 use Rattle.m36_isol.specs.References.{references_of_a_step}
-use Rattle.m36_isol.proofs.Laid.{page_of_word}
+use Rattle.m36_isol.proofs.Laid.{page_of_word, resident_spot}
 use Rattle.m36_isol.proofs.PagedStep.{paged_step_law}
 use Rattle.m36_isol.proofs.Pages.{few_references}
 use Rattle.m36_page.specs.Fields.{PagerFields}
-use Rattle.m36_page.specs.Residence.{has_page, frame_of, kept_word, IsPager, Reads}
-use Rattle.m36_page.specs.Changes.{Stays, IsBrought}
+use Rattle.m36_page.specs.Residence.{has_page, spot_of, frame_of, kept_word, Holds, IsPager, TellsPage, Reads}
+use Rattle.m36_page.specs.Changes.{is_to, is_pinned, Stays, IsFreeSpot, IsPassed, IsBrought}
+use Rattle.m36_page.proofs.Frames.{frame_absent, resident_unmarked}
 use Rattle.m36_super.specs.SuperFields.{IsManaged, IsRunning, frame_by, IsPaging}
 use Rattle.m36_super.specs.Stepping.{IsLacked, IsTried, IsTaken}
 use Rattle.m36_super.proofs.Paging.{frame_true, paging_law, step_managed}
@@ -94,12 +99,10 @@ page_fault frames kept s at dbr laid lacked = by_cases (paged_step_law frames ke
 
 -- ---- a page was brought in
 
-none_some : IsSome {T = ℕ} None → ⊥
-none_some e = cc
-
-some_none : (v : Option ℕ) → IsSome v → v ≡ None → ⊥
-some_none (Some x) some e = cc
-some_none None some e = absurd (none_some some)
+-- the frame that a page table word names
+named_frame : (frame : ℕ) (v : Option ℕ) → resident_ptw frame ≡ ptw_of_page v → v ≡ Some frame
+named_frame frame None e = absurd (omega (arith, e))
+named_frame frame (Some f) e = let same : f ≡ frame = omega (arith, e) in ap Some same
 
 -- a page that is in a frame
 held_page : (b : Bool) (v : Option ℕ) (frame : ℕ) → frame_by b v ≡ Some frame → (b ≡ true) × (v ≡ Some frame)
@@ -110,6 +113,17 @@ each_of_all : {A : Type 0} (P Q : A → Type 0) → ((e : A) → P e → Q e) �
 each_of_all P Q f [] h = tt
 each_of_all P Q f (x ∷ xs) h =
     (f x (h 0 x (omega arith)), each_of_all P Q f xs (λ k d lt. h (suc k) d (omega (arith, lt))))
+
+-- a page that is not pinned has no reference
+unreferenced : (refs : List Reference) (seg page : ℕ) → is_pinned refs (Some (seg, page)) ≡ false → IsUnreferenced refs seg page
+unreferenced refs seg page free =
+    let P : Reference → Type 0 = λ e. (e.at.seg ≡ seg) × (e.at.word / 1024 ≡ page) → ⊥ in
+    each_of_all P P (λ e h. h) refs
+    (λ i d below same.
+    let e : Reference = slice_index_or refs i d in
+    let here : is_to (seg, page) e ≡ true = and_from _ _ (eq-eqb e.at.seg seg same.0) (eq-eqb (e.at.word / 1024) page same.1) in
+    let any : list_any (is_to (seg, page)) refs ≡ true = list_any_at (is_to (seg, page)) refs i d below here in
+    absurd (cc))
 
 module _ (old : State (List ℕ)) (p q : PagerFields) (now : List ℕ) (runs : IsRunning (length p.holders) old.regs old.store p) (fault : IsPageFault (kept_word p) old) where
   abbrev frames : ℕ
@@ -130,17 +144,87 @@ module _ (old : State (List ℕ)) (p q : PagerFields) (now : List ℕ) (runs : I
   managed_mid : IsManaged frames mid p
   managed_mid = step_managed frames old p runs.dbr runs.managed
 
+  lacked : IsAbsent old.store seg page
+  lacked = lacking_page old.store frames seg fault.fault.at.word runs.managed.pages.laid fault.lacks
+
   has : has_page p seg page ≡ true
-  has =
-      runs.managed.pages.serves seg page (lacking_page old.store frames seg fault.fault.at.word runs.managed.pages.laid fault.lacks)
+  has = runs.managed.pages.serves seg page lacked.is
+
+  -- where page table words are
+  spot_at : (s n : ℕ) → has_page p s n ≡ true → spot_of p s n ≡ table_at s + n
+  spot_at = managed_mid.pages.at
+
+  -- the page is in no frame after the step either
+  out : frame_of p mid seg page ≡ None
+  unfolding frame_of
+  out =
+      let step = paged_step_law frames (kept_word p) old runs.dbr runs.managed.pages.laid in
+      frame_absent _ (ap (λ (a : ℕ). unmarked (slice_index mid a)) (spot_at seg page has) ∙ step.pages seg page lacked.is ∙ lacked.word)
+
+  -- a frame that holds a page has it in core, and the other way round
+  occupies : (k s n : ℕ) → Holds p k s n → Occupies mid s n (p.first + k)
+  occupies k s n holds =
+      let here = managed_mid.pages.pager.held k s n holds in
+      record {
+        is = managed_mid.pages.exact s n here;
+        word = ap (λ (a : ℕ). unmarked (slice_index mid a)) (sym (spot_at s n here)) ∙ managed_mid.reads.frames k s n holds;
+      }
+
+  held_by : (k s n w : ℕ) → unmarked w ≡ resident_ptw (p.first + k) → TellsPage p s n w → Holds p k s n
+  held_by k s n w e (inl absent) = absurd (omega (arith, e, absent))
+  held_by k s n w e (inr there) =
+      let word = there.2 in
+      let same : there.0 ≡ k = omega (arith, e, word) in
+      subst (λ (j : ℕ). Holds p j s n) same there.1
+
+  holds_it : (k s n : ℕ) → Occupies mid s n (p.first + k) → Holds p k s n
+  holds_it k s n h =
+      let here = managed_mid.pages.serves s n h.is in
+      held_by k s n (slice_index mid (spot_of p s n)) (ap (λ (a : ℕ). unmarked (slice_index mid a)) (spot_at s n here) ∙ h.word) (managed_mid.reads.pages s n here)
+
+  may_lose_used : (a : ℕ) → IsFreeSpot p refs a → MayLoseUsed mid refs a
+  may_lose_used a f =
+      record {
+        seg = f.seg;
+        page = f.page;
+        frame = p.first + f.k;
+        occupies = occupies f.k f.seg f.page f.holds;
+        free = unreferenced refs f.seg f.page f.free;
+        is = sym (spot_at f.seg f.page (managed_mid.pages.pager.held f.k f.seg f.page f.holds)) ∙ f.is;
+      }
 
   module _ (brought : IsBrought p mid q now seg page refs) (reads : Reads q now) (pager : IsPager q) where
     paging : IsPaging frames mid now p q
     paging = paging_law frames mid now p q managed_mid pager reads brought.kept
 
-    in_frame : paging.moved.after seg page ≡ frame_of q now seg page
+    abbrev frame : ℕ
+    frame = p.first + brought.k
+
+    comes : slice_index now (table_at seg + page) ≡ resident_ptw frame
+    comes = ap (slice_index now) (sym (spot_at seg page has)) ∙ brought.spot out
+
+    in_frame : paging.moved.after seg page ≡ Some frame
     in_frame =
-        paging.after_is seg page ∙ frame_true _ (frame_of q now seg page) (brought.kept.shape.pages seg page ∙ has)
+        let is = paging.manages.pages.exact seg page (brought.kept.shape.pages seg page ∙ has) in
+        named_frame frame (paging.moved.after seg page) (sym (resident_unmarked frame) ∙ sym (ap unmarked comes) ∙ paging.moved.residence_after.words seg page is)
+
+    goes : (s n : ℕ) → Occupies mid s n frame → slice_index now (table_at s + n) ≡ absent_ptw
+    goes s n h =
+        ap (slice_index now) (sym (spot_at s n (managed_mid.pages.serves s n h.is))) ∙ brought.away s n out (holds_it brought.k s n h)
+
+    passed : (a : ℕ) → IsPassed (IsFreeSpot p refs) mid now a → (slice_index now a ≡ slice_index mid a) ⊎ (MayLoseUsed mid refs a × (slice_index now a ≡ without_used (slice_index mid a)))
+    passed a (inl e) = inl e
+    passed a (inr e) = inr (may_lose_used a e.0, e.1)
+
+    words : (a : ℕ) → ((a ≡ table_at seg + page) → ⊥) → ((s n : ℕ) → Occupies mid s n frame → (a ≡ table_at s + n) → ⊥) → IsOutsideFrame frame a → (slice_index now a ≡ slice_index mid a) ⊎ (MayLoseUsed mid refs a × (slice_index now a ≡ without_used (slice_index mid a)))
+    words a other others range =
+        passed a
+        (brought.words a (λ e. other (e ∙ spot_at seg page has))
+        (λ s n holds e. others s n (occupies brought.k s n holds) (e ∙ spot_at s n (managed_mid.pages.pager.held brought.k s n holds)))
+        range)
+
+    kept : (s w : ℕ) → (Occupies mid s (w / 1024) frame → ⊥) → kept_word q s w ≡ kept_word p s w
+    kept s w free = brought.others_kept s w (λ holds. free (occupies brought.k s (w / 1024) holds))
 
     stays_in : (e : Reference) → Stays p mid q now e → StaysIn paging.moved.before paging.moved.after e
     stays_in e stays frame before =
@@ -161,8 +245,13 @@ module _ (old : State (List ℕ)) (p q : PagerFields) (now : List ℕ) (runs : I
                 service =
                     record {
                       moved = paging.moved;
-                      brought = λ none. some_none _ brought.resident (sym in_frame ∙ none);
                       stay = each_of_all (Stays p mid q now) (StaysIn paging.moved.before paging.moved.after) stays_in refs brought.stays;
+                      frame = frame;
+                      brought = in_frame;
+                      comes = comes;
+                      goes = goes;
+                      words = words;
+                      kept = kept;
                     };
               };
           frames = count;
