@@ -72,7 +72,7 @@ written_at f seg at (suc k) (v ∷ words) lt =
 
 -- ---- the first section of a ring, among zeros
 
-module _ (l : LayFields) (f : Flat) (base : l.base ≡ 1024) (low : l.seg < 1024) (zeros : (seg w : ℕ) → f.content seg w ≡ 0) where
+module _ (l : LayFields) (f : Flat) (base : l.base ≡ 1024) (low : l.seg < 1024) (zeros : (w : ℕ) → f.content (linkage_segment l.ring) w ≡ 0) where
   abbrev place : ℕ
   place = linkage_segment l.ring
 
@@ -100,7 +100,7 @@ module _ (l : LayFields) (f : Flat) (base : l.base ≡ 1024) (low : l.seg < 1024
   not_section w apart =
       stays f place l.base l.words place w (λ k few.
       second_false (place == place) ((l.base + k) == w) (not_same (l.base + k) w (apart k few)))
-      ∙ zeros place w
+      ∙ zeros w
 
   -- no word of the section is one of the table
   below : (w : ℕ) → w < 1024 → section.content place w ≡ 0
@@ -172,7 +172,7 @@ words_are : (l : LayFields) (w : ℕ) → slice_index (linkage_words (Some l) l.
 unfolding linkage_words
 words_are l w = ap (λ (b : Bool). slice_index (if b then lot_of l ++ l.words else []) w) (same_test l.ring)
 
-laid_here : (l : LayFields) (f : Flat) → IsNext nothing_known l → l.seg < lot_words → ((seg w : ℕ) → f.content seg w ≡ 0) → (w : ℕ)
+laid_here : (l : LayFields) (f : Flat) → IsNext nothing_known l → l.seg < lot_words → ((w : ℕ) → f.content (linkage_segment l.ring) w ≡ 0) → (w : ℕ)
     → (flat_put f (laying (Some l))).content (linkage_segment l.ring) w ≡ slice_index (linkage_words (Some l) l.ring) w
 laid_here l f next low zeros w =
     ap (λ (g : Flat). g.content (linkage_segment l.ring) w) (laid_both l f)

@@ -24,12 +24,14 @@ at_start lib image =
       loaded = false;
     }
 
--- A booted system at its start: the one that the image of its catalog and files starts.
+-- A booted system at its start: the one that the image of its catalog and files starts. Image,
+-- answer, layout and system define it; that its core is laid as the laws of the run ask follows.
 pub record IsBooted (lib : Library) (s : SuperFields) : Type 0 where
   pub image : Image
   pub answer : boot_answer lib.catalog lib.files ≡ Ok image.snap
   pub laid : IsImage lib.catalog lib.files image.snap image
   pub system : s ≡ at_start lib image
+  -- what follows
   pub stands : IsStanding lib.catalog.frames (booted_of s).state
 
 -- The system, or the first code; want of memory may come at any time.

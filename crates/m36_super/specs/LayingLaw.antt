@@ -7,13 +7,13 @@ use Rattle.m36_link.specs.Accepted.{IsNext}
 use Rattle.m36_boot.specs.Segments.{linkage_words}
 use Rattle.m36_super.specs.Laying.{laying}
 
--- Where the first section of a ring is laid among zeros, the linkage segment of the ring reads as
--- the words with which the image lays it: the word of the linkage offset table for it, and behind
--- the table its words. No word of another segment changes.
+-- Where the first section of a ring is laid and the linkage segment of the ring is all zeros, this
+-- segment then has the words with which the image lays the section: in the linkage offset table the
+-- word for it, and after the table its words. No word of another segment changes.
 pub record LayingLaw : Type 0 where
   pub here :
       (l : LayFields) (f : Flat) → IsNext nothing_known l → l.seg < lot_words
-      → ((seg w : ℕ) → f.content seg w ≡ 0) → (w : ℕ)
+      → ((w : ℕ) → f.content (linkage_segment l.ring) w ≡ 0) → (w : ℕ)
       → (flat_put f (laying (Some l))).content (linkage_segment l.ring) w
       ≡ slice_index (linkage_words (Some l) l.ring) w
   pub elsewhere :
