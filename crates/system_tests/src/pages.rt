@@ -277,3 +277,125 @@ fn page_put_away(rt: HostRuntime) -> Result<(), NoMemory> {
     assert!(rt; is_put_away(&mut paged));
     Ok(())
 }
+
+/// A page that is brought without references, and what is so after it.
+struct Choice {
+    // The place of a page table word whose used mark is put on first.
+    used: Option<u32>,
+    seg: u16,
+    page: u16,
+    // The numbers with which the two frames then begin.
+    first: u64,
+    second: u64,
+}
+
+/// Two pages fill the frames. The first of them is then used, so it is passed over once, and it gives way the next time. The
+/// last page takes the frame after that, to which the hand has moved on.
+const CHOICES: &[Choice] = &[
+    Choice {
+        used: None,
+        seg: 5,
+        page: 0,
+        first: 5000,
+        second: 0,
+    },
+    Choice {
+        used: None,
+        seg: 5,
+        page: 1,
+        first: 5000,
+        second: 6024,
+    },
+    Choice {
+        used: Some(0),
+        seg: 6,
+        page: 0,
+        first: 5000,
+        second: 60000,
+    },
+    Choice {
+        used: None,
+        seg: 6,
+        page: 1,
+        first: 61024,
+        second: 60000,
+    },
+    Choice {
+        used: None,
+        seg: 5,
+        page: 1,
+        first: 61024,
+        second: 6024,
+    },
+];
+
+// The used mark of a page table word.
+const USED: u64 = 512;
+
+// Puts a used mark on, as a reference to the page does. Returns false where there is no such word, or the mark is on.
+#[tactic(auto, using(crate::proofs::Marks::used_reads))]
+fn use_page(paged: &mut Paged, place: u32) -> bool
+    requires frames { HasFrames paged.old.pager paged.old.core }
+    requires reads { Reads paged.old.pager paged.old.core }
+    ensures frames { HasFrames paged.new.pager paged.new.core }
+    ensures reads { Reads paged.new.pager paged.new.core }
+{
+    if place >= paged.core.len() {
+        return false;
+    }
+    let word = paged.core.peek(place).value();
+    if word / USED % 2 != 0 {
+        return false;
+    }
+    paged.core.poke(place, Word::low(word + USED));
+    true
+}
+
+fn is_used_first(paged: &mut Paged, used: Option<u32>) -> bool
+    requires frames { HasFrames paged.old.pager paged.old.core }
+    requires reads { Reads paged.old.pager paged.old.core }
+    ensures frames { HasFrames paged.new.pager paged.new.core }
+    ensures reads { Reads paged.new.pager paged.new.core }
+{
+    match used {
+        Some(place) => use_page(paged, place),
+        None => true,
+    }
+}
+
+// Whether a page is brought into the frame of the row.
+fn chooses(paged: &mut Paged, row: &Choice) -> bool
+    requires frames { HasFrames paged.old.pager paged.old.core }
+    requires reads { Reads paged.old.pager paged.old.core }
+    ensures frames { HasFrames paged.new.pager paged.new.core }
+    ensures reads { Reads paged.new.pager paged.new.core }
+{
+    if !is_used_first(paged, row.used) || !paged.pager.has_page(row.seg, row.page) {
+        return false;
+    }
+    let brought = paged
+        .pager
+        .bring(&mut paged.core, row.seg, row.page, &Refs::new());
+    brought.is_ok() && has_frames(&paged.core, row.first, row.second)
+}
+
+// The first row that is not so.
+fn first_wrong(paged: &mut Paged) -> Option<usize>
+    requires frames { HasFrames paged.old.pager paged.old.core }
+    requires reads { Reads paged.old.pager paged.old.core }
+{
+    for (i, row) in CHOICES.iter().enumerate() {
+        if !chooses(paged, row) {
+            return Some(i);
+        }
+    }
+    None
+}
+
+#[test]
+fn used_page_passed_over(rt: HostRuntime) -> Result<(), NoMemory> {
+    let mut paged = laid(rt.alloc())?;
+    let wrong = first_wrong(&mut paged);
+    assert!(rt; wrong.is_none(), "row {wrong:?}");
+    Ok(())
+}
