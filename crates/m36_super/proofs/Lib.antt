@@ -10,6 +10,7 @@ pub mod ConsoleReads
 pub mod ConsoleLengths
 pub mod LinkPlaces
 pub mod LinkTurns
+pub mod LinkPuts
 pub mod LaidSections
 pub mod SystemTurns
 pub mod BootTurns

@@ -1,26 +1,30 @@
 -- What the flat memory shows of a word, by what the pager finds; and how a word that is set changes it.
 use Rattle.std.proofs.Common.{◌≡◌, refl, sym, ◌∙◌, ap, subst, inl, inr, arith}
 use Rattle.std.proofs.lemmas.Bool.{eqb-true, le-leb}
-use Rattle.std.specs.Prelude.{ℕ, ◌+◌, ◌*◌, ◌/◌, ◌^◌, ◌<◌, ◌≤◌, ◌%◌, ◌⊎◌, Bool, true, false, ◌&&◌, ◌==◌, if◌then◌else◌, List, [], ◌∷◌, length, take, slice_index, Option, Some, None, Result, Ok, Err}
+use Rattle.std.specs.Prelude.{ℕ, ◌+◌, ◌*◌, ◌/◌, ◌^◌, ◌<◌, ◌≤◌, ◌%◌, ◌⊎◌, Bool, true, false, ◌&&◌, ◌==◌, if◌then◌else◌, List, [], ◌∷◌, length, take, slice_index, slice_set, Option, Some, None, Result, Ok, Err}
 use Rattle.m36_desc.specs.Fields.{SdwFields}
 use Rattle.m36_desc.specs.Access.{in_order}
-use Rattle.m36_model.specs.Store.{within, place, place_by, place_within, when_ordered}
+use Rattle.m36_model.specs.Store.{Core_word, within, place, place_by, place_within, when_ordered}
 use Rattle.m36_model.specs.Place.{core_sdw, core_spot}
-use Rattle.m36_model.specs.Flat.{flat_put}
-use Rattle.m36_model.specs.BootedCore.{descriptor_words, booted_dbr}
-use Rattle.m36_model.specs.Residence.{ptw_of_page, Paged, word_at, paged_content, flat_of, IsResidence, resident_word}
+use Rattle.m36_model.specs.Act.{Whole}
+use Rattle.m36_model.specs.Core.{core_store}
+use Rattle.m36_model.specs.Flat.{content_with, flat_put}
+use Rattle.m36_model.specs.BootedCore.{descriptor_words, booted_dbr, IsPage}
+use Rattle.m36_model.specs.Residence.{absence, ptw_of_page, Paged, word_at, paged_content, flat_of, IsResidence, resident_word}
 use Rattle.m36_model.specs.declared.outcome.Refusal.{Refusal}
 use Rattle.m36_isol.proofs.Laid.{page_of_word, absent_spot, resident_spot}
 use Rattle.m36_isol.proofs.Moved.{same_descriptors}
 use Rattle.m36_page.specs.Fields.{PagerFields}
 use Rattle.std.specs.Bool.{then_some}
-use Rattle.m36_page.specs.Residence.{has_page, frame_of, kept_word, word_in, content_of, HasFrames, IsPager, Reads}
+use Rattle.m36_page.specs.Residence.{has_page, frame_in, frame_of, kept_word, paged_by, word_in, content_of, HasFrames, IsPager, Reads}
 use Rattle.m36_page.specs.Residence as pages
 use Rattle.m36_page.specs.Changes.{IsSet}
+use Rattle.m36_page.proofs.Parts.{content_kept}
 use Rattle.m36_link.specs.Known.{linkage_segment}
 use Rattle.m36_super.specs.Laying.{written_from}
-use Rattle.m36_super.specs.SuperFields.{IsManaged, held_in}
-use Rattle.m36_super.specs.Writing.{flat_by, ArePut}
+use Rattle.m36_super.specs.PagedPut.{put_at, paged_put}
+use Rattle.m36_super.specs.SuperFields.{IsLinkage, IsManaged, held_in}
+use Rattle.m36_super.specs.Writing.{memory_by, flat_by, ArePut}
 use Rattle.m36_super.proofs.Paging.{frame_true, residence, now_managed, descriptors}
 
 -- a word that a pager finds
@@ -53,7 +57,7 @@ module _ (frames : ℕ) (core : List ℕ) (p : PagerFields) (m : IsManaged frame
   abbrev memory : Paged
   memory = record { core = core; kept = kept_word p }
 
-  here : IsResidence core frames (held_in p core)
+  pub here : IsResidence core frames (held_in p core)
   here = residence frames core p m.pages.laid.most m.pages.first m.pages.count m.pages.pager m.reads m.pages.serves m.pages.at
 
   -- a word within the bound of a live segment is of a page
@@ -141,12 +145,18 @@ module _ (frames : ℕ) (core now : List ℕ) (p q : PagerFields) (ring word v :
       let k : word / 16 ≤ d.bound = omega arith in
       le-leb (word / 16) d.bound k
 
+  link : IsLinkage core seg
+  link = m.linkage ring low
+
+  ordered : in_order link.sdw ≡ true
+  ordered = (m.pages.laid.segments seg link.sdw link.live).ordered
+
+  inside : within link.sdw word ≡ true
+  inside = within_whole link.sdw link.whole
+
   shown_here : shown (core_sdw core booted_dbr seg) (content_of q now seg word) word ≡ v
   shown_here =
-      let l = m.linkage ring low in
-      let ordered = (m.pages.laid.segments seg l.sdw l.live).ordered in
-      let inside = within_whole l.sdw l.whole in
-      ap (λ (x : Result SdwFields Refusal). shown x (content_of q now seg word) word) l.live
+      ap (λ (x : Result SdwFields Refusal). shown x (content_of q now seg word) word) link.live
       ∙ (λ i. shown_by (ordered i) (inside i) (s.here i))
 
   -- the content of each word
@@ -171,10 +181,73 @@ module _ (frames : ℕ) (core now : List ℕ) (p q : PagerFields) (ring word v :
       let words = low_words in
       λ i. record { descriptors = words i; content = λ a b. content a b i }
 
+  -- ---- the memory
+
+  has : has_page p seg (word / 1024) ≡ true
+  has = page_there frames core p m seg word link.sdw link.live inside
+
+  is_page : IsPage core seg (word / 1024)
+  is_page = m.pages.exact seg (word / 1024) has
+
+  held : held_in p core seg (word / 1024) ≡ frame_of p core seg (word / 1024)
+  held = frame_true _ (frame_of p core seg (word / 1024)) has
+
+  placed : place core_store core booted_dbr seg word ≡ core_spot core booted_dbr link.sdw seg word
+  unfolding place
+  placed =
+      let a = ordered in
+      let b = inside in
+      ap (λ (x : Result SdwFields Refusal). place_by x (λ d. core_spot core booted_dbr d seg word) word) link.live
+      ∙ (λ i. when_ordered (a i) (place_within (b i) (core_spot core booted_dbr link.sdw seg word)))
+
+  some_word : (x y : ℕ) → Some x ≡ Some y → x ≡ y
+  some_word x y e = cc
+
+  kept_here : frame_of p core seg (word / 1024) ≡ None → kept_word q seg word ≡ v
+  unfolding frame_of
+  kept_here none =
+      let same = s.in_none none in
+      let spots = s.shape.spots seg (word / 1024) in
+      let out : frame_of q now seg (word / 1024) ≡ None = (λ i. frame_in (slice_index (same i) (spots i))) ∙ none in
+      some_word (kept_word q seg word) v (sym (content_kept q now seg word (s.shape.pages seg (word / 1024) ∙ has) out) ∙ s.here)
+
+  new_kept : frame_of p core seg (word / 1024) ≡ None → (a b : ℕ) → kept_word q a b ≡ content_with (kept_word p) seg word Whole v a b
+  new_kept none a b = by_cases (pair_cases seg word a b)
+    where
+      by_cases : (((seg ≡ a) × (word ≡ b)) ⊎ (((seg == a) && (word == b)) ≡ false)) → kept_word q a b ≡ content_with (kept_word p) seg word Whole v a b
+      by_cases (inl e) =
+          let P : ℕ → ℕ → Type 0 = λ x y. kept_word q x y ≡ content_with (kept_word p) seg word Whole v x y in
+          let at : P seg word = kept_here none ∙ sym (ap (λ (t : Bool). if t then v else kept_word p seg word) (both_same seg word)) in
+          subst (λ (x : ℕ). P x b) e.0 (subst (P seg) e.1 at)
+      by_cases (inr apart) =
+          s.kept a b (not_both seg word a b apart) ∙ sym (ap (λ (t : Bool). if t then v else kept_word p a b) apart)
+
+  put_by : (o : Option ℕ) → frame_of p core seg (word / 1024) ≡ o → paged_by now q ≡ put_at (paged_by core p) seg word Whole v (place core_store core booted_dbr seg word)
+  put_by None e =
+      let at : place core_store core booted_dbr seg word ≡ Err absence = placed ∙ absent_spot core frames m.pages.laid seg word link.sdw link.live inside ((here frames core p m).words seg (word / 1024) is_page ∙ ap ptw_of_page (held ∙ e)) in
+      let same = s.in_none e in
+      let kept = new_kept e in
+      let made : paged_by now q ≡ put_at (paged_by core p) seg word Whole v (Err absence) = λ i. record { core = same i; kept = λ a b. kept a b i } in
+      made ∙ sym (ap (put_at (paged_by core p) seg word Whole v) at)
+  put_by (Some frame) e =
+      let in_it = held ∙ e in
+      let at : place core_store core booted_dbr seg word ≡ Ok (Core_word (frame * 1024 + word % 1024)) = placed ∙ resident_spot core frames m.pages.laid seg word frame link.sdw link.live inside (record { word = (here frames core p m).words seg (word / 1024) is_page ∙ ap ptw_of_page in_it; pageable = (here frames core p m).range seg (word / 1024) frame in_it }) in
+      let both = s.in_frame frame e in
+      let pager_same = both.0 in
+      let same : 1024 * frame + word % 1024 ≡ frame * 1024 + word % 1024 = omega arith in
+      let core_is : now ≡ slice_set core (frame * 1024 + word % 1024) v = both.1 ∙ ap (λ (a : ℕ). slice_set core a v) same in
+      let made : paged_by now q ≡ put_at (paged_by core p) seg word Whole v (Ok (Core_word (frame * 1024 + word % 1024))) = λ i. record { core = core_is i; kept = kept_word (pager_same i) } in
+      made ∙ sym (ap (put_at (paged_by core p) seg word Whole v) at)
+
+  new_paged : memory_by now q ≡ paged_put (memory_by core p) (written_from seg word (v ∷ []))
+  unfolding memory_by paged_put written_from
+  new_paged = put_by (frame_of p core seg (word / 1024)) refl
+
 pub word_put : (core now : List ℕ) (p q : PagerFields) (ring word v : ℕ) → IsManaged (length p.holders) core p → ring < 8 → word < 2 ^ 18 → IsSet p core q now (linkage_segment ring) word v → Reads q now → IsPager q → ArePut core p now q (written_from (linkage_segment ring) word (v ∷ []))
 word_put core now p q ring word v m low fits s reads pager =
     let count = s.shape.frames in
     record {
+      put = new_paged (length p.holders) core now p q ring word v m low fits s reads pager;
       flat = new_flat (length p.holders) core now p q ring word v m low fits s reads pager;
       frames = count;
       managed = subst (λ (n : ℕ). IsManaged n now q) (sym count) (managed (length p.holders) core now p q ring word v m low fits s reads pager);

@@ -1,6 +1,7 @@
--- The booted run: what the next turn may be, and to which state it leads. Page services are silent,
--- and free in which page gives way; in a link service memory may be wanted; all else that a turn
--- tells is determined.
+-- The booted run: what the next turn may be, and to which state it leads. Page services are silent.
+-- Which frame a page service takes, and which used marks it puts off, is free within its rules. A
+-- link service may run out of memory, and then changes nothing. All else of a turn, and of the state
+-- after it, is a function of the state before.
 use Rattle.std.specs.Prelude.{◌≡◌, ℕ, ◌≤◌, Bool, true, false, List, [], ◌∷◌}
 use Rattle.std.specs.Prelude.{Result, Ok, Err}
 use Rattle.m36_model.specs.Fields.{AtFields}
@@ -24,6 +25,7 @@ use Rattle.m36_step.specs.declared.turns.Turn.{Turn}
 use Rattle.m36_step.specs.declared.turns.Turn.TheVariants.{Stepped, Linked, Console, Ended}
 use Rattle.m36_step.specs.declared.turns.Turn.TheVariants.{NoMemory}
 use Rattle.m36_super.specs.Library.{Library}
+use Rattle.m36_super.specs.PagedPut.{paged_put}
 use Rattle.m36_super.specs.Services.{link_changes, note_snapped, note_refused, asks_too_much}
 use Rattle.m36_super.specs.Services.{console_text}
 use Rattle.m36_super.specs.Coming.{Coming, Step, Link, Print, Over, loaded_after, coming_behind}
@@ -75,9 +77,12 @@ IsStepTurn true frames before turn after = Takes before.state before turn after
 
 -- ---- services
 
--- Words of segments are written, wherever their pages are, and no other word of a segment changes.
--- What else lies in core, as the marks of page table words, this does not say.
+-- Words of segments are written, each where its page is, and nothing else of the memory changes,
+-- marks of page table words included. So the core is still that of the image, and the flat memory
+-- has the same words written.
 pub record IsWritten (frames : ℕ) (old new : Paged) (changes : List Change) : Type 0 where
+  pub put : new ≡ paged_put old changes
+  -- what follows
   pub laid : IsLaid new.core frames
   pub flat : flat_of new ≡ flat_put (flat_of old) changes
 

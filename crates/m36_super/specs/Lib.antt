@@ -1,6 +1,7 @@
 pub mod Library
 pub mod Laying
 pub mod LayingLaw
+pub mod PagedPut
 pub mod Services
 pub mod ConsoleLaw
 pub mod Coming
