@@ -1,12 +1,11 @@
 -- What a link service writes, by the parts of its answer.
 use Rattle.std.proofs.Common.{◌≡◌, sym, subst}
-use Rattle.std.specs.Prelude.{ℕ, List, [], ◌∷◌, length, Option, None}
+use Rattle.std.specs.Prelude.{ℕ, List, [], ◌∷◌, length, Option, None, Some}
 use Rattle.m36_model.specs.Fields.{AtFields}
 use Rattle.m36_model.specs.Store.{Change}
 use Rattle.m36_page.specs.Fields.{PagerFields}
 use Rattle.m36_link.specs.Fields.{SnapFields, LayFields}
 use Rattle.m36_link.specs.Known.{linkage_segment, lot_word}
-use Rattle.std.specs.Prelude.{Some}
 use Rattle.m36_super.specs.Laying.{written_from, laying}
 use Rattle.m36_super.specs.Services.{link_changes}
 use Rattle.m36_super.specs.SuperFields.{IsManaged}
