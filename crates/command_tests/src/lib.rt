@@ -19,3 +19,5 @@ mod reports;
 mod sessions;
 #[cfg(test)]
 mod word_lists;
+#[cfg(test)]
+mod worked;
