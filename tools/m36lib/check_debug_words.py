@@ -21,6 +21,7 @@ SERVANT = (
     ("print 1 - 2", "1 - 2 = 777777777777 octal, 68719476735 decimal"),
     ("print 1 < 2 && 2 < 1", "1 < 2 && 2 < 1 = 0 octal, 0 decimal"),
     ("print 1 < 2 || 2 < 1", "1 < 2 || 2 < 1 = 1 octal, 1 decimal"),
+    ("print 2 < 2 || 2 > 2", "2 < 2 || 2 > 2 = 0 octal, 0 decimal"),
     ("print !0", "!0 = 1 octal, 1 decimal"),
     ("print !(1 == 1)", "!(1 == 1) = 0 octal, 0 decimal"),
     ("print 2 >= 2", "2 >= 2 = 1 octal, 1 decimal"),
@@ -185,14 +186,16 @@ def check_numbers(program, work):
     commands = ("tbreak gate_$fetch", "break gate_:3 if a == 7", "watch secret|0", "info b",
                 "disable 3", "delete 1", "run", "info b", "delete breakpoints",
                 "info b", "delete 9",
-                "condition 9 a == 1", "tbreak gate_$fetch", "run", "info b")
+                "condition 9 a == 1", "tbreak gate_$fetch", "run", "info b",
+                "break gate_$fetch", "disable 5", "run", "enable 5", "run")
     parts = ("Breakpoint 1 at gate_$fetch", "Breakpoint 2 at gate_|1, gate_.alm:4",
              "Watchpoint 3: secret|0 is 123456701234", "3 watch on secret|0 hits 0", "", "",
              "Breakpoint 2: gate_|1.|step 13 ring 1 gate_|1", "2 break on gate_|1 gate_.alm:4 "
              "if a == 7 hits 1|3 watch off", "", "no breakpoints and no watchpoints",
              "? there is no breakpoint or watchpoint 9", "? there is no breakpoint 9",
              "Breakpoint 4", "Breakpoint 4: gate_$fetch.|step 6",
-             "no breakpoints and no watchpoints")
+             "no breakpoints and no watchpoints", "Breakpoint 5", "",
+             "The run ends after 14 steps: fault 20.3", "", "Breakpoint 5: gate_$fetch.|step 6")
     with Session(program, str(example(program, "servant", work))) as session:
         yield from check_answers(session, tuple(zip(commands, parts)), True)
 
