@@ -64,7 +64,8 @@ abbrev pub resident_word : Paged → Option ℕ → ℕ → ℕ → ℕ
 resident_word m frame seg w = word_in frame m.core w (m.kept seg w)
 
 -- Pages have moved between frames and the words kept: descriptors are as they were, and so is each
--- word of each page.
+-- word of each page. `before` and `after` give the frame of each page of the image (`IsPage`). What
+-- they give for other numbers is arbitrary, so it says nothing of core.
 pub record IsMoved (frames : ℕ) (old new : Paged) : Type 0 where
   pub size : length new.core ≡ length old.core
   pub descriptors : take descriptor_words new.core ≡ take descriptor_words old.core

@@ -3,17 +3,18 @@
 //! What is promised: `Super::boot` gives exactly the system that the booted image starts, or the first of the codes U1
 //! to U4 that stands, or want of memory. A `turn` of a system is one of its booted run: a step, with the services of
 //! the pages that it lacks, or the link or console service for which the step before it called, or the end of the run,
-//! told again. Page services are silent. Two things of a page service are free: the frame that is taken, which holds no page
-//! that the instruction has referenced, and which used marks of other pages are put off. Out of memory may come in a link
-//! service alone, which then changes nothing. Given these, each turn and the state after it, with every word of core and
-//! every word that is kept, are a function of the state before. A system does not go back.
+//! told again. Page services are silent. Two things of a page service are free: the frame that is
+//! taken, which holds no page that the instruction has referenced, and which used marks of other
+//! pages are put off. Out of memory may come in a link service alone, which then changes nothing.
+//! Given these, each turn and the state after it, with every word of core and every word that is
+//! kept, are a function of the state before. A system does not go back.
 //!
 //! The laws say how the booted run and the flat run, which has no pages and is a function of the catalog and the files,
 //! belong together. Until an LDBR is executed each turn that executes no ABSA and wants no memory is the turn of the
 //! flat run, one that executes ABSA stands where the flat run executes one too, the core stays that of the booted image,
-//! and the audit conditions are kept, services included. Where the linkage segment of a ring is all zeros, the first section
-//! that a link service lays there is as the section that the image of a start has. What the console writes has as many
-//! characters as A says.
+//! and the audit conditions are kept, services included. Where the linkage segment of a ring is all
+//! zeros, the first section that a link service lays there is as the section that the image of a
+//! start has. What the console writes has as many characters as A says.
 //!
 //! `specs/` says what the next turn of a run may be (`BootedRun`), what a service does (`Services`), and what the flat
 //! run is (`FlatRun`); the booted image is that of `m36_boot`.
@@ -58,8 +59,9 @@ pub fn law_paging()
     ensures step { StepManagedLaw }
 {}
 
-/// Where the linkage segment of a ring is all zeros, a link service lays the first section of the ring there as the image of a
-/// start has it, with its word of the linkage offset table. No word of another segment changes.
+/// Where the linkage segment of a ring is all zeros, a link service lays the first section of the
+/// ring there as the image of a start has it, with its word of the linkage offset table. No word of
+/// another segment changes.
 pub fn law_laying()
     ensures { LayingLaw }
 {}

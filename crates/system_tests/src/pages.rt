@@ -289,8 +289,9 @@ struct Choice {
     second: u64,
 }
 
-/// Two pages fill the frames. The first of them is then used, so it is passed over once, and it gives way the next time. The
-/// last page takes the frame after that, to which the hand has moved on.
+/// Two pages fill the frames. The first of them is then used, so it is passed over once, and it
+/// gives way the next time. The last page takes the frame after that, to which the hand has moved
+/// on.
 const CHOICES: &[Choice] = &[
     Choice {
         used: None,
@@ -332,7 +333,8 @@ const CHOICES: &[Choice] = &[
 // The used mark of a page table word.
 const USED: u64 = 512;
 
-// Puts a used mark on, as a reference to the page does. Returns false where there is no such word, or the mark is on.
+// Puts a used mark on, as a reference to the page does. Returns false where there is no such word,
+// or the mark is on.
 #[tactic(auto, using(crate::proofs::Marks::used_reads))]
 fn use_page(paged: &mut Paged, place: u32) -> bool
     requires frames { HasFrames paged.old.pager paged.old.core }
