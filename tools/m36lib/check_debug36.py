@@ -21,6 +21,7 @@ MOST_SECONDS = 120
 WAIT = 20
 LONG_STEPS = 100_000
 MOST_SECONDS_OF_LONG = 5
+MOST_PROCESSES = 20
 LOOP = "core 2\ndbr 00000000 00001 1 0000\nstart 00001 0 000000\n"
 ENDLESS = """ entry start
 start: eax1 0
@@ -308,6 +309,45 @@ def check_long(program, work):
             yield "after 1 MiB of input the step is another one"
 
 
+def counted(owner, name, at_call=lambda count: None):
+    """Counts the calls of a method of a session or of its processes, in a list of one number."""
+    count, method = [0], getattr(owner, name)
+
+    def call(*words):
+        count[0] += 1
+        at_call(count[0])
+        return method(*words)
+
+    setattr(owner, name, call)
+    return count
+
+
+def check_conditions_back(program, work):
+    """A condition that is mostly false is tested forward on the way back: with few processes. An
+    interruption ends the tests, forward and back, and the next move goes on from there."""
+    folder = made(program, work, "conditions", ENDLESS)
+    with Session(program, str(folder)) as session:
+        session.add_break("main$loop", "x1 == 5")
+        session.go_to(6_001)
+        begun = counted(session.runs, "begin")
+        stop = session.back_go()
+        if (stop.reason, session.step) != ("break", 16) or begun[0] > MOST_PROCESSES:
+            yield f"back to a condition: {stop.reason} at {session.step}, {begun[0]} processes"
+        if [added.hits for added in session.breaks.values()] != [1]:
+            yield "breakpoints on the way back are counted as hits"
+    with Session(program, str(folder)) as session:
+        session.add_break("main$loop", "x1 == 0 && q == 1")
+        session.go_to(6_001)
+        for move in (session.back_go, session.go):
+            before = session.step
+            tested = counted(session, "view",
+                             lambda count: session.interrupt() if count == 300 else None)
+            stop = move()
+            del session.view
+            if stop.reason != "interrupt" or tested[0] > 301 or session.step == before:
+                yield f"interrupted, {stop.reason} after {tested[0]} tests at {session.step}"
+
+
 def place_at(step):
     """Where the endless program is after so many steps: one instruction, and then three again and
     again."""
@@ -325,7 +365,8 @@ def check_unsure(program, work):
 
 CHECKS = (
     check_transcripts, check_statuses, check_stale, check_hostile, check_answers, check_help,
-    check_signals, check_killed_program, check_pipes, check_long, check_unsure,
+    check_signals, check_killed_program, check_pipes, check_long,
+    check_conditions_back, check_unsure,
 )
 
 

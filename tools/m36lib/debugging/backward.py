@@ -77,35 +77,48 @@ class Backward:
 
     def last_reason(self, first, last, watches, places):
         """The Stop at the last position from `first` on and before `last` that has a reason."""
-        found, at = [], first
-        values = self.values_at(first, watches)
-        while at < last:
-            if self.interrupted:
-                return Stop(last, "interrupt", "Interrupted.")
+        found = self.last_to_stop(list(self.may_stop(first, last, watches, places)), places)
+        if self.interrupted:
+            return Stop(last, "interrupt", "Interrupted.")
+        return self.reason_before(*found, watches, places) if found else None
+
+    def may_stop(self, first, last, watches, places):
+        """The steps between two positions that change what is watched, or before which there is a
+        breakpoint; each with the values before it and after it."""
+        at, values = first, self.values_at(first, watches)
+        while at < last and not self.interrupted:
             count = piece_size(at, min(last - at, LARGEST_PIECE))
             piece, watched, run = self.traced(at, count, watches)
             changed = watched.changes(values) if watched else []
             for index in sorted({*piece.at_places(places), *changed}):
                 before = watched.values[index - 1] if watched and index else values
                 after = watched.values[index] if watched else values
-                found.append((piece.taken(index), before, after))
+                if before != after or not self.is_repeated(at + index):
+                    yield piece.taken(index), before, after
             values = watched.values[-1] if watched and watched.values else values
             at = run.step
-        for taken, before, after in reversed(found):
-            stop = self.reason_before(taken, watches, before, after, places)
-            if stop:
-                return stop
-        return None
 
-    def reason_before(self, taken, watches, before, after, places):
-        """The Stop before a step, or None."""
+    def last_to_stop(self, found, places):
+        """The last of these steps before which the run stops, or None. Conditions are tested
+        forward, since a process only goes forward: to test an earlier step is a new run."""
+        certain = len(found) - 1
+        while certain >= 0 and not is_certain(*found[certain], places):
+            certain -= 1
+        last = found[certain] if certain >= 0 else None
+        for each in found[certain + 1 :]:
+            if self.interrupted:
+                return None
+            if self.stops_at(each[0].number - 1, places[each[0].place]):
+                last = each
+        return last
+
+    def reason_before(self, taken, before, after, watches, places):
+        """The Stop before a step that has a reason."""
         position = taken.number - 1
         for watch, old, new in zip(watches, before, after):
             if old != new:
                 return changes_stop(position, watch, old, new)
-        if taken.place in places and not self.is_repeated(position):
-            return self.break_stop(position, places[taken.place])
-        return None
+        return self.break_stop(position, places[taken.place])
 
     def is_repeated(self, position):
         """The step before this position was the same one, and lacked a link that was snapped."""
@@ -115,6 +128,11 @@ class Backward:
     def values_at(self, step, watches):
         run = self.runs.at(step)
         return tuple(watch.what.value(run.ask([watch.what.line])[0]) for watch in watches)
+
+
+def is_certain(taken, before, after, places):
+    """The run stops before this step whatever the conditions of breakpoints are."""
+    return before != after or any(added.condition is None for added in places[taken.place])
 
 
 def changes_stop(position, watch, before, after):

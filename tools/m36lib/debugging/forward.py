@@ -133,6 +133,8 @@ class Look:
             indexes.update(self.history.changed_in(piece))
         changed = watched.changes(self.values) if watched else []
         for index in sorted(indexes.union(changed[:1])):
+            if self.session.interrupted:
+                return Stop(piece.first + index - 1, "interrupt", "Interrupted.")
             stop = self.stop_at(piece.taken(index), changed[:1] == [index], watched, index)
             if stop:
                 return stop

@@ -256,6 +256,11 @@ class Session(Forward, Backward):
                 return Stop(position, "break", text, added.number)
         return None
 
+    def stops_at(self, position, breaks):
+        """One of these breakpoints stops at a position."""
+        view = self.view(position)
+        return any(added.condition is None or added.condition.holds(view) for added in breaks)
+
     def view(self, position=None):
         """What a condition sees of a position, or of this one."""
         return View(self, self.step if position is None else position)
