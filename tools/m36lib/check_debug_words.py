@@ -1,5 +1,7 @@
 """Checks of what the debugger reads and shows, against what was worked out by hand."""
 
+import re
+
 from .check_debug36 import example, found_by, made
 from .debugging import Session
 from .debugging.front import Front
@@ -217,7 +219,52 @@ def check_frames(program, work):
         yield from check_answers(session, tuple(zip(commands, parts)), True)
 
 
-CHECKS = (check_servant, check_say, check_depths, check_numbers, check_frames)
+# Of examples/wild, whose main.alm has 22 lines and con_.alm 7: what is typed, with the numbers of
+# the lines that are listed, or the refusal.
+LISTED = (
+    ("list", range(1, 11)),
+    ("list", range(11, 21)),
+    ("list", range(21, 23)),
+    ("list", "? the source ends at line 22"),
+    ("list -", range(11, 21)),
+    ("list -", range(1, 11)),
+    ("list -", "? there is nothing before line 1"),
+    ("list 2,4", range(2, 5)),
+    ("list", range(5, 15)),
+    ("list 20,99", range(20, 23)),
+    ("list 23,24", "? the source ends at line 22"),
+    ("list 4,2", "? the form is `list FIRST,LAST`, with the numbers of two lines"),
+    ("list con_:4", range(1, 8)),
+    ("list", "? the source ends at line 7"),
+    ("list con_.alm:2,3", range(2, 4)),
+    ("list secret:2,3", "? there is no segment secret"),
+    ("list main:12", range(7, 17)),
+)
+NUMBERED = re.compile(r"(?:=>|  )[b ] *([0-9]+)  ")
+
+
+def check_list(program, work):
+    """`list` goes on at the next line, and back, in sources and in words without one."""
+    with Session(program, str(example(program, "wild", work))) as session:
+        lines = []
+        front = Front(session, lines.append)
+        for command, expected in LISTED:
+            lines.clear()
+            front.do(command)
+            found = lines[0]
+            if not isinstance(expected, str):
+                expected = list(expected)
+                found = [int(NUMBERED.match(line + "  ")[1]) for line in lines]
+            if found != expected:
+                yield f"{command}: {found}, not {expected}"
+        words = list(answers(session, ("list stack_4|20", "list", "list -")))
+        names = [re.findall(r"stack_4\|([0-7]+)", text) for text in words]
+        counted = [[f"{word:o}" for word in range(first, first + 10)] for first in (13, 23, 13)]
+        if names != counted:
+            yield f"list of words: {names}, not {counted}"
+
+
+CHECKS = (check_servant, check_say, check_depths, check_numbers, check_frames, check_list)
 
 
 def check_debug_words(program, work, show=print):

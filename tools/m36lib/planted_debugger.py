@@ -53,6 +53,8 @@ PLANTED = (
     fault("words", "conditions.py", "\"<\": lambda one, other: one < other",
           "\"<\": lambda one, other: one <= other"),
     fault("words", "conditions.py", "bool(a(view)) and bool(b(view))", "bool(a(view))"),
+    fault("words", "listing.py", "last + 1, stop))", "last + 2, stop))"),
+    fault("words", "listing.py", "max(least, first - LISTED)", "first - 1"),
     fault("words", "show.py", "(27, 18, 9, 0)", "(0, 9, 18, 27)"),
     fault("words", "show.py", "signed(found, 36)", "found"),
     fault("words", "looking.py", "count, word = 2 * count, word - word % 2", "count = 2 * count"),

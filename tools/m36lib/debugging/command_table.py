@@ -78,8 +78,9 @@ GROUPS = (
                 "questions, answers, rules and effects.", "will"),
         command("why", "", "Shows why the run has stopped, and the whole account of the last step.",
                 "why"),
-        command("list l", "[PLACE]", "Shows the source around a place, or the instructions where "
-                "there is none; without PLACE more of it.", "list", True),
+        command("list l", "[PLACE|-|[NAME:]FIRST,LAST]", "Shows ten lines of the source around a "
+                "place, or instructions where there is none. Without PLACE the lines that follow, "
+                "with `-` those before. `list main:1,5` shows lines 1 to 5.", "list", True),
         command("disassemble disas", "[PLACE] [N]", "Shows N instructions from a place on.",
                 "disassemble"),
         command("registers regs", "", "Shows all registers.", "registers"),

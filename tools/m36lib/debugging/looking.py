@@ -8,10 +8,11 @@ from .command_words import (
 )
 from .conditions import BadCondition, Condition
 from .lines import text_of
+from .listing import Listing
 from .places import NoPlace
 from .watched import is_register
 
-LISTED, CODE_LISTED, TRACED, MOST_TRACED = 10, 10, 10, 100_000
+CODE_LISTED, TRACED, MOST_TRACED = 10, 10, 100_000
 EXAMINE = re.compile(r"/([0-9]*)([a-z]?)$")
 FORMATS = {
     "o": show.octal_lines,
@@ -29,7 +30,7 @@ INFO = {
 }
 
 
-class Looking:
+class Looking(Listing):
     """These commands, for front.Front: it has the session, `write`, and what has been shown."""
 
     def do_here(self, rest):
@@ -50,21 +51,6 @@ class Looking:
         if account:
             self.write(trace)
             self.write_all(show.account_lines(account))
-
-    def do_list(self, rest):
-        registers = self.session.registers
-        if rest:
-            segment, word = self.session.places.find(rest)
-        elif self.listed_to:
-            segment, word = self.listed_to
-        elif self.frame_number:
-            frame = self.session.frames()[self.frame_number]
-            segment, word = frame.segment, frame.word
-        else:
-            segment, word = registers.segment, registers.word
-        breaks = self.session.active_breaks()
-        self.write_all(show.listing(self.session, segment, word, LISTED, breaks))
-        self.listed_to = segment, word + LISTED
 
     def do_disassemble(self, rest):
         words = rest.split()

@@ -147,17 +147,30 @@ def source_lines(session, segment, word, count, marks=frozenset()):
     line = source.places.get(word) if source else None
     if line is None:
         return None
-    first = max(1, min(line - count // 2, len(source.lines) - count + 1))
+    return numbered_lines(session, segment, first_line(source, line, count), count, marks)
+
+
+def first_line(source, line, count):
+    """The first of so many lines around a line."""
+    return max(1, min(line - count // 2, last_line(source) - count + 1))
+
+
+def last_line(source):
+    """The number of the last line of a source."""
+    return len(source.lines) - (not source.lines[-1])
+
+
+def numbered_lines(session, segment, first, count, marks=frozenset()):
+    """Lines of a segment's source from one on, with their numbers."""
+    source = session.world.sources.of(segment)
     marked = {source.places.get(at) for number, at in map(numbers_of, marks) if number == segment}
     here = session.source_line()
     lines = []
-    for number in range(first, min(first + count, len(source.lines) + 1)):
-        text = source.lines[number - 1]
-        if number == len(source.lines) and not text:
-            continue
+    for number in range(first, min(first + count - 1, last_line(source)) + 1):
         arrow = HERE if here == (source.file, number) else ELSEWHERE
         stop = "b" if number in marked else " "
-        lines.append(f"{arrow}{stop}{number:4}  {plain_line(text)}".rstrip())
+        text = plain_line(source.lines[number - 1])
+        lines.append(f"{arrow}{stop}{number:4}  {text}".rstrip())
     return lines
 
 
@@ -180,7 +193,12 @@ def listing(session, segment, word, count, marks=frozenset()):
     found = source_lines(session, segment, word, count, marks)
     if found is not None:
         return found
-    return code_lines(session, segment, max(0, word - count // 3), count, marks)
+    return code_lines(session, segment, first_word(word, count), count, marks)
+
+
+def first_word(word, count):
+    """The first of so many words around a word."""
+    return max(0, word - count // 3)
 
 
 # Words of memory.

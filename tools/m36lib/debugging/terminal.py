@@ -47,7 +47,7 @@ def repeated(line):
         command = command_table.find(line.split()[0].partition("/")[0])
     except command_table.Unknown:
         return ""
-    if command.method in FOLLOWED:
+    if command.method in FOLLOWED and not line.endswith(" -"):
         return command.name
     return line if command.repeats else ""
 
