@@ -14,7 +14,7 @@ SERVANT = (
     ("print 10.", "10. = 12 octal, 10 decimal"),
     ("print a", "a = 000100000004"),
     ("print $pr2", "pr2 = 4:00100|000010 00"),
-    ("p/o ring", "ring = 1 octal, 1 decimal"),
+    ("p/o ring", "ring = 1 octal"),
     ("print segment", "segment = 101 octal, 65 decimal"),
     ("print step", "step = 6 octal, 6 decimal"),
     ("print ring + 2 - 1", "ring + 2 - 1 = 2 octal, 2 decimal"),
@@ -213,7 +213,7 @@ def check_frames(program, work):
              "1: [main|14] = 7 octal, 7 decimal", "2: pr2.word - 1 = 7 octal, 7 decimal",
              "|1: [main|14] = 7 octal, 7 decimal|2: pr2.word - 1 = 7 octal, 7 decimal", "",
              "|2: pr2.word - 1 = 7 octal, 7 decimal", "", "? there is no display 7",
-             "? there is no entry and no label x9 in gate_")
+             "? there is no register x9: there are x0 to x7")
     with Session(program, str(example(program, "servant", work))) as session:
         session.go_to(6)
         yield from check_answers(session, tuple(zip(commands, parts)), True)

@@ -6,7 +6,7 @@ The groups of requests are in moves.py, breakpoints.py, variables.py and memory.
 import pathlib
 
 from ..debugging import Session
-from ..language.documents import BOOT, SOURCE_SUFFIX
+from ..debugging.opening import folder_and_image
 from ..machine import Refusal
 from ..recorder import console_written
 from ..refusals import REFUSAL
@@ -123,7 +123,7 @@ class Adapter(Channel):
             raise Refused(self.why_none)
         path = self.path_of(arguments)
         self.stops_on_entry = optional(arguments, "stopOnEntry", bool, True)
-        folder, image = (path, None) if path.is_dir() else (path.parent, path.name)
+        folder, image = folder_and_image(path)
         self.opened = Session(self.program, folder, image, on_service=self.report_service)
         self.path = path
         self.after(self.begun)
@@ -133,10 +133,9 @@ class Adapter(Channel):
         """The folder or the image that is debugged."""
         path = pathlib.Path(member(arguments, "program", str))
         try:
-            if path.is_file() and (path.suffix == SOURCE_SUFFIX or path.name == BOOT):
-                path = path.parent
             if path.exists():
-                return path.resolve()
+                folder, image = folder_and_image(path)
+                return (folder / image if image else folder).resolve()
         except (OSError, ValueError):
             pass
         raise Refused(f"{plain(str(path))}: there is no such folder or file")
@@ -147,7 +146,7 @@ class Adapter(Channel):
     def begun(self):
         """The session has begun: what a person should know of it, and the time for breakpoints."""
         for problem in self.session.world.problems():
-            self.say(f"{problem}: what runs is not this source", "important")
+            self.say(f"What runs is not this source: {problem}", "important")
         self.event("initialized")
 
     def configuration_done(self, _arguments):

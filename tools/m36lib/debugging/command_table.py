@@ -66,10 +66,10 @@ GROUPS = (
         command("condition cond", "NUMBER [CONDITION]", "Gives a breakpoint a condition, or takes "
                 "it away.", "condition"),
         command("delete d del", "[NUMBER..]", "Deletes breakpoints and watchpoints; all without a "
-                "number.", "delete"),
-        command("disable dis", "NUMBER..", "Keeps breakpoints and watchpoints without stopping at "
-                "them.", "disable"),
-        command("enable en", "NUMBER..", "Stops at them again.", "enable"),
+                "number. `delete 2-4` deletes 2, 3 and 4.", "delete"),
+        command("disable dis", "[NUMBER..]", "Keeps breakpoints and watchpoints without stopping "
+                "at them; all without a number.", "disable"),
+        command("enable en", "[NUMBER..]", "Stops at them again.", "enable"),
     )),
     Group("Look", (
         command("here status", "", "Shows again where the run is, and what the next instruction "
@@ -85,7 +85,8 @@ GROUPS = (
                 "disassemble"),
         command("registers regs", "", "Shows all registers.", "registers"),
         command("print p", "EXPRESSION|PLACE", "Shows the value of an expression or of a register, "
-                "or a place with its word. A form as in `p/o` makes no difference.", "print"),
+                "or a place with its word. `p/d` shows it in one form alone: o octal, d decimal, "
+                "c characters.", "print"),
         command("x", "/NF PLACE", "Shows N words from a place on, as F: o octal, d decimal, c "
                 "characters, i instructions, p pairs. `x/8o secret|0`.", "examine", True),
         command("backtrace bt where", "[N]", "Shows the calls in which the run is, with their "
@@ -95,7 +96,8 @@ GROUPS = (
         command("up", "", "Shows the next outer call.", "up"),
         command("down", "", "Shows the next inner call.", "down"),
         command("display", "[EXPRESSION|PLACE]", "Shows a value at each stop from now on; without "
-                "one all that are shown.", "display"),
+                "one all that are shown. `display/d` has a form as `print`, and `display/i .` "
+                "shows an instruction.", "display"),
         command("undisplay", "[NUMBER..]", "Shows these values no more; all without a number.",
                 "undisplay"),
         command("rings", "", "Shows the ring that executes, and in which ring each pointer "
@@ -104,7 +106,7 @@ GROUPS = (
                 "start of the run.", "segments"),
         command("trace t", "[N]", "Shows the trace lines of the last N steps, or of ten.", "trace"),
         command("console", "", "Shows all that the console has written so far.", "console"),
-        command("info i", "breakpoints|registers|frame|rings|segments|source|console",
+        command("info i", "breakpoints|registers|frame|rings|segments|source|console|display",
                 "The same as `registers`, `backtrace` and so on; `info b` lists breakpoints.",
                 "info"),
     )),

@@ -33,6 +33,12 @@ ADDED = {
 }
 
 
+OPERATORS = "+ - & | == != < <= > >= ! && ||"
+OTHER_OPERATORS = "*/%^~?"
+OF_NUMBERS = "numbers are octal, or decimal with a point after them, as 18."
+NO_NUMBER = re.compile(r"\s*([0-9]+[A-Za-z_]\w*)")
+
+
 class BadCondition(Exception):
     """The text is no expression; says why."""
 
@@ -41,12 +47,23 @@ def tokens_of(text):
     tokens, at = [], 0
     text = text.rstrip()
     while at < len(text):
+        wrong = NO_NUMBER.match(text, at)
+        if wrong:
+            raise BadCondition(f"{wrong[1]} is no number: {OF_NUMBERS}")
         found = TOKEN.match(text, at)
         if not found:
-            raise BadCondition(f"{text[at:].strip()} cannot be read")
+            raise BadCondition(why_unread(text[at:].strip()))
         tokens.append(found[1])
         at = found.end()
     return tokens
+
+
+def why_unread(text):
+    if text[0] == "[":
+        return f"a ] is missing after {text}"
+    if text[0] in OTHER_OPERATORS:
+        return f"there is no operator {text[0]}; there are {OPERATORS}"
+    return f"{text} cannot be read"
 
 
 def register_value(name):
@@ -142,6 +159,9 @@ class Condition:
             return lambda view: number
         if token[0] == "[":
             return lambda view: self.word(view, token[1:-1])
+        if not token[0].isalpha() and token[0] != "$":
+            unary = "; there is no unary minus: write 0 - 1" if token == "-" else ""
+            raise BadCondition(f"a value is expected before {token}{unary}")
         found = register_value(token.removeprefix("$"))
         if found is None:
             raise BadCondition(f"{token} is no register; a word of memory is as [main|10]")

@@ -164,4 +164,4 @@ class Look:
 
 
 def limit_text(limit, count):
-    return f"Stopped after {count} steps; `go` goes on." if limit == "limit" else ""
+    return f"Stopped after {count} steps; `continue` goes on." if limit == "limit" else ""

@@ -35,13 +35,12 @@ class Front(Looking):
 
     def do(self, line):
         """Carries out a line. False once the user has left."""
-        words = line.split(None, 1)
-        if not words or words[0].startswith("#"):
+        line = line.strip()
+        if not line or line.startswith("#"):
             return True
         try:
-            name, rest = split_name(words)
-            method = getattr(self, "do_" + command_table.find(name).method)
-            method(rest)
+            command, rest = split_name(line)
+            getattr(self, "do_" + command.method)(rest)
         except (Refused, NoPlace, BadCondition, NotThere, command_table.Unknown) as why:
             self.refused += 1
             self.write(f"? {show.plain(str(why))}")
@@ -114,6 +113,8 @@ class Front(Looking):
         self.stopped(self.session.go_to(0))
 
     def do_goto(self, rest):
+        if not rest:
+            raise Refused("which step? as in `goto 12`")
         self.stopped(self.session.go_to(count_of(rest, None, least=0)))
 
     def do_back(self, rest):
@@ -158,23 +159,39 @@ class Front(Looking):
     def do_add_watch(self, rest):
         if not rest:
             raise Refused("watch which word or register?")
+        if "if" in rest.split():
+            raise Refused("a watchpoint has no condition; a breakpoint has one, as in "
+                          "`break PLACE if CONDITION`")
         added = self.session.add_watch(rest)
         value = self.session.watch_value(added.what)
         self.write(f"Watchpoint {added.number}: {added.what.text} is {value}")
 
     def do_condition(self, rest):
+        if not rest:
+            raise Refused("of which breakpoint? as in `condition 1 a == 5`")
         number, _, condition = rest.partition(" ")
         added = self.session.breaks.get(count_of(number, None))
         if added is None:
             raise Refused(f"there is no breakpoint {number}")
         condition = condition.strip()
         added.condition = Condition(condition, self.session.places) if condition else None
-        self.write(f"Breakpoint {number} stops " + (f"if {condition}" if condition else "always"))
+        when = f"if {condition}" if condition else "always"
+        disabled = "" if added.enabled else ", once it is enabled"
+        self.write(f"Breakpoint {number} stops {when}{disabled}")
+
+    def chosen(self, rest):
+        """The numbers of breakpoints and watchpoints in a text, all if there are none. If there is
+        nothing of one of the numbers, this is refused."""
+        text = rest.removeprefix("breakpoints").strip()
+        if text in ("", "all"):
+            return [*self.session.breaks, *self.session.watches]
+        numbers = sorted(set(numbers_in(text)))
+        for number in numbers:
+            self.session.stopper(number)
+        return numbers
 
     def do_delete(self, rest):
-        everything = [*self.session.breaks, *self.session.watches]
-        numbers = numbers_in(rest.removeprefix("breakpoints")) or everything
-        for number in numbers:
+        for number in self.chosen(rest):
             self.session.drop(number)
 
     def do_disable(self, rest):
@@ -184,10 +201,7 @@ class Front(Looking):
         self.switch(rest, True)
 
     def switch(self, rest, is_on):
-        numbers = numbers_in(rest)
-        if not numbers:
-            raise Refused("which breakpoint or watchpoint?")
-        for number in numbers:
+        for number in self.chosen(rest):
             self.session.stopper(number).enabled = is_on
 
     # Other.
@@ -207,6 +221,7 @@ class Front(Looking):
         self.is_on = rest == "on"
 
     def do_quit(self, rest):
+        no_more(rest)
         self.leaves = True
 
     def serve(self, _, line):

@@ -4,14 +4,20 @@ import re
 
 from . import show
 from .command_words import (
-    Refused, console_lines, count_of, examined_count, is_place, no_more, numbers_in,
+    Refused, console_lines, count_of, examined_count, is_place, no_more, numbers_in, split_form,
+    within_segment,
 )
-from .conditions import BadCondition, Condition
+from .conditions import BadCondition, Condition, register_value
 from .lines import text_of
 from .listing import Listing
 from .places import NoPlace
 from .watched import is_register
 
+VALUE_FORMS = {
+    "o": lambda value: f"{value:o} octal",
+    "d": lambda value: f"{show.signed(value, 36)} decimal",
+    "c": lambda value: f'"{show.characters(value)}"',
+}
 CODE_LISTED, TRACED, MOST_TRACED = 10, 10, 100_000
 EXAMINE = re.compile(r"/([0-9]*)([a-z]?)$")
 FORMATS = {
@@ -23,11 +29,12 @@ FORMATS = {
 }
 INFO = {
     "breakpoints": "breakpoints", "b": "breakpoints", "watchpoints": "breakpoints",
-    "registers": "registers", "r": "registers", "all-registers": "registers",
+    "registers": "registers", "r": "registers", "regs": "registers", "all-registers": "registers",
     "frame": "backtrace", "stack": "backtrace", "s": "backtrace",
     "rings": "rings", "segments": "segments", "files": "segments", "source": "list",
-    "line": "here", "program": "why", "console": "console",
+    "line": "here", "program": "why", "console": "console", "display": "display",
 }
+SUBJECTS = "breakpoints, registers, frame, rings, segments, source, console, display"
 
 
 class Looking(Listing):
@@ -59,20 +66,24 @@ class Looking(Listing):
             count = examined_count(words.pop())
         segment, word = self.session.places.find(" ".join(words))
         breaks = self.session.active_breaks()
+        count, is_cut = within_segment(word, count)
         self.write_all(show.code_lines(self.session, segment, word, count, breaks))
+        self.write_all(is_cut)
 
     def do_registers(self, rest):
         no_more(rest)
         self.write_all(show.register_lines(self.session))
 
     def do_print(self, rest):
-        text = rest.strip()
+        form, text = split_form(rest)
         if not text:
             raise Refused("print what?")
-        self.write(self.printed(text))
+        self.write(self.printed(text, form))
 
-    def printed(self, text):
+    def printed(self, text, form=None):
         """A register, a place with its word, or the value of an expression."""
+        if form:
+            return self.formed(text, form)
         name = text.removeprefix("$")
         if is_register(name):
             return f"{name} = {self.session.watch_value(self.session.watched(name))}"
@@ -84,26 +95,39 @@ class Looking(Listing):
         value = Condition(text, self.session.places).value(self.session.view())
         return f"{text} = {value:o} octal, {value} decimal"
 
+    def formed(self, text, form):
+        """A value in one form: of an expression, of a register, or of the word at a place."""
+        if form[1:] not in VALUE_FORMS:
+            raise Refused(f"{form} is no form of a value: /o octal, /d decimal, /c characters; "
+                          "`x` shows words also as instructions and pairs")
+        expression = text
+        if is_register(text.removeprefix("$")) and register_value(text.removeprefix("$")) is None:
+            raise Refused(f"{text} is no number; `print {text}` shows it")
+        if is_place(text):
+            expression = f"[{text}]"
+        value = Condition(expression, self.session.places).value(self.session.view())
+        return f"{text} = {VALUE_FORMS[form[1:]](value)}"
+
     def do_examine(self, rest):
-        words = rest.split(None, 1)
-        form = EXAMINE.match(words[0]) if words else None
-        if form:
-            words.pop(0)
-        elif words and words[0].startswith("/"):
+        text, rest = split_form(rest)
+        form = EXAMINE.match(text) if text else None
+        if text and not form:
             raise Refused("the form is /NF: a count, and o, d, c, i or p")
         count = examined_count(form[1]) if form and form[1] else 1
         letter = (form[2] if form else "") or "o"
         if letter not in FORMATS:
             raise Refused(f"{letter} is no form: o octal, d decimal, c characters, i instructions, "
                           "p pairs")
-        if not words and self.last_examined and not form:
+        if not rest and self.last_examined and not form:
             (segment, word), count, letter = self.last_examined
         else:
-            segment, word = self.session.places.find(words[0] if words else ".")
+            segment, word = self.session.places.find(rest or ".")
         if letter == "p":
             count, word = 2 * count, word - word % 2
+        count, is_cut = within_segment(word, count)
         found = self.session.words(segment, word, count)
         self.write_all(FORMATS[letter](self.session, segment, word, found))
+        self.write_all(is_cut)
         self.last_examined = (segment, word + count), count // (1 + (letter == "p")), letter
 
     def do_backtrace(self, rest):
@@ -138,9 +162,21 @@ class Looking(Listing):
         if not rest:
             self.show_displays()
             return
-        self.write(f"{self.next_display}: {self.printed(rest)}")
-        self.displays[self.next_display] = rest
+        form, text = split_form(rest)
+        if not text:
+            raise Refused("display what?")
+        if text.startswith("x/"):
+            raise Refused("the form is after the name, as in `display/i .`")
+        self.write(f"{self.next_display}: {self.displayed(form, text)}")
+        self.displays[self.next_display] = form, text
         self.next_display += 1
+
+    def displayed(self, form, text):
+        """A value, or with /i the instruction at a place."""
+        if form != "/i":
+            return self.printed(text, form)
+        (line,) = show.instruction_words(self.session, *self.session.places.find(text), [None])
+        return line
 
     def do_undisplay(self, rest):
         for number in numbers_in(rest) or list(self.displays):
@@ -149,9 +185,9 @@ class Looking(Listing):
 
     def show_displays(self):
         """Shows the values that are shown at each stop."""
-        for number, text in self.displays.items():
+        for number, (form, text) in self.displays.items():
             try:
-                self.write(f"{number}: {self.printed(text)}")
+                self.write(f"{number}: {self.displayed(form, text)}")
             except (NoPlace, BadCondition) as why:
                 self.write(f"{number}: {text}: {why}")
 
@@ -172,20 +208,19 @@ class Looking(Listing):
         no_more(rest)
         found = self.session.history.services_between(1, self.session.step)
         text = "".join(show.service_text(line) for _, line in found if line.startswith("console "))
-        self.write_all(console_lines(text))
+        self.write_all(console_lines(text) or ["The console has written nothing so far."])
 
     def do_info(self, rest):
         if not rest:
-            raise Refused("info about what? breakpoints, registers, frame, rings, segments, "
-                          "source, console")
+            raise Refused(f"info about what? {SUBJECTS}")
         name, _, operand = rest.partition(" ")
-        if operand and "registers".startswith(name):
+        if operand and (name == "regs" or "registers".startswith(name)):
             self.do_print(operand)
             return
         named = rest if rest in INFO else next((it for it in INFO if it.startswith(rest)), None)
         what = INFO.get(named)
         if what is None:
-            raise Refused(f"there is no information about {rest}")
+            raise Refused(f"there is no information about {rest}; there is about {SUBJECTS}")
         if what == "breakpoints":
             self.write_all(show.breakpoint_lines(self.session))
         else:

@@ -20,6 +20,7 @@ from .world import word_of_line
 NUMBER = re.compile(r"[0-7]+|[0-9]+\.")
 AFTER = re.compile(r"(.+?)([+-])([0-9]+\.?)$")
 POINTER = re.compile(r"\$?pr([0-7])(?:\|(-?[0-9]+\.?))?$")
+NO_REGISTER = re.compile("(?:pr|x)[0-9]+")
 WORDS = 1 << 18
 
 
@@ -34,6 +35,24 @@ def number_of(text):
     return int(text[:-1]) if text.endswith(".") else int(text, 8)
 
 
+def checked(text):
+    """A place without brackets. Refuses what may follow a place elsewhere, but not here."""
+    if text.startswith("[") and text.endswith("]"):
+        text = text[1:-1].strip()
+    if text.startswith("[") or text.endswith("]"):
+        raise NoPlace(f"a bracket of {text} is missing")
+    if text.endswith(",*"):
+        raise NoPlace(f"a place has no modifier; `x/p {text[:-2]}` shows the pair there")
+    place, comma, rest = text.partition(",")
+    if comma:
+        raise NoPlace(f"a place has no comma; a count follows a blank, as in "
+                      f"`disassemble {place.strip()} {rest.strip() or 5}`")
+    first, *more = text.split()[:2] or [""]
+    if more:
+        raise NoPlace(f"{more[0]} is not expected after the place {first}")
+    return text
+
+
 class Places:
     """Finds places for a session."""
 
@@ -43,7 +62,7 @@ class Places:
 
     def find(self, text, view=None):
         """Segment and word. The registers are those of a view, or of the session."""
-        text = text.strip().removeprefix("*")
+        text = checked(text.strip().removeprefix("*").strip())
         registers = (view or self.session).registers
         if text in ("", ".", "$pc"):
             return registers.segment, registers.word
@@ -98,8 +117,16 @@ class Places:
                     return segment, word
         word = self.world.labels(segment).get(name)
         if word is None:
-            raise NoPlace(f"there is no entry and no label {name} in {names.segment(segment)}")
+            raise NoPlace(self.why_no_label(segment, name))
         return segment, word
+
+    def why_no_label(self, segment, name):
+        if NO_REGISTER.fullmatch(name):
+            kind = name.rstrip("0123456789")
+            return f"there is no register {name}: there are {kind}0 to {kind}7"
+        if name in self.world.numbers:
+            return f"{name} is a segment; a word of it is {name}|0"
+        return f"there is no entry and no label {name} in {self.world.names.segment(segment)}"
 
     def line(self, segment, number, text):
         source = self.world.sources.of(segment)

@@ -25,14 +25,14 @@ from ..machine import MOST_INPUT, seg_line, word_in
 from ..registers import registers_of
 from .backward import Backward
 from .calls import listed
-from .conditions import Condition
+from .conditions import Condition, register_value
 from .forward import Forward
 from .history import History
 from .lines import numbers_of, text_of
-from .places import Places
+from .places import NoPlace, Places
 from .runs import Runs
 from .stop import Breakpoint, Frame, Stop, Watchpoint
-from .watched import WatchedRegister, WatchedWord, is_register
+from .watched import WATCHED, WatchedRegister, WatchedWord, is_register
 from .world import World, loaded_dbr
 
 MOST_WORDS_AT_ONCE = 1_000
@@ -215,7 +215,12 @@ class Session(Forward, Backward):
         name = text.removeprefix("$")
         if is_register(name):
             return WatchedRegister(name)
-        segment, word = self.places.find(text)
+        try:
+            segment, word = self.places.find(text)
+        except NoPlace:
+            if register_value(name):
+                raise NoPlace(f"{name} can't be watched: words can, and {WATCHED}") from None
+            raise
         return WatchedWord(segment, word, self.world.names.word(segment, word))
 
     def drop(self, number):
@@ -246,15 +251,19 @@ class Session(Forward, Backward):
         return what.value(self.ask(what.line)[0])
 
     def break_stop(self, position, breaks):
-        """The Stop at a position where there are breakpoints, if the condition of one holds."""
-        for added in breaks:
-            if added.condition is None or added.condition.holds(self.view(position)):
-                added.hits += 1
-                if added.temporary:
-                    self.breaks.pop(added.number, None)
-                text = f"Breakpoint {added.number}: {added.text}."
-                return Stop(position, "break", text, added.number)
-        return None
+        """The Stop at a position where there are breakpoints, if the condition of one holds. It is
+        a hit of each whose condition holds."""
+        view = self.view(position)
+        hit = [added for added in breaks if added.condition is None or added.condition.holds(view)]
+        if not hit:
+            return None
+        for added in hit:
+            added.hits += 1
+            if added.temporary:
+                self.breaks.pop(added.number, None)
+        numbers = " and ".join(str(added.number) for added in hit)
+        text = f"Breakpoint{'s' if len(hit) > 1 else ''} {numbers}: {hit[0].text}."
+        return Stop(position, "break", text, hit[0].number)
 
     def stops_at(self, position, breaks):
         """One of these breakpoints stops at a position."""

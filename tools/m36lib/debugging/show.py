@@ -10,6 +10,7 @@ from .lines import numbers_of
 
 HERE, ELSEWHERE = "=>", "  "
 WORDS_IN_LINE = 4
+ABSENT = "none"
 BYTE = 0o777
 
 
@@ -209,30 +210,37 @@ def octal_lines(session, segment, word, words):
 
 
 def decimal_lines(session, segment, word, words):
-    texts = ["none" if found is None else str(signed(found, 36)) for found in words]
+    texts = [ABSENT if found is None else str(signed(found, 36)) for found in words]
     return in_lines(session, segment, word, texts)
 
 
 def character_lines(session, segment, word, words):
-    return in_lines(session, segment, word, [f'"{characters(found)}"' for found in words])
+    texts = [ABSENT if found is None else f'"{characters(found)}"' for found in words]
+    return in_lines(session, segment, word, texts)
 
 
 def in_lines(session, segment, word, texts):
-    lines = []
+    """Lines of four words each. Lines in which no word is there are one line together."""
+    name_of = session.world.names.word
+    lines, absent = [], None
     for first in range(0, len(texts), WORDS_IN_LINE):
-        name = session.world.names.word(segment, word + first)
-        lines.append(f"{name}  " + " ".join(texts[first : first + WORDS_IN_LINE]))
+        found = texts[first : first + WORDS_IN_LINE]
+        is_absent = set(found) == {ABSENT}
+        if is_absent and absent is not None:
+            last = name_of(segment, word + first + len(found) - 1)
+            lines[-1] = f"{name_of(segment, word + absent)}  {ABSENT}, up to {last}"
+            continue
+        absent = first if is_absent else None
+        lines.append(f"{name_of(segment, word + first)}  " + " ".join(found))
     return lines
 
 
 def word_text(found):
-    return "none" if found is None else f"{found:012o}"
+    return ABSENT if found is None else f"{found:012o}"
 
 
 def characters(word):
     """The four characters of a word; those that can't be shown as octal numbers."""
-    if word is None:
-        return "none"
     return "".join(character(word >> shift & BYTE) for shift in (27, 18, 9, 0))
 
 
@@ -256,7 +264,7 @@ def pair_lines(session, segment, word, words):
 
 def pair_text(names, even, odd):
     if even is None or odd is None:
-        return "none"
+        return ABSENT
     both = f"{even:012o} {odd:012o}"
     if tag_of(even) == ITS_TAG:
         pointer = pointer_of(even, odd)
@@ -276,7 +284,8 @@ def breakpoint_lines(session):
             file, line = session.source_line(*numbers_of(added.place))
             where += f"  {file}:{line}" if line else ""
             where += f"  if {added.condition.text}" if added.condition else ""
-        rows.append([str(number), "watch" if is_watch else "break",
+        kind = "watch" if is_watch else "tbreak" if added.temporary else "break"
+        rows.append([str(number), kind,
                      "on" if added.enabled else "off", where, f"hits {added.hits}"])
     return aligned(rows) if rows else ["no breakpoints and no watchpoints"]
 

@@ -3,6 +3,7 @@
 from ..machine import seg_line
 
 REGISTER_LINES = 10
+WATCHED = "a, q, x0 to x7, pr0 to pr7 and ind"
 FIELDS = {"a": (0, 2, 14), "q": (0, 17, 29), "ind": (0, 34, 40)}
 
 

@@ -67,7 +67,7 @@ class World:
             if file not in found:
                 in_time = time.monotonic() - began < MOST_SECONDS
                 found[file] = self.problem(segment) if in_time else self.problem_by_time(file)
-        return [problem for problem in found.values() if problem]
+        return [f"{problem}; run `m36 alm {file}`" for file, problem in found.items() if problem]
 
     def problem(self, segment):
         source = self.sources.of(segment)
