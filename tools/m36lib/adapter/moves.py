@@ -13,6 +13,13 @@ REASONS = {
     "begin": "entry", "step": "step", "break": "breakpoint", "watch": "data breakpoint",
     "ring": "step", "return": "step", "end": "exception", "limit": "pause", "interrupt": "pause",
 }
+# Moves back by the commands of the console, for editors that have none of their own.
+CONSOLE_MOVES = {
+    "back": "back", "reverse-step": "back", "rs": "back",
+    "reverse-next": "back_over", "rn": "back_over",
+    "reverse-continue": "back_go", "rc": "back_go",
+    "reverse-ring": "back_to_ring", "rr": "back_to_ring",
+}
 FINE_END = "end dis "
 UNSURE = "The run has executed ABSA or LDBR, so going back is not sure to lead to the same states."
 
@@ -115,11 +122,26 @@ class Moves:
     def begin(self, arguments, move):
         """Makes a move once the request is answered."""
         member(arguments, "threadId", int)
+        self.check_begin()
+        self.adapter.after(lambda: self.run(move))
+
+    def check_begin(self):
+        """Refuses a move that can't begin now."""
         if not self.adapter.is_configured:
             raise Refused("expected configurationDone first")
         if self.is_moving:
             raise Refused("the run goes on: pause it first")
-        self.adapter.after(lambda: self.run(move))
+
+    def begin_from_console(self, name):
+        """Makes the move back of a console command. The editor has not asked for a move, so it is
+        informed that the run goes on."""
+        move = getattr(self.session, CONSOLE_MOVES[name])
+        self.check_begin()
+        self.adapter.after(lambda: self.event_and_run(move))
+
+    def event_and_run(self, move):
+        self.adapter.event("continued", threadId=1, allThreadsContinued=True)
+        self.run(move)
 
     def run(self, move):
         """Makes a move, and reports where it stops."""

@@ -9,6 +9,7 @@ from ..disassemble import disassemble
 from ..protocol.members import count, member, optional
 from .addresses import address_of
 from .channel import Refused
+from .moves import CONSOLE_MOVES
 from .ring_words import asked, rights_of
 
 GROUP = 64
@@ -214,8 +215,12 @@ class Variables:
         if is_register(name):
             found = next(it for it in self.registers() if it["name"] == name)
             return {"result": found["value"], "variablesReference": found["variablesReference"]}
-        if optional(arguments, "context", str) == "repl" and text == "account":
-            return {"result": self.account(), "variablesReference": 0}
+        if optional(arguments, "context", str) == "repl":
+            if text == "account":
+                return {"result": self.account(), "variablesReference": 0}
+            if text in CONSOLE_MOVES:
+                self.adapter.moves.begin_from_console(text)
+                return {"result": "going back", "variablesReference": 0}
         return self.value_of(text)
 
     def account(self):
