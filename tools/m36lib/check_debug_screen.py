@@ -7,9 +7,16 @@ import subprocess
 import time
 
 from .check_debug36 import DEBUG36, ENDLESS, example, found_by, made
+from .debugging import Session, show
+from .debugging.screen import Paint, Screen
 
 WAIT = 30
 SIZE = ("110", "50")
+WINDOWS = (("60", "20"), ("80", "24"), ("80", "40"), ("132", "30"), SIZE)
+COLOURS = re.compile(r"\x1b\[[0-9;]*m")
+SERVANT_STEPS = 14
+# Steps of examples/servant, one after another, with the registers that each changes.
+CHANGED = ((1, ("a",)), (2, ()), (3, ("pr2",)), (6, ("pr7",)))
 HEADINGS = ("registers", "rings", "calls", "trace", "next")
 
 
@@ -121,16 +128,69 @@ def check_interrupted(program, work):
             yield "Ctrl-D does not leave the debugger"
 
 
-CHECKS = (check_keys, check_interrupted)
+def drawn(screen, size):
+    """The lines of a screen in a window of a size."""
+    kept = {name: os.environ.get(name) for name in ("COLUMNS", "LINES")}
+    os.environ.update(zip(kept, map(str, size)))
+    try:
+        return screen.lines()
+    finally:
+        for name, value in kept.items():
+            os.environ.pop(name)
+            if value is not None:
+                os.environ[name] = value
+
+
+def check_windows(program, work):
+    """In windows of some sizes each stop fits, with its source and all that comes next; and the
+    registers that have changed are marked, with colours and without."""
+    with Session(program, str(example(program, "servant", work))) as session:
+        for size in WINDOWS:
+            for is_coloured in (False, True):
+                screen = Screen(session, Paint(is_coloured))
+                for step in range(SERVANT_STEPS + 1):
+                    session.go_to(step)
+                    for problem in unfit(session, drawn(screen, size), size):
+                        yield f"{size}, step {step}, colours {is_coloured}: {problem}"
+        session.go_to(0)
+        screen = Screen(session, Paint(False))
+        for step, changed in CHANGED:
+            session.go_to(step)
+            text = "\n".join(drawn(screen, SIZE))
+            found = tuple(re.findall(r"\*(\w+) ", text))
+            if found != changed:
+                yield f"step {step} marks {found}, not {changed}"
+
+
+def unfit(session, lines, size):
+    """What is wrong with the lines of a stop in a window."""
+    plain = [COLOURS.sub("", line) for line in lines]
+    if len(plain) > int(size[1]) - 2:
+        yield f"{len(plain)} lines"
+    if longest := [line for line in plain if len(line) > int(size[0])]:
+        yield f"too long: {longest}"
+    if sum(line.startswith("=>") for line in plain) != 1:
+        yield "the source has no line that is next"
+    heading = "-- why --" if session.ended else "-- next --"
+    at = [index for index, line in enumerate(plain) if line.startswith(heading)]
+    words = " ".join(show.stop_lines(session)).split()
+    if len(at) != 1 or " ".join(plain[at[0] + 1 :]).split() != words:
+        yield f"what comes next is not whole: {plain}"
+
+
+CHECKS = (check_windows,)
+ON_TERMINAL = (check_keys, check_interrupted)
 
 
 def check_debug_screen(program, work, show=print):
     """The number of things that are not as they should be."""
+    checks = [*CHECKS, *ON_TERMINAL]
     if not shutil.which("tmux"):
         show("skipped: the debugger on a terminal was not tried: there is no tmux")
-        return 0
-    wrong = [line for check in CHECKS for line in found_by(check, program, work)]
+        checks = CHECKS
+    wrong = [line for check in checks for line in found_by(check, program, work)]
     for line in wrong:
         show(line)
-    show(f"debug screen: {len(CHECKS)} sessions under tmux, {len(wrong)} things wrong")
+    show(f"debug screen: {len(WINDOWS)} sizes of windows, {len(checks) - len(CHECKS)} sessions "
+         f"under tmux, {len(wrong)} things wrong")
     return len(wrong)

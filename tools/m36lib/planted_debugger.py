@@ -78,6 +78,12 @@ PLANTED = (
     fault("words", "looking.py", "self.frame_number + 1", "self.frame_number"),
     fault("words", "front.py", "self.show_displays()", "pass"),
     fault("screen", "terminal.py", "readline.parse_and_bind(\"tab: complete\")", "pass"),
-    fault("screen", "screen.py", "(\"calls\", self.calls()),", ""),
+    fault("screen", "screen.py", "\"rings\", \"calls\", \"trace\", \"next\")",
+          "\"rings\", \"trace\", \"next\")"),
+    fault("screen", "screen.py", "LINES_OF_PROMPT, LEAST_ROOM, LEAST_SOURCE, MOST_RULE = 2,",
+          "LINES_OF_PROMPT, LEAST_ROOM, LEAST_SOURCE, MOST_RULE = 1,"),
+    fault("screen", "screen.py", "if self.is_on else f\"*{text}\"", ""),
+    fault("screen", "fitting.py", "room, parts = width - len(CUT_MARK), []",
+          "room, parts = width, []"),
     fault("screen", "completion.py", "return [f\"{name}${label}\"", "return [f\"{name}|{label}\""),
 )

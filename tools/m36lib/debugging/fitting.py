@@ -1,0 +1,49 @@
+"""Fits lines to the window of a terminal: cut or wrapped to its width, and panes of as many lines as
+its height has room for."""
+
+import re
+import textwrap
+
+ESCAPE = re.compile(r"(\x1b\[[0-9;]*m)")
+CUT_MARK = ">"
+INDENT = "    "
+
+
+def cut(line, width):
+    """A line of at most so many characters: a longer one ends with a mark. Colours take no room."""
+    if len(ESCAPE.sub("", line)) <= width:
+        return line
+    room, parts = width - len(CUT_MARK), []
+    for part in ESCAPE.split(line):
+        if ESCAPE.match(part):
+            parts.append(part)
+        else:
+            parts.append(part[:room])
+            room -= len(parts[-1])
+    return "".join(parts) + CUT_MARK
+
+
+def wrapped(line, width):
+    """A line in several, parted between words; those after the first are indented."""
+    if len(line) <= width:
+        return [line]
+    indent = line[: len(line) - len(line.lstrip())]
+    return textwrap.wrap(line.strip(), width, initial_indent=indent,
+                         subsequent_indent=indent + INDENT, break_on_hyphens=False)
+
+
+def heights(room, panes):
+    """How many lines each pane gets of a room. A pane is a pair: the fewest lines with which it is
+    shown and the most that it has use for, its heading among them. Each gets the fewest, those that
+    come first before the others, as long as there is room; what is left goes to them in the same
+    order."""
+    given = []
+    for least, _ in panes:
+        given.append(least if least <= room else 0)
+        room -= given[-1]
+    for index, (_, most) in enumerate(panes):
+        if given[index]:
+            more = min(room, most - given[index])
+            given[index] += more
+            room -= more
+    return given
