@@ -51,6 +51,11 @@ SERVANT = (
     ("print fetch", "gate_$fetch = 00101|000000: 000001710000"),
     ("print in", "gate_|1 = 00101|000001: 200000235120"),
     ("print .", "gate_$fetch = 00101|000000: 000001710000"),
+    ("print ic", "gate_$fetch = 00101|000000: 000001710000"),
+    ("print $pc", "gate_$fetch = 00101|000000: 000001710000"),
+    ("print $pc == 0", "$pc == 0 = 1 octal, 1 decimal"),
+    ("print ic + 3", "ic + 3 = 3 octal, 3 decimal"),
+    ("x/i pc", "=> gate_$fetch 000001710000 tra 1"),
     ("print gate_$in+1", "gate_|2 = 00101|000002: 600024610100"),
     ("x/2o main$own", "main$start+10 000100000043 000014000000"),
     ("x/2d main$start", f"main$start {0o000000213004} {NEGATIVE}"),
@@ -85,6 +90,7 @@ SERVANT_PARTS = (
     ("segments", "=> 00101 gate_ 1 1 5 re--g r-e- 0:r--- 2:---c 3:---c 4:---c 5:---c"),
     ("segments", "00102 secret 1 1 1 r-w-- rw-- 0:rw--"),
     ("registers", "pr2 4:00100|000010 00 main$start+10"),
+    ("info registers", "ic 00101|000000 ring 1 gate_$fetch|a "),
     ("list main:6", "6 call6 gate_$fetch"),
     ("will", "The address is gate_|1, in ring 1, which executes."),
     ("disassemble main$start 3", "main$start+2 000010352000 epp2 8"),
@@ -189,7 +195,8 @@ def check_numbers(program, work):
                 "disable 3", "delete 1", "run", "info b", "delete breakpoints",
                 "info b", "delete 9",
                 "condition 9 a == 1", "tbreak gate_$fetch", "run", "info b",
-                "break gate_$fetch", "disable 5", "run", "enable 5", "run")
+                "break gate_$fetch", "disable 5", "run", "enable 5", "run",
+                "goto 0", "goto end")
     parts = ("Breakpoint 1 at gate_$fetch", "Breakpoint 2 at gate_|1, gate_.alm:4",
              "Watchpoint 3: secret|0 is 123456701234", "3 watch on secret|0 hits 0", "", "",
              "Breakpoint 2: gate_|1.|step 13 ring 1 gate_|1", "2 break on gate_|1 gate_.alm:4 "
@@ -197,7 +204,8 @@ def check_numbers(program, work):
              "? there is no breakpoint or watchpoint 9", "? there is no breakpoint 9",
              "Breakpoint 4", "Breakpoint 4: gate_$fetch.|step 6",
              "no breakpoints and no watchpoints", "Breakpoint 5", "",
-             "The run ends after 14 steps: fault 20.3", "", "Breakpoint 5: gate_$fetch.|step 6")
+             "The run ends after 14 steps: fault 20.3", "", "Breakpoint 5: gate_$fetch.|step 6", "step 0",
+             "The run ends after 14 steps: fault 20.3")
     with Session(program, str(example(program, "servant", work))) as session:
         yield from check_answers(session, tuple(zip(commands, parts)), True)
 

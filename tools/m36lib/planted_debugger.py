@@ -52,6 +52,8 @@ PLANTED = (
     fault("words", "world.py", "if at >= line]", "if at > line]"),
     fault("words", "conditions.py", "\"<\": lambda one, other: one < other",
           "\"<\": lambda one, other: one <= other"),
+    fault("words", "conditions.py", "if name in (\"ic\", \"pc\"):", "if False:"),
+    fault("words", "forward.py", "limit=\"limit\", breaks=False", "limit=\"limit\", breaks=True"),
     fault("words", "conditions.py", "bool(a(view)) and bool(b(view))", "bool(a(view))"),
     fault("words", "listing.py", "last + 1, stop))", "last + 2, stop))"),
     fault("words", "listing.py", "max(least, first - LISTED)", "first - 1"),

@@ -33,14 +33,15 @@ GROUPS = (
         command("finish out fin", "", "Goes on until the innermost call has returned.", "finish",
                 True),
         command("continue c go cont", "[N]", "Goes on to a breakpoint, a watchpoint or the end; "
-                "at most N steps.", "go", True),
+                "at most N steps. (In gdb N is another thing: how many stops to pass.)", "go",
+                True),
         command("ring", "", "Goes on until the ring changes.", "ring", True),
         command("until u advance", "PLACE", "Goes on until the next instruction is at a place.",
                 "until"),
         command("run r", "", "Goes to the start, and on from there as `continue` does.", "run"),
         command("start", "", "Goes to the start of the run.", "start"),
-        command("goto jump-to", "STEP", "Goes to where STEP steps have been taken, forward or "
-                "back.", "goto"),
+        command("goto jump-to", "STEP|end", "Goes to where STEP steps have been taken, forward or "
+                "back; or to the end of the run. Breakpoints do not stop it.", "goto"),
     )),
     Group("Back", (
         command("back reverse-step rs rsi reverse-stepi", "[N]", "Goes back N steps, or one.",

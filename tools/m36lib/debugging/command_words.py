@@ -4,7 +4,7 @@ import re
 
 from . import conditions, show
 from .command_table import find
-from .places import WORDS
+from .places import NEXT, WORDS
 
 MOST_EXAMINED = 4_096
 MOST_NUMBERS = 1_000
@@ -51,7 +51,7 @@ def split_condition(text):
 
 def is_place(text):
     """The text names a place, and is no expression."""
-    return text == "." or text.startswith("*") or not set(text) & set("[]()&=<>! ") and (
+    return text in NEXT or text.startswith("*") or not set(text) & set("[]()&=<>! ") and (
         bool(set(text) & set("|$:")) or re.fullmatch(r"[A-Za-z_]\w*", text) is not None
         and conditions.register_value(text) is None)
 

@@ -70,6 +70,8 @@ def register_value(name):
     """How a register is read of a view, or None where there is none of that name."""
     if name in ("a", "q", "ring", "segment", "word"):
         return lambda view: getattr(view.registers, name)
+    if name in ("ic", "pc"):
+        return lambda view: view.registers.word
     if name == "step":
         return lambda view: view.step
     if name in INDICATORS:

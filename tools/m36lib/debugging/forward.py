@@ -26,6 +26,10 @@ class Forward:
         """Goes on to a breakpoint, a watchpoint or the end."""
         return self.go_forward(most, limit="limit")
 
+    def to_end(self):
+        """Goes on to the end of the run, past breakpoints and watchpoints."""
+        return self.go_forward(MOST_OF_GO, limit="limit", breaks=False, watches=[])
+
     def over(self):
         """A step, but a call is gone through up to its return. A link that is snapped on the way
         is no step of its own."""

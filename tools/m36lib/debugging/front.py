@@ -114,8 +114,11 @@ class Front(Looking):
 
     def do_goto(self, rest):
         if not rest:
-            raise Refused("which step? as in `goto 12`")
-        self.stopped(self.session.go_to(count_of(rest, None, least=0)))
+            raise Refused("which step? as in `goto 12` or `goto end`")
+        if rest == "end":
+            self.stopped(self.session.to_end())
+        else:
+            self.stopped(self.session.go_to(count_of(rest, None, least=0)))
 
     def do_back(self, rest):
         self.stopped(self.session.back(count_of(rest, 1)))

@@ -8,7 +8,7 @@
     pr6|40                       a word by a pointer register, as an instruction would have it
     pr6                          the word to which it points
     loop                         an entry or a label of the segment in which the run is
-    .  $pc                       the place of the next instruction
+    .  ic  pc                    the place of the next instruction
 
 Words are octal, as the program prints them; `40.` with a point after it is decimal. Lines are
 decimal. `+N` and `-N` may follow any of these except a line."""
@@ -22,6 +22,7 @@ AFTER = re.compile(r"(.+?)([+-])([0-9]+\.?)$")
 POINTER = re.compile(r"\$?pr([0-7])(?:\|(-?[0-9]+\.?))?$")
 NO_REGISTER = re.compile("(?:pr|x)[0-9]+")
 WORDS = 1 << 18
+NEXT = (".", "ic", "pc", "$ic", "$pc")
 
 
 class NoPlace(Exception):
@@ -64,7 +65,7 @@ class Places:
         """Segment and word. The registers are those of a view, or of the session."""
         text = checked(text.strip().removeprefix("*").strip())
         registers = (view or self.session).registers
-        if text in ("", ".", "$pc"):
+        if not text or text in NEXT:
             return registers.segment, registers.word
         if text.isdecimal():
             return self.line(registers.segment, int(text), text)

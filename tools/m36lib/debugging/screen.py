@@ -136,7 +136,7 @@ class Screen:
         index = [(f"x{number}", f"{value:06o}") for number, value in enumerate(registers.x)]
         lines = ["  ".join(shown(*each) for each in first),
                  "x " + " ".join(shown(*each) for each in index)]
-        texts = show.register_lines(self.session)[2:]
+        texts = show.register_lines(self.session)[-8:]
         width = max(map(len, texts))
         for number in range(0, 8, 2):
             pair = [shown(f"pr{each}", texts[each].ljust(width)) for each in (number, number + 1)]

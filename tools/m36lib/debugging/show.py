@@ -90,9 +90,10 @@ def account_lines(account):
 
 
 def register_lines(session):
-    """All registers; pointers also by the names of the words that they point to."""
+    """All registers; the instruction counter and pointers also by the names of their words."""
     registers = session.registers
     lines = [
+        f"ic {session.place}  ring {registers.ring}  {session.place_name()}",
         f"a {registers.a:012o}  q {registers.q:012o}  ind {registers.indicators.text()}",
         "x " + " ".join(f"{value:06o}" for value in registers.x),
     ]
