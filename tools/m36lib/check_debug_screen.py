@@ -7,7 +7,8 @@ import subprocess
 import time
 
 from .check_debug36 import DEBUG36, ENDLESS, example, found_by, made
-from .debugging import Session, show
+from .debugging import Session, command_table, show
+from .debugging.fitting import wrapped_row
 from .debugging.screen import Paint, Screen
 
 WAIT = 30
@@ -47,12 +48,12 @@ class Pane:
     def text(self, *words):
         return self.tmux("capture-pane", "-p", *words)
 
-    def wait_for(self, pattern):
+    def wait_for(self, pattern, end=r"\(m36\)[^\n]*\s*\Z"):
         """The text once it has the pattern and a prompt at its end; None if it never has."""
         deadline = time.monotonic() + WAIT
         while time.monotonic() < deadline:
             text = self.text()
-            if re.search(pattern, text) and re.search(r"\(m36\)[^\n]*\s*\Z", text):
+            if re.search(pattern, text) and re.search(end, text):
                 return text
             time.sleep(0.1)
         return None
@@ -178,8 +179,33 @@ def unfit(session, lines, size):
         yield f"what comes next is not whole: {plain}"
 
 
-CHECKS = (check_windows,)
-ON_TERMINAL = (check_keys, check_interrupted)
+def check_wrapped(_program, _work):
+    """Help is wrapped between words, and keeps them all."""
+    for width in (80, 100):
+        for line in command_table.overview():
+            found = wrapped_row(line, width)
+            if " ".join(found).split() != line.split() or max(map(len, found)) > width:
+                yield f"help in {width} columns: {found}"
+
+
+def check_help_pages(program, work):
+    """`help` shows a window at a time, from its first line on; q leaves it."""
+    with Pane(program, example(program, "servant", work), work, ("80", "24")) as pane:
+        pane.wait_for("step 0")
+        for keys, pattern in (
+            (("help", "Enter"), r"\AForward:\n.*\n-- Enter shows more"),
+            (("Enter",), r"\n  break, b.*\n-- Enter shows more"),
+            (("q", "Enter"), r"q Enter ends --q\n\(m36\)\s*\Z"),
+        ):
+            pane.type(*keys)
+            text = pane.wait_for(f"(?s){pattern}", "")
+            if text is None:
+                yield f"after {keys} help has no {pattern}:\n{pane.text()}"
+                return
+
+
+CHECKS = (check_windows, check_wrapped)
+ON_TERMINAL = (check_keys, check_interrupted, check_help_pages)
 
 
 def check_debug_screen(program, work, show=print):

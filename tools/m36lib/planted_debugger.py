@@ -85,6 +85,7 @@ PLANTED = (
     fault("screen", "screen.py", "LINES_OF_PROMPT, LEAST_ROOM, LEAST_SOURCE, MOST_RULE = 2,",
           "LINES_OF_PROMPT, LEAST_ROOM, LEAST_SOURCE, MOST_RULE = 1,"),
     fault("screen", "screen.py", "if self.is_on else f\"*{text}\"", ""),
+    fault("screen", "terminal.py", "count = max(1, size.lines - 1)", "count = len(lines)"),
     fault("screen", "fitting.py", "room, parts = width - len(CUT_MARK), []",
           "room, parts = width, []"),
     fault("screen", "completion.py", "return [f\"{name}${label}\"", "return [f\"{name}|{label}\""),

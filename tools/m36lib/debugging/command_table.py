@@ -159,7 +159,7 @@ def overview():
         for each in group.commands:
             names = ", ".join((each.name, *each.others[:2]))
             form = f"{names} {each.form}".rstrip()
-            if len(form) > FORM_WIDTH:
+            if len(form) >= FORM_WIDTH:
                 lines.append(f"  {form}")
                 form = ""
             lines.append(f"  {form:{FORM_WIDTH}} {first_sentence(each.text)}")

@@ -7,6 +7,7 @@ import textwrap
 ESCAPE = re.compile(r"(\x1b\[[0-9;]*m)")
 CUT_MARK = ">"
 INDENT = "    "
+SECOND_COLUMN = re.compile(r" *(?:\S(?:[^ ]| (?! ))* {2,})?")
 
 
 def cut(line, width):
@@ -23,13 +24,22 @@ def cut(line, width):
     return "".join(parts) + CUT_MARK
 
 
-def wrapped(line, width):
-    """A line in several, parted between words; those after the first are indented."""
+def wrapped(line, width, column=None):
+    """A line in several, parted between words; those after the first begin at a column, or are
+    indented."""
     if len(line) <= width:
         return [line]
     indent = line[: len(line) - len(line.lstrip())]
-    return textwrap.wrap(line.strip(), width, initial_indent=indent,
-                         subsequent_indent=indent + INDENT, break_on_hyphens=False)
+    after = indent + INDENT if column is None else " " * column
+    return textwrap.wrap(line.strip(), width, initial_indent=indent, subsequent_indent=after,
+                         break_on_hyphens=False)
+
+
+def wrapped_row(line, width):
+    """A line in several; those after the first begin at its second column, if it has two and there
+    is room."""
+    column = SECOND_COLUMN.match(line).end()
+    return wrapped(line, width, column if column <= width // 2 else None)
 
 
 def heights(room, panes):

@@ -212,11 +212,14 @@ class Front(Looking):
     def do_help(self, rest):
         topics = {"places": places, "expressions": conditions, "conditions": conditions}
         if not rest:
-            self.write_all(command_table.overview())
+            self.show_help(command_table.overview())
         elif rest in topics:
-            self.write_all(topics[rest].__doc__.rstrip().splitlines())
+            self.show_help(topics[rest].__doc__.rstrip().splitlines())
         else:
-            self.write_all(command_table.described(command_table.find(rest)))
+            self.show_help(command_table.described(command_table.find(rest)))
+
+    def show_help(self, lines):
+        self.write_all(lines)
 
     def do_screen(self, rest):
         if rest not in ("on", "off"):

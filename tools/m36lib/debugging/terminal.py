@@ -2,9 +2,11 @@
 
 import os
 import pathlib
+import shutil
 import sys
 
 from . import command_table, completion
+from .fitting import wrapped_row
 from .front import Front
 from .screen import Paint, Screen, colours_wanted
 
@@ -14,6 +16,7 @@ except ImportError:
     readline = None
 
 PROMPT = "(m36) "
+MORE = "-- Enter shows more, q Enter ends --"
 MOST_HISTORY = 1_000
 FOLLOWED = ("examine", "list")
 
@@ -38,6 +41,25 @@ class TerminalFront(Front):
             self.write_all(self.drawn.lines())
         else:
             super().show_stop()
+
+    def show_help(self, lines):
+        """Shows lines wrapped to the window, as many at once as it has room for."""
+        size = shutil.get_terminal_size()
+        lines = [part for line in lines for part in wrapped_row(line, size.columns)]
+        count = max(1, size.lines - 1)
+        for first in range(0, len(lines), count):
+            if first and not is_to_go_on(self.session):
+                return
+            self.write_all(lines[first : first + count])
+
+
+def is_to_go_on(session):
+    """Waits for Enter. False where the user types q, Ctrl-C or the end of the input."""
+    session.interrupted = False
+    sys.stdout.write(MORE)
+    sys.stdout.flush()
+    typed = sys.stdin.readline()
+    return typed.strip() == "" != typed and not session.interrupted
 
 
 def repeated(line):
