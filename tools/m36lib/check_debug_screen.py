@@ -13,7 +13,8 @@ from .debugging.screen import Paint, Screen
 
 WAIT = 30
 SIZE = ("110", "50")
-WINDOWS = (("60", "20"), ("80", "24"), ("80", "40"), ("132", "30"), SIZE)
+SPARE = 1
+WINDOWS = (("60", "21"), ("80", "24"), ("80", "40"), ("132", "30"), SIZE)
 COLOURS = re.compile(r"\x1b\[[0-9;]*m")
 SERVANT_STEPS = 14
 # Steps of examples/servant, one after another, with the registers that each changes.
@@ -129,12 +130,12 @@ def check_interrupted(program, work):
             yield "Ctrl-D does not leave the debugger"
 
 
-def drawn(screen, size):
-    """The lines of a screen in a window of a size."""
+def drawn(screen, size, spare=0):
+    """The lines of a screen in a window of a size, with some lines left for others."""
     kept = {name: os.environ.get(name) for name in ("COLUMNS", "LINES")}
     os.environ.update(zip(kept, map(str, size)))
     try:
-        return screen.lines()
+        return screen.lines(spare)
     finally:
         for name, value in kept.items():
             os.environ.pop(name)
@@ -151,7 +152,8 @@ def check_windows(program, work):
                 screen = Screen(session, Paint(is_coloured))
                 for step in range(SERVANT_STEPS + 1):
                     session.go_to(step)
-                    for problem in unfit(session, drawn(screen, size), size):
+                    lines = drawn(screen, size, 0 if is_coloured else SPARE)
+                    for problem in unfit(session, lines, size, 0 if is_coloured else SPARE):
                         yield f"{size}, step {step}, colours {is_coloured}: {problem}"
         session.go_to(0)
         screen = Screen(session, Paint(False))
@@ -163,10 +165,10 @@ def check_windows(program, work):
                 yield f"step {step} marks {found}, not {changed}"
 
 
-def unfit(session, lines, size):
+def unfit(session, lines, size, spare):
     """What is wrong with the lines of a stop in a window."""
     plain = [COLOURS.sub("", line) for line in lines]
-    if len(plain) > int(size[1]) - 2:
+    if len(plain) > int(size[1]) - 2 - spare:
         yield f"{len(plain)} lines"
     if longest := [line for line in plain if len(line) > int(size[0])]:
         yield f"too long: {longest}"

@@ -1,5 +1,5 @@
-"""Fits lines to the window of a terminal: cut or wrapped to its width, and panes of as many lines as
-its height has room for."""
+"""Fits lines to the window of a terminal: lines are cut or wrapped to its width, and panes get as
+many lines as its height has room for."""
 
 import re
 import textwrap

@@ -59,11 +59,12 @@ class Screen:
         self.paint = paint
         self.before = session.registers
 
-    def lines(self):
-        """The lines of a stop, fitted to the window. In a small one what comes next and the source
-        are kept, and of the rest what there is room for."""
+    def lines(self, spare=0):
+        """The lines of a stop, fitted to the window; so many of its lines are left for others. In a
+        small one what comes next and the source are kept, and of the rest what there is room
+        for."""
         size = shutil.get_terminal_size((100, LEAST_HEIGHT))
-        width, room = size.columns, max(LEAST_ROOM, size.lines - LINES_OF_PROMPT)
+        width, room = size.columns, max(LEAST_ROOM, size.lines - LINES_OF_PROMPT - spare)
         panes = self.panes(width, max(5, (size.lines - 8) // SOURCE_SHARE))
         given = dict(zip(KEPT_FIRST, heights(room, [limits(name, panes[name], room)
                                                     for name in KEPT_FIRST])))

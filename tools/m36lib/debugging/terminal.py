@@ -38,7 +38,7 @@ class TerminalFront(Front):
 
     def show_stop(self):
         if self.is_on:
-            self.write_all(self.drawn.lines())
+            self.write_all(self.drawn.lines(len(self.displays)))
         else:
             super().show_stop()
 
