@@ -204,8 +204,8 @@ def check_numbers(program, work):
              "? there is no breakpoint or watchpoint 9", "? there is no breakpoint 9",
              "Breakpoint 4", "Breakpoint 4: gate_$fetch.|step 6",
              "no breakpoints and no watchpoints", "Breakpoint 5", "",
-             "The run ends after 14 steps: fault 20.3", "", "Breakpoint 5: gate_$fetch.|step 6", "step 0",
-             "The run ends after 14 steps: fault 20.3")
+             "The run ends after 14 steps: fault 20.3", "", "Breakpoint 5: gate_$fetch.|step 6",
+             "step 0", "The run ends after 14 steps: fault 20.3")
     with Session(program, str(example(program, "servant", work))) as session:
         yield from check_answers(session, tuple(zip(commands, parts)), True)
 
