@@ -5,7 +5,7 @@ import shutil
 from . import cases
 from .check_debug36 import example, found_by, run
 from .check_debug_words import check_answers
-from .debugging import Session
+from .debugging import Session, completion
 
 OPERATORS = "there are + - & | == != < <= > >= ! && ||"
 WATCHED = "words can, and a, q, x0 to x7, pr0 to pr7 and ind"
@@ -94,6 +94,30 @@ NUMBERS = (
 )
 
 
+# A line, the word at its end, and the words that it may become.
+COMPLETIONS = (
+    ("break main:5 if pr2", "pr2", ["pr2."]),
+    ("break main:5 if a == 1 && pr2.", "pr2.", ["pr2.bit", "pr2.ring", "pr2.segment", "pr2.word"]),
+    ("tbreak if ze", "ze", ["zero"]),
+    ("condition 1 !neg", "!neg", ["!negative"]),
+    ("condition 1 [gate_$", "[gate_$", ["[gate_$fetch", "[gate_$in"]),
+    ("print pr7.s", "pr7.s", ["pr7.segment"]),
+    ("print x1 + [gate_$f", "[gate_$f", ["[gate_$fetch"]),
+    ("display tal", "tal", ["tally"]),
+    ("break gate_$f", "gate_$f", ["gate_$fetch"]),
+    ("break zer", "zer", []),
+    ("info ", "", sorted(SUBJECTS.split(", "))),
+)
+
+
+def check_completions(program, work):
+    with Session(program, str(example(program, "servant", work))) as session:
+        for line, word, expected in COMPLETIONS:
+            found = completion.choices(session, line, word)
+            if found != expected:
+                yield f"completion of {line!r}: {found}, not {expected}"
+
+
 def check_tries(program, work, tries):
     with Session(program, str(example(program, "servant", work))) as session:
         session.go_to(6)
@@ -139,7 +163,7 @@ def check_beginning(program, work):
         yield f"a stale object: {err!r}"
 
 
-CHECKS = (check_mistakes, check_small, check_numbers, check_beginning)
+CHECKS = (check_completions, check_mistakes, check_small, check_numbers, check_beginning)
 
 
 def check_debug_mistakes(program, work, show=print):
@@ -147,6 +171,6 @@ def check_debug_mistakes(program, work, show=print):
     wrong = [line for check in CHECKS for line in found_by(check, program, work)]
     for line in wrong:
         show(line)
-    tries = len(MISTAKES) + len(SMALL) + len(NUMBERS)
+    tries = sum(map(len, (COMPLETIONS, MISTAKES, SMALL, NUMBERS)))
     show(f"debug mistakes: {tries} answers worked out by hand, {len(wrong)} things wrong")
     return len(wrong)

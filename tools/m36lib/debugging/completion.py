@@ -1,12 +1,19 @@
 """What can follow on a line that a user has begun: commands, places and registers."""
 
 from . import command_table
-from .looking import INFO
+from .conditions import INDICATORS
+from .looking import SUBJECTS
 
 REGISTERS = [f"x{number}" for number in range(8)] + [f"pr{number}" for number in range(8)]
 REGISTERS += ["a", "q", "ind"]
-OF_PLACES = {"break", "tbreak", "until", "list", "disassemble", "x", "print", "watch", "who"}
-OF_REGISTERS = {"print", "watch", "who"}
+PARTS = ("segment", "ring", "word", "bit")
+NAMES = [*INDICATORS, "ring", "segment", "word", "step", "a", "q",
+         *(f"x{number}" for number in range(8)), *(f"pr{number}." for number in range(8))]
+OF_CONDITIONS = {"break", "tbreak"}
+OF_PLACES = {"break", "tbreak", "until", "list", "disassemble", "x", "print", "watch", "who",
+             "display"}
+OF_REGISTERS = {"print", "watch", "who", "display"}
+OF_VALUES = {"print", "display"}
 OF_NUMBERS = {"delete", "enable", "disable", "condition"}
 
 
@@ -17,17 +24,19 @@ def choices(session, line, word):
         found = [name for each in command_table.COMMANDS
                  for name in (each.name, *each.others) if len(name) > 2 or name == word]
     else:
-        found = arguments(session, before[0], word)
+        found = arguments(session, before, word)
     return sorted({each for each in found if each.startswith(word)})
 
 
-def arguments(session, name, word):
-    """What may follow the name of a command."""
+def arguments(session, before, word):
+    """What may follow the words before, of which the first is the name of a command."""
     try:
-        command = command_table.find(name.partition("/")[0]).name
+        command = command_table.find(before[0].partition("/")[0]).name
     except command_table.Unknown:
         return []
-    found = []
+    if is_in_condition(command, before):
+        return values(session, word)
+    found = values(session, word) if command in OF_VALUES else []
     if command in OF_PLACES:
         found += places(session, word)
     if command in OF_REGISTERS:
@@ -35,10 +44,30 @@ def arguments(session, name, word):
     if command in OF_NUMBERS:
         found += [str(number) for number in (*session.breaks, *session.watches)]
     if command == "info":
-        found += [name for name in INFO if len(name) > 1]
+        found += SUBJECTS.split(", ")
     if command == "help":
         found += [each.name for each in command_table.COMMANDS] + ["places", "expressions"]
     return found
+
+
+def is_in_condition(command, before):
+    """The words before are a command with the beginning of a condition."""
+    return command in OF_CONDITIONS and "if" in before[1:3] or (
+        command == "condition" and len(before) > 1)
+
+
+def values(session, word):
+    """Registers and their parts, and places in brackets; what is before them in the word stays."""
+    name = word.lstrip("!($")
+    before = word[: len(word) - len(name)]
+    register, point, _ = name.partition(".")
+    if point:
+        found = [f"{register}.{part}" for part in PARTS]
+    elif name.startswith("["):
+        found = [f"[{each}" for each in places(session, name[1:])]
+    else:
+        found = NAMES
+    return [before + each for each in found]
 
 
 def places(session, word):
