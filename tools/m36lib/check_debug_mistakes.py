@@ -10,7 +10,7 @@ from .debugging import Session, completion
 OPERATORS = "there are + - & | == != < <= > >= ! && ||"
 WATCHED = "words can, and a, q, x0 to x7, pr0 to pr7 and ind"
 FORMS = "/o octal, /d decimal, /c characters"
-SUBJECTS = "breakpoints, registers, frame, rings, segments, source, console, display"
+SUBJECTS = "breakpoints, registers, frame, rings, segments, source, line, console, display"
 # Of examples/servant after six steps. A has the word 000100000004.
 MISTAKES = (
     ("watch x2 if x2 == 4", "? a watchpoint has no condition"),
@@ -58,6 +58,9 @@ SMALL = (
     ("step", "1: => gate_|1 200000235120 lda pr2|0,*|2: ring = 1 decimal"),
     ("info display", "1: => gate_|1 200000235120 lda pr2|0,*|2: ring = 1 decimal"),
     ("info regs a", "a = 000100000004"),
+    ("info source", "gate_.alm is the source of gate_, with 5 lines"),
+    ("info line", "gate_.alm:4 in: lda pr2|0,*"),
+    ("why", "7 steps have been taken."),
     ("console", "The console has written nothing so far."),
     ("x/2o secret|777777", "secret|777777 none|no segment has a word after 777777"),
     ("x", "? no segment has a word after 777777"),

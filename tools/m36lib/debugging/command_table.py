@@ -107,7 +107,7 @@ GROUPS = (
                 "start of the run.", "segments"),
         command("trace t", "[N]", "Shows the trace lines of the last N steps, or of ten.", "trace"),
         command("console", "", "Shows all that the console has written so far.", "console"),
-        command("info i", "breakpoints|registers|frame|rings|segments|source|console|display",
+        command("info i", "breakpoints|registers|frame|rings|segments|source|line|console|display",
                 "The same as `registers`, `backtrace` and so on; `info b` lists breakpoints.",
                 "info"),
     )),

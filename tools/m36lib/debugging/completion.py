@@ -7,7 +7,7 @@ from .looking import SUBJECTS
 REGISTERS = [f"x{number}" for number in range(8)] + [f"pr{number}" for number in range(8)]
 REGISTERS += ["a", "q", "ind"]
 PARTS = ("segment", "ring", "word", "bit")
-NAMES = [*INDICATORS, "ring", "segment", "word", "step", "a", "q",
+NAMES = [*INDICATORS, "ring", "segment", "word", "ic", "step", "a", "q",
          *(f"x{number}" for number in range(8)), *(f"pr{number}." for number in range(8))]
 OF_CONDITIONS = {"break", "tbreak"}
 OF_PLACES = {"break", "tbreak", "until", "list", "disassemble", "x", "print", "watch", "who",

@@ -31,10 +31,16 @@ INFO = {
     "breakpoints": "breakpoints", "b": "breakpoints", "watchpoints": "breakpoints",
     "registers": "registers", "r": "registers", "regs": "registers", "all-registers": "registers",
     "frame": "backtrace", "stack": "backtrace", "s": "backtrace",
-    "rings": "rings", "segments": "segments", "files": "segments", "source": "list",
-    "line": "here", "program": "why", "console": "console", "display": "display",
+    "rings": "rings", "segments": "segments", "files": "segments",
+    "source": "source", "line": "line", "program": "why", "console": "console",
+    "display": "display",
 }
-SUBJECTS = "breakpoints, registers, frame, rings, segments, source, console, display"
+INFO_LINES = {
+    "breakpoints": show.breakpoint_lines,
+    "source": show.source_facts,
+    "line": show.instruction_lines,
+}
+SUBJECTS = "breakpoints, registers, frame, rings, segments, source, line, console, display"
 
 
 class Looking(Listing):
@@ -53,7 +59,7 @@ class Looking(Listing):
     def do_why(self, rest):
         no_more(rest)
         stop = self.session.stop
-        self.write(stop.text or f"{self.session.step} steps have been taken, as was asked.")
+        self.write(stop.text or show.steps_text(self.session.step))
         account, trace = self.session.last_account()
         if account:
             self.write(trace)
@@ -221,7 +227,7 @@ class Looking(Listing):
         what = INFO.get(named)
         if what is None:
             raise Refused(f"there is no information about {rest}; there is about {SUBJECTS}")
-        if what == "breakpoints":
-            self.write_all(show.breakpoint_lines(self.session))
+        if what in INFO_LINES:
+            self.write_all(INFO_LINES[what](self.session))
         else:
             getattr(self, "do_" + what)("")

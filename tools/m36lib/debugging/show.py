@@ -48,6 +48,24 @@ def instruction_line(session, segment, word):
     return f"{session.world.names.word(segment, word)}  {text}"
 
 
+def source_facts(session):
+    """The file of the source that is executed, and how many lines it has."""
+    segment = session.registers.segment
+    name = session.world.names.segment(segment)
+    source = session.world.sources.of(segment)
+    if source is None:
+        return [f"there is no source of {name}"]
+    if source.problem:
+        return [f"{source.file} is not the source of {name}: {source.problem}"]
+    return [f"{source.file} is the source of {name}, with {last_line(source)} lines"]
+
+
+def steps_text(count):
+    if count == 1:
+        return "One step has been taken."
+    return f"{count} steps have been taken." if count else "No step has been taken."
+
+
 def plain_line(text):
     """A line of a source, fit to be shown."""
     return plain(text.expandtabs(8)).rstrip()
