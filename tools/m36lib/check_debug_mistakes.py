@@ -57,6 +57,8 @@ SMALL = (
     ("display/d ring", "2: ring = 1 decimal"),
     ("step", "1: => gate_|1 200000235120 lda pr2|0,*|2: ring = 1 decimal"),
     ("info display", "1: => gate_|1 200000235120 lda pr2|0,*|2: ring = 1 decimal"),
+    ("undisplay 1 9", "? there is no display 9"),
+    ("info display", "1: => gate_|1 200000235120 lda pr2|0,*|2: ring = 1 decimal"),
     ("info regs a", "a = 000100000004"),
     ("info source", "gate_.alm is the source of gate_, with 5 lines"),
     ("info line", "gate_.alm:4 in: lda pr2|0,*"),

@@ -185,9 +185,12 @@ class Looking(Listing):
         return line
 
     def do_undisplay(self, rest):
-        for number in numbers_in(rest) or list(self.displays):
-            if self.displays.pop(number, None) is None:
-                raise Refused(f"there is no display {number}")
+        numbers = set(numbers_in(rest)) or set(self.displays)
+        missing = numbers.difference(self.displays)
+        if missing:
+            raise Refused(f"there is no display {min(missing)}")
+        for number in numbers:
+            del self.displays[number]
 
     def show_displays(self):
         """Shows the values that are shown at each stop."""
