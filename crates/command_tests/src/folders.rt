@@ -49,15 +49,6 @@ segment >sss con_ con_ object rep 0 0 5
 start 4 main$start
 ";
 
-/// The folder of `HELLO`, in a core where each of its pages finds a frame.
-const WIDE: &[u8] = b"frames 400
-work >udd>demo
-library >sss
-segment >udd>demo main main object re 4 4 4
-segment >sss con_ con_ gate rep 0 0 5
-start 4 main$start
-";
-
 const FEW: &[u8] = b"frames 23
 work >udd>demo
 library >sss
@@ -148,7 +139,6 @@ fn command_comes_to(
 const BOOTS: &[(&[u8], &[u8], u8, &[u8])] = &[
     (HELLO, b"run", 0, b"audit yes\nhello\nend dis 13\n"),
     (HELLO, b"trace", 0, TRACE),
-    (WIDE, b"trace", 0, TRACE),
     (HELLO, b"audit", 0, b"audit yes\n"),
     (HELLO, b"run --steps 0", 7, b"audit yes\nend limit 0\n"),
     (

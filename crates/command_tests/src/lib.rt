@@ -19,5 +19,3 @@ mod reports;
 mod sessions;
 #[cfg(test)]
 mod word_lists;
-#[cfg(test)]
-mod worked;
