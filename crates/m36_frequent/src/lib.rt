@@ -9,9 +9,14 @@
 #![tactic(auto)]
 
 mod pairs;
+mod registers;
 mod shifts;
 mod words;
 
-pub use pairs::{read_pair, store_pair};
+pub use pairs::{read_pair, read_pair_with_overflow, store_pair};
+pub use registers::{accumulator, pair, quotient};
 pub use shifts::shift;
-pub use words::{change_word, load_address, read_word, store_half, store_word};
+pub use words::{
+    change_word, change_word_with_overflow, load_address, read_word, read_word_with_overflow,
+    store_half, store_word,
+};

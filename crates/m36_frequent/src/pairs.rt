@@ -2,7 +2,7 @@
 //!
 //! They take and give a pair in registers, as the frequent instructions on single words do.
 
-ghost use Rattle.std.specs.Prelude.{ℕ, ◌≡◌, ◌^◌, ◌<◌, false, [], Ok, IsTrue, IsFalse};
+ghost use Rattle.std.specs.Prelude.{ℕ, ◌≡◌, ◌^◌, ◌<◌, false, not, ◌&&◌, [], Ok, IsTrue, IsFalse, IfSome, IfNone};
 ghost use Rattle.m36_word.specs.Pairs.{number_of, pair_words};
 ghost use Rattle.m36_model.specs.Effect.{exec};
 ghost use Rattle.m36_model.specs.Fields.{FinalFields};
@@ -13,14 +13,14 @@ ghost use Rattle.m36_model.specs.Step.{no_operand};
 ghost use Rattle.m36_model.specs.Sums.{into_register};
 ghost use Rattle.m36_inst.specs.Quick.{group_of};
 ghost use Rattle.m36_inst.specs.declared.rows.Group.TheVariants as group;
-ghost use Rattle.m36_frequent.specs.Frequent.{IsDone, pair_read};
+ghost use Rattle.m36_frequent.specs.Frequent.{Gives, IsDone, pair_read};
 
-use crate::words::{faults, move_on, tell_comparison};
+use crate::registers::pair;
+use crate::words::{holds_back, move_on, tell_comparison};
 use m36_arith::{Sum72, add72, and72, cmp72, or72, sub72, xor72};
 use m36_inst::Effect;
 use m36_model::Regs;
 use m36_word::Pair;
-use m36_xdata::pair;
 
 /// The accumulator and the quotient register become a pair, whose words have 36 bits each.
 #[inline(always)]
@@ -85,24 +85,53 @@ fn sum_into_pair(s: &Sum72, regs: &mut Regs)
     move_on(regs);
 }
 
-/// The same, where no overflow is a fault.
+/// The same. The answer is whether it overflows. None, where `quiet` is on, says that this is a fault, and then nothing has
+/// changed.
 #[inline(always)]
-fn try_sum_pair(s: Sum72, regs: &mut Regs) -> bool
-    ensures done { IsTrue result → IsDone regs.new [] (into_register AQ s regs.old) }
-    ensures not { IsFalse result → regs.new ≡ regs.old }
+fn try_sum_pair(s: Sum72, quiet: bool, regs: &mut Regs) -> Option<bool>
+    ensures done { IfSome result (λ o. Ok (record { regs = regs.new; put = []; overflow = o })
+        ≡ into_register AQ s regs.old) }
+    ensures quiet { IfSome result (λ o. (quiet && (o && not regs.new.ind.mask)) ≡ false) }
+    ensures none { IfNone result (regs.new ≡ regs.old) }
+    ensures asked { IfNone result (IsTrue quiet) }
     ensures dbr { regs.new.dbr ≡ regs.old.dbr }
 {
-    if faults(s.overflow, regs) {
-        return false;
+    if holds_back(s.overflow, quiet, regs) {
+        return None;
     }
     sum_into_pair(&s, regs);
-    true
+    Some(s.overflow)
+}
+
+/// A frequent instruction that reads a pair, done in the registers. The answer is whether it overflows. None, where `quiet`
+/// is on, says that it gives an overflow fault, and then nothing has changed.
+#[inline(always)]
+#[tactic(auto, unfolding(m36_model::specs::Effect::exec, m36_model::specs::Sums::add, m36_model::specs::Sums::subtract, m36_model::specs::Compares::compare, m36_model::specs::Logic::and_register, m36_model::specs::Logic::or_register, m36_model::specs::Logic::xor_register, m36_model::specs::Loads::load))]
+fn try_read(effect: Effect, regs: &mut Regs, p: Pair, quiet: bool) -> Option<bool>
+    requires { group_of effect ≡ group.ReadPair }
+    ensures done { IfSome result (λ o. (n : ℕ)
+        → Gives effect n regs.old (pair_words p) regs.new [] o) }
+    ensures quiet { IfSome result (λ o. (quiet && (o && not regs.new.ind.mask)) ≡ false) }
+    ensures none { IfNone result (regs.new ≡ regs.old) }
+    ensures asked { IfNone result (IsTrue quiet) }
+    ensures dbr { regs.new.dbr ≡ regs.old.dbr }
+{
+    match effect {
+        Effect::Ldaq => load_pair(p, regs),
+        Effect::Adaq => return try_sum_pair(add72(pair(regs), p, false), quiet, regs),
+        Effect::Sbaq => return try_sum_pair(sub72(pair(regs), p, false), quiet, regs),
+        Effect::Cmpaq => tell_comparison(cmp72(pair(regs), p), regs),
+        Effect::Anaq => load_pair(and72(pair(regs), p), regs),
+        Effect::Oraq => load_pair(or72(pair(regs), p), regs),
+        Effect::Eraq => load_pair(xor72(pair(regs), p), regs),
+        _ => unreachable!(),
+    }
+    Some(false)
 }
 
 /// A frequent instruction that reads a pair, done in the registers. False says that it gives an overflow fault, and then
 /// nothing has changed. The first ring bracket of the pair's segment does not matter.
 #[inline(always)]
-#[tactic(auto, unfolding(m36_model::specs::Effect::exec, m36_model::specs::Sums::add, m36_model::specs::Sums::subtract, m36_model::specs::Compares::compare, m36_model::specs::Logic::and_register, m36_model::specs::Logic::or_register, m36_model::specs::Logic::xor_register, m36_model::specs::Loads::load))]
 pub fn read_pair(effect: Effect, regs: &mut Regs, p: Pair) -> bool
     requires { group_of effect ≡ group.ReadPair }
     ensures done { IsTrue result → (n : ℕ) (f : FinalFields) (ring : ℕ)
@@ -110,17 +139,22 @@ pub fn read_pair(effect: Effect, regs: &mut Regs, p: Pair) -> bool
     ensures not { IsFalse result → regs.new ≡ regs.old }
     ensures dbr { regs.new.dbr ≡ regs.old.dbr }
 {
-    match effect {
-        Effect::Ldaq => load_pair(p, regs),
-        Effect::Adaq => return try_sum_pair(add72(pair(regs), p, false), regs),
-        Effect::Sbaq => return try_sum_pair(sub72(pair(regs), p, false), regs),
-        Effect::Cmpaq => tell_comparison(cmp72(pair(regs), p), regs),
-        Effect::Anaq => load_pair(and72(pair(regs), p), regs),
-        Effect::Oraq => load_pair(or72(pair(regs), p), regs),
-        Effect::Eraq => load_pair(xor72(pair(regs), p), regs),
-        _ => unreachable!(),
+    match try_read(effect, regs, p, true) {
+        Some(_) => true,
+        None => false,
     }
-    true
+}
+
+/// The same instruction, also where it gives an overflow fault. The answer is whether it overflows.
+pub fn read_pair_with_overflow(effect: Effect, regs: &mut Regs, p: Pair) -> bool
+    requires { group_of effect ≡ group.ReadPair }
+    ensures value { (n : ℕ) → Gives effect n regs.old (pair_words p) regs.new [] result }
+    ensures dbr { regs.new.dbr ≡ regs.old.dbr }
+{
+    match try_read(effect, regs, p, false) {
+        Some(overflow) => overflow,
+        None => unreachable!(),
+    }
 }
 
 /// The pair that STAQ writes.

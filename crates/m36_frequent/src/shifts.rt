@@ -12,12 +12,12 @@ ghost use Rattle.m36_inst.specs.Quick.{group_of};
 ghost use Rattle.m36_inst.specs.declared.rows.Group.TheVariants as group;
 
 use crate::pairs::load_pair;
+use crate::registers::{accumulator, pair, quotient};
 use crate::words::{load_a, load_q};
 use m36_arith::{Shift, shift36, shift72};
 use m36_inst::Effect;
 use m36_model::{Final, Regs};
 use m36_word::{Pair, Word};
-use m36_xdata::{accumulator, pair, quotient, shift_count};
 
 /// A word shifted by a count.
 #[inline(always)]
@@ -37,6 +37,15 @@ fn moved_pair(op: Shift, p: Pair, n: u32) -> Pair
     ensures { number_of result ≡ shifted op 72 (number_of p) n }
 {
     shift72(op, p, n).value
+}
+
+/// By how many places: the computed address modulo 128.
+#[inline(always)]
+fn shift_count(f: &Final) -> u32
+    ensures value { result ≡ count_of f.now.at.word }
+    ensures bound { result < 128 }
+{
+    f.at.word % 128
 }
 
 /// Puts carry on or off.

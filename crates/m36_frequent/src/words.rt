@@ -13,13 +13,13 @@ ghost use Rattle.m36_model.specs.Step.{no_operand};
 ghost use Rattle.m36_model.specs.Sums.{into_register, into_operand};
 ghost use Rattle.m36_inst.specs.Quick.{group_of};
 ghost use Rattle.m36_inst.specs.declared.rows.Group.TheVariants as group;
-ghost use Rattle.m36_frequent.specs.Frequent.{IsDone, word_read};
+ghost use Rattle.m36_frequent.specs.Frequent.{Gives, IsDone, word_read};
 
+use crate::registers::{accumulator, quotient};
 use m36_arith::{Compare, Sum36, add36, and36, cmp36, or36, sub36, xor36};
 use m36_inst::Effect;
 use m36_model::{Final, Regs};
 use m36_word::{Field, Word};
-use m36_xdata::{accumulator, quotient};
 
 /// Moves on to the next instruction.
 #[inline(always)]
@@ -160,53 +160,61 @@ fn test_alone(w: Word, regs: &mut Regs)
     move_on(regs);
 }
 
-/// Whether an overflow is a fault: it is where the overflow mask is off.
+/// Whether an overflow is a fault that holds the effect back: it is a fault where the overflow mask is off.
 #[inline(always)]
-pub(crate) fn faults(overflow: bool, regs: &Regs) -> bool
-    ensures { result ≡ (overflow && not regs.now.ind.mask) }
+pub(crate) fn holds_back(overflow: bool, quiet: bool, regs: &Regs) -> bool
+    ensures { result ≡ (quiet && (overflow && not regs.now.ind.mask)) }
 {
     let ind = regs.ind;
-    overflow && !ind.mask
+    quiet && overflow && !ind.mask
 }
 
-/// The accumulator becomes a sum, where no overflow is a fault.
+/// The accumulator becomes a sum. The answer is whether it overflows. None, where `quiet` is on, says that this is a fault,
+/// and then nothing has changed.
 #[inline(always)]
-fn try_sum_a(s: Sum36, regs: &mut Regs) -> bool
-    ensures done { IsTrue result → IsDone regs.new [] (into_register A s regs.old) }
-    ensures not { IsFalse result → regs.new ≡ regs.old }
+fn try_sum_a(s: Sum36, quiet: bool, regs: &mut Regs) -> Option<bool>
+    ensures done { IfSome result (λ o. Ok (record { regs = regs.new; put = []; overflow = o })
+        ≡ into_register A s regs.old) }
+    ensures quiet { IfSome result (λ o. (quiet && (o && not regs.new.ind.mask)) ≡ false) }
+    ensures none { IfNone result (regs.new ≡ regs.old) }
+    ensures asked { IfNone result (IsTrue quiet) }
     ensures dbr { regs.new.dbr ≡ regs.old.dbr }
 {
-    if faults(s.overflow, regs) {
-        return false;
+    if holds_back(s.overflow, quiet, regs) {
+        return None;
     }
     sum_into_a(s, regs);
-    true
+    Some(s.overflow)
 }
 
-/// The quotient register becomes a sum, where no overflow is a fault.
+/// The same for the quotient register.
 #[inline(always)]
-fn try_sum_q(s: Sum36, regs: &mut Regs) -> bool
-    ensures done { IsTrue result → IsDone regs.new [] (into_register Q s regs.old) }
-    ensures not { IsFalse result → regs.new ≡ regs.old }
+fn try_sum_q(s: Sum36, quiet: bool, regs: &mut Regs) -> Option<bool>
+    ensures done { IfSome result (λ o. Ok (record { regs = regs.new; put = []; overflow = o })
+        ≡ into_register Q s regs.old) }
+    ensures quiet { IfSome result (λ o. (quiet && (o && not regs.new.ind.mask)) ≡ false) }
+    ensures none { IfNone result (regs.new ≡ regs.old) }
+    ensures asked { IfNone result (IsTrue quiet) }
     ensures dbr { regs.new.dbr ≡ regs.old.dbr }
 {
-    if faults(s.overflow, regs) {
-        return false;
+    if holds_back(s.overflow, quiet, regs) {
+        return None;
     }
     sum_into_q(s, regs);
-    true
+    Some(s.overflow)
 }
 
-/// A frequent instruction that reads a word, done in the registers. False says that it gives an overflow fault, and then
-/// nothing has changed.
+/// A frequent instruction that reads a word, done in the registers. The answer is whether it overflows. None, where `quiet`
+/// is on, says that it gives an overflow fault, and then nothing has changed.
 #[inline(always)]
 #[tactic(auto, unfolding(m36_model::specs::Effect::exec, m36_model::specs::Sums::add, m36_model::specs::Sums::subtract, m36_model::specs::Compares::compare, m36_model::specs::Logic::and_register, m36_model::specs::Logic::or_register, m36_model::specs::Logic::xor_register, m36_model::specs::Loads::load))]
-pub fn read_word(effect: Effect, reg: u8, regs: &mut Regs, w: Word) -> bool
+fn try_read(effect: Effect, reg: u8, regs: &mut Regs, w: Word, quiet: bool) -> Option<bool>
     requires group { group_of effect ≡ group.Read }
     requires reg { reg < 8 }
-    ensures done { IsTrue result → (f : FinalFields)
-        → IsDone regs.new [] (exec effect reg regs.old f (word_read w)) }
-    ensures not { IsFalse result → regs.new ≡ regs.old }
+    ensures done { IfSome result (λ o. Gives effect reg regs.old (w ∷ []) regs.new [] o) }
+    ensures quiet { IfSome result (λ o. (quiet && (o && not regs.new.ind.mask)) ≡ false) }
+    ensures none { IfNone result (regs.new ≡ regs.old) }
+    ensures asked { IfNone result (IsTrue quiet) }
     ensures dbr { regs.new.dbr ≡ regs.old.dbr }
 {
     match effect {
@@ -214,10 +222,10 @@ pub fn read_word(effect: Effect, reg: u8, regs: &mut Regs, w: Word) -> bool
         Effect::Ldq => load_q(w, regs),
         Effect::LdxN => load_index(reg, Field::<0, 18>::get(w) as u32, regs),
         Effect::LxlN => load_index(reg, Field::<18, 18>::get(w) as u32, regs),
-        Effect::Ada => return try_sum_a(add36(accumulator(regs), w, false), regs),
-        Effect::Adq => return try_sum_q(add36(quotient(regs), w, false), regs),
-        Effect::Sba => return try_sum_a(sub36(accumulator(regs), w, false), regs),
-        Effect::Sbq => return try_sum_q(sub36(quotient(regs), w, false), regs),
+        Effect::Ada => return try_sum_a(add36(accumulator(regs), w, false), quiet, regs),
+        Effect::Adq => return try_sum_q(add36(quotient(regs), w, false), quiet, regs),
+        Effect::Sba => return try_sum_a(sub36(accumulator(regs), w, false), quiet, regs),
+        Effect::Sbq => return try_sum_q(sub36(quotient(regs), w, false), quiet, regs),
         Effect::Cmpa => tell_comparison(cmp36(accumulator(regs), w), regs),
         Effect::Cmpq => tell_comparison(cmp36(quotient(regs), w), regs),
         Effect::Szn => test_alone(w, regs),
@@ -229,7 +237,37 @@ pub fn read_word(effect: Effect, reg: u8, regs: &mut Regs, w: Word) -> bool
         Effect::Erq => load_q(xor36(quotient(regs), w), regs),
         _ => unreachable!(),
     }
-    true
+    Some(false)
+}
+
+/// A frequent instruction that reads a word, done in the registers. False says that it gives an overflow fault, and then
+/// nothing has changed.
+#[inline(always)]
+pub fn read_word(effect: Effect, reg: u8, regs: &mut Regs, w: Word) -> bool
+    requires group { group_of effect ≡ group.Read }
+    requires reg { reg < 8 }
+    ensures done { IsTrue result → (f : FinalFields)
+        → IsDone regs.new [] (exec effect reg regs.old f (word_read w)) }
+    ensures not { IsFalse result → regs.new ≡ regs.old }
+    ensures dbr { regs.new.dbr ≡ regs.old.dbr }
+{
+    match try_read(effect, reg, regs, w, true) {
+        Some(_) => true,
+        None => false,
+    }
+}
+
+/// The same instruction, also where it gives an overflow fault. The answer is whether it overflows.
+pub fn read_word_with_overflow(effect: Effect, reg: u8, regs: &mut Regs, w: Word) -> bool
+    requires group { group_of effect ≡ group.Read }
+    requires reg { reg < 8 }
+    ensures value { Gives effect reg regs.old (w ∷ []) regs.new [] result }
+    ensures dbr { regs.new.dbr ≡ regs.old.dbr }
+{
+    match try_read(effect, reg, regs, w, false) {
+        Some(overflow) => overflow,
+        None => unreachable!(),
+    }
 }
 
 /// The word that a frequent store writes.
@@ -273,40 +311,64 @@ pub fn store_half(effect: Effect, reg: u8, regs: &mut Regs) -> Word
     Word::low(half as u64)
 }
 
-/// Sets the indicators by a sum that goes into the operand. The answer is the sum.
+/// Sets the indicators by a sum that goes into the operand.
 #[inline(always)]
 #[tactic(auto, unfolding(m36_model::specs::Sums::into_operand, m36_model::specs::Results::moved_on))]
-fn sum_into_word(s: Sum36, regs: &mut Regs) -> Word
+fn sum_into_word(s: Sum36, regs: &mut Regs)
     ensures dbr { regs.new.dbr ≡ regs.old.dbr }
-    ensures value { Ok (record { regs = regs.new; put = result ∷ []; overflow = s.overflow })
+    ensures value { Ok (record { regs = regs.new; put = s.value ∷ []; overflow = s.overflow })
         ≡ into_operand A s regs.old }
     ensures mask { regs.new.ind.mask ≡ regs.old.ind.mask }
 {
-    let value = s.value;
+    let _bits = s.value.value();
     tell_sum(s, regs);
     move_on(regs);
-    value
 }
 
-/// The same, where no overflow is a fault. None says that one is, and then nothing has changed.
+/// The same. None, where `quiet` is on, says that an overflow is a fault, and then nothing has changed.
 #[inline(always)]
 #[tactic(auto, unfolding(m36_model::specs::Sums::into_operand))]
-fn try_sum_word(s: Sum36, regs: &mut Regs) -> Option<Word>
-    ensures done { IfSome result (λ w. IsDone regs.new (w ∷ []) (into_operand A s regs.old)) }
-    ensures alike { IfSome result (λ w. IsDone regs.new (w ∷ []) (into_operand Q s regs.old)) }
+fn try_sum_word(s: Sum36, quiet: bool, regs: &mut Regs) -> Option<Sum36>
+    ensures done { IfSome result (λ t. Ok (record { regs = regs.new; put = t.value ∷ []; overflow = t.overflow })
+        ≡ into_operand A s regs.old) }
+    ensures alike { IfSome result (λ t. Ok (record { regs = regs.new; put = t.value ∷ []; overflow = t.overflow })
+        ≡ into_operand Q s regs.old) }
+    ensures quiet { IfSome result (λ t. (quiet && (t.overflow && not regs.new.ind.mask)) ≡ false) }
     ensures none { IfNone result (regs.new ≡ regs.old) }
+    ensures asked { IfNone result (IsTrue quiet) }
     ensures dbr { regs.new.dbr ≡ regs.old.dbr }
 {
-    if faults(s.overflow, regs) {
+    if holds_back(s.overflow, quiet, regs) {
         return None;
     }
-    Some(sum_into_word(s, regs))
+    sum_into_word(s, regs);
+    Some(s)
+}
+
+/// A frequent instruction that reads a word and writes it, done in the registers. The answer is the sum to write, with its
+/// overflow. None, where `quiet` is on, says that it gives an overflow fault, and then nothing has changed.
+#[inline(always)]
+#[tactic(auto, unfolding(m36_model::specs::Effect::exec, m36_model::specs::Sums::add_one_to_storage, m36_model::specs::Sums::add_to_storage))]
+fn try_change(effect: Effect, regs: &mut Regs, w: Word, quiet: bool) -> Option<Sum36>
+    requires { group_of effect ≡ group.Change }
+    ensures done { IfSome result (λ s. (n : ℕ)
+        → Gives effect n regs.old (w ∷ []) regs.new (s.value ∷ []) s.overflow) }
+    ensures quiet { IfSome result (λ s. (quiet && (s.overflow && not regs.new.ind.mask)) ≡ false) }
+    ensures none { IfNone result (regs.new ≡ regs.old) }
+    ensures asked { IfNone result (IsTrue quiet) }
+    ensures dbr { regs.new.dbr ≡ regs.old.dbr }
+{
+    match effect {
+        Effect::Aos => try_sum_word(add36(w, Word::low(1), false), quiet, regs),
+        Effect::Asa => try_sum_word(add36(accumulator(regs), w, false), quiet, regs),
+        Effect::Asq => try_sum_word(add36(quotient(regs), w, false), quiet, regs),
+        _ => unreachable!(),
+    }
 }
 
 /// A frequent instruction that reads a word and writes it, done in the registers. The answer is the word to write. None
 /// says that it gives an overflow fault, and then nothing has changed.
 #[inline(always)]
-#[tactic(auto, unfolding(m36_model::specs::Effect::exec, m36_model::specs::Sums::add_one_to_storage, m36_model::specs::Sums::add_to_storage))]
 pub fn change_word(effect: Effect, regs: &mut Regs, w: Word) -> Option<Word>
     requires { group_of effect ≡ group.Change }
     ensures done { IfSome result (λ v. (n : ℕ) (f : FinalFields)
@@ -314,11 +376,22 @@ pub fn change_word(effect: Effect, regs: &mut Regs, w: Word) -> Option<Word>
     ensures none { IfNone result (regs.new ≡ regs.old) }
     ensures dbr { regs.new.dbr ≡ regs.old.dbr }
 {
-    match effect {
-        Effect::Aos => try_sum_word(add36(w, Word::low(1), false), regs),
-        Effect::Asa => try_sum_word(add36(accumulator(regs), w, false), regs),
-        Effect::Asq => try_sum_word(add36(quotient(regs), w, false), regs),
-        _ => unreachable!(),
+    match try_change(effect, regs, w, true) {
+        Some(s) => Some(s.value),
+        None => None,
+    }
+}
+
+/// The same instruction, also where it gives an overflow fault. The answer is the sum to write, with its overflow.
+pub fn change_word_with_overflow(effect: Effect, regs: &mut Regs, w: Word) -> Sum36
+    requires { group_of effect ≡ group.Change }
+    ensures value { (n : ℕ)
+        → Gives effect n regs.old (w ∷ []) regs.new (result.value ∷ []) result.overflow }
+    ensures dbr { regs.new.dbr ≡ regs.old.dbr }
+{
+    match try_change(effect, regs, w, false) {
+        Some(s) => s,
+        None => unreachable!(),
     }
 }
 

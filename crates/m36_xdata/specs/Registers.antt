@@ -20,13 +20,6 @@ IsRegister register.Q = Unit {0}
 IsRegister register.Aq = Unit {0}
 IsRegister (register.X n) = n < 8
 
--- Words are shifted, and pairs; index registers are not.
-abbrev pub IsShifted : Register → Type 0
-IsShifted register.A = Unit {0}
-IsShifted register.Q = Unit {0}
-IsShifted register.Aq = Unit {0}
-IsShifted (register.X n) = ⊥
-
 -- the words that are read for an operand of a register's width, and those that hold such a number
 abbrev pub HoldsNumber : Register → Held → Type 0
 HoldsNumber register.A h = IsTrue (is_word h)

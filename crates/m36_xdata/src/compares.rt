@@ -3,7 +3,7 @@
 ghost use Rattle.std.specs.Prelude.{◌≡◌, IsTrue, length};
 ghost use Rattle.m36_model.specs.OperandHeld.{is_word};
 ghost use Rattle.m36_model.specs.Results.{operand, operand_fields, word};
-ghost use Rattle.m36_model.specs.Compares.{compare, test_word, test_and_clear, compare_masked};
+ghost use Rattle.m36_model.specs.Compares.{compare, test_and_clear, compare_masked};
 ghost use Rattle.m36_model.specs.Compares.{test_and, test_and_not};
 ghost use Rattle.m36_xdata.specs.Registers.{working, IsRegister, HoldsNumber};
 ghost use Rattle.m36_xdata.specs.Changes.{Gives, stored};
@@ -18,7 +18,7 @@ use crate::results::sets;
 use m36_model::{Operand36, Regs};
 use m36_word::Word;
 
-/// CMPA, CMPQ, CMPAQ, CMPX: register and operand are compared.
+/// CMPX: register and operand are compared.
 #[tactic(auto, unfolding(m36_model::specs::Compares::compare))]
 pub fn compare(r: Register, given: &Operand36, regs: &Regs) -> Change
     requires register { IsRegister r }
@@ -30,23 +30,6 @@ pub fn compare(r: Register, given: &Operand36, regs: &Regs) -> Change
     sets(
         compared(
             comparison(r, number_in(r, regs), number_got(r, given)),
-            indicators(regs),
-        ),
-        regs,
-    )
-}
-
-/// SZN: the word is tested.
-#[tactic(auto, unfolding(m36_model::specs::Compares::test_word))]
-pub fn test_word(given: &Operand36, regs: &Regs) -> Change
-    requires { IsTrue (is_word given.now.got) }
-    ensures value { Gives result regs.now (test_word (word (operand_fields given.now)) regs.now) }
-    ensures put { length (stored result.put) ≡ 0 }
-{
-    sets(
-        zn(
-            Register::A,
-            number_got(Register::A, given),
             indicators(regs),
         ),
         regs,

@@ -3,7 +3,6 @@
 ghost use Rattle.std.specs.Prelude.{◌≡◌, ◌||◌};
 ghost use Rattle.m36_model.specs.Results.{half, zn, zn_carry, zn_overflow, zn_carry_overflow};
 ghost use Rattle.m36_model.specs.Results.{compared, with_zero};
-ghost use Rattle.m36_model.specs.ShiftEffects.{with_carry};
 ghost use Rattle.m36_xdata.specs.Registers.{working};
 ghost use Rattle.m36_xdata.specs.Results.{sum_fields};
 
@@ -88,11 +87,4 @@ pub fn with_zero(zero: bool, ind: Ind) -> Ind
     ensures { result ≡ with_zero zero ind }
 {
     Ind { zero, ..ind }
-}
-
-/// Only carry.
-pub fn with_carry(carry: bool, ind: Ind) -> Ind
-    ensures { result ≡ with_carry carry ind }
-{
-    Ind { carry, ..ind }
 }

@@ -3,6 +3,9 @@
 ghost use Rattle.std.specs.Prelude.{◌≡◌, ◌<◌, IsTrue, IfOk};
 ghost use Rattle.m36_inst.specs.Groups.{is_data};
 ghost use Rattle.m36_inst.specs.Operands.{operand_of};
+ghost use Rattle.m36_inst.specs.Quick.{group_of};
+ghost use Rattle.m36_inst.specs.declared.rows.Group.TheVariants as group;
+ghost use Rattle.m36_model.specs.Fields.{FinalFields};
 ghost use Rattle.m36_model.specs.OperandHeld.{HoldsFor};
 ghost use Rattle.m36_model.specs.Results.{operand_fields, words_of_held};
 ghost use Rattle.m36_model.specs.Effect.{exec, answer_fields, refused_here};
@@ -12,60 +15,44 @@ ghost use Rattle.m36_model.specs.WordsPut.{PutsFor};
 
 use crate::apply::applied;
 use crate::changes::Change;
-use crate::compares::{compare, compare_masked, test_and, test_and_clear, test_and_not, test_word};
-use crate::loads::{
-    load, load_address_to_a, load_address_to_index, load_address_to_q, load_and_clear,
-    load_complement, load_indicators, load_lower,
-};
+use crate::compares::{compare, compare_masked, test_and, test_and_clear, test_and_not};
+use crate::loads::{load_and_clear, load_complement, load_indicators};
 use crate::logic::{and_register, and_storage, or_register, or_storage, xor_register, xor_storage};
 use crate::products::{divide, multiply};
 use crate::registers::Register;
-use crate::shifts::{rotate_left, shift_left, shift_right, shift_right_logical};
-use crate::stores::{store, store_indicators, store_where_equal, store_where_zero, store_zero};
+use crate::stores::{store_indicators, store_where_equal, store_where_zero};
 use crate::sums::{
-    add, add_logical, add_low, add_one_to_storage, add_to_storage, add_with_carry, negate,
-    subtract, subtract_logical, subtract_stored, subtract_with_carry,
+    add, add_logical, add_low, add_to_storage, add_with_carry, negate, subtract, subtract_logical,
+    subtract_stored, subtract_with_carry,
+};
+use m36_frequent::{
+    change_word_with_overflow, load_address, read_pair_with_overflow, read_word_with_overflow,
+    shift, store_half, store_pair, store_word,
 };
 use m36_inst::{Effect, Row};
 use m36_model::{Effect36, Fault, Final, Held, Operand36, Regs};
 
-/// The change of an instruction that is never refused.
+/// The change of an instruction that is not frequent and is never refused.
 #[tactic(auto, unfolding(m36_model::specs::Effect::exec))]
-fn changed_by(row: &Row, regs: &Regs, f: &Final, given: &Operand36) -> Change
+fn changed_by(row: &Row, regs: &Regs, given: &Operand36) -> Change
     requires data { IsTrue (is_data row.now.effect) }
+    requires rare { group_of row.now.effect ≡ group.Other }
     requires whole { IsTrue (is_never_refused row.now.effect) }
     requires reg { row.now.reg < 8 }
     requires got { HoldsFor (operand_of row.now.effect) given.now.got }
-    ensures value { Gives result regs.now
-        (exec row.now.effect row.now.reg regs.now f.now (operand_fields given.now)) }
+    ensures value { (f : FinalFields) → Gives result regs.now
+        (exec row.now.effect row.now.reg regs.now f (operand_fields given.now)) }
     ensures put { PutsFor (operand_of row.now.effect) (stored result.put) }
 {
     match row.effect {
-        Effect::Lda => load(Register::A, given, regs),
-        Effect::Ldq => load(Register::Q, given, regs),
-        Effect::Ldaq => load(Register::Aq, given, regs),
-        Effect::LdxN => load(Register::X(row.reg), given, regs),
-        Effect::LxlN => load_lower(row.reg, given, regs),
         Effect::Lca => load_complement(Register::A, given, regs),
         Effect::Lcq => load_complement(Register::Q, given, regs),
         Effect::Lcaq => load_complement(Register::Aq, given, regs),
         Effect::LcxN => load_complement(Register::X(row.reg), given, regs),
         Effect::Ldac => load_and_clear(Register::A, given, regs),
         Effect::Ldqc => load_and_clear(Register::Q, given, regs),
-        Effect::Eaa => load_address_to_a(f, regs),
-        Effect::Eaq => load_address_to_q(f, regs),
-        Effect::EaxN => load_address_to_index(row.reg, f, regs),
-        Effect::Sta => store(Register::A, regs),
-        Effect::Stq => store(Register::Q, regs),
-        Effect::Staq => store(Register::Aq, regs),
-        Effect::Stz => store_zero(regs),
-        Effect::StxN => store(Register::X(row.reg), regs),
-        Effect::SxlN => store(Register::X(row.reg), regs),
         Effect::Ldi => load_indicators(given, regs),
         Effect::Sti => store_indicators(regs),
-        Effect::Ada => add(Register::A, given, regs),
-        Effect::Adq => add(Register::Q, given, regs),
-        Effect::Adaq => add(Register::Aq, given, regs),
         Effect::AdxN => add(Register::X(row.reg), given, regs),
         Effect::Adl => add_low(given, regs),
         Effect::Adla => add_logical(Register::A, given, regs),
@@ -74,9 +61,6 @@ fn changed_by(row: &Row, regs: &Regs, f: &Final, given: &Operand36) -> Change
         Effect::AdlxN => add_logical(Register::X(row.reg), given, regs),
         Effect::Awca => add_with_carry(Register::A, given, regs),
         Effect::Awcq => add_with_carry(Register::Q, given, regs),
-        Effect::Sba => subtract(Register::A, given, regs),
-        Effect::Sbq => subtract(Register::Q, given, regs),
-        Effect::Sbaq => subtract(Register::Aq, given, regs),
         Effect::SbxN => subtract(Register::X(row.reg), given, regs),
         Effect::Sbla => subtract_logical(Register::A, given, regs),
         Effect::Sblq => subtract_logical(Register::Q, given, regs),
@@ -84,9 +68,6 @@ fn changed_by(row: &Row, regs: &Regs, f: &Final, given: &Operand36) -> Change
         Effect::SblxN => subtract_logical(Register::X(row.reg), given, regs),
         Effect::Swca => subtract_with_carry(Register::A, given, regs),
         Effect::Swcq => subtract_with_carry(Register::Q, given, regs),
-        Effect::Aos => add_one_to_storage(given, regs),
-        Effect::Asa => add_to_storage(Register::A, given, regs),
-        Effect::Asq => add_to_storage(Register::Q, given, regs),
         Effect::Ssa => subtract_stored(Register::A, given, regs),
         Effect::Ssq => subtract_stored(Register::Q, given, regs),
         Effect::AsxN => add_to_storage(Register::X(row.reg), given, regs),
@@ -94,11 +75,7 @@ fn changed_by(row: &Row, regs: &Regs, f: &Final, given: &Operand36) -> Change
         Effect::Neg => negate(Register::A, regs),
         Effect::Negl => negate(Register::Aq, regs),
         Effect::Mpy => multiply(given, regs),
-        Effect::Cmpa => compare(Register::A, given, regs),
-        Effect::Cmpq => compare(Register::Q, given, regs),
-        Effect::Cmpaq => compare(Register::Aq, given, regs),
         Effect::CmpxN => compare(Register::X(row.reg), given, regs),
-        Effect::Szn => test_word(given, regs),
         Effect::Sznc => test_and_clear(given, regs),
         Effect::Cmk => compare_masked(given, regs),
         Effect::Cana => test_and(Register::A, given, regs),
@@ -109,15 +86,6 @@ fn changed_by(row: &Row, regs: &Regs, f: &Final, given: &Operand36) -> Change
         Effect::Cnaq => test_and_not(Register::Q, given, regs),
         Effect::Cnaaq => test_and_not(Register::Aq, given, regs),
         Effect::CnaxN => test_and_not(Register::X(row.reg), given, regs),
-        Effect::Ana => and_register(Register::A, given, regs),
-        Effect::Anq => and_register(Register::Q, given, regs),
-        Effect::Ora => or_register(Register::A, given, regs),
-        Effect::Orq => or_register(Register::Q, given, regs),
-        Effect::Era => xor_register(Register::A, given, regs),
-        Effect::Erq => xor_register(Register::Q, given, regs),
-        Effect::Anaq => and_register(Register::Aq, given, regs),
-        Effect::Oraq => or_register(Register::Aq, given, regs),
-        Effect::Eraq => xor_register(Register::Aq, given, regs),
         Effect::AnxN => and_register(Register::X(row.reg), given, regs),
         Effect::OrxN => or_register(Register::X(row.reg), given, regs),
         Effect::ErxN => xor_register(Register::X(row.reg), given, regs),
@@ -130,18 +98,6 @@ fn changed_by(row: &Row, regs: &Regs, f: &Final, given: &Operand36) -> Change
         Effect::AnsxN => and_storage(Register::X(row.reg), given, regs),
         Effect::OrsxN => or_storage(Register::X(row.reg), given, regs),
         Effect::ErsxN => xor_storage(Register::X(row.reg), given, regs),
-        Effect::Als => shift_left(Register::A, f, regs),
-        Effect::Qls => shift_left(Register::Q, f, regs),
-        Effect::Lls => shift_left(Register::Aq, f, regs),
-        Effect::Ars => shift_right(Register::A, f, regs),
-        Effect::Qrs => shift_right(Register::Q, f, regs),
-        Effect::Lrs => shift_right(Register::Aq, f, regs),
-        Effect::Arl => shift_right_logical(Register::A, f, regs),
-        Effect::Qrl => shift_right_logical(Register::Q, f, regs),
-        Effect::Lrl => shift_right_logical(Register::Aq, f, regs),
-        Effect::Alr => rotate_left(Register::A, f, regs),
-        Effect::Qlr => rotate_left(Register::Q, f, regs),
-        Effect::Llr => rotate_left(Register::Aq, f, regs),
         Effect::Stac => store_where_zero(given, regs),
         Effect::Stacq => store_where_equal(given, regs),
         _ => unreachable!(),
@@ -171,13 +127,82 @@ pub fn exec_in_place(
     ensures put { IfOk result (λ o. PutsFor (operand_of row.now.effect) (words_of_held put.new)) }
     ensures dbr { regs.new.dbr ≡ regs.old.dbr }
 {
-    match row.effect {
+    let effect = row.effect;
+    match effect {
+        Effect::Lda
+        | Effect::Ldq
+        | Effect::LdxN
+        | Effect::LxlN
+        | Effect::Ada
+        | Effect::Adq
+        | Effect::Sba
+        | Effect::Sbq
+        | Effect::Cmpa
+        | Effect::Cmpq
+        | Effect::Szn
+        | Effect::Ana
+        | Effect::Anq
+        | Effect::Ora
+        | Effect::Orq
+        | Effect::Era
+        | Effect::Erq => {
+            *put = Held::Empty;
+            Ok(read_word_with_overflow(effect, row.reg, regs, operand.got.word()))
+        }
+        Effect::Ldaq
+        | Effect::Adaq
+        | Effect::Sbaq
+        | Effect::Cmpaq
+        | Effect::Anaq
+        | Effect::Oraq
+        | Effect::Eraq => {
+            *put = Held::Empty;
+            Ok(read_pair_with_overflow(effect, regs, operand.got.pair()))
+        }
+        Effect::Aos | Effect::Asa | Effect::Asq => {
+            let sum = change_word_with_overflow(effect, regs, operand.got.word());
+            *put = Held::One(sum.value);
+            Ok(sum.overflow)
+        }
+        Effect::Sta | Effect::Stq | Effect::Stz => {
+            *put = Held::One(store_word(effect, regs));
+            Ok(false)
+        }
+        Effect::StxN | Effect::SxlN => {
+            *put = Held::One(store_half(effect, row.reg, regs));
+            Ok(false)
+        }
+        Effect::Staq => {
+            *put = Held::Two(store_pair(effect, regs));
+            Ok(false)
+        }
+        Effect::Eaa | Effect::Eaq | Effect::EaxN => {
+            *put = Held::Empty;
+            load_address(effect, row.reg, regs, f);
+            Ok(false)
+        }
+        Effect::Als
+        | Effect::Qls
+        | Effect::Lls
+        | Effect::Ars
+        | Effect::Qrs
+        | Effect::Lrs
+        | Effect::Arl
+        | Effect::Qrl
+        | Effect::Lrl
+        | Effect::Alr
+        | Effect::Qlr
+        | Effect::Llr => {
+            *put = Held::Empty;
+            shift(effect, regs, f);
+            Ok(false)
+        }
         Effect::Div => match divide(operand, regs) {
             Ok(quotient) => Ok(applied(&quotient, regs, put)),
             Err(f) => Err(f),
         },
         _ => {
-            let whole = changed_by(row, regs, f, operand);
+            let whole = changed_by(row, regs, operand);
             Ok(applied(&whole, regs, put))
         }
     }

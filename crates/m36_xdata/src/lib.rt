@@ -4,7 +4,7 @@
 //! fault 14, divide check, where DIV is given 0 or its quotient does not fit. [`exec_in_place`] does the same in the
 //! registers as they are. The arithmetic is that of `m36_arith`.
 //!
-//! The frequent instructions have a quicker form in `m36_frequent`.
+//! The frequent instructions are done by `m36_frequent`, and the others here.
 //!
 //! Source: Multics Processor Manual AL39, "Fixed-point instructions" and "Boolean instructions".
 #![tactic(auto)]
@@ -22,10 +22,7 @@ mod operands;
 mod products;
 mod registers;
 mod results;
-mod shifts;
 mod stores;
 mod sums;
 
 pub use execute::{exec, exec_in_place};
-pub use registers::{accumulator, pair, quotient};
-pub use shifts::shift_count;

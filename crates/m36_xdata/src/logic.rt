@@ -1,4 +1,4 @@
-//! Boolean instructions on registers and on storage.
+//! Boolean instructions on index registers and on storage.
 
 ghost use Rattle.std.specs.Prelude.{◌≡◌, ◌*◌, ◌<◌, length};
 ghost use Rattle.m36_model.specs.Results.{half, operand, operand_fields};
@@ -15,7 +15,7 @@ use crate::registers::{Register, indicators, number_in};
 use crate::results::{puts, takes_tested};
 use m36_model::{Operand36, Regs};
 
-/// ANA, ANQ, ANAQ, ANX: the register becomes register and operand.
+/// ANX: the register becomes register and operand.
 #[tactic(auto, unfolding(m36_model::specs::Logic::and_register))]
 pub fn and_register(r: Register, given: &Operand36, regs: &Regs) -> Change
     requires register { IsRegister r }
@@ -27,7 +27,7 @@ pub fn and_register(r: Register, given: &Operand36, regs: &Regs) -> Change
     takes_tested(r, both(r, number_in(r, regs), number_got(r, given)), regs)
 }
 
-/// ORA, ORQ, ORAQ, ORX: the register becomes register or operand.
+/// ORX: the register becomes register or operand.
 #[tactic(auto, unfolding(m36_model::specs::Logic::or_register))]
 pub fn or_register(r: Register, given: &Operand36, regs: &Regs) -> Change
     requires register { IsRegister r }
@@ -39,7 +39,7 @@ pub fn or_register(r: Register, given: &Operand36, regs: &Regs) -> Change
     takes_tested(r, either(r, number_in(r, regs), number_got(r, given)), regs)
 }
 
-/// ERA, ERQ, ERAQ, ERX: the register becomes register exclusive or operand.
+/// ERX: the register becomes register exclusive or operand.
 #[tactic(auto, unfolding(m36_model::specs::Logic::xor_register))]
 pub fn xor_register(r: Register, given: &Operand36, regs: &Regs) -> Change
     requires register { IsRegister r }

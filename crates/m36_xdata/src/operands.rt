@@ -2,7 +2,7 @@
 
 ghost use Rattle.std.specs.Prelude.{◌≡◌, ◌*◌, ◌^◌, ◌<◌, IsTrue};
 ghost use Rattle.m36_model.specs.OperandHeld.{is_word, is_pair};
-ghost use Rattle.m36_model.specs.Results.{operand_fields, half, operand, words, word, pair, lower};
+ghost use Rattle.m36_model.specs.Results.{operand_fields, half, operand, words, word, pair};
 ghost use Rattle.m36_xdata.specs.Registers.{working, HoldsNumber, PutsNumber};
 ghost use Rattle.m36_xdata.specs.Changes.{stored};
 
@@ -26,15 +26,6 @@ fn pair_got(given: &Operand36) -> u128
     ensures bound { result < 2 ^ 72 }
 {
     given.got.pair().value()
-}
-
-/// Bits 18 to 35 of the word that was read.
-pub fn lower_got(given: &Operand36) -> u128
-    requires { IsTrue (is_word given.now.got) }
-    ensures value { result ≡ lower (operand_fields given.now) }
-    ensures bound { result < 2 ^ 18 }
-{
-    Field::<18, 18>::get(word_got(given)) as u128
 }
 
 /// The operand of a register: the word, the pair, or bits 0 to 17 of the word.

@@ -11,9 +11,10 @@ ghost use Rattle.m36_xdata.specs.Changes.{Gives, answer_changed, stored};
 use crate::changes::{Change, Stored, Taken};
 use crate::conditions::zn;
 use crate::operands::word_got;
-use crate::registers::{Register, indicators, quotient};
+use crate::registers::{Register, indicators};
 use crate::results::takes_tested;
 use m36_arith::{div, mul};
+use m36_frequent::quotient;
 use m36_model::{At, Fault, Operand36, Regs};
 use m36_word::Pair;
 

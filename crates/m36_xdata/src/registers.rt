@@ -1,11 +1,11 @@
 //! The registers that data instructions work on, as numbers of their widths.
 
 ghost use Rattle.std.specs.Prelude.{◌≡◌, ◌*◌, ◌^◌, ◌<◌};
-ghost use Rattle.m36_model.specs.Results.{aq_pair, half, value};
+ghost use Rattle.m36_model.specs.Results.{half, value};
 ghost use Rattle.m36_xdata.specs.Registers.{working, IsRegister};
 
+use m36_frequent::pair;
 use m36_model::{Ind, Regs};
-use m36_word::{Pair, Word};
 
 /// A register: the accumulator, the quotient register, both as one number of 72 bits, or an index register.
 #[derive(Clone, Copy)]
@@ -22,33 +22,6 @@ pub fn indicators(regs: &Regs) -> Ind
     ensures { result ≡ regs.now.ind }
 {
     regs.ind
-}
-
-/// The accumulator.
-#[inline(always)]
-pub fn accumulator(regs: &Regs) -> Word
-    ensures { result ≡ regs.now.a }
-{
-    regs.a
-}
-
-/// The quotient register.
-#[inline(always)]
-pub fn quotient(regs: &Regs) -> Word
-    ensures { result ≡ regs.now.q }
-{
-    regs.q
-}
-
-/// The accumulator and the quotient register, as a pair.
-#[inline(always)]
-pub fn pair(regs: &Regs) -> Pair
-    ensures { result ≡ aq_pair regs.now }
-{
-    Pair {
-        even: regs.a,
-        odd: regs.q,
-    }
 }
 
 /// The number in a register.

@@ -1,50 +1,21 @@
-//! Stores.
+//! Stores that are not among the frequent instructions.
 
 ghost use Rattle.std.specs.Prelude.{◌≡◌, ◌*◌, ◌^◌, ◌<◌, ◌==◌, IsTrue, length, if◌then◌else◌};
 ghost use Rattle.m36_word.specs.Bits.{of_bit};
 ghost use Rattle.m36_model.specs.OperandHeld.{is_word};
 ghost use Rattle.m36_model.specs.Results.{operand_fields, word};
-ghost use Rattle.m36_model.specs.Stores.{store, store_zero, indicators_half, store_indicators};
+ghost use Rattle.m36_model.specs.Stores.{indicators_half, store_indicators};
 ghost use Rattle.m36_model.specs.Stores.{store_where_zero, store_where_equal};
-ghost use Rattle.m36_xdata.specs.Registers.{working, IsRegister, PutsNumber};
 ghost use Rattle.m36_model.specs.WordsPut.{IsHalf};
 ghost use Rattle.m36_xdata.specs.Changes.{Gives, stored};
 
 use crate::changes::{Change, Stored, Taken};
 use crate::conditions::with_zero;
-use crate::operands::{held, word_got};
-use crate::registers::{Register, accumulator, indicators, number_in, quotient};
+use crate::operands::word_got;
+use crate::registers::indicators;
+use m36_frequent::{accumulator, quotient};
 use m36_model::{Ind, Operand36, Regs};
 use m36_word::Word;
-
-/// STA, STQ, STAQ, STX, SXL: the operand becomes the register.
-#[tactic(auto, unfolding(m36_model::specs::Stores::store))]
-pub fn store(r: Register, regs: &Regs) -> Change
-    requires { IsRegister r }
-    ensures value { Gives result regs.now (store (working r) regs.now) }
-    ensures put { PutsNumber r (stored result.put) }
-{
-    Change {
-        taken: Taken::Nothing,
-        put: held(r, number_in(r, regs)),
-        ind: indicators(regs),
-        overflow: false,
-    }
-}
-
-/// STZ: the word becomes 0.
-#[tactic(auto, unfolding(m36_model::specs::Stores::store_zero))]
-pub fn store_zero(regs: &Regs) -> Change
-    ensures value { Gives result regs.now (store_zero regs.now) }
-    ensures put { length (stored result.put) ≡ 1 }
-{
-    Change {
-        taken: Taken::Nothing,
-        put: Stored::One(Word::ZERO),
-        ind: indicators(regs),
-        overflow: false,
-    }
-}
 
 fn bit(on: bool, place: u32) -> u64
     requires { place < 18 }

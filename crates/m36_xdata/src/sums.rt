@@ -1,11 +1,11 @@
-//! Additions, subtractions and negations.
+//! Additions, subtractions and negations that are not among the frequent instructions.
 
 ghost use Rattle.std.specs.Prelude.{◌≡◌, ◌*◌, ◌^◌, ◌<◌, IsTrue, length, not};
 ghost use Rattle.m36_model.specs.OperandHeld.{is_word};
 ghost use Rattle.m36_model.specs.Results.{AQ, half, operand, operand_fields, word};
 ghost use Rattle.m36_model.specs.Sums.{into_register, into_register_logical, into_operand, add};
 ghost use Rattle.m36_model.specs.Sums.{add_logical, add_with_carry, sign_extended, subtract};
-ghost use Rattle.m36_model.specs.Sums.{subtract_logical, subtract_with_carry, add_one_to_storage};
+ghost use Rattle.m36_model.specs.Sums.{subtract_logical, subtract_with_carry};
 ghost use Rattle.m36_model.specs.Sums.{add_to_storage, subtract_stored, negate};
 ghost use Rattle.m36_xdata.specs.Registers.{working, IsRegister, HoldsNumber, PutsNumber};
 ghost use Rattle.m36_xdata.specs.Results.{sum_fields};
@@ -78,7 +78,7 @@ fn add_number(r: Register, v: u128, regs: &Regs) -> Change
     into_register(r, sum(r, number_in(r, regs), v, false), regs)
 }
 
-/// ADA, ADQ, ADAQ, ADX: register plus operand.
+/// ADX: register plus operand.
 pub fn add(r: Register, given: &Operand36, regs: &Regs) -> Change
     requires register { IsRegister r }
     requires got { HoldsNumber r given.now.got }
@@ -144,7 +144,7 @@ pub fn add_with_carry(r: Register, given: &Operand36, regs: &Regs) -> Change
     )
 }
 
-/// SBA, SBQ, SBAQ, SBX: register minus operand.
+/// SBX: register minus operand.
 #[tactic(auto, unfolding(m36_model::specs::Sums::subtract))]
 pub fn subtract(r: Register, given: &Operand36, regs: &Regs) -> Change
     requires register { IsRegister r }
@@ -193,22 +193,7 @@ pub fn subtract_with_carry(r: Register, given: &Operand36, regs: &Regs) -> Chang
     )
 }
 
-/// AOS: the word becomes itself plus 1.
-#[tactic(auto, unfolding(m36_model::specs::Sums::add_one_to_storage))]
-pub fn add_one_to_storage(given: &Operand36, regs: &Regs) -> Change
-    requires { IsTrue (is_word given.now.got) }
-    ensures value { Gives result regs.now
-        (add_one_to_storage (word (operand_fields given.now)) regs.now) }
-    ensures put { length (stored result.put) ≡ 1 }
-{
-    into_operand(
-        Register::A,
-        sum(Register::A, number_got(Register::A, given), 1, false),
-        regs,
-    )
-}
-
-/// ASA, ASQ, ASX: the operand becomes register plus operand.
+/// ASX: the operand becomes register plus operand.
 #[tactic(auto, unfolding(m36_model::specs::Sums::add_to_storage))]
 pub fn add_to_storage(r: Register, given: &Operand36, regs: &Regs) -> Change
     requires register { IsRegister r }

@@ -1,0 +1,34 @@
+//! The registers that data instructions work on.
+
+ghost use Rattle.std.specs.Prelude.{◌≡◌};
+ghost use Rattle.m36_model.specs.Results.{aq_pair};
+
+use m36_model::Regs;
+use m36_word::{Pair, Word};
+
+/// The accumulator.
+#[inline(always)]
+pub fn accumulator(regs: &Regs) -> Word
+    ensures { result ≡ regs.now.a }
+{
+    regs.a
+}
+
+/// The quotient register.
+#[inline(always)]
+pub fn quotient(regs: &Regs) -> Word
+    ensures { result ≡ regs.now.q }
+{
+    regs.q
+}
+
+/// The accumulator and the quotient register, as a pair.
+#[inline(always)]
+pub fn pair(regs: &Regs) -> Pair
+    ensures { result ≡ aq_pair regs.now }
+{
+    Pair {
+        even: regs.a,
+        odd: regs.q,
+    }
+}
