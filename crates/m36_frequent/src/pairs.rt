@@ -2,7 +2,8 @@
 //!
 //! They take and give a pair in registers, as the frequent instructions on single words do.
 
-ghost use Rattle.std.specs.Prelude.{ℕ, ◌≡◌, ◌^◌, ◌<◌, false, not, ◌&&◌, [], Ok, IsTrue, IsFalse, IfSome, IfNone};
+ghost use Rattle.std.specs.Prelude.{ℕ, ◌≡◌, ◌^◌, ◌<◌, false, not, ◌&&◌, [], Ok};
+ghost use Rattle.std.specs.Prelude.{IsTrue, IsFalse, IfSome, IfNone};
 ghost use Rattle.m36_word.specs.Pairs.{number_of, pair_words};
 ghost use Rattle.m36_model.specs.Effect.{exec};
 ghost use Rattle.m36_model.specs.Fields.{FinalFields};
@@ -16,7 +17,8 @@ ghost use Rattle.m36_inst.specs.declared.rows.Group.TheVariants as group;
 ghost use Rattle.m36_frequent.specs.Frequent.{Gives, IsDone, pair_read};
 
 use crate::registers::pair;
-use crate::words::{holds_back, move_on, tell_comparison};
+use crate::sums::holds_back;
+use crate::words::{move_on, tell_comparison};
 use m36_arith::{Sum72, add72, and72, cmp72, or72, sub72, xor72};
 use m36_inst::Effect;
 use m36_model::Regs;
@@ -71,23 +73,10 @@ fn tell_sum(s: &Sum72, regs: &mut Regs)
     regs.ind.overflow = before || s.overflow;
 }
 
-/// The accumulator and the quotient register become a sum.
+/// The accumulator and the quotient register become a sum. The answer is whether it overflows. None,
+/// where `quiet` is on, says that this is a fault, and then nothing has changed.
 #[inline(always)]
 #[tactic(auto, unfolding(m36_model::specs::Sums::into_register, m36_model::specs::Results::with_value, m36_model::specs::Results::moved_on))]
-fn sum_into_pair(s: &Sum72, regs: &mut Regs)
-    ensures dbr { regs.new.dbr ≡ regs.old.dbr }
-    ensures value { Ok (record { regs = regs.new; put = []; overflow = s.now.overflow })
-        ≡ into_register AQ s.now regs.old }
-    ensures mask { regs.new.ind.mask ≡ regs.old.ind.mask }
-{
-    take_pair(&s.value, regs);
-    tell_sum(s, regs);
-    move_on(regs);
-}
-
-/// The same. The answer is whether it overflows. None, where `quiet` is on, says that this is a fault, and then nothing has
-/// changed.
-#[inline(always)]
 fn try_sum_pair(s: Sum72, quiet: bool, regs: &mut Regs) -> Option<bool>
     ensures done { IfSome result (λ o. Ok (record { regs = regs.new; put = []; overflow = o })
         ≡ into_register AQ s regs.old) }
@@ -99,12 +88,15 @@ fn try_sum_pair(s: Sum72, quiet: bool, regs: &mut Regs) -> Option<bool>
     if holds_back(s.overflow, quiet, regs) {
         return None;
     }
-    sum_into_pair(&s, regs);
+    take_pair(&s.value, regs);
+    tell_sum(&s, regs);
+    move_on(regs);
     Some(s.overflow)
 }
 
-/// A frequent instruction that reads a pair, done in the registers. The answer is whether it overflows. None, where `quiet`
-/// is on, says that it gives an overflow fault, and then nothing has changed.
+/// A frequent instruction that reads a pair, done in the registers. The answer is whether it
+/// overflows. None, where `quiet` is on, says that it gives an overflow fault, and then nothing has
+/// changed.
 #[inline(always)]
 #[tactic(auto, unfolding(m36_model::specs::Effect::exec, m36_model::specs::Sums::add, m36_model::specs::Sums::subtract, m36_model::specs::Compares::compare, m36_model::specs::Logic::and_register, m36_model::specs::Logic::or_register, m36_model::specs::Logic::xor_register, m36_model::specs::Loads::load))]
 fn try_read(effect: Effect, regs: &mut Regs, p: Pair, quiet: bool) -> Option<bool>
@@ -129,8 +121,9 @@ fn try_read(effect: Effect, regs: &mut Regs, p: Pair, quiet: bool) -> Option<boo
     Some(false)
 }
 
-/// A frequent instruction that reads a pair, done in the registers. False says that it gives an overflow fault, and then
-/// nothing has changed. The first ring bracket of the pair's segment does not matter.
+/// A frequent instruction that reads a pair, done in the registers. False says that it gives an
+/// overflow fault, and then nothing has changed. The first ring bracket of the pair's segment does
+/// not matter.
 #[inline(always)]
 pub fn read_pair(effect: Effect, regs: &mut Regs, p: Pair) -> bool
     requires { group_of effect ≡ group.ReadPair }

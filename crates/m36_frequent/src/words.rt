@@ -1,21 +1,24 @@
 //! Frequent instructions on single words, done in the registers field by field.
 //!
-//! They take and give words in registers. What may give an overflow fault asks first, and then nothing has changed.
+//! They take and give words in registers. What may give an overflow fault has two forms: for a quick
+//! step one that asks first and then changes nothing, and for the general step one that completes
+//! and answers the overflow.
 
-ghost use Rattle.std.specs.Prelude.{ℕ, ◌≡◌, ◌^◌, ◌<◌, false, not, ◌&&◌, ◌⊎◌, [], ◌∷◌, Ok, IsTrue, IsFalse, IfSome, IfNone};
+ghost use Rattle.std.specs.Prelude.{ℕ, ◌≡◌, ◌^◌, ◌<◌, false, not, ◌&&◌, ◌⊎◌, [], ◌∷◌, Ok};
+ghost use Rattle.std.specs.Prelude.{IsTrue, IsFalse, IfSome, IfNone};
 ghost use Rattle.m36_model.specs.Compares.{test_word};
 ghost use Rattle.m36_model.specs.Effect.{exec};
 ghost use Rattle.m36_model.specs.Fields.{FinalFields};
 ghost use Rattle.m36_model.specs.Loads.{load};
 ghost use Rattle.m36_model.specs.Results.{A, Q, X, completes};
-ghost use Rattle.m36_model.specs.Results.{moved_on, with_indicators, tested, zn_carry_overflow, compared};
+ghost use Rattle.m36_model.specs.Results.{moved_on, with_indicators, tested, compared};
 ghost use Rattle.m36_model.specs.Step.{no_operand};
-ghost use Rattle.m36_model.specs.Sums.{into_register, into_operand};
 ghost use Rattle.m36_inst.specs.Quick.{group_of};
 ghost use Rattle.m36_inst.specs.declared.rows.Group.TheVariants as group;
 ghost use Rattle.m36_frequent.specs.Frequent.{Gives, IsDone, word_read};
 
 use crate::registers::{accumulator, quotient};
+use crate::sums::{try_sum_a, try_sum_q, try_sum_word};
 use m36_arith::{Compare, Sum36, add36, and36, cmp36, or36, sub36, xor36};
 use m36_inst::Effect;
 use m36_model::{Final, Regs};
@@ -91,49 +94,6 @@ fn load_index(n: u8, v: u32, regs: &mut Regs)
     move_on(regs);
 }
 
-/// Sets zero, negative and carry by a sum, and puts overflow on where it overflows.
-#[inline(always)]
-#[tactic(auto, unfolding(m36_model::specs::Results::zn_carry_overflow))]
-fn tell_sum(s: Sum36, regs: &mut Regs)
-    ensures value { regs.new ≡ with_indicators (zn_carry_overflow s regs.old.ind) regs.old }
-    ensures mask { regs.new.ind.mask ≡ regs.old.ind.mask }
-{
-    regs.ind.zero = s.zero;
-    regs.ind.negative = s.negative;
-    regs.ind.carry = s.carry;
-    if s.overflow {
-        regs.ind.overflow = true;
-    }
-}
-
-/// The accumulator becomes a sum.
-#[inline(always)]
-#[tactic(auto, unfolding(m36_model::specs::Sums::into_register, m36_model::specs::Results::with_value, m36_model::specs::Results::moved_on))]
-fn sum_into_a(s: Sum36, regs: &mut Regs)
-    ensures dbr { regs.new.dbr ≡ regs.old.dbr }
-    ensures value { Ok (record { regs = regs.new; put = []; overflow = s.overflow })
-        ≡ into_register A s regs.old }
-    ensures mask { regs.new.ind.mask ≡ regs.old.ind.mask }
-{
-    regs.a = s.value;
-    tell_sum(s, regs);
-    move_on(regs);
-}
-
-/// The quotient register becomes a sum.
-#[inline(always)]
-#[tactic(auto, unfolding(m36_model::specs::Sums::into_register, m36_model::specs::Results::with_value, m36_model::specs::Results::moved_on))]
-fn sum_into_q(s: Sum36, regs: &mut Regs)
-    ensures dbr { regs.new.dbr ≡ regs.old.dbr }
-    ensures value { Ok (record { regs = regs.new; put = []; overflow = s.overflow })
-        ≡ into_register Q s regs.old }
-    ensures mask { regs.new.ind.mask ≡ regs.old.ind.mask }
-{
-    regs.q = s.value;
-    tell_sum(s, regs);
-    move_on(regs);
-}
-
 /// Sets zero, negative and carry by a comparison.
 #[inline(always)]
 #[tactic(auto, unfolding(m36_model::specs::Results::compared))]
@@ -160,52 +120,9 @@ fn test_alone(w: Word, regs: &mut Regs)
     move_on(regs);
 }
 
-/// Whether an overflow is a fault that holds the effect back: it is a fault where the overflow mask is off.
-#[inline(always)]
-pub(crate) fn holds_back(overflow: bool, quiet: bool, regs: &Regs) -> bool
-    ensures { result ≡ (quiet && (overflow && not regs.now.ind.mask)) }
-{
-    let ind = regs.ind;
-    quiet && overflow && !ind.mask
-}
-
-/// The accumulator becomes a sum. The answer is whether it overflows. None, where `quiet` is on, says that this is a fault,
-/// and then nothing has changed.
-#[inline(always)]
-fn try_sum_a(s: Sum36, quiet: bool, regs: &mut Regs) -> Option<bool>
-    ensures done { IfSome result (λ o. Ok (record { regs = regs.new; put = []; overflow = o })
-        ≡ into_register A s regs.old) }
-    ensures quiet { IfSome result (λ o. (quiet && (o && not regs.new.ind.mask)) ≡ false) }
-    ensures none { IfNone result (regs.new ≡ regs.old) }
-    ensures asked { IfNone result (IsTrue quiet) }
-    ensures dbr { regs.new.dbr ≡ regs.old.dbr }
-{
-    if holds_back(s.overflow, quiet, regs) {
-        return None;
-    }
-    sum_into_a(s, regs);
-    Some(s.overflow)
-}
-
-/// The same for the quotient register.
-#[inline(always)]
-fn try_sum_q(s: Sum36, quiet: bool, regs: &mut Regs) -> Option<bool>
-    ensures done { IfSome result (λ o. Ok (record { regs = regs.new; put = []; overflow = o })
-        ≡ into_register Q s regs.old) }
-    ensures quiet { IfSome result (λ o. (quiet && (o && not regs.new.ind.mask)) ≡ false) }
-    ensures none { IfNone result (regs.new ≡ regs.old) }
-    ensures asked { IfNone result (IsTrue quiet) }
-    ensures dbr { regs.new.dbr ≡ regs.old.dbr }
-{
-    if holds_back(s.overflow, quiet, regs) {
-        return None;
-    }
-    sum_into_q(s, regs);
-    Some(s.overflow)
-}
-
-/// A frequent instruction that reads a word, done in the registers. The answer is whether it overflows. None, where `quiet`
-/// is on, says that it gives an overflow fault, and then nothing has changed.
+/// A frequent instruction that reads a word, done in the registers. The answer is whether it
+/// overflows. None, where `quiet` is on, says that it gives an overflow fault, and then nothing has
+/// changed.
 #[inline(always)]
 #[tactic(auto, unfolding(m36_model::specs::Effect::exec, m36_model::specs::Sums::add, m36_model::specs::Sums::subtract, m36_model::specs::Compares::compare, m36_model::specs::Logic::and_register, m36_model::specs::Logic::or_register, m36_model::specs::Logic::xor_register, m36_model::specs::Loads::load))]
 fn try_read(effect: Effect, reg: u8, regs: &mut Regs, w: Word, quiet: bool) -> Option<bool>
@@ -240,8 +157,8 @@ fn try_read(effect: Effect, reg: u8, regs: &mut Regs, w: Word, quiet: bool) -> O
     Some(false)
 }
 
-/// A frequent instruction that reads a word, done in the registers. False says that it gives an overflow fault, and then
-/// nothing has changed.
+/// A frequent instruction that reads a word, done in the registers. False says that it gives an
+/// overflow fault, and then nothing has changed.
 #[inline(always)]
 pub fn read_word(effect: Effect, reg: u8, regs: &mut Regs, w: Word) -> bool
     requires group { group_of effect ≡ group.Read }
@@ -311,42 +228,9 @@ pub fn store_half(effect: Effect, reg: u8, regs: &mut Regs) -> Word
     Word::low(half as u64)
 }
 
-/// Sets the indicators by a sum that goes into the operand.
-#[inline(always)]
-#[tactic(auto, unfolding(m36_model::specs::Sums::into_operand, m36_model::specs::Results::moved_on))]
-fn sum_into_word(s: Sum36, regs: &mut Regs)
-    ensures dbr { regs.new.dbr ≡ regs.old.dbr }
-    ensures value { Ok (record { regs = regs.new; put = s.value ∷ []; overflow = s.overflow })
-        ≡ into_operand A s regs.old }
-    ensures mask { regs.new.ind.mask ≡ regs.old.ind.mask }
-{
-    let _bits = s.value.value();
-    tell_sum(s, regs);
-    move_on(regs);
-}
-
-/// The same. None, where `quiet` is on, says that an overflow is a fault, and then nothing has changed.
-#[inline(always)]
-#[tactic(auto, unfolding(m36_model::specs::Sums::into_operand))]
-fn try_sum_word(s: Sum36, quiet: bool, regs: &mut Regs) -> Option<Sum36>
-    ensures done { IfSome result (λ t. Ok (record { regs = regs.new; put = t.value ∷ []; overflow = t.overflow })
-        ≡ into_operand A s regs.old) }
-    ensures alike { IfSome result (λ t. Ok (record { regs = regs.new; put = t.value ∷ []; overflow = t.overflow })
-        ≡ into_operand Q s regs.old) }
-    ensures quiet { IfSome result (λ t. (quiet && (t.overflow && not regs.new.ind.mask)) ≡ false) }
-    ensures none { IfNone result (regs.new ≡ regs.old) }
-    ensures asked { IfNone result (IsTrue quiet) }
-    ensures dbr { regs.new.dbr ≡ regs.old.dbr }
-{
-    if holds_back(s.overflow, quiet, regs) {
-        return None;
-    }
-    sum_into_word(s, regs);
-    Some(s)
-}
-
-/// A frequent instruction that reads a word and writes it, done in the registers. The answer is the sum to write, with its
-/// overflow. None, where `quiet` is on, says that it gives an overflow fault, and then nothing has changed.
+/// A frequent instruction that reads a word and writes it, done in the registers. The answer is the
+/// sum to write, with its overflow. None, where `quiet` is on, says that it gives an overflow fault,
+/// and then nothing has changed.
 #[inline(always)]
 #[tactic(auto, unfolding(m36_model::specs::Effect::exec, m36_model::specs::Sums::add_one_to_storage, m36_model::specs::Sums::add_to_storage))]
 fn try_change(effect: Effect, regs: &mut Regs, w: Word, quiet: bool) -> Option<Sum36>
@@ -366,8 +250,8 @@ fn try_change(effect: Effect, regs: &mut Regs, w: Word, quiet: bool) -> Option<S
     }
 }
 
-/// A frequent instruction that reads a word and writes it, done in the registers. The answer is the word to write. None
-/// says that it gives an overflow fault, and then nothing has changed.
+/// A frequent instruction that reads a word and writes it, done in the registers. The answer is the
+/// word to write. None says that it gives an overflow fault, and then nothing has changed.
 #[inline(always)]
 pub fn change_word(effect: Effect, regs: &mut Regs, w: Word) -> Option<Word>
     requires { group_of effect ≡ group.Change }
@@ -382,7 +266,8 @@ pub fn change_word(effect: Effect, regs: &mut Regs, w: Word) -> Option<Word>
     }
 }
 
-/// The same instruction, also where it gives an overflow fault. The answer is the sum to write, with its overflow.
+/// The same instruction, also where it gives an overflow fault. The answer is the sum to write, with
+/// its overflow.
 pub fn change_word_with_overflow(effect: Effect, regs: &mut Regs, w: Word) -> Sum36
     requires { group_of effect ≡ group.Change }
     ensures value { (n : ℕ)
