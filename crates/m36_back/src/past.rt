@@ -78,7 +78,7 @@ fn count(taken: u64, turn: &Turn) -> u64
 
 impl<M: Replay + Drop> Stepper for Past<M> {
     ghost use Rattle.m36_back.specs.History.{standing_at, PastTurns, PastWent};
-    ghost use Rattle.m36_back.specs.PastLaws.{past_stays, past_apart};
+    ghost use Rattle.m36_back.specs.PastLaws.{past_stays, past_apart, past_interrupted};
 
     ghost next = { λ before turn later. PastTurns M.answer M.after before turn later };
 
@@ -139,4 +139,8 @@ impl<M: Replay + Drop> Stepper for Past<M> {
     ghost stays = { past_stays };
 
     ghost apart = { past_apart M.answer M.after M.kept };
+
+    ghost interrupted = { past_interrupted M.answer M.after M.kept
+        (λ state. M.interrupted state (M.after state) (M.after (M.after state)) (M.answer state)
+        (M.answer (M.after state)) (M.possible state) (M.possible (M.after state))) };
 }

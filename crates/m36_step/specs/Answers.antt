@@ -1,6 +1,9 @@
 -- Kinds of answers of a turn and of going back.
-use Rattle.std.specs.Prelude.{◌≡◌, Bool, true, false, T}
-use Rattle.m36_model.specs.declared.outcome.Outcome.TheVariants.{Next}
+use Rattle.std.specs.Prelude.{◌≡◌, Bool, true, false, T, Result, Ok, Err}
+use Rattle.m36_word.specs.declared.pair.Pair.{Pair}
+use Rattle.m36_model.specs.declared.endings.LinkCode.{LinkCode}
+use Rattle.m36_model.specs.declared.outcome.Outcome.{Outcome}
+use Rattle.m36_model.specs.declared.outcome.Outcome.TheVariants.{Next, Faulted, Stopped}
 use Rattle.m36_step.specs.declared.turns.Turn.{Turn}
 use Rattle.m36_step.specs.declared.turns.Turn.TheVariants.{Stepped, Linked, Console, Ended, Full}
 use Rattle.m36_step.specs.declared.turns.Turn.TheVariants.{NoMemory}
@@ -36,6 +39,35 @@ IsOn (Console text) = ⊥
 IsOn (Ended end) = ⊥
 IsOn Full = ⊥
 IsOn NoMemory = ⊥
+
+-- a step
+abbrev pub IsStep : Turn → Type 0
+IsStep (Stepped told) = Unit {0}
+IsStep (Linked note) = ⊥
+IsStep (Console text) = ⊥
+IsStep (Ended end) = ⊥
+IsStep Full = ⊥
+IsStep NoMemory = ⊥
+
+abbrev pub IsNotNext : Outcome → Type 0
+IsNotNext Next = ⊥
+IsNotNext (Faulted fault) = Unit {0}
+IsNotNext (Stopped stop) = Unit {0}
+
+-- the answer of a link service that refused the link
+abbrev pub IsRefused : Result Pair LinkCode → Type 0
+IsRefused (Ok pair) = ⊥
+IsRefused (Err code) = Unit {0}
+
+-- a step whose outcome is not Next, or a link service that refused the link: the turn after it is
+-- not a step
+abbrev pub Interrupts : Turn → Type 0
+Interrupts (Stepped told) = IsNotNext told.outcome
+Interrupts (Linked note) = IsRefused note.answer
+Interrupts (Console text) = ⊥
+Interrupts (Ended end) = ⊥
+Interrupts Full = ⊥
+Interrupts NoMemory = ⊥
 
 -- it answers that it cannot go back, and is as before
 abbrev pub IsUnable : {S : Type 0} → S → BackAnswer → S → Type 0

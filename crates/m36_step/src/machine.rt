@@ -310,7 +310,8 @@ impl Machine {
 impl Stepper for Machine {
     ghost use Rattle.m36_model.specs.Core.{core_store};
     ghost use Rattle.m36_model.specs.Sight.{content};
-    ghost use Rattle.m36_step.specs.MachineTurn.{MachineTurns, MachineWent, machine_stays, machine_apart};
+    ghost use Rattle.m36_step.specs.MachineTurn.{MachineTurns, MachineWent};
+    ghost use Rattle.m36_step.specs.MachineTurn.{machine_stays, machine_apart, machine_interrupted};
 
     ghost next = { λ before turn later. MachineTurns before turn later };
 
@@ -350,10 +351,12 @@ impl Stepper for Machine {
     ghost stays = { machine_stays };
 
     ghost apart = { machine_apart };
+
+    ghost interrupted = { machine_interrupted };
 }
 
 impl Replay for Machine {
-    ghost use Rattle.m36_step.specs.MachineTurn.{machine_turn, machine_after, machine_kept};
+    ghost use Rattle.m36_step.specs.MachineTurn.{machine_turn, machine_after, machine_possible, machine_kept};
 
     ghost answer = { machine_turn };
 
@@ -375,6 +378,8 @@ impl Replay for Machine {
     }
 
     ghost turns = { λ before turn later h. h };
+
+    ghost possible = { machine_possible };
 
     ghost kept = { machine_kept };
 }

@@ -1,7 +1,7 @@
 //! Machines that are stepped.
 
 ghost use Rattle.std.specs.Prelude.{ℕ, ◌≡◌, ◌<◌, ◌≤◌, ◌^◌, ◌⊎◌, Option, IfOk};
-ghost use Rattle.m36_step.specs.Answers.{IsDone, IsService, IsStepOrEnd};
+ghost use Rattle.m36_step.specs.Answers.{Interrupts, IsDone, IsService, IsStep, IsStepOrEnd};
 
 use crate::turns::{BackAnswer, Turn};
 use m36_model::Regs;
@@ -62,6 +62,11 @@ pub trait Stepper {
     /// A service is not followed by another.
     ghost apart: { (first second third : Self) (one two : Turn)
         → next first one second → next second two third → IsService one → IsService two → ⊥ };
+
+    /// The turn after a step whose outcome is not Next is not a step. Nor is the turn after a
+    /// refused link.
+    ghost interrupted: { (first second third : Self) (one two : Turn)
+        → next first one second → next second two third → Interrupts one → IsStep two → ⊥ };
 }
 
 /// A machine whose turns are a function of its state, and of which there may be a second one.
@@ -94,6 +99,9 @@ pub trait Replay: Stepper {
     /// Each turn is that of its state.
     ghost turns: { (before : Self) (turn : Turn) (later : Self)
         → Self.next before turn later → (turn ≡ answer before) × (later ≡ after before) };
+
+    /// The turn of a state is one that the machine may take from it.
+    ghost possible: { (state : Self) → Self.next state (answer state) (after state) };
 
     /// A turn is a step, or an end with which nothing changes.
     ghost kept: { (state : Self) → IsStepOrEnd (after state ≡ state) (answer state) };

@@ -1,5 +1,6 @@
 -- The turns of a booted system are those of its booted run, and its catalog and files stay.
-use Rattle.std.specs.Prelude.{◌≡◌, ℕ, ◌⊎◌, Bool, true, false, Option}
+use Rattle.std.specs.Prelude.{◌≡◌, ℕ, ◌⊎◌, Bool, true, false, Option, nat_eq, ◌&&◌}
+use Rattle.m36_model.specs.Faults.{master_mode_entry, fault_tag_2}
 use Rattle.m36_model.specs.Core.{core_store}
 use Rattle.m36_model.specs.Flat.{flat_store}
 use Rattle.m36_model.specs.Residence.{flat_of}
@@ -8,17 +9,21 @@ use Rattle.std.specs.Prelude.{List, Result, Ok, Err}
 use Rattle.std.proofs.Common.{inr, sym, subst}
 use Rattle.m36_model.specs.Fields.{AtFields}
 use Rattle.m36_model.specs.declared.outcome.Fault.{Fault}
+use Rattle.m36_model.specs.declared.outcome.Outcome.{Outcome}
+use Rattle.m36_model.specs.declared.outcome.Outcome.TheVariants.{Next, Faulted, Stopped}
 use Rattle.m36_link.specs.Fields.{SnapFields}
 use Rattle.m36_link.specs.Snap.{RefusedFields}
-use Rattle.m36_step.specs.Answers.{IsDone, IsService, IsUnable}
+use Rattle.m36_step.specs.Answers.{IsDone, IsService, IsStep, IsNotNext, IsUnable, Interrupts}
 use Rattle.m36_step.specs.declared.turns.Turn.{Turn}
 use Rattle.m36_step.specs.declared.turns.Turn.TheVariants.{Stepped, Linked, Console, Ended, Full}
 use Rattle.m36_step.specs.declared.turns.Turn.TheVariants.{NoMemory}
 use Rattle.m36_step.specs.declared.turns.BackAnswer.{BackAnswer}
-use Rattle.m36_super.specs.Coming.{Coming, Step, Link, Print, Over}
+use Rattle.m36_super.specs.Coming.{Coming, Step, Link, Print, Over, loaded_after}
+use Rattle.m36_super.specs.Coming.{coming_in, coming_on, coming_after}
 use Rattle.m36_super.specs.Library.{Library}
 use Rattle.m36_super.specs.BootedRun.{Booted, IsStepTurn, IsLinkTurn, IsConsoleTurn, IsTurnBy}
-use Rattle.m36_super.specs.BootedRun.{IsTurn}
+use Rattle.m36_super.specs.BootedRun.{IsTurn, Takes, told_of}
+use Rattle.m36_isol.specs.PageServices.{PagedState}
 use Rattle.m36_super.specs.SuperFields.{SuperFields, booted_of}
 
 abbrev pub SuperTurns : SuperFields → Turn → SuperFields → Type 0
@@ -113,3 +118,128 @@ super_apart first second third one two h k service other =
     no_service second.coming second.lib (booted_of second) two (booted_of third) k.0
     (after_service first.coming first.lib (booted_of first) one (booted_of second) h.0 service)
     other
+
+-- ---- a turn that interrupts is not followed by a step
+
+-- the next turn is not a step
+abbrev pub IsHeld : Coming → Type 0
+IsHeld Step = ⊥
+IsHeld (Link at) = Unit {0}
+IsHeld Print = Unit {0}
+IsHeld (Over e) = Unit {0}
+
+held_in : (link console : Bool) (f : Fault) → IsHeld (coming_in link console f)
+held_in true console f = tt
+held_in false true f = tt
+held_in false false f = tt
+
+held_on : (loaded : Bool) (ring : ℕ) (f : Fault) → IsHeld (coming_on loaded ring f)
+held_on true ring f = tt
+held_on false ring f =
+    held_in (nat_eq f.number fault_tag_2) (nat_eq f.number master_mode_entry && nat_eq ring 0) f
+
+held_after :
+    (loaded : Bool) (ring : ℕ) (outcome : Outcome)
+    → IsNotNext outcome → IsHeld (coming_after loaded ring outcome)
+held_after loaded ring Next not = absurd not
+held_after loaded ring (Faulted f) not = held_on loaded ring f
+held_after loaded ring (Stopped s) not = tt
+
+takes_held :
+    (s : PagedState) (before : Booted) (turn : Turn) (after : Booted)
+    → Takes s before turn after → Interrupts turn → IsHeld after.coming
+takes_held s before turn after h interrupts =
+    subst (λ (r : Booted). IsHeld r.coming) (sym h.after_is)
+    (held_after (loaded_after before.loaded (told_of s)) (told_of s).ppr.prr (told_of s).outcome
+    (subst Interrupts h.told interrupts))
+
+step_held :
+    (loaded : Bool) (frames : ℕ) (before : Booted) (turn : Turn) (after : Booted)
+    → IsStepTurn loaded frames before turn after → Interrupts turn → IsHeld after.coming
+step_held false frames before turn after h interrupts =
+    takes_held h.last before turn after h.takes interrupts
+step_held true frames before turn after h interrupts =
+    takes_held before.state before turn after h interrupts
+
+link_held :
+    (answer : Result SnapFields RefusedFields) (frames : ℕ) (at : AtFields) (before : Booted)
+    (turn : Turn) (after : Booted)
+    → IsLinkTurn answer frames at before turn after → Interrupts turn → IsHeld after.coming
+link_held (Ok s) frames at before (Linked note) after h interrupts =
+    absurd (subst Interrupts h.told interrupts)
+link_held (Ok s) frames at before (Stepped told) after h interrupts =
+    absurd (subst Interrupts h.told interrupts)
+link_held (Ok s) frames at before (Console text) after h interrupts = absurd interrupts
+link_held (Ok s) frames at before (Ended e) after h interrupts = absurd interrupts
+link_held (Ok s) frames at before Full after h interrupts = absurd interrupts
+link_held (Ok s) frames at before NoMemory after h interrupts = absurd interrupts
+link_held (Err why) frames at before (Linked note) after h interrupts =
+    subst (λ (r : Booted). IsHeld r.coming) (sym h.1) tt
+link_held (Err why) frames at before (Stepped told) after h interrupts =
+    subst (λ (r : Booted). IsHeld r.coming) (sym h.1) tt
+link_held (Err why) frames at before (Console text) after h interrupts = absurd interrupts
+link_held (Err why) frames at before (Ended e) after h interrupts = absurd interrupts
+link_held (Err why) frames at before Full after h interrupts = absurd interrupts
+link_held (Err why) frames at before NoMemory after h interrupts = absurd interrupts
+
+console_no_interrupt :
+    (b : Bool) (text : Result (List ℕ) Fault) (before : Booted) (turn : Turn) (after : Booted)
+    → IsConsoleTurn b text before turn after → Interrupts turn → ⊥
+console_no_interrupt true text before turn after h interrupts = subst Interrupts h.0 interrupts
+console_no_interrupt false (Err f) before turn after h interrupts = subst Interrupts h.0 interrupts
+console_no_interrupt false (Ok text) before turn after h interrupts =
+    subst Interrupts h.0 interrupts
+
+after_interrupt :
+    (coming : Coming) (lib : Library) (before : Booted) (turn : Turn) (after : Booted)
+    → IsTurnBy coming lib before turn after → Interrupts turn → IsHeld after.coming
+after_interrupt Step lib before turn after h interrupts =
+    step_held before.loaded lib.catalog.frames before turn after h interrupts
+after_interrupt (Link at) lib before turn after h interrupts =
+    link_held _ lib.catalog.frames at before turn after h interrupts
+after_interrupt Print lib before turn after h interrupts =
+    absurd (console_no_interrupt _ _ before turn after h interrupts)
+after_interrupt (Over e) lib before turn after h interrupts =
+    absurd (subst Interrupts h.0 interrupts)
+
+link_no_step :
+    (answer : Result SnapFields RefusedFields) (frames : ℕ) (at : AtFields) (before : Booted)
+    (turn : Turn) (after : Booted)
+    → IsLinkTurn answer frames at before turn after → IsStep turn → ⊥
+link_no_step (Ok s) frames at before (Stepped told) after h step = subst IsStep h.told step
+link_no_step (Ok s) frames at before (Linked note) after h step = step
+link_no_step (Ok s) frames at before (Console text) after h step = step
+link_no_step (Ok s) frames at before (Ended e) after h step = step
+link_no_step (Ok s) frames at before Full after h step = step
+link_no_step (Ok s) frames at before NoMemory after h step = step
+link_no_step (Err why) frames at before (Stepped told) after h step = subst IsStep h.0 step
+link_no_step (Err why) frames at before (Linked note) after h step = step
+link_no_step (Err why) frames at before (Console text) after h step = step
+link_no_step (Err why) frames at before (Ended e) after h step = step
+link_no_step (Err why) frames at before Full after h step = step
+link_no_step (Err why) frames at before NoMemory after h step = step
+
+console_no_step :
+    (b : Bool) (text : Result (List ℕ) Fault) (before : Booted) (turn : Turn) (after : Booted)
+    → IsConsoleTurn b text before turn after → IsStep turn → ⊥
+console_no_step true text before turn after h step = subst IsStep h.0 step
+console_no_step false (Err f) before turn after h step = subst IsStep h.0 step
+console_no_step false (Ok text) before turn after h step = subst IsStep h.0 step
+
+no_step :
+    (coming : Coming) (lib : Library) (before : Booted) (turn : Turn) (after : Booted)
+    → IsTurnBy coming lib before turn after → IsHeld coming → IsStep turn → ⊥
+no_step Step lib before turn after h held step = held
+no_step (Link at) lib before turn after h held step =
+    link_no_step _ lib.catalog.frames at before turn after h step
+no_step Print lib before turn after h held step = console_no_step _ _ before turn after h step
+no_step (Over e) lib before turn after h held step = subst IsStep h.0 step
+
+pub super_interrupted :
+    (first second third : SuperFields) (one two : Turn)
+    → SuperTurns first one second → SuperTurns second two third → Interrupts one → IsStep two → ⊥
+unfolding IsTurn
+super_interrupted first second third one two h k interrupts step =
+    no_step second.coming second.lib (booted_of second) two (booted_of third) k.0
+    (after_interrupt first.coming first.lib (booted_of first) one (booted_of second) h.0 interrupts)
+    step

@@ -217,7 +217,8 @@ impl Super {
 }
 
 impl Stepper for Super {
-    ghost use Rattle.m36_super.specs.SuperTurn.{SuperTurns, SuperWent, super_content, super_stays, super_apart};
+    ghost use Rattle.m36_super.specs.SuperTurn.{SuperTurns, SuperWent, super_content};
+    ghost use Rattle.m36_super.specs.SuperTurn.{super_stays, super_apart, super_interrupted};
 
     ghost next = { λ before turn later. SuperTurns before turn later };
 
@@ -261,4 +262,6 @@ impl Stepper for Super {
     ghost stays = { super_stays };
 
     ghost apart = { super_apart };
+
+    ghost interrupted = { super_interrupted };
 }

@@ -24,7 +24,8 @@ impl<'a> Model for Counted<'a> {
 impl Stepper for Counted<'_> {
     ghost use Rattle.m36_model.specs.Core.{core_store};
     ghost use Rattle.m36_model.specs.Sight.{content};
-    ghost use Rattle.m36_step.specs.MachineTurn.{MachineTurns, MachineWent, machine_stays, machine_apart};
+    ghost use Rattle.m36_step.specs.MachineTurn.{MachineTurns, MachineWent};
+    ghost use Rattle.m36_step.specs.MachineTurn.{machine_stays, machine_apart, machine_interrupted};
 
     ghost next = { λ before turn later. MachineTurns before turn later };
 
@@ -54,10 +55,12 @@ impl Stepper for Counted<'_> {
     ghost stays = { machine_stays };
 
     ghost apart = { machine_apart };
+
+    ghost interrupted = { machine_interrupted };
 }
 
 impl Replay for Counted<'_> {
-    ghost use Rattle.m36_step.specs.MachineTurn.{machine_turn, machine_after, machine_kept};
+    ghost use Rattle.m36_step.specs.MachineTurn.{machine_turn, machine_after, machine_possible, machine_kept};
 
     ghost answer = { machine_turn };
 
@@ -71,6 +74,8 @@ impl Replay for Counted<'_> {
     }
 
     ghost turns = { λ before turn later h. h };
+
+    ghost possible = { machine_possible };
 
     ghost kept = { machine_kept };
 }
