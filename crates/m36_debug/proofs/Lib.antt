@@ -1,6 +1,7 @@
 pub mod PutLaws
 pub mod PartLaws
 pub mod TurnLaws
+pub mod LimitLaws
 pub mod LinesLaws
 pub mod AnswerLaws
 pub mod QuitLaws

@@ -1,5 +1,5 @@
 -- Laws of pieces of input that are answered line by line.
-use Rattle.std.proofs.Common.{◌≡◌, ◌+◌, ◌<◌, ℕ, List, [], ◌∷◌, ◌++◌, length, sym, subst, arith}
+use Rattle.std.proofs.Common.{◌≡◌, ◌<◌, ℕ, List, [], ◌∷◌, ◌++◌, length, sym, subst, arith}
 use Rattle.m36_outside.specs.declared.sink.Put.TheVariants.{Done}
 use Rattle.m36_outside.specs.SinkState.{SinkState}
 use Rattle.m36_text.specs.Lines.{as_line, open_rest}

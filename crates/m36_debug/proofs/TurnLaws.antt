@@ -1,6 +1,6 @@
 -- Laws of turns that a command takes.
-use Rattle.std.proofs.Common.{◌≡◌, ◌+◌, ◌-◌, ◌<◌, ◌≤◌, ℕ, Bool, true, false, List, [], refl, sym, ap, subst, ◌∙◌, arith}
-use Rattle.std.proofs.lemmas.Bool.{false≢true}
+use Rattle.std.proofs.Common.{◌≡◌, ◌+◌, ◌-◌, ◌<◌, ◌≤◌, ℕ, zero, suc, inl, inr, Bool, true, false, List, [], refl, sym, ap, subst, ◌∙◌, arith}
+use Rattle.std.proofs.lemmas.Bool.{false≢true, true≢false}
 use Rattle.std.specs.Prelude.{◌≢◌, nat_eq, if◌then◌else◌, Result, Ok, Err}
 use Rattle.std.proofs.lemmas.Bool.{eqb-false}
 use Rattle.m36_word.specs.declared.pair.Pair.{Pair}
@@ -12,19 +12,19 @@ use Rattle.m36_step.specs.LinkNoteFields.{LinkNoteFields}
 use Rattle.m36_outside.specs.declared.sink.Put.{Put}
 use Rattle.m36_outside.specs.declared.sink.Put.TheVariants.{Done, Failed}
 use Rattle.m36_outside.specs.SinkState.{SinkState}
-use Rattle.m36_step.specs.Answers.{IsService, is_service}
+use Rattle.m36_step.specs.Answers.{IsService, IsStep, IsNotNext, IsRefused, Interrupts, is_service}
 use Rattle.m36_step.specs.declared.turns.Turn.{Turn}
 use Rattle.m36_step.specs.declared.turns.Turn.TheVariants as turns
 use Rattle.m36_model.specs.Registers.{RegsFields}
 use Rattle.m36_debug.specs.declared.commands.Break.{Break}
 use Rattle.m36_debug.specs.declared.commands.Command.{Command}
+use Rattle.m36_debug.specs.declared.commands.Command.TheVariants as commands
 use Rattle.m36_debug.specs.declared.commands.Run.{Run}
 use Rattle.m36_debug.specs.declared.commands.Further.{Further}
 use Rattle.m36_debug.specs.declared.commands.Further.TheVariants.{Runs, Waits, Starves}
 use Rattle.m36_debug.specs.declared.turning.Came.{Came}
-use Rattle.m36_debug.specs.declared.turning.Came.TheVariants as comes
 use Rattle.m36_debug.specs.Commands.{run_of, wants, after_step, after_link, after_turn, is_at_break}
-use Rattle.m36_debug.specs.Parts.{Part, CutPart, CameSays, CameServed, CameCounts, RunsCounts, Serves, came_of, told_turn}
+use Rattle.m36_debug.specs.Parts.{Part, CutPart, CameSays, CameServed, CameCounts, CameInterrupted, CountsSteps, RunsCounts, Makes, came_of, told_turn}
 use Rattle.m36_outside.specs.Putting.{PutsPieces}
 use Rattle.m36_debug.specs.Session.{Turning, Standing, standing, Running, Turned, doing_by, next_of, turn_says, command_says, onward, said}
 use Rattle.m36_debug.specs.Sitting.{SittingFields, sitting_after}
@@ -62,10 +62,10 @@ turn_came o Done turn run s m m' old new next puts =
     came_says o turn (next_of (o.regs m') s run turn) (standing s (Running run)) m (sitting_after s turn) m' old new (turn_part o turn run s m m' old new next puts)
 turn_came o Failed turn run s m m' old new next puts = turn_cut o turn run s m m' old new next puts
 
-service_made : {M : Type 0} (o : Turning M) (turn : Turn) (m m' : M) → o.next m turn m' → is_service turn ≡ true → Serves o m m'
+service_made : {M : Type 0} (o : Turning M) (turn : Turn) (m m' : M) → o.next m turn m' → is_service turn ≡ true → Makes o IsService m m'
 service_made o (turns.Stepped told) m m' may is = absurd (false≢true is)
-service_made o (turns.Linked note) m m' may is = record { turn = turns.Linked note; next = may; service = tt }
-service_made o (turns.Console text) m m' may is = record { turn = turns.Console text; next = may; service = tt }
+service_made o (turns.Linked note) m m' may is = record { turn = turns.Linked note; next = may; kind = tt }
+service_made o (turns.Console text) m m' may is = record { turn = turns.Console text; next = may; kind = tt }
 service_made o (turns.Ended end) m m' may is = absurd (false≢true is)
 service_made o turns.Full m m' may is = absurd (false≢true is)
 service_made o turns.NoMemory m m' may is = absurd (false≢true is)
@@ -83,6 +83,76 @@ pub turn_served :
     → o.next m turn m' → CameServed o (told_turn put turn next) m m'
 turn_served o Done turn next m m' may = came_served o turn next m m' may
 turn_served o Failed turn next m m' may = tt
+
+-- ---- a turn with no step left
+
+wants_none : (command : Command) (b : Bool) → wants command 0 b ≡ false
+wants_none commands.Step b = refl
+wants_none commands.Go b = refl
+
+settled_interrupted :
+    {M : Type 0} (o : Turning M) (more : Bool) (command : Command) (left : ℕ) (b : Bool) (turn : Turn) (m m' : M)
+    → wants command left b ≡ more → CameInterrupted o (came_of turn (if more then Runs (run_of command left) else Waits)) m m'
+settled_interrupted o true command left b turn m m' is =
+    λ none. absurd (true≢false (sym is ∙ ap (λ (n : ℕ). wants command n b) none ∙ wants_none command b))
+settled_interrupted o false command left b turn m m' is = tt
+
+step_interrupted :
+    {M : Type 0} (o : Turning M) (outcome : Outcome) (command : Command) (left : ℕ) (b : Bool) (told : StepRecord) (m m' : M)
+    → o.next m (turns.Stepped told) m' → told.outcome ≡ outcome
+    → CameInterrupted o (came_of (turns.Stepped told) (after_step command left b outcome)) m m'
+step_interrupted o Next command left b told m m' may is =
+    settled_interrupted o (wants command left b) command left b (turns.Stepped told) m m' refl
+step_interrupted o (Faulted fault) command left b told m m' may is =
+    λ none. record { turn = turns.Stepped told; next = may; kind = subst IsNotNext (sym is) tt }
+step_interrupted o (Stopped stop) command left b told m m' may is =
+    λ none. record { turn = turns.Stepped told; next = may; kind = subst IsNotNext (sym is) tt }
+
+stepped_interrupted :
+    {M : Type 0} (o : Turning M) (none : Bool) (run : Run) (b : Bool) (told : StepRecord) (m m' : M)
+    → o.next m (turns.Stepped told) m'
+    → CameInterrupted o (came_of (turns.Stepped told) (if none then Waits else after_step run.command (run.left - 1) b told.outcome)) m m'
+stepped_interrupted o true run b told m m' may = tt
+stepped_interrupted o false run b told m m' may =
+    step_interrupted o told.outcome run.command (run.left - 1) b told m m' may refl
+
+link_interrupted :
+    {M : Type 0} (o : Turning M) (answer : Result Pair LinkCode) (run : Run) (b : Bool) (note : LinkNoteFields) (m m' : M)
+    → o.next m (turns.Linked note) m' → note.answer ≡ answer
+    → CameInterrupted o (came_of (turns.Linked note) (after_link run.command run.left b answer)) m m'
+link_interrupted o (Ok pair) run b note m m' may is =
+    settled_interrupted o (wants run.command run.left b) run.command run.left b (turns.Linked note) m m' refl
+link_interrupted o (Err code) run b note m m' may is =
+    λ none. record { turn = turns.Linked note; next = may; kind = subst IsRefused (sym is) tt }
+
+pub came_interrupted :
+    {M : Type 0} (o : Turning M) (turn : Turn) (run : Run) (b : Bool) (m m' : M)
+    → o.next m turn m' → CameInterrupted o (came_of turn (after_turn run b turn)) m m'
+unfolding after_turn
+came_interrupted o (turns.Stepped told) run b m m' may = stepped_interrupted o (nat_eq run.left 0) run b told m m' may
+came_interrupted o (turns.Linked note) run b m m' may = link_interrupted o note.answer run b note m m' may refl
+came_interrupted o (turns.Console text) run b m m' may =
+    settled_interrupted o (wants run.command run.left b) run.command run.left b (turns.Console text) m m' refl
+came_interrupted o (turns.Ended end) run b m m' may = tt
+came_interrupted o turns.Full run b m m' may = tt
+came_interrupted o turns.NoMemory run b m m' may = tt
+
+turn_interrupted :
+    {M : Type 0} (o : Turning M) (put : Put) (turn : Turn) (run : Run) (b : Bool) (m m' : M)
+    → o.next m turn m' → CameInterrupted o (told_turn put turn (after_turn run b turn)) m m'
+turn_interrupted o Done turn run b m m' may = came_interrupted o turn run b m m' may
+turn_interrupted o Failed turn run b m m' may = tt
+
+pub steps_counted :
+    {M : Type 0} (o : Turning M) (turn : Turn) (s : SittingFields) (m m' : M)
+    → o.next m turn m' → CountsSteps o s.taken (sitting_after s turn).taken m m'
+unfolding sitting_after
+steps_counted o (turns.Stepped told) s m m' may = inr (record { turn = turns.Stepped told; next = may; kind = tt })
+steps_counted o (turns.Linked note) s m m' may = inl refl
+steps_counted o (turns.Console text) s m m' may = inl refl
+steps_counted o (turns.Ended end) s m m' may = inl refl
+steps_counted o turns.Full s m m' may = inl refl
+steps_counted o turns.NoMemory s m m' may = inl refl
 
 -- ---- counts
 
@@ -126,7 +196,7 @@ settled_console :
 settled_console true command text left before = (refl, refl)
 settled_console false command text left before = omega arith
 
-came_counts :
+pub came_counts :
     (turn : Turn) (run : Run) (b : Bool) (s : SittingFields)
     → CameCounts (came_of turn (after_turn run b turn)) run.left s.taken (sitting_after s turn).taken
 unfolding after_turn sitting_after
@@ -137,7 +207,7 @@ came_counts (turns.Ended end) run b s = omega arith
 came_counts turns.Full run b s = omega arith
 came_counts turns.NoMemory run b s = omega arith
 
-taken_after : (turn : Turn) (s : SittingFields) → (sitting_after s turn).taken ≤ s.taken + 1
+pub taken_after : (turn : Turn) (s : SittingFields) → (sitting_after s turn).taken ≤ s.taken + 1
 unfolding sitting_after
 taken_after (turns.Stepped told) s = omega arith
 taken_after (turns.Linked note) s = omega arith
@@ -206,15 +276,43 @@ took_counts put turn run b next came s s' noted further comes =
     subst (λ (c : Came). CameCounts c run.left s.taken s'.taken) (sym (comes ∙ ap (λ (f : Further). told_turn put turn f) further))
     (subst (λ (t : SittingFields). CameCounts (told_turn put turn (after_turn run b turn)) run.left s.taken t.taken) (sym noted) (turn_counts put turn run b s))
 
+pub took_interrupted :
+    {M : Type 0} (o : Turning M) (put : Put) (turn : Turn) (run : Run) (b : Bool) (next : Further) (came : Came) (m m' : M)
+    → o.next m turn m' → next ≡ after_turn run b turn → came ≡ told_turn put turn next → CameInterrupted o came m m'
+took_interrupted o put turn run b next came m m' may further comes =
+    subst (λ (c : Came). CameInterrupted o c m m') (sym (comes ∙ ap (λ (f : Further). told_turn put turn f) further))
+    (turn_interrupted o put turn run b m m' may)
+
+pub took_stepped :
+    {M : Type 0} (o : Turning M) (turn : Turn) (s s' : SittingFields) (m m' : M)
+    → o.next m turn m' → s' ≡ sitting_after s turn → CountsSteps o s.taken s'.taken m m'
+took_stepped o turn s s' m m' may noted =
+    subst (λ (t : SittingFields). CountsSteps o s.taken t.taken m m') (sym noted) (steps_counted o turn s m m' may)
+
 -- ---- turns one after another
 
--- the turn before was a service
-pub record WasServed {M : Type 0} (o : Turning M) (m : M) : Type 0 where
+-- the turn before was of this kind
+pub record WasMade {M : Type 0} (o : Turning M) (Kind : Turn → Type 0) (m : M) : Type 0 where
   pub before : M
-  pub serves : Serves o before m
+  pub makes : Makes o Kind before m
 
-pub none_served : {M : Type 0} (o : Turning M) (m : M) → false ≡ true → WasServed o m
+pub none_served : {M : Type 0} (o : Turning M) (m : M) → false ≡ true → WasMade o IsService m
 none_served o m is = absurd (false≢true is)
+
+pub some_left : {M : Type 0} (o : Turning M) (m : M) (left : ℕ) → 0 < left → left ≡ 0 → WasMade o Interrupts m
+some_left o m left some none = absurd (omega (arith, some, none))
+
+-- with no step left, none is taken
+pub within_left :
+    {M : Type 0} (o : Turning M) (m m' : M) (left before after most : ℕ)
+    → ((first second third : M) (one two : Turn) → o.next first one second → o.next second two third → Interrupts one → IsStep two → ⊥)
+    → before + left ≤ most → after ≤ before + 1 → (left ≡ 0 → WasMade o Interrupts m) → CountsSteps o before after m m'
+    → after ≤ most
+within_left o m m' left before after most interrupted within few was (inl same) = omega (arith, within, same)
+within_left o m m' zero before after most interrupted within few was (inr step) =
+    let one = was refl in
+    absurd (interrupted one.before m m' one.makes.turn step.turn one.makes.next step.next one.makes.kind step.kind)
+within_left o m m' (suc left) before after most interrupted within few was (inr step) = omega (arith, within, few)
 
 -- the steps that are left, and those that were taken
 pub runs_count :
@@ -227,12 +325,12 @@ runs_count false next left before after most counts within = omega (arith, count
 pub runs_shorter :
     {M : Type 0} (o : Turning M) (was service : Bool) (m m' : M) (next left before after : ℕ)
     → ((first second third : M) (one two : Turn) → o.next first one second → o.next second two third → IsService one → IsService two → ⊥)
-    → RunsCounts service next left before after → (was ≡ true → WasServed o m) → (service ≡ true → Serves o m m')
+    → RunsCounts service next left before after → (was ≡ true → WasMade o IsService m) → (service ≡ true → Makes o IsService m m')
     → next + next + (if service then 0 else 1) < left + left + (if was then 0 else 1)
 runs_shorter o true true m m' next left before after apart counts served serves =
     let one = served refl in
     let two = serves refl in
-    absurd (apart one.before m m' one.serves.turn two.turn one.serves.next two.next one.serves.service two.service)
+    absurd (apart one.before m m' one.makes.turn two.turn one.makes.next two.next one.makes.kind two.kind)
 runs_shorter o true false m m' next left before after apart counts served serves = omega (arith, counts.0)
 runs_shorter o false true m m' next left before after apart counts served serves = omega (arith, counts.0)
 runs_shorter o false false m m' next left before after apart counts served serves = omega (arith, counts.0)

@@ -9,3 +9,4 @@ pub mod LinesTaken
 pub mod PieceSays
 pub mod SessionSays
 pub mod Taking
+pub mod StepLimit

@@ -1,13 +1,12 @@
 -- What the parts of a session say: those of a turn, a command, a line and several lines.
-use Rattle.std.specs.Prelude.{ℕ, ◌≡◌, ◌+◌, ◌<◌, ◌≤◌, Bool, true, false, List, [], ◌∷◌}
+use Rattle.std.specs.Prelude.{ℕ, ◌≡◌, ◌+◌, ◌<◌, ◌≤◌, ◌⊎◌, Bool, true, false, List, [], ◌∷◌}
 use Rattle.std.specs.Prelude.{Option, Some, None}
-use Rattle.m36_step.specs.Answers.{IsService, is_service}
+use Rattle.m36_step.specs.Answers.{IsService, IsStep, Interrupts, is_service}
 use Rattle.m36_model.specs.declared.endings.End.{End}
 use Rattle.m36_outside.specs.declared.sink.Put.{Put}
 use Rattle.m36_outside.specs.declared.sink.Put.TheVariants.{Done, Failed}
 use Rattle.m36_outside.specs.SinkState.{SinkState}
 use Rattle.m36_step.specs.declared.turns.Turn.{Turn}
-use Rattle.m36_step.specs.declared.turns.Turn.TheVariants as turns
 use Rattle.m36_debug.specs.declared.commands.Run.{Run}
 use Rattle.m36_debug.specs.declared.commands.Further.{Further}
 use Rattle.m36_debug.specs.declared.commands.Further.TheVariants.{Runs, Waits, Starves}
@@ -67,17 +66,28 @@ CameCounts comes.Waits left before after = after ≤ before + 1
 CameCounts comes.Starves left before after = after ≤ before + 1
 CameCounts comes.Cut left before after = after ≤ before + 1
 
--- A service was made from this machine, by which it came to that.
-pub record Serves {M : Type 0} (o : Turning M) (m m' : M) : Type 0 where
+-- A turn of this kind leads from one state of the machine to the other.
+pub record Makes {M : Type 0} (o : Turning M) (Kind : Turn → Type 0) (m m' : M) : Type 0 where
   pub turn : Turn
   pub next : o.next m turn m'
-  pub service : IsService turn
+  pub kind : Kind turn
 
 abbrev pub CameServed : {M : Type 0} → Turning M → Came → M → M → Type 0
-CameServed o (comes.Runs run service) m m' = service ≡ true → Serves o m m'
+CameServed o (comes.Runs run service) m m' = service ≡ true → Makes o IsService m m'
 CameServed o comes.Waits m m' = Unit {0}
 CameServed o comes.Starves m m' = Unit {0}
 CameServed o comes.Cut m m' = Unit {0}
+
+-- With no step left, a command takes another turn only where that turn cannot be a step.
+abbrev pub CameInterrupted : {M : Type 0} → Turning M → Came → M → M → Type 0
+CameInterrupted o (comes.Runs run service) m m' = run.left ≡ 0 → Makes o Interrupts m m'
+CameInterrupted o comes.Waits m m' = Unit {0}
+CameInterrupted o comes.Starves m m' = Unit {0}
+CameInterrupted o comes.Cut m m' = Unit {0}
+
+-- The count of the steps changes only by a step.
+abbrev pub CountsSteps : {M : Type 0} → Turning M → ℕ → ℕ → M → M → Type 0
+CountsSteps o before after m m' = (after ≡ before) ⊎ Makes o IsStep m m'
 
 -- what a turn that a command takes came to
 abbrev pub CameSays :

@@ -82,7 +82,7 @@ IsNotQuit line = session_line line ≢ Quit
 
 -- How far the numbers of a line go.
 abbrev pub IsBounded : SessionLine → Type 0
-IsBounded (Step n) = n ≤ most_steps
+IsBounded (Step n) = (0 < n) × (n ≤ most_steps)
 IsBounded Go = Unit {0}
 IsBounded (Break seg word) = (seg < 2 ^ 15) × (word < 2 ^ 18)
 IsBounded Regs = Unit {0}

@@ -2,6 +2,7 @@
 
 ghost use Rattle.std.specs.Prelude.{ℕ, ◌≡◌, ◌≤◌, ◌<◌, ◌+◌, ◌-◌, ◌^◌, [], ◌∷◌};
 ghost use Rattle.m36_debug.specs.Parts.{EndSays, CommandSays, BackSays, told};
+ghost use Rattle.m36_step.specs.Counting.{most_taken};
 ghost use Rattle.m36_outside.specs.Putting.{PutsPieces};
 ghost use Rattle.m36_debug.specs.Putting.{seen};
 ghost use Rattle.m36_debug.specs.Session.{Waiting, Backing, standing, turning, break_says};
@@ -29,12 +30,13 @@ fn told(put: Put) -> Ends
 
 // Takes the turns of a command; where the run has ended, tells its end again.
 fn command<M: Stepper, S: Sink>(m: &mut M, run: Run, sitting: &mut Sitting, out: &mut S) -> Ends
-    requires { sitting.old.taken + run.left + 2 < 2 ^ 64 }
+    requires some { 0 < run.left }
+    requires room { sitting.old.taken + run.left < most_taken }
     ensures says { CommandSays (turning M.regs M.content M.next M.went) result sitting.old.ended run
         sitting.old m.old sitting.new m.new
         (seen (S.written out.old) (S.taken out.old) (S.faults out.old))
         (seen (S.written out.new) (S.taken out.new) (S.faults out.new)) }
-    ensures taken { sitting.new.taken ≤ sitting.old.taken + run.left + 1 }
+    ensures taken { sitting.new.taken ≤ sitting.old.taken + run.left }
 {
     match sitting.ended() {
         Some(end) => told(put_end(out, end, sitting.taken())),
@@ -119,7 +121,7 @@ pub(crate) fn answer<M: Stepper, S: Sink>(
         (standing sitting.old Waiting) m.old (line.now ∷ []) sitting.new m.new
         (seen (S.written out.old) (S.taken out.old) (S.faults out.old))
         (seen (S.written out.new) (S.taken out.new) (S.faults out.new)) }
-    ensures taken { sitting.new.taken ≤ sitting.old.taken + (most_steps + 1) }
+    ensures taken { sitting.new.taken ≤ sitting.old.taken + most_steps }
 {
     match session_line(line) {
         SessionLine::Step(left) => {

@@ -31,6 +31,7 @@
 mod answering;
 pub mod commands;
 pub mod fault;
+pub mod laws;
 mod piece;
 mod putting;
 mod reading;
@@ -42,4 +43,5 @@ mod texts;
 pub mod turning;
 
 pub use fault::SessionFault;
+pub use laws::step_limit;
 pub use session::debug;

@@ -28,12 +28,12 @@ pub(crate) fn answer_piece<M: Stepper, S: Sink>(
     out: &mut S,
 ) -> Ends
     requires unbroken { IsUnbroken begun.old }
-    requires few { sitting.old.taken + (most_steps + 1) * length piece.now < 2 ^ 62 }
+    requires few { sitting.old.taken + most_steps * length piece.now < 2 ^ 62 }
     ensures says { PieceSays (turning M.regs M.content M.next M.went) result
         (standing sitting.old Waiting) m.old (begun.old ++ piece.now) begun.new sitting.new m.new
         (seen (S.written out.old) (S.taken out.old) (S.faults out.old))
         (seen (S.written out.new) (S.taken out.new) (S.faults out.new)) }
-    ensures taken { sitting.new.taken ≤ sitting.old.taken + (most_steps + 1) * length piece.now }
+    ensures taken { sitting.new.taken ≤ sitting.old.taken + most_steps * length piece.now }
 {
     let mut rest = piece;
     'lines: while let Some(parts) = cut_line(rest) {

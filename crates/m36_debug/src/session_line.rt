@@ -63,6 +63,7 @@ fn one_word(word: &[u8]) -> SessionLine
 // A number of steps.
 fn steps_in(word: &[u8]) -> Option<u64>
     ensures value { result ≡ steps_in word.now }
+    ensures some { IfSome result (λ n. 0 < n) }
     ensures bound { IfSome result (λ n. n ≤ most_steps) }
 {
     plain_decimal_in(word, 1, MOST_STEPS)

@@ -1,7 +1,8 @@
 //! Turns that a command takes.
 
 ghost use Rattle.std.specs.Prelude.{ℕ, ◌≡◌, ◌≤◌, ◌<◌, ◌+◌, ◌-◌, ◌^◌, [], ◌∷◌};
-ghost use Rattle.m36_debug.specs.Parts.{CameSays, CameServed, CameCounts, EndSays, came_of, told_turn};
+ghost use Rattle.m36_debug.specs.Parts.{CameSays, CameServed, CameCounts, CameInterrupted};
+ghost use Rattle.m36_debug.specs.Parts.{CountsSteps, EndSays, came_of, told_turn};
 ghost use Rattle.m36_step.specs.Answers.{is_service};
 ghost use Rattle.m36_step.specs.Counting.{most_taken};
 ghost use Rattle.m36_outside.specs.Putting.{PutsPieces};
@@ -123,6 +124,10 @@ pub(crate) fn take_turn<M: Stepper, S: Sink>(
         (seen (S.written out.new) (S.taken out.new) (S.faults out.new)) }
     ensures served { CameServed (turning M.regs M.content M.next M.went) result m.old m.new }
     ensures counts { CameCounts result run.left sitting.old.taken sitting.new.taken }
+    ensures interrupted { CameInterrupted (turning M.regs M.content M.next M.went) result
+        m.old m.new }
+    ensures stepped { CountsSteps (turning M.regs M.content M.next M.went)
+        sitting.old.taken sitting.new.taken m.old m.new }
 {
     let taken = sitting.taken();
     m.turn_into(turn);
@@ -133,19 +138,21 @@ pub(crate) fn take_turn<M: Stepper, S: Sink>(
     told_turn(put, turn, next)
 }
 
-/// Takes the turns of a command, and writes what they say.
+/// Takes the turns of a command, and writes what they say. The steps among them are at most those
+/// that are left to the command.
 pub(crate) fn run_command<M: Stepper, S: Sink>(
     m: &mut M,
     first: Run,
     sitting: &mut Sitting,
     out: &mut S,
 ) -> Ends
-    requires { sitting.old.taken + first.left + 2 < 2 ^ 64 }
+    requires some { 0 < first.left }
+    requires room { sitting.old.taken + first.left < most_taken }
     ensures says { EndSays (turning M.regs M.content M.next M.went) result
         (standing sitting.old (Running first)) m.old [] sitting.new m.new
         (seen (S.written out.old) (S.taken out.old) (S.faults out.old))
         (seen (S.written out.new) (S.taken out.new) (S.faults out.new)) }
-    ensures taken { sitting.new.taken ≤ sitting.old.taken + first.left + 1 }
+    ensures taken { sitting.new.taken ≤ sitting.old.taken + first.left }
 {
     let mut turn = Turn::Full;
     let mut run = first;

@@ -18,5 +18,5 @@ invariant-lines g l =
     record {
       told : SoFar o (standing l.fn.sitting Waiting) l.fn.m (l.fn.begun ++ l.piece) (l.begun ++ l.rest) l.sitting l.m (seen (s.written l.fn.out) (s.taken l.fn.out) (s.faults l.fn.out)) (seen (s.written l.out) (s.taken l.out) (s.faults l.out));
       unbroken : IsUnbroken l.begun;
-      count : l.sitting.taken + (most_steps + 1) * length l.rest ≤ l.fn.sitting.taken + (most_steps + 1) * length l.piece;
+      count : l.sitting.taken + most_steps * length l.rest ≤ l.fn.sitting.taken + most_steps * length l.piece;
     }

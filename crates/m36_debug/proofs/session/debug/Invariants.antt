@@ -18,5 +18,5 @@ invariant-pieces g l =
     let o = turning m.regs m.content m.next m.went in
     record {
       going : Going o l.fn.m l.m (input (i.left l.fn.lines) (i.given l.fn.lines) (i.faults l.fn.lines)) (input (i.left l.lines) (i.given l.lines) (i.faults l.lines)) (seen (s.written l.fn.out) (s.taken l.fn.out) (s.faults l.fn.out)) (seen (s.written l.out) (s.taken l.out) (s.faults l.out)) l.left l.begun l.sitting;
-      taken : l.sitting.taken + (most_steps + 1) * l.left ≤ (most_steps + 1) * bytes_limit;
+      taken : l.sitting.taken + most_steps * l.left ≤ most_steps * bytes_limit;
     }

@@ -2,7 +2,7 @@ use Rattle.std.proofs.Common.{[], arith}
 use Rattle.m36_debug.specs.Putting.{seen}
 use Rattle.m36_debug.specs.Session.{turning, standing, Running, Waiting, Starved}
 use Rattle.m36_debug.proofs.PartLaws.{part_none, part_on, part_cut}
-use Rattle.m36_debug.proofs.TurnLaws.{none_served, runs_count, runs_shorter}
+use Rattle.m36_debug.proofs.TurnLaws.{none_served, some_left, within_left, runs_count, runs_shorter}
 use Rattle.m36_debug.proofs.turning.run_command.Goals as goal
 
 pub turns-init : goal.turns-init
@@ -14,6 +14,7 @@ turns-init g c =
       part = part_none o (standing c.args.sitting.now (Running c.args.first)) c.args.m.now (seen (s.written c.args.out.now) (s.taken c.args.out.now) (s.faults c.args.out.now));
       count = omega arith;
       service = none_served o c.args.m.now;
+      interrupted = some_left o c.args.m.now c.args.first.left c.requires.some;
     }
 
 pub turns-preserved : goal.turns-preserved
@@ -26,7 +27,8 @@ turns-preserved g c =
           part_on o (standing c.args.sitting.now (Running c.args.first)) c.args.m.now [] [] (standing c.turns.sitting (Running c.turns.run)) c.turns.m (standing c.take_turn.new.sitting (Running c.in-Runs.next)) c.take_turn.new.m (seen (s.written c.args.out.now) (s.taken c.args.out.now) (s.faults c.args.out.now)) (seen (s.written c.turns.out) (s.taken c.turns.out) (s.faults c.turns.out)) (seen (s.written c.take_turn.new.out) (s.taken c.take_turn.new.out) (s.faults c.take_turn.new.out))
           c.turns.invariant.part c.in-Runs.ensures.says;
       count = runs_count c.in-Runs.service c.in-Runs.next.left c.turns.run.left c.turns.sitting.taken c.take_turn.new.sitting.taken _ c.in-Runs.ensures.counts c.turns.invariant.count;
-      service = λ is. record { before = c.turns.m; serves = c.in-Runs.ensures.served is };
+      service = λ is. record { before = c.turns.m; makes = c.in-Runs.ensures.served is };
+      interrupted = λ none. record { before = c.turns.m; makes = c.in-Runs.ensures.interrupted none };
     }
 
 pub turns-smaller : goal.turns-smaller
@@ -51,3 +53,18 @@ returns-in-Cut-clause-says g c =
     let s = g.S.Sink in
     let m = g.M.Stepper in
     part_cut (turning m.regs m.content m.next m.went) (standing c.args.sitting.now (Running c.args.first)) c.args.m.now [] [] (standing c.turns.sitting (Running c.turns.run)) c.turns.m c.take_turn.new.m (seen (s.written c.args.out.now) (s.taken c.args.out.now) (s.faults c.args.out.now)) (seen (s.written c.turns.out) (s.taken c.turns.out) (s.faults c.turns.out)) (seen (s.written c.take_turn.new.out) (s.taken c.take_turn.new.out) (s.faults c.take_turn.new.out)) c.turns.invariant.part c.in-Cut.ensures.says
+
+pub returns-in-Waits-clause-taken : goal.returns-in-Waits-clause-taken
+returns-in-Waits-clause-taken g c =
+    let m = g.M.Stepper in
+    within_left (turning m.regs m.content m.next m.went) c.turns.m c.take_turn.new.m c.turns.run.left c.turns.sitting.taken c.take_turn.new.sitting.taken _ g.met.M.Stepper.interrupted c.turns.invariant.count c.in-Waits.ensures.counts c.turns.invariant.interrupted c.in-Waits.ensures.stepped
+
+pub returns-in-Starves-clause-taken : goal.returns-in-Starves-clause-taken
+returns-in-Starves-clause-taken g c =
+    let m = g.M.Stepper in
+    within_left (turning m.regs m.content m.next m.went) c.turns.m c.take_turn.new.m c.turns.run.left c.turns.sitting.taken c.take_turn.new.sitting.taken _ g.met.M.Stepper.interrupted c.turns.invariant.count c.in-Starves.ensures.counts c.turns.invariant.interrupted c.in-Starves.ensures.stepped
+
+pub returns-in-Cut-clause-taken : goal.returns-in-Cut-clause-taken
+returns-in-Cut-clause-taken g c =
+    let m = g.M.Stepper in
+    within_left (turning m.regs m.content m.next m.went) c.turns.m c.take_turn.new.m c.turns.run.left c.turns.sitting.taken c.take_turn.new.sitting.taken _ g.met.M.Stepper.interrupted c.turns.invariant.count c.in-Cut.ensures.counts c.turns.invariant.interrupted c.in-Cut.ensures.stepped

@@ -4,7 +4,8 @@ use Rattle.m36_outside.specs.declared.sink.Put.TheVariants.{Done}
 use Rattle.m36_debug.specs.Parts.{Part}
 use Rattle.m36_debug.specs.Putting.{seen}
 use Rattle.m36_debug.specs.Session.{turning, standing, Running}
-use Rattle.m36_debug.proofs.TurnLaws.{WasServed}
+use Rattle.m36_step.specs.Answers.{IsService, Interrupts}
+use Rattle.m36_debug.proofs.TurnLaws.{WasMade}
 use Rattle.m36_debug.proofs.turning.run_command.Given as goal
 
 -- a step counts twice, and a service once: it is not followed by another
@@ -20,5 +21,6 @@ invariant-turns g l =
     record {
       part : Part o (standing l.fn.sitting (Running l.fn.first)) l.fn.m [] (standing l.sitting (Running l.run)) l.m Done (seen (s.written l.fn.out) (s.taken l.fn.out) (s.faults l.fn.out)) (seen (s.written l.out) (s.taken l.out) (s.faults l.out));
       count : l.sitting.taken + l.run.left ≤ l.fn.sitting.taken + l.fn.first.left;
-      service : l.served ≡ true → WasServed o l.m;
+      service : l.served ≡ true → WasMade o IsService l.m;
+      interrupted : l.run.left ≡ 0 → WasMade o Interrupts l.m;
     }

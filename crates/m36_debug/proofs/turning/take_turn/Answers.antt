@@ -1,7 +1,7 @@
 use Rattle.m36_debug.specs.Commands.{is_at_break}
 use Rattle.m36_debug.specs.Putting.{seen}
 use Rattle.m36_debug.specs.Session.{turning}
-use Rattle.m36_debug.proofs.TurnLaws.{took_turn, took_served, took_counts}
+use Rattle.m36_debug.proofs.TurnLaws.{took_turn, took_served, took_counts, took_interrupted, took_stepped}
 use Rattle.m36_debug.proofs.turning.take_turn.Goals as goal
 
 pub returns-clause-says : goal.returns-clause-says
@@ -18,3 +18,13 @@ returns-clause-served g c =
 pub returns-clause-counts : goal.returns-clause-counts
 returns-clause-counts g c =
     took_counts c.put_command-put.result c.turn_into.new.turn c.args.run (is_at_break c.regs-regs.result.now.ppr c.note.new.self.breaks) c.further-next.result c.told_turn.result c.args.sitting.now c.note.new.self c.note.ensures c.further-next.ensures c.told_turn.ensures
+
+pub returns-clause-interrupted : goal.returns-clause-interrupted
+returns-clause-interrupted g c =
+    let m = g.M.Stepper in
+    took_interrupted (turning m.regs m.content m.next m.went) c.put_command-put.result c.turn_into.new.turn c.args.run (is_at_break c.regs-regs.result.now.ppr c.note.new.self.breaks) c.further-next.result c.told_turn.result c.args.m.now c.turn_into.new.self c.turn_into.ensures c.further-next.ensures c.told_turn.ensures
+
+pub returns-clause-stepped : goal.returns-clause-stepped
+returns-clause-stepped g c =
+    let m = g.M.Stepper in
+    took_stepped (turning m.regs m.content m.next m.went) c.turn_into.new.turn c.args.sitting.now c.note.new.self c.args.m.now c.turn_into.new.self c.turn_into.ensures c.note.ensures
