@@ -1,22 +1,29 @@
 """Inputs whose names meet in a hash table, for each kind of table, and as many ordinary names.
 
 A kind of key is what a table hashes: a name, a name as an object spells it, a link, a name in a
-ring, a segment of a directory. Names that meet are found for each kind of key by a program in C."""
+ring, a segment of a directory. The start of a table's hashes is the SHA-256 digest of the input
+that its keys come from. So names that meet cannot be searched for one by one, as each name changes
+the start. What can be done is to try one input after another (`search_inputs`).
+
+Before, all tables had the same start. Names that met then are still tried (`met_before`)."""
 
 import functools
+import hashlib
 import pathlib
 import subprocess
 import tempfile
+import time
 from typing import Callable, NamedTuple
 
 from corners.folders import boot
 from corners.measuring import Failed
-from corners.objects import packed, with_names
+from corners.objects import object_of, packed, section_with_names
 
 HERE = pathlib.Path(__file__).resolve().parent
 GROUP_LOAD = 9  # entries that a group of slots holds on average before the table grows
 KEYS = ("name", "spelled", "link", "ring", "place")
 NAMES_OF_SEGMENT = 8
+DIGITS = "0123456789abcdefghijklmnopqrstuvwxyz"
 
 
 def groups_of(count):
@@ -27,27 +34,74 @@ def groups_of(count):
     return groups
 
 
-def found(key, count):
-    """Names of 7 characters that meet in a table of so many of them. Needs `cc`."""
-    return tuple(search("fixed_start", key, str(count), str(groups_of(count))).split())
+def compiled(source, folder):
+    """The program in C of this name. Needs `cc`."""
+    program = pathlib.Path(folder) / source
+    try:
+        subprocess.run(["cc", "-O2", "-o", program, HERE / f"{source}.c"], check=True)
+    except (OSError, subprocess.CalledProcessError) as error:
+        raise Failed(f"{source}.c cannot be compiled: {error}") from error
+    return program
 
 
 @functools.cache
-def search(source, *words):
-    """What the search of this name writes, which is compiled first."""
+def met_before(key, count):
+    """Names of 7 characters that met in a table of so many of them while the start was fixed."""
     with tempfile.TemporaryDirectory() as folder:
-        program = pathlib.Path(folder) / source
-        try:
-            subprocess.run(["cc", "-O2", "-o", program, HERE / f"{source}.c"], check=True)
-            done = subprocess.run([program, *words], stdout=subprocess.PIPE, check=True, text=True)
-        except (OSError, subprocess.CalledProcessError) as error:
-            raise Failed(f"the search for names that meet: {error}") from error
-    return done.stdout
+        words = [compiled("fixed_start", folder), key, str(count), str(groups_of(count))]
+        done = subprocess.run(words, stdout=subprocess.PIPE, text=True)
+    names = tuple(done.stdout.split())
+    if len(names) < count:
+        raise Failed(f"only {len(names)} names of kind {key} that meet were found")
+    return names
 
 
-def ordinary_names(count):
-    """Names of 7 characters in rising order."""
-    return tuple(f"aa{number:05}" for number in range(count))
+def ordinary_names(count, salt=0):
+    """Names of 7 characters in rising order; the last one has the salt."""
+    return (*(f"aa{number:05}" for number in range(count - 1)), f"zz{salted(salt)}")
+
+
+def salted(salt):
+    """A number in five digits."""
+    digits = ""
+    for _ in range(5):
+        salt, digit = divmod(salt, len(DIGITS))
+        digits = DIGITS[digit] + digits
+    return digits
+
+
+def digest(*pieces):
+    return hashlib.sha256(b"".join(pieces)).digest()
+
+
+class Cost(NamedTuple):
+    """What adding the names to a table costs: keys that are compared, and groups visited."""
+
+    keys: int
+    groups: int
+    salt: int
+
+
+def search_inputs(kind, seconds):
+    """Tries inputs for so many seconds, and gives the costs of all of them in order of the salt."""
+    names = ordinary_names(kind.count)
+    costs = []
+    end = time.monotonic() + seconds
+    with tempfile.TemporaryDirectory() as folder:
+        program = compiled("drawn_start", folder)
+        with subprocess.Popen(
+            [program, kind.key], stdin=subprocess.PIPE, stdout=subprocess.PIPE, text=True
+        ) as child:
+            child.stdin.write("\n".join([str(len(names) - 1), *names[:-1], ""]))
+            while not costs or time.monotonic() < end:
+                salt = len(costs)
+                start = kind.start(kind.files(ordinary_names(kind.count, salt)))
+                child.stdin.write(f"{start.hex()}\n")
+                child.stdin.flush()
+                groups, keys = map(int, child.stdout.readline().split())
+                costs.append(Cost(keys, groups, salt))
+            child.stdin.close()
+    return costs
 
 
 # ---- the files that have names: of each kind of table, by the names
@@ -62,7 +116,17 @@ def source_of_links(names):
 
 
 def object_of_definitions(names):
-    return {"object": packed(with_names(names))}
+    section = section_with_names(names)
+    return {"object": packed(object_of(section)), "section": packed(section)}
+
+
+def refused_object(names):
+    """The same with a wrong word at the head of the linkage section: names are looked for that
+    are spelled twice where an object is refused."""
+    section = section_with_names(names)
+    words = object_of(section)
+    words[len(section)] = 1
+    return {"object": packed(words), "section": packed(section)}
 
 
 def bind_file(names):
@@ -94,8 +158,36 @@ def initiated_names(names):
     }
 
 
+# ---- the starts of the tables of these files
+
+def start_of_source(files):
+    return digest(files["source.alm"])
+
+
+def start_of_object(files):
+    return digest(files["object"])
+
+
+def start_of_section(files):
+    return digest(files["section"])
+
+
+def start_of_bound(files):
+    """That of all components together, of which there is one."""
+    return digest(digest(), start_of_object(files))
+
+
+def start_of_access(files):
+    return digest(files["acl"])
+
+
+def start_of_boot(files):
+    return digest(files["boot"])
+
+
 class Kind(NamedTuple):
-    """A kind of table: the command that fills it, its kind of key, and the files by names."""
+    """A kind of table: the command that fills it, its kind of key, how many keys, its files by
+    the names, its start by the files, and the salt of which the most names met in ten minutes."""
 
     name: str
     what: str
@@ -103,9 +195,14 @@ class Kind(NamedTuple):
     key: str
     count: int
     files: Callable
+    start: Callable
+    salt: int = 0
 
     def meeting(self):
-        return self.files(found(self.key, self.count))
+        return self.files(met_before(self.key, self.count))
+
+    def drawn(self):
+        return self.files(ordinary_names(self.count, self.salt))
 
     def ordinary(self):
         return self.files(ordinary_names(self.count))
@@ -113,17 +210,17 @@ class Kind(NamedTuple):
 
 KINDS = (
     Kind("source", "`alm` of 20,000 definitions",
-         "alm source", "name", 20_000, source_of_definitions),
+         "alm source", "name", 20_000, source_of_definitions, start_of_source),
     Kind("object", "`print` of 25,000 definitions",
-         "print object", "name", 25_000, object_of_definitions),
-    Kind("spelled", "`print` of 25,000 definitions, by their words",
-         "print object", "spelled", 25_000, object_of_definitions),
+         "print object", "name", 25_000, object_of_definitions, start_of_object),
+    Kind("spelled", "`print` of 25,000 definitions in an object that is refused",
+         "print object", "spelled", 25_000, refused_object, start_of_section),
     Kind("bind", "`bind` of 25,000 definitions, all of them kept",
-         "bind all", "name", 25_000, bind_file),
+         "bind all", "name", 25_000, bind_file, start_of_bound),
     Kind("links", "`alm` of 8,188 links",
-         "alm source", "link", 8_188, source_of_links),
+         "alm source", "link", 8_188, source_of_links, start_of_source),
     Kind("names", "`run` of 4,000 names that a ring initiates",
-         "run", "ring", 4_000, initiated_names),
+         "run", "ring", 4_000, initiated_names, start_of_boot),
     Kind("access", "`access` with 25,000 segments in the access lists",
-         "access A.B.c", "place", 25_000, access_list),
+         "access A.B.c", "place", 25_000, access_list, start_of_access),
 )

@@ -48,10 +48,10 @@ def name_words(name):
     ]
 
 
-def with_names(names):
-    """The object whose definitions have these names, which are equally long."""
+def section_with_names(names):
+    """The section whose definitions have these names, which are equally long."""
     spelled = [name_words(name) for name in names]
     size = len(spelled[0])
     words = [word for one in spelled for word in one]
     places = lambda base, number: base + size * number
-    return object_of(definition_section(len(names), places, words))
+    return definition_section(len(names), places, words)

@@ -101,20 +101,19 @@ LARGE = [
 ]
 
 
-def meeting_row(kind):
-    return Row(
-        f"meeting-{kind.name}",
-        f"{kind.what}, whose names meet",
-        kind.words,
-        kind.meeting,
-        2.0,
-        MEETING,
-        kind.ordinary,
-    )
+def meeting_rows(kind):
+    """A row with names that met under a fixed start, and one with the best that was found since."""
+    for name, what, files in (
+        ("met", "whose names met under a fixed start", kind.meeting),
+        ("drawn", "of which the most names meet", kind.drawn),
+    ):
+        yield Row(f"{name}-{kind.name}", f"{kind.what}, {what}", kind.words, files, 2.0, MEETING,
+                  kind.ordinary)
 
 
 def all_rows():
-    return [*map(meeting_row, colliding.KINDS), *RUNS, *LARGE]
+    meeting = [row for kind in colliding.KINDS for row in meeting_rows(kind)]
+    return [*meeting, *RUNS, *LARGE]
 
 
 def prepare(row, make, folder, program):
