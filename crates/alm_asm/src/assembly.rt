@@ -55,9 +55,10 @@ fn found_in(alloc: Global, text: &[u8], lines: &[Line36]) -> Result<Found, NoMem
 {
     let ending = end_of(alloc, text, lines)?;
     let layout = layout_of(alloc, text, lines)?;
+    let seed = layout.symbols.seed();
     let tables = Tables {
         symbols: layout.symbols,
-        links: Links::new(alloc),
+        links: Links::new(alloc, seed),
         first_link: first_link(ending),
         uses_outer: ending.uses_outer,
     };

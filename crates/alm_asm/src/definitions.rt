@@ -211,7 +211,7 @@ pub fn definitions_of(
 ) -> Result<Defs, NoMemory>
     ensures { IfOk result (λ done. done ≡ definitions_from text.now symbols.now [] lines.now) }
 {
-    let mut done = Defs::new(alloc);
+    let mut done = Defs::new(alloc, symbols.seed());
     let mut rest = lines;
     while let [line, more @ ..] = rest {
         push_definitions(text, symbols, line, None, &mut done)?;

@@ -24,7 +24,7 @@ use alm_lines::spot::{Spot, below};
 use alm_lines::sum::{Kind, absolute};
 use alm_lines::symbols::Symbols;
 use alm_parse::{Arg, Deed, Line36, Span, Term};
-use m36_text::Name;
+use m36_text::{HashSeed, Name};
 use m36_word::NoMemory;
 use obj36::{Link, Links};
 use obj36_parts::names::{has_its_entry, has_its_name};
@@ -43,13 +43,13 @@ pub struct Growth {
 }
 
 impl Growth {
-    fn start(alloc: Global) -> Growth
+    fn start(alloc: Global, seed: HashSeed) -> Growth
         ensures { result ≡ at_first }
     {
         Growth {
-            names: Symbols::new(alloc),
-            defined: Symbols::new(alloc),
-            links: Links::new(alloc),
+            names: Symbols::new(alloc, seed),
+            defined: Symbols::new(alloc, seed),
+            links: Links::new(alloc, seed),
             definition: 2,
             symbol: 1,
         }
@@ -408,7 +408,7 @@ pub fn growth_refusal(
     requires { length lines.now < 2 ^ 32 }
     ensures { IfOk result (λ r. r ≡ growth_refusal text.now symbols.now at_first start lines.now) }
 {
-    let mut growth = Growth::start(alloc);
+    let mut growth = Growth::start(alloc, symbols.seed());
     let refused = take_lines(alloc, text, symbols, lines, &mut growth);
     // Dropped by a call: so the drop is proved once for its type.
     drop(growth);

@@ -349,7 +349,7 @@ pub fn lines_refusal(
         ≡ with_links tables.old
         (links_from text.now tables.old.symbols tables.old.links start lines.now)) }
 {
-    let mut done = Defs::new(alloc);
+    let mut done = Defs::new(alloc, tables.symbols.seed());
     let refused = take_lines(alloc, text, tables, lines, &mut done);
     // Dropped by a call: so the drop is proved once for its type.
     drop(done);

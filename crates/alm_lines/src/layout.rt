@@ -23,6 +23,7 @@ use crate::spot::{Spot, below};
 use crate::sum::{NOTHING, Sum, unknown};
 use crate::symbols::Symbols;
 use alm_parse::{Arg, Deed, Line36, Span};
+use m36_text::HashSeed;
 use m36_word::NoMemory;
 use std::alloc::Global;
 
@@ -293,7 +294,7 @@ pub fn layout_of(alloc: Global, text: &[u8], lines: &[Line36]) -> Result<Layout,
     ensures refused { IfOk result (λ layout.
         layout.refused ≡ layout_refusal text.now None [] start lines.now) }
 {
-    let mut symbols = Symbols::new(alloc);
+    let mut symbols = Symbols::new(alloc, HashSeed::of(text));
     match take_lines(alloc, text, &mut symbols, lines) {
         Ok(refused) => Ok(Layout { symbols, refused }),
         Err(fault) => {

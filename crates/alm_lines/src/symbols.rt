@@ -6,7 +6,7 @@ ghost use Rattle.alm_lines.specs.Symbols.{sum_named, with_symbol};
 
 use crate::sum::Sum;
 use indexmap::IndexMap;
-use m36_text::Name;
+use m36_text::{HashSeed, Name};
 use m36_word::NoMemory;
 use std::alloc::Global;
 use std::marker::Model;
@@ -14,7 +14,7 @@ use std::marker::Model;
 /// Symbols with what they come to, each less than 2^96.
 #[derive(Drop)]
 pub struct Symbols {
-    sums: IndexMap<Name, Sum>,
+    sums: IndexMap<Name, Sum, HashSeed>,
 }
 
 impl Model for Symbols {
@@ -31,13 +31,18 @@ impl Model for Symbols {
 }
 
 impl Symbols {
-    /// No symbols.
-    pub fn new(alloc: Global) -> Symbols
+    /// No symbols. Their names are hashed by a seed.
+    pub fn new(alloc: Global, seed: HashSeed) -> Symbols
         ensures { result ≡ [] }
     {
         Symbols {
-            sums: IndexMap::new(alloc),
+            sums: IndexMap::with_hasher(alloc, seed),
         }
+    }
+
+    /// The seed of the hashes.
+    pub fn seed(&self) -> HashSeed {
+        *self.sums.hasher()
     }
 
     /// What a symbol comes to, if it is defined.
@@ -65,7 +70,7 @@ impl Symbols {
 }
 
 #[tactic(auto, unfolding(crate::specs::Symbols::sum_named))]
-fn found(sums: &IndexMap<Name, Sum>, name: &Name) -> Option<Sum>
+fn found(sums: &IndexMap<Name, Sum, HashSeed>, name: &Name) -> Option<Sum>
     ensures { result ≡ sum_named name.now sums.now.entries }
 {
     sums.get(name).copied()

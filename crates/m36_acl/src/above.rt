@@ -10,7 +10,7 @@ ghost use Rattle.m36_dir.specs.BootLine.{directory_limit};
 use crate::segment::{AclSegment, Term};
 use arrayvec::ArrayVec;
 use indexmap::IndexSet;
-use m36_text::Name;
+use m36_text::{HashSeed, Name};
 use m36_word::NoMemory;
 use std::alloc::Global;
 use std::marker::Model;
@@ -37,7 +37,7 @@ impl Model for Place {
 #[derive(Drop)]
 pub(crate) struct Above {
     segments: Vec<AclSegment>,
-    places: IndexSet<Place>,
+    places: IndexSet<Place, HashSeed>,
 }
 
 impl Model for Above {
@@ -91,13 +91,13 @@ fn push_to_last(segments: &mut Vec<AclSegment>, term: Term) -> Result<(), NoMemo
 }
 
 impl Above {
-    /// No segments.
-    pub(crate) fn new(alloc: Global) -> Above
+    /// No segments. Their names are hashed by a seed.
+    pub(crate) fn new(alloc: Global, seed: HashSeed) -> Above
         ensures { result ≡ [] }
     {
         Above {
             segments: Vec::new(alloc),
-            places: IndexSet::new(alloc),
+            places: IndexSet::with_hasher(alloc, seed),
         }
     }
 

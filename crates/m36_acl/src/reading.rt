@@ -11,7 +11,7 @@ use crate::above::{Above, Place};
 use crate::fault::AclFault;
 use crate::forms::{entry_of, term_of};
 use crate::segment::{AclSegment, Term};
-use m36_text::{Name, first_line, first_word};
+use m36_text::{HashSeed, Name, first_line, first_word};
 use std::alloc::Global;
 
 // The most terms of a list.
@@ -107,7 +107,7 @@ pub(crate) fn segments_in(alloc: Global, text: &[u8]) -> Result<Vec<AclSegment>,
     ensures lists { IfOk result (λ segments. lists_of text.now ≡ Ok segments.items) }
     ensures told { IfErr result (λ told. Told told (lists_of text.now)) }
 {
-    let mut above = Above::new(alloc);
+    let mut above = Above::new(alloc, HashSeed::of(text));
     let mut rest = text;
     let mut number: usize = 1;
     while let Some((line, behind)) = first_line(rest) {

@@ -14,7 +14,7 @@ use crate::kept::{exports, kept};
 use crate::placed::{Components, picked};
 use m36_bindfile::{BindFault, BindLine, read_lines};
 use m36_relocate::layout::Shape;
-use m36_text::Name;
+use m36_text::{HashSeed, Name};
 use obj36::Object;
 use obj36_parts::{Defs, Parts};
 use std::alloc::Global;
@@ -147,6 +147,6 @@ pub fn bind(
 {
     are_objects(objects);
     let lines = read_lines(alloc, bindfile)?;
-    let given = Given::new(alloc, names, objects)?;
+    let given = Given::new(alloc, HashSeed::of(bindfile), names, objects)?;
     bound_of_lines(alloc, lines.items(), &given)
 }

@@ -6,7 +6,7 @@ ghost use Rattle.obj36_parts.specs.Names.{same};
 ghost use Rattle.m36_bind.specs.Given.{object_named, with_place, ArePlaces};
 
 use indexmap::IndexMap;
-use m36_text::Name;
+use m36_text::{HashSeed, Name};
 use m36_word::NoMemory;
 use obj36::Object;
 use std::alloc::Global;
@@ -18,7 +18,7 @@ pub(crate) struct Given<'a> {
     names: &'a [Name],
     objects: &'a [Object],
     // Where the first object of each name stands.
-    places: IndexMap<Name, u64>,
+    places: IndexMap<Name, u64, HashSeed>,
 }
 
 impl<'a> Model for Given<'a> {
@@ -31,7 +31,7 @@ impl<'a> Model for Given<'a> {
     ghost invariant = { λ g. ArePlaces g.names.now g.places.entries };
 }
 
-fn place_in(places: &IndexMap<Name, u64>, name: &Name) -> Option<u64>
+fn place_in(places: &IndexMap<Name, u64, HashSeed>, name: &Name) -> Option<u64>
     ensures { result ≡ lookup (same name.now) places.now.entries }
 {
     places.get(name).copied()
@@ -39,7 +39,7 @@ fn place_in(places: &IndexMap<Name, u64>, name: &Name) -> Option<u64>
 
 // Keeps the place of a name that has none yet.
 #[tactic(auto, unfolding(crate::specs::Given::with_place))]
-fn note_place(places: &mut IndexMap<Name, u64>, name: &Name, place: u64) -> Result<(), NoMemory>
+fn note_place(places: &mut IndexMap<Name, u64, HashSeed>, name: &Name, place: u64) -> Result<(), NoMemory>
     ensures { OnOk result (places.new.entries ≡ with_place places.old.entries name.now place) }
 {
     if place_in(places, name).is_some() {
@@ -50,10 +50,14 @@ fn note_place(places: &mut IndexMap<Name, u64>, name: &Name, place: u64) -> Resu
 }
 
 // Where the first object of each name stands.
-fn places_of(alloc: Global, names: &[Name]) -> Result<IndexMap<Name, u64>, NoMemory>
+fn places_of(
+    alloc: Global,
+    seed: HashSeed,
+    names: &[Name],
+) -> Result<IndexMap<Name, u64, HashSeed>, NoMemory>
     ensures { IfOk result (λ places. ArePlaces names.now places.entries) }
 {
-    let mut places = IndexMap::new(alloc);
+    let mut places = IndexMap::with_hasher(alloc, seed);
     let mut place: u64 = 0;
     for name in names {
         note_place(&mut places, name, place)?;
@@ -70,19 +74,26 @@ fn object_at(objects: &[Object], place: Option<u64>) -> Option<&Object>
 }
 
 impl<'a> Given<'a> {
+    // The names are hashed by a seed.
     pub(crate) fn new(
         alloc: Global,
+        seed: HashSeed,
         names: &'a [Name],
         objects: &'a [Object],
     ) -> Result<Given<'a>, NoMemory>
         ensures { IfOk result (λ given. given ≡ record { names = names.now; objects = objects.now }) }
     {
-        let places = places_of(alloc, names)?;
+        let places = places_of(alloc, seed, names)?;
         Ok(Given {
             names,
             objects,
             places,
         })
+    }
+
+    // The seed of the hashes.
+    pub(crate) fn seed(&self) -> HashSeed {
+        *self.places.hasher()
     }
 
     // The object of a name.

@@ -7,7 +7,7 @@ ghost use Rattle.m36_relocate.specs.Exports.{moved_from};
 ghost use Rattle.m36_bind.specs.Kept.{exports_from, kept_one, kept_line, kept_from};
 ghost use Rattle.obj36_parts.specs.ObjectSegment.{has_definition};
 
-use crate::placed::{Placed, moving};
+use crate::placed::{Placed, moving, seed_of};
 use m36_bindfile::{BindFault, BindLine};
 use m36_relocate::exports::{Export, Exports, add_moved};
 use m36_relocate::layout::Shape;
@@ -29,7 +29,7 @@ fn add_component(table: &mut Exports, frame: &Shape, p: &Placed<'_>) -> Result<(
 pub(crate) fn exports(alloc: Global, frame: &Shape, all: &[Placed<'_>]) -> Result<Exports, NoMemory>
     ensures { IfOk result (λ table. table ≡ exports_from frame.now [] all.now) }
 {
-    let mut table = Exports::new(alloc);
+    let mut table = Exports::new(alloc, seed_of(all));
     let mut rest = all;
     while let [p, others @ ..] = rest {
         add_component(&mut table, frame, p)?;
@@ -80,7 +80,7 @@ pub(crate) fn kept(alloc: Global, exports: &Exports, lines: &[BindLine]) -> Resu
     requires { length lines.now < 2 ^ 32 }
     ensures { BindSays result (kept_from exports.now [] 1 lines.now) }
 {
-    let mut kept = Defs::new(alloc);
+    let mut kept = Defs::new(alloc, exports.seed());
     let mut n: u64 = 1;
     for line in lines {
         match keep_line(exports, &mut kept, n, line) {

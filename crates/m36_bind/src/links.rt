@@ -5,7 +5,7 @@ ghost use Rattle.m36_bind.specs.Components.{moving};
 ghost use Rattle.m36_relocate.specs.Layout.{spot_moved};
 ghost use Rattle.m36_bind.specs.Links.{own_link, farther, segment_link, entry_link, outer_link, inner_link, link_moved, links_onto, links_from};
 
-use crate::placed::{Components, Placed, moving};
+use crate::placed::{Components, Placed, moving, seed_of};
 use m36_relocate::exports::Export;
 use m36_relocate::layout::{Shape, Spot, spot_at, spot_moved};
 use m36_text::Name;
@@ -160,7 +160,7 @@ fn add_links_of(
 pub(crate) fn links(alloc: Global, frame: &Shape, all: &Components<'_>) -> Result<Links, NoMemory>
     ensures { IfOk result (λ links. links ≡ links_from frame.now all.now [] all.now) }
 {
-    let mut out = Links::new(alloc);
+    let mut out = Links::new(alloc, seed_of(all.items()));
     let mut rest = all.items();
     while let [p, others @ ..] = rest {
         add_links_of(&mut out, frame, all, p)?;

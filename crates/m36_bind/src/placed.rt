@@ -14,7 +14,7 @@ use indexmap::IndexSet;
 use m36_bindfile::{BindFault, BindLine};
 use m36_relocate::exports::{Exports, own_entries};
 use m36_relocate::layout::{Bases, Moving, Shape, evened};
-use m36_text::Name;
+use m36_text::{HashSeed, Name};
 use m36_word::NoMemory;
 use obj36::Object;
 use obj36_parts::Parts;
@@ -50,7 +50,7 @@ impl<'a> Model for Placed<'a> {
 #[derive(Drop)]
 pub(crate) struct Components<'a> {
     items: Vec<Placed<'a>>,
-    names: IndexSet<Name>,
+    names: IndexSet<Name, HashSeed>,
 }
 
 impl<'a> Model for Components<'a> {
@@ -102,7 +102,7 @@ fn is_newer(parts: &Parts) -> bool
 fn entries_of(alloc: Global, parts: &Parts) -> Result<Exports, NoMemory>
     ensures { IfOk result (λ table. table ≡ own_from [] parts.now.definitions) }
 {
-    own_entries(alloc, parts.definitions.items())
+    own_entries(alloc, parts.definitions.seed(), parts.definitions.items())
 }
 
 // Where the component behind another begins.
@@ -142,13 +142,23 @@ fn parts_of(object: &Object) -> &Parts
     object.parts()
 }
 
+// The seed of components together.
+pub(crate) fn seed_of(all: &[Placed<'_>]) -> HashSeed {
+    let mut seed = HashSeed::of(b"");
+    for p in all {
+        seed = seed.joined(&p.parts.definitions.seed());
+    }
+    seed
+}
+
 impl<'a> Components<'a> {
-    fn new(alloc: Global) -> Components<'a>
+    // No components. Their names are hashed by a seed.
+    fn new(alloc: Global, seed: HashSeed) -> Components<'a>
         ensures { result ≡ [] }
     {
         Components {
             items: Vec::new(alloc),
-            names: IndexSet::new(alloc),
+            names: IndexSet::with_hasher(alloc, seed),
         }
     }
 
@@ -272,7 +282,7 @@ pub(crate) fn picked<'a>(
     requires { length lines.now < 2 ^ 32 }
     ensures { BindSays result (picked_of given.now lines.now) }
 {
-    let mut all = Components::new(alloc);
+    let mut all = Components::new(alloc, given.seed());
     let mut next = first_bases();
     let mut n: u64 = 1;
     for line in lines {

@@ -81,7 +81,7 @@ fn answer_if(
 pub(crate) fn start_of(alloc: Global, catalog: &Catalog, files: &[File]) -> Result<Snap, BootFault>
     ensures { StartSays result (start_of catalog.now files.now) }
 {
-    let known = Known::new(alloc)?;
+    let known = Known::new(alloc, catalog)?;
     let start = catalog.start();
     let Some(seg) = known.search(catalog, start.ring, start.name.bytes(), catalog.work()) else {
         return Err(BootFault::U3);

@@ -16,6 +16,7 @@ use crate::directory::Directory;
 use crate::fault::CatalogFault;
 use crate::reading::lines_of;
 use crate::segment::{Segment, Start};
+use m36_text::HashSeed;
 use m36_word::NoMemory;
 use std::alloc::Global;
 use std::marker::Model;
@@ -30,6 +31,7 @@ pub struct Catalog {
     libraries: Vec<u16>,
     segments: Vec<Segment>,
     start: Start,
+    seed: HashSeed,
     frames: u32,
     work: u16,
 }
@@ -45,9 +47,9 @@ impl Model for Catalog {
     ghost invariant = { λ c. IsCatalog (record { frames = c.frames; directories = c.directories.items; work = c.work; libraries = c.libraries.items; segments = c.segments.items; start = c.start }) };
 }
 
-// What lines of which none has a code say.
+// What lines of which none has a code say. The seed is that of their text.
 #[tactic(auto, unfolding(crate::specs::Catalog::catalog_in))]
-fn catalog_in(alloc: Global, lines: &[BootLine]) -> Result<Catalog, NoMemory>
+fn catalog_in(alloc: Global, seed: HashSeed, lines: &[BootLine]) -> Result<Catalog, NoMemory>
     requires { IsCatalog (catalog_in lines.now) }
     ensures { IfOk result (λ catalog. catalog ≡ catalog_in lines.now) }
 {
@@ -60,6 +62,7 @@ fn catalog_in(alloc: Global, lines: &[BootLine]) -> Result<Catalog, NoMemory>
         libraries,
         segments,
         start: start_of(lines),
+        seed,
         frames: frames_of(lines.first()),
         work,
     })
@@ -90,7 +93,12 @@ impl Catalog {
         ensures { ReadSays result (catalog_of text.now) }
     {
         let lines = lines_of(alloc, text)?;
-        Ok(catalog_in(alloc, &lines)?)
+        Ok(catalog_in(alloc, HashSeed::of(text), &lines)?)
+    }
+
+    /// The seed of tables whose keys are names of the text.
+    pub fn seed(&self) -> HashSeed {
+        self.seed
     }
 
     /// How many segments there are.

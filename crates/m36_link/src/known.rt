@@ -15,6 +15,7 @@ use crate::search::{initiated, searched_in_directories};
 use crate::snap::Snap;
 use indexmap::IndexMap;
 use m36_dir::Catalog;
+use m36_text::HashSeed;
 use m36_word::NoMemory;
 use obj36::Link;
 use obj36_parts::names::has_its_name;
@@ -25,7 +26,7 @@ use std::marker::Model;
 /// It is seen as these two lists.
 #[derive(Drop)]
 pub struct Known {
-    names: IndexMap<RingName, u16>,
+    names: IndexMap<RingName, u16, HashSeed>,
     laid: Vec<Laid>,
 }
 
@@ -43,7 +44,7 @@ impl Model for Known {
 
 // Adds a name that is none yet. Where no memory is found, nothing changes.
 fn insert_name(
-    names: &mut IndexMap<RingName, u16>,
+    names: &mut IndexMap<RingName, u16, HashSeed>,
     name: RingName,
     target: u16,
 ) -> Result<(), NoMemory>
@@ -62,7 +63,7 @@ fn insert_name(
 // Adds the name of a link of type 3 or 4 where it is none yet. Where no memory is found, nothing changes.
 #[tactic(auto, unfolding(crate::specs::Accepted::with_initiated))]
 fn add_name(
-    names: &mut IndexMap<RingName, u16>,
+    names: &mut IndexMap<RingName, u16, HashSeed>,
     ring: u8,
     link: &Link,
     target: u16,
@@ -111,12 +112,13 @@ fn add_section(laid: &mut Vec<Laid>, lay: &Option<Lay>)
 }
 
 impl Known {
-    /// Nothing is known at first. The error is want of memory alone.
-    pub fn new(alloc: Global) -> Result<Known, NoMemory>
+    /// Nothing is known at first. Names are hashed by the seed of the catalog. The error is want of
+    /// memory alone.
+    pub fn new(alloc: Global, catalog: &Catalog) -> Result<Known, NoMemory>
         ensures { IfOk result (λ known. known ≡ nothing_known) }
     {
         Ok(Known {
-            names: IndexMap::new(alloc),
+            names: IndexMap::with_hasher(alloc, catalog.seed()),
             laid: Vec::new(alloc),
         })
     }

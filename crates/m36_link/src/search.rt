@@ -9,11 +9,15 @@ use crate::file::FIRST_SEGMENT;
 use crate::names::RingName;
 use indexmap::IndexMap;
 use m36_dir::Catalog;
-use m36_text::Name;
+use m36_text::{HashSeed, Name};
 
 /// The number of the segment that is initiated under a name in a ring.
 #[tactic(auto, unfolding(crate::specs::Known::initiated), using(crate::proofs::KnownNames::long_absent))]
-pub(crate) fn initiated(names: &IndexMap<RingName, u16>, ring: u8, name: &[u8]) -> Option<u16>
+pub(crate) fn initiated(
+    names: &IndexMap<RingName, u16, HashSeed>,
+    ring: u8,
+    name: &[u8],
+) -> Option<u16>
     requires { AreNames names.now.entries }
     ensures value { result ≡ initiated names.now.entries ring name.now }
     ensures bound { IfSome result (λ seg. seg < 2 ^ 15) }

@@ -5,7 +5,7 @@ ghost use Rattle.m36_relocate.specs.Exports.{export_named, export_behind, with_e
 
 use crate::layout::{Moving, spot_moved};
 use indexmap::IndexMap;
-use m36_text::Name;
+use m36_text::{HashSeed, Name};
 use m36_word::NoMemory;
 use obj36_parts::{Def, Named, Section};
 use std::alloc::Global;
@@ -23,7 +23,7 @@ pub struct Export {
 /// A table of definitions, seen as its entries in order.
 #[derive(Drop)]
 pub struct Exports {
-    entries: IndexMap<Name, Export>,
+    entries: IndexMap<Name, Export, HashSeed>,
 }
 
 impl Model for Exports {
@@ -48,20 +48,25 @@ fn export_behind(def: Def, first: Option<Export>) -> Export
 }
 
 #[tactic(auto, unfolding(crate::specs::Exports::export_named))]
-fn found(entries: &IndexMap<Name, Export>, name: &Name) -> Option<Export>
+fn found(entries: &IndexMap<Name, Export, HashSeed>, name: &Name) -> Option<Export>
     ensures { result ≡ export_named name.now entries.now.entries }
 {
     entries.get(name).copied()
 }
 
 impl Exports {
-    /// A table with no entry.
-    pub fn new(alloc: Global) -> Exports
+    /// A table with no entry, whose names are hashed by a seed.
+    pub fn new(alloc: Global, seed: HashSeed) -> Exports
         ensures { result ≡ [] }
     {
         Exports {
-            entries: IndexMap::new(alloc),
+            entries: IndexMap::with_hasher(alloc, seed),
         }
+    }
+
+    /// The seed of the hashes.
+    pub fn seed(&self) -> HashSeed {
+        *self.entries.hasher()
     }
 
     /// What the table has of a name.
@@ -105,12 +110,17 @@ fn add_own(table: &mut Exports, d: &Named) -> Result<(), NoMemory>
     table.add_counted(d, d.def)
 }
 
-/// The definitions of one object, as they are there. Those of class symbol count as none. The error is want of memory.
+/// The definitions of one object, as they are there, hashed by a seed. Those of class symbol count
+/// as none. The error is want of memory.
 #[tactic(auto, unfolding(crate::specs::Exports::own_from))]
-pub fn own_entries(alloc: Global, definitions: &[Named]) -> Result<Exports, NoMemory>
+pub fn own_entries(
+    alloc: Global,
+    seed: HashSeed,
+    definitions: &[Named],
+) -> Result<Exports, NoMemory>
     ensures { IfOk result (λ table. table ≡ own_from [] definitions.now) }
 {
-    let mut table = Exports::new(alloc);
+    let mut table = Exports::new(alloc, seed);
     let mut rest = definitions;
     while let [d, others @ ..] = rest {
         add_own(&mut table, d)?;

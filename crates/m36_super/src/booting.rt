@@ -59,7 +59,7 @@ fn known_of(
     ensures made { IfOk result (IsMade catalog.now files.now) }
 {
     link_laws();
-    let mut known = Known::new(alloc)?;
+    let mut known = Known::new(alloc, catalog)?;
     known.accept(snap)?;
     Ok(known)
 }

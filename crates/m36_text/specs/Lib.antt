@@ -7,3 +7,4 @@ pub mod Lines
 pub mod Once
 pub mod Numbers
 pub mod Results
+pub mod Seeds

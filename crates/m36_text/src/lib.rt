@@ -21,6 +21,7 @@ pub mod numbers;
 pub mod numerals;
 pub mod packing;
 pub mod reading;
+pub mod seeds;
 pub mod texts;
 
 pub use lines::{first_line, first_open_line, first_word, only_word, place_of};
@@ -29,4 +30,5 @@ pub use numbers::{decimal_in, has_no_leading_zero, octal_in, plain_decimal_in, s
 pub use numerals::{decimal, octal};
 pub use packing::{PackFault, pack, packing_laws, unpack};
 pub use reading::{NumberFault, is_digit, numeral_laws, read_decimal, read_octal};
+pub use seeds::HashSeed;
 pub use texts::{LONGEST_NAME, is_file_name, is_letter, is_name, is_name_character, is_text};

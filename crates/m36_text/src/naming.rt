@@ -2,16 +2,20 @@
 
 ghost use Rattle.std.specs.Prelude.{ℕ, List, [], ◌∷◌, ◌++◌, ◌≡◌, ◌≤◌, length, OnOk, OnErr};
 ghost use Rattle.std.specs.Option.{SomeIff};
+ghost use Rattle.std.specs.Hash as fed;
+ghost use Rattle.std.specs.Cmp.Rules.{hashing};
+ghost use Rattle.std.proofs.Common.{rules};
 ghost use Rattle.m36_text.specs.FileNames.{SourceNames};
 ghost use Rattle.m36_text.specs.Texts.{name_limit};
 
 use arrayvec::ArrayVec;
 use m36_word::NoMemory;
 use std::alloc::Global;
+use std::hash::{Hash, Hasher};
 use std::marker::Model;
 
 /// A name of at most 32 bytes, seen as a list of numbers. It takes no memory.
-#[derive(PartialEq, Eq, PartialOrd, Ord, Hash, Default, Debug, Drop)]
+#[derive(PartialEq, Eq, PartialOrd, Ord, Default, Debug, Drop)]
 pub struct Name {
     items: ArrayVec<u8, 32>,
 }
@@ -24,6 +28,18 @@ impl Model for Name {
     ghost view = { λ n. n.items.items };
 
     ghost inverse = { λ l. record { items = record { items = l } } };
+}
+
+impl Hash for Name {
+    ghost hash_input = { λ n. n ∷ fed.u8 (length n) };
+
+    ghost respects_eq = { Prim.search (hashing, rules) };
+
+    fn hash<H: Hasher>(&self, state: &mut H) {
+        let bytes = self.items.as_slice();
+        state.write(bytes);
+        state.write_u8(bytes.len() as u8);
+    }
 }
 
 impl Name {

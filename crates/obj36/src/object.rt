@@ -72,7 +72,8 @@ fn sections_of(alloc: Global, parts: &Parts) -> Result<Sections, NoMemory>
     let links = parts.links.items();
     let statics = parts.inner_statics();
     let expressions = 2 + 2 * definitions.len() as u64;
-    let definition = definition_words_of(alloc, definitions, links)?;
+    let seed = parts.definitions.seed();
+    let definition = definition_words_of(alloc, seed, definitions, links)?;
     let linkage = linkage_words_of(alloc, statics, links, expressions)?;
     let symbol = symbol_words_of(alloc, parts.relocations.items())?;
     Ok(Sections {

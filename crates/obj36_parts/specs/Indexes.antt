@@ -1,13 +1,13 @@
 -- What the tables of definitions and links keep beside their lists, so that a name or a link is
 -- found at once.
-use Rattle.std.specs.Prelude.{ℕ, ◌≡◌, Bool, ◌&&◌, nat_eq, List, [], position, is_some}
+use Rattle.std.specs.Prelude.{ℕ, ◌≡◌, ◌+◌, ◌*◌, ◌^◌, Bool, ◌&&◌, nat_eq, List, [], position, is_some}
 use Rattle.std.specs.List.{list_any}
 use Rattle.std.specs.Map.{lookup}
 use Rattle.m36_text.specs.Once.{with_unless}
 use Rattle.obj36_parts.specs.Fields.{DefFields, LinkFields}
 use Rattle.obj36_parts.specs.declared.definition.Named.{Named}
 use Rattle.obj36_parts.specs.Names.{same, with_names, names_in}
-use Rattle.obj36_parts.specs.Sections.{same_section}
+use Rattle.obj36_parts.specs.Sections.{class_number, same_section}
 use Rattle.obj36_parts.specs.ObjectSegment.{definition_names, all_link_names}
 use Rattle.obj36_parts.specs.ObjectSegment.{definition_named}
 
@@ -19,6 +19,10 @@ with_first firsts d = with_unless (is_some (lookup (same d.name) firsts)) firsts
 pub record AreFirsts (definitions : List Named) (firsts : List (List ℕ × DefFields)) : Type 0 where
   pub names_are : names_in firsts ≡ with_names [] (definition_names definitions)
   pub firsts_are : (name : List ℕ) → lookup (same name) firsts ≡ definition_named name definitions
+
+-- what a link has but its names, as one number
+abbrev pub link_number : LinkFields → ℕ
+link_number l = l.expr + 2 ^ 18 * l.modifier + 2 ^ 24 * l.kind + 2 ^ 32 * class_number l.section
 
 -- whether two links are the same
 unfoldable pub same_link : LinkFields → LinkFields → Bool

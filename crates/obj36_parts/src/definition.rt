@@ -9,7 +9,7 @@ ghost use Rattle.obj36_parts.specs.Indexes.{with_first};
 
 use crate::section::Section;
 use indexmap::IndexMap;
-use m36_text::Name;
+use m36_text::{HashSeed, Name};
 use m36_word::NoMemory;
 use std::alloc::Global;
 use std::marker::Model;
@@ -51,7 +51,7 @@ pub struct Named {
 #[derive(Drop)]
 pub struct Defs {
     items: Vec<Named>,
-    firsts: IndexMap<Name, Def>,
+    firsts: IndexMap<Name, Def, HashSeed>,
 }
 
 impl Model for Defs {
@@ -67,15 +67,20 @@ impl Model for Defs {
 }
 
 impl Defs {
-    /// An empty list.
+    /// An empty list, whose names are hashed by a seed.
     #[tactic(auto, using(crate::proofs::FirstLaws::none_first))]
-    pub fn new(alloc: Global) -> Defs
+    pub fn new(alloc: Global, seed: HashSeed) -> Defs
         ensures { result ≡ [] }
     {
         Defs {
             items: Vec::new(alloc),
-            firsts: IndexMap::new(alloc),
+            firsts: IndexMap::with_hasher(alloc, seed),
         }
+    }
+
+    /// The seed of its hashes.
+    pub fn seed(&self) -> HashSeed {
+        *self.firsts.hasher()
     }
 
     /// Adds a definition at the end. Where no memory is found, nothing changes.
@@ -126,7 +131,10 @@ impl Defs {
 }
 
 // Keeps where a definition lies whose name has none yet.
-fn note_first(firsts: &mut IndexMap<Name, Def>, definition: &Named) -> Result<(), NoMemory>
+fn note_first(
+    firsts: &mut IndexMap<Name, Def, HashSeed>,
+    definition: &Named,
+) -> Result<(), NoMemory>
     ensures ok { OnOk result (firsts.new.entries ≡ with_first firsts.old.entries definition.now) }
     ensures err { OnErr result (firsts.new.entries ≡ firsts.old.entries) }
 {

@@ -1,24 +1,29 @@
 //! Links: the places outside that an object refers to.
 
-ghost use Rattle.std.specs.Prelude.{ℕ, List, [], ◌∷◌, ◌++◌, ◌≡◌, ◌+◌, ◌<◌, ◌≤◌, position, OnOk};
+ghost use Rattle.std.specs.Prelude.{ℕ, List, [], ◌∷◌, ◌++◌, ◌≡◌, ◌+◌, ◌<◌, ◌≤◌, length, position, OnOk};
 ghost use Rattle.std.specs.Prelude.{OnErr};
 ghost use Rattle.indexmap.specs.IndexSet.{spare};
 ghost use Rattle.obj36_parts.specs.Names.{with_name, with_names};
 ghost use Rattle.obj36_parts.specs.ObjectSegment.{name_used, entry_used, link_names};
 ghost use Rattle.obj36_parts.specs.ObjectSegment.{all_link_names};
-ghost use Rattle.obj36_parts.specs.Indexes.{same_link, has_link, with_place};
+ghost use Rattle.obj36_parts.specs.Indexes.{link_number, same_link, has_link, with_place};
+ghost use Rattle.std.specs.Cmp.Rules.{hashing};
+ghost use Rattle.std.specs.Hash as fed;
+ghost use Rattle.std.proofs.Common.{rules};
 
 use crate::definition::put;
 use crate::names::{has_its_entry, has_its_name};
 use crate::section::Section;
+use crate::sections::class;
 use indexmap::{IndexMap, IndexSet};
-use m36_text::Name;
+use m36_text::{HashSeed, Name};
 use m36_word::NoMemory;
 use std::alloc::Global;
+use std::hash::{Hash, Hasher};
 use std::marker::Model;
 
 /// A link. A field that its type does not use is the section text or an empty name.
-#[derive(Debug, PartialEq, Eq, Hash, Drop)]
+#[derive(Debug, PartialEq, Eq, Drop)]
 pub struct Link {
     /// The segment that is referred to, of the types 3 and 4.
     pub name: Name,
@@ -61,6 +66,29 @@ impl Model for Link {
     } };
 }
 
+impl Hash for Link {
+    ghost hash_input = { λ l. fed.u64 (link_number l) ++ (l.name ∷ fed.u8 (length l.name))
+        ++ (l.entry ∷ fed.u8 (length l.entry)) };
+
+    ghost respects_eq = { Prim.search (hashing, rules) };
+
+    fn hash<H: Hasher>(&self, state: &mut H) {
+        state.write_u64(number_of(self));
+        self.name.hash(state);
+        self.entry.hash(state);
+    }
+}
+
+// What a link has but its names, as one number.
+fn number_of(link: &Link) -> u64
+    ensures { result ≡ link_number link.now }
+{
+    link.expr as u64
+        + ((link.modifier as u64) << 18)
+        + ((link.kind as u64) << 24)
+        + (class(link.section) << 32)
+}
+
 impl Link {
     /// The same link again.
     pub fn copied(&self) -> Link
@@ -81,8 +109,8 @@ impl Link {
 #[derive(Drop)]
 pub struct Links {
     items: Vec<Link>,
-    places: IndexMap<Link, u64>,
-    names: IndexSet<Name>,
+    places: IndexMap<Link, u64, HashSeed>,
+    names: IndexSet<Name, HashSeed>,
 }
 
 impl Model for Links {
@@ -98,14 +126,14 @@ impl Model for Links {
 }
 
 impl Links {
-    /// An empty list.
-    pub fn new(alloc: Global) -> Links
+    /// An empty list, whose links are hashed by a seed.
+    pub fn new(alloc: Global, seed: HashSeed) -> Links
         ensures { result ≡ [] }
     {
         Links {
             items: Vec::new(alloc),
-            places: IndexMap::new(alloc),
-            names: IndexSet::new(alloc),
+            places: IndexMap::with_hasher(alloc, seed),
+            names: IndexSet::with_hasher(alloc, seed),
         }
     }
 
@@ -154,7 +182,11 @@ impl Links {
 }
 
 // Keeps the place of a link that has none yet.
-fn note_place(places: &mut IndexMap<Link, u64>, link: &Link, place: u64) -> Result<(), NoMemory>
+fn note_place(
+    places: &mut IndexMap<Link, u64, HashSeed>,
+    link: &Link,
+    place: u64,
+) -> Result<(), NoMemory>
     ensures ok { OnOk result (places.new.entries ≡ with_place places.old.entries link.now place) }
     ensures err { OnErr result (places.new.entries ≡ places.old.entries) }
 {
@@ -167,7 +199,7 @@ fn note_place(places: &mut IndexMap<Link, u64>, link: &Link, place: u64) -> Resu
 
 // Keeps a name where there is room for it.
 #[tactic(auto, unfolding(crate::specs::Names::with_name))]
-fn note_name(names: &mut IndexSet<Name>, name: &Name)
+fn note_name(names: &mut IndexSet<Name, HashSeed>, name: &Name)
     requires { 0 < spare names.old }
     ensures keys { names.new.keys ≡ with_name names.old.keys name.now }
     ensures room { spare names.old ≤ spare names.new + 1 }
@@ -179,7 +211,7 @@ fn note_name(names: &mut IndexSet<Name>, name: &Name)
 }
 
 #[tactic(auto, unfolding(crate::specs::ObjectSegment::name_used, crate::specs::Names::with_names))]
-fn note_subject(names: &mut IndexSet<Name>, link: &Link)
+fn note_subject(names: &mut IndexSet<Name, HashSeed>, link: &Link)
     requires { 0 < spare names.old }
     ensures keys { names.new.keys ≡ with_names names.old.keys (name_used link.now) }
     ensures room { spare names.old ≤ spare names.new + 1 }
@@ -190,7 +222,7 @@ fn note_subject(names: &mut IndexSet<Name>, link: &Link)
 }
 
 #[tactic(auto, unfolding(crate::specs::ObjectSegment::entry_used, crate::specs::Names::with_names))]
-fn note_entry(names: &mut IndexSet<Name>, link: &Link)
+fn note_entry(names: &mut IndexSet<Name, HashSeed>, link: &Link)
     requires { 0 < spare names.old }
     ensures { names.new.keys ≡ with_names names.old.keys (entry_used link.now) }
 {
@@ -201,7 +233,7 @@ fn note_entry(names: &mut IndexSet<Name>, link: &Link)
 
 // Keeps the names that a link uses, where there is room for two.
 #[tactic(auto, unfolding(crate::specs::ObjectSegment::link_names), using(crate::proofs::NameTables::added_then))]
-fn note_names(names: &mut IndexSet<Name>, link: &Link)
+fn note_names(names: &mut IndexSet<Name, HashSeed>, link: &Link)
     requires { 2 ≤ spare names.old }
     ensures { names.new.keys ≡ with_names names.old.keys (link_names link.now) }
 {

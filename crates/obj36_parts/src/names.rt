@@ -11,7 +11,7 @@ ghost use Rattle.obj36_parts.specs.ObjectSegment.{has_name, has_entry};
 use crate::definition::Named;
 use crate::link::Link;
 use indexmap::IndexMap;
-use m36_text::Name;
+use m36_text::{HashSeed, Name};
 use m36_word::{NoMemory, Word, Words};
 use std::alloc::Global;
 use std::marker::Model;
@@ -42,7 +42,7 @@ pub(crate) fn length_of(name: &Name) -> u64
 /// Names that stand one after another from a place on, each once.
 #[derive(Drop)]
 pub struct NameTable {
-    places: IndexMap<Name, u64>,
+    places: IndexMap<Name, u64, HashSeed>,
     base: u64,
     next: u64,
 }
@@ -60,12 +60,12 @@ impl Model for NameTable {
 
 impl NameTable {
     // No names, from a place on.
-    fn new(alloc: Global, base: u64) -> NameTable
+    fn new(alloc: Global, seed: HashSeed, base: u64) -> NameTable
         requires { base ≤ 2 ^ 40 }
         ensures { result ≡ record { names = []; base = base } }
     {
         NameTable {
-            places: IndexMap::new(alloc),
+            places: IndexMap::with_hasher(alloc, seed),
             base,
             next: base,
         }
@@ -159,9 +159,10 @@ fn add_names(table: &mut NameTable, definitions: &[Named], links: &[Link]) -> Re
     add_links(table, links)
 }
 
-// Each name once, in order of first use, from a place on.
+// Each name once, in order of first use, from a place on. They are hashed by a seed.
 pub(crate) fn names_used(
     alloc: Global,
+    seed: HashSeed,
     definitions: &[Named],
     links: &[Link],
     base: u64,
@@ -173,7 +174,7 @@ pub(crate) fn names_used(
         ≡ with_names [] (definition_names definitions.now ++ all_link_names links.now)) }
     ensures base { IfOk result (λ table. table.base ≡ base) }
 {
-    let mut table = NameTable::new(alloc, base);
+    let mut table = NameTable::new(alloc, seed, base);
     match add_names(&mut table, definitions, links) {
         Ok(()) => Ok(table),
         Err(cause) => {

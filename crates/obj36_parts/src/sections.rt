@@ -22,6 +22,7 @@ use crate::linkage::push_linkage;
 use crate::names::{NameTable, has_its_entry, has_its_name, names_used, push_names};
 use crate::relocation::Reloc;
 use crate::section::Section;
+use m36_text::HashSeed;
 use m36_word::{NoMemory, Word, Words};
 use std::alloc::Global;
 
@@ -307,9 +308,10 @@ fn words_by_table(
     }
 }
 
-/// The definition section of these definitions and links.
+/// The definition section of these definitions and links, whose names are hashed by a seed.
 pub fn definition_words_of(
     alloc: Global,
+    seed: HashSeed,
     definitions: &[Named],
     links: &[Link],
 ) -> Result<Words, NoMemory>
@@ -319,7 +321,7 @@ pub fn definition_words_of(
 {
     let expressions = 2 + 2 * definitions.len() as u64;
     let base = expressions + 2 * links.len() as u64;
-    let table = names_used(alloc, definitions, links, base)?;
+    let table = names_used(alloc, seed, definitions, links, base)?;
     let words = words_by_table(alloc, &table, definitions, links);
     drop(table);
     words

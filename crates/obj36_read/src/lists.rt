@@ -7,6 +7,7 @@ use crate::reading::{
     bound, count_told, definition_on, first_told, front, length_told, linkage_on, read_definitions,
     read_links, read_relocations, statics, symbol_on, version,
 };
+use m36_text::HashSeed;
 use m36_word::{NoMemory, Word, Words};
 use obj36_parts::definition::Defs;
 use obj36_parts::link::Links;
@@ -25,8 +26,8 @@ pub(crate) struct Lists {
     relocations: Relocs,
 }
 
-// Lists of nothing.
-pub(crate) fn no_lists(alloc: Global) -> Lists
+// Lists of nothing. Their names and links are hashed by a seed.
+pub(crate) fn no_lists(alloc: Global, seed: HashSeed) -> Lists
     ensures text { result.text ≡ [] }
     ensures statics { result.statics ≡ [] }
     ensures definitions { result.definitions ≡ [] }
@@ -36,8 +37,8 @@ pub(crate) fn no_lists(alloc: Global) -> Lists
     Lists {
         text: Words::new(alloc),
         statics: Words::new(alloc),
-        definitions: Defs::new(alloc),
-        links: Links::new(alloc),
+        definitions: Defs::new(alloc, seed),
+        links: Links::new(alloc, seed),
         relocations: Relocs::new(alloc),
     }
 }

@@ -14,7 +14,7 @@ ghost use Rattle.m36_text.specs.Texts.{name_limit};
 ghost use Rattle.obj36_parts.specs.ObjectSegment.{definition_head, symbol_head};
 
 use crate::lists::{no_lists, parts_with, read_lists};
-use m36_text::{LONGEST_NAME, Name};
+use m36_text::{HashSeed, LONGEST_NAME, Name};
 use m36_word::{NoMemory, Word};
 use obj36_parts::definition::{Def, Defs, Named};
 use obj36_parts::halves::{left_of, right_of};
@@ -389,7 +389,8 @@ pub fn parts_in(alloc: Global, words: &[Word]) -> Result<Parts, NoMemory>
     requires { length words.now < 2 ^ 32 }
     ensures { IfOk result (λ p. p ≡ parts_of words.now) }
 {
-    let mut lists = no_lists(alloc);
+    let seed = HashSeed::of_words(alloc, words)?;
+    let mut lists = no_lists(alloc, seed);
     match read_lists(&mut lists, words) {
         Ok(()) => Ok(parts_with(lists, words)),
         Err(cause) => {

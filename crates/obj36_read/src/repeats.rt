@@ -14,6 +14,7 @@ use crate::tables::{
     count_of_definitions, definition_behind, definition_first, earlier_of, is_within, place_of_name,
 };
 use indexmap::IndexMap;
+use m36_text::HashSeed;
 use m36_word::{NoMemory, Word};
 use std::alloc::Global;
 
@@ -88,7 +89,7 @@ fn lesser(place: u64, other: Option<u64>) -> Option<u64>
 // Keeps the place of a name, and tells the least of it and of the same names so far, where there are any.
 fn note<'a>(
     d: &'a [Word],
-    places: &mut IndexMap<Spelling<'a>, u64>,
+    places: &mut IndexMap<Spelling<'a>, u64, HashSeed>,
     place: u64,
 ) -> Result<Option<u64>, NoMemory>
     requires { place < 2 ^ 18 }
@@ -110,7 +111,7 @@ fn note<'a>(
 // The least place of a name that two definitions have, by keeping the places of all names where none is kept.
 fn repeats_noted<'a>(
     d: &'a [Word],
-    places: &mut IndexMap<Spelling<'a>, u64>,
+    places: &mut IndexMap<Spelling<'a>, u64, HashSeed>,
 ) -> Result<Option<u64>, NoMemory>
     requires { places.old.entries ≡ [] }
     ensures value { IfOk result (λ place.
@@ -133,7 +134,8 @@ pub(crate) fn fault_of_repeats(alloc: Global, d: &[Word]) -> Result<Option<u64>,
         place ≡ repeats d.now (definition_count d.now) (first_definition d.now)) }
     ensures bound { IfOk result (λ place. IfSome place (λ p. p < 2 ^ 20)) }
 {
-    let mut places = IndexMap::new(alloc);
+    let seed = HashSeed::of_words(alloc, d)?;
+    let mut places = IndexMap::with_hasher(alloc, seed);
     let found = repeats_noted(d, &mut places);
     // Dropped by a call: so the drop is proved once for its type.
     drop(places);

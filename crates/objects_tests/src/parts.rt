@@ -1,6 +1,6 @@
 //! Tables worked out by hand.
 
-use m36_text::Name;
+use m36_text::{HashSeed, Name};
 use m36_word::NoMemory;
 use obj36_parts::{Def, Defs, Link, Links, Named, Section};
 
@@ -63,7 +63,7 @@ fn find_names(definitions: &mut Defs) -> Result<bool, NoMemory> {
 
 #[test]
 fn names_are_found(rt: HostRuntime) -> Result<(), NoMemory> {
-    let mut definitions = Defs::new(rt.alloc());
+    let mut definitions = Defs::new(rt.alloc(), HashSeed::of(b""));
     let told = find_names(&mut definitions);
     // Dropped by a call: so the drop is proved once for its type. So below.
     drop(definitions);
@@ -98,7 +98,7 @@ fn find_links(links: &mut Links) -> Result<bool, NoMemory> {
 
 #[test]
 fn links_are_found(rt: HostRuntime) -> Result<(), NoMemory> {
-    let mut links = Links::new(rt.alloc());
+    let mut links = Links::new(rt.alloc(), HashSeed::of(b""));
     let told = find_links(&mut links);
     drop(links);
     assert!(rt; told?);

@@ -3,7 +3,7 @@
 use alm_parse::{Lines36, parse};
 use m36_list::{disassemble, disassembly_laws, listing, print};
 use m36_outside::Text;
-use m36_text::Name;
+use m36_text::{HashSeed, Name};
 use m36_word::{NoMemory, Word, Words};
 use obj36::{Def, Defs, Link, Links, Named, Object, Parts, Reloc, Relocs, Section};
 use std::alloc::Global;
@@ -251,8 +251,8 @@ fn empty_parts(alloc: Global, sample: &Sample) -> Parts {
     Parts {
         text: Words::new(alloc),
         statics: Words::new(alloc),
-        definitions: Defs::new(alloc),
-        links: Links::new(alloc),
+        definitions: Defs::new(alloc, HashSeed::of(b"")),
+        links: Links::new(alloc, HashSeed::of(b"")),
         relocations: Relocs::new(alloc),
         entry_bound: sample.entry_bound % 0o1000000,
         version: sample.version,

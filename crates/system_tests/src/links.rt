@@ -334,7 +334,7 @@ fn entry_of_m() -> Link {
 fn started(alloc: Global, catalog: &Catalog, files: &[File]) -> Result<Known, LinkFault> {
     link_laws();
     let link = entry_of_m();
-    let mut known = Known::new(alloc)?;
+    let mut known = Known::new(alloc, catalog)?;
     let snap = known.resolve_from(alloc, catalog, files, 4, &link, catalog.work())?;
     known.accept(&snap)?;
     Ok(known)

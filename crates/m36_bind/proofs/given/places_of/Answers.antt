@@ -3,7 +3,7 @@ use Rattle.m36_bind.proofs.GivenLaws.{place_noted, none_noted, all_noted, name_l
 use Rattle.m36_bind.proofs.given.places_of.Goals as goal
 
 pub loop-name-init : goal.loop-name-init
-loop-name-init c = record { each = none_noted c.new-places.result.entries c.args.names.now c.new-places.ensures.empty; count = refl }
+loop-name-init c = record { each = none_noted c.with_hasher-places.result.entries c.args.names.now c.with_hasher-places.ensures.empty; count = refl }
 
 pub loop-name-preserved : goal.loop-name-preserved
 loop-name-preserved c =

@@ -1,0 +1,68 @@
+//! The seeds of hash tables.
+//!
+//! A table whose keys come from an input hashes them by SipHash with a seed, which is the SHA-256
+//! digest of that whole input. Whoever writes an input knows its seed only once the last byte is
+//! chosen, and each change of a key changes the seed. So no input can be made whose keys collide.
+
+ghost use Rattle.std.specs.Prelude.{◌≡◌, ◌++◌, IfOk};
+ghost use Rattle.m36_text.specs.Packing.{packed};
+ghost use Rattle.m36_text.specs.Seeds.{seed_with, seed_of};
+
+use crate::packing::pack;
+use m36_word::{NoMemory, Word};
+use sha2::{Digest, Sha256};
+use std::alloc::Global;
+use std::hash::{BuildHasher, DefaultHasher, Hasher};
+
+/// The seed of the tables of one input. It makes their hashers.
+#[derive(Clone, Copy)]
+pub struct HashSeed {
+    hasher: DefaultHasher,
+    digest: [u8; 32],
+}
+
+impl HashSeed {
+    /// The seed of an input.
+    pub fn of(input: &[u8]) -> HashSeed
+        ensures { result ≡ seed_of input.now }
+    {
+        HashSeed::with(Sha256::digest(input))
+    }
+
+    /// The seed of a list of words, as that of the file that they are packed into.
+    pub fn of_words(alloc: Global, words: &[Word]) -> Result<HashSeed, NoMemory>
+        ensures { IfOk result (λ seed. seed ≡ seed_of (packed words.now)) }
+    {
+        let file = pack(alloc, words)?;
+        let seed = HashSeed::of(file.bytes());
+        drop(file);
+        Ok(seed)
+    }
+
+    /// The seed of two inputs, by their seeds.
+    pub fn joined(&self, other: &HashSeed) -> HashSeed
+        ensures { result ≡ seed_of (self.now.digest ++ other.now.digest) }
+    {
+        let mut both = Sha256::new_with_prefix(&self.digest);
+        both.update(&other.digest);
+        HashSeed::with(both.finalize())
+    }
+
+    fn with(digest: [u8; 32]) -> HashSeed
+        ensures { result ≡ seed_with digest }
+    {
+        let mut hasher = DefaultHasher::new();
+        hasher.write(&digest);
+        HashSeed { hasher, digest }
+    }
+}
+
+impl BuildHasher for HashSeed {
+    type Hasher = DefaultHasher;
+
+    ghost build_hasher = { λ s. s.hasher };
+
+    fn build_hasher(&self) -> DefaultHasher {
+        self.hasher
+    }
+}
