@@ -5,10 +5,9 @@ use Rattle.std.proofs.Math.Nat.{lt_of_not-le}
 use Rattle.std.proofs.lemmas.Bool.{false_from_ne_true}
 use Rattle.std.proofs.lemmas.List.Elements.{All-tail, All-head, All-push, All-same}
 use Rattle.std.proofs.lemmas.Map.Entries.{All-lookup}
-use Rattle.std.specs.declared.hash.FoldHasher.{FoldHasher}
-use Rattle.std.specs.declared.hash.BuildHasherDefault.{BuildHasherDefault}
 use Rattle.indexmap.specs.IndexMap.{IndexMap, insert_entry}
 use Rattle.indexmap.proofs.CallerLemmas.{insert_entry-new}
+use Rattle.m36_text.specs.declared.seeds.HashSeed.{HashSeed}
 use Rattle.obj36_parts.specs.Names.{same}
 use Rattle.obj36_parts.proofs.SizeLaws.{same_is}
 use Rattle.m36_link.specs.Fields.{RingNameFields}
@@ -37,7 +36,7 @@ found_below r test names e all =
     subst P (sym e) (All-lookup (λ seg. seg < 2 ^ 15) test names (λ k d h. (all k d h).seg))
 
 -- a name that is not found goes last
-pub goes_last : (m : IndexMap RingNameFields ℕ (BuildHasherDefault FoldHasher)) (name : RingNameFields) (target : ℕ) → None ≡ initiated m.entries name.ring name.name
+pub goes_last : (m : IndexMap RingNameFields ℕ HashSeed) (name : RingNameFields) (target : ℕ) → None ≡ initiated m.entries name.ring name.name
     → insert_entry is_same_name m.entries name target ≡ m.entries ++ (name, target) ∷ []
 unfolding initiated
 goes_last m name target none = insert_entry-new is_same_name m name target (sym none)
