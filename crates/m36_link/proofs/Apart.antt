@@ -1,6 +1,7 @@
 -- Sections that are found by their rings and segments.
 use Rattle.std.proofs.Common.{ℕ, zero, suc, ◌≡◌, ◌⊎◌, inl, inr, Bool, true, cond, ◌&&◌, eqb, List, [], ◌∷◌, ◌++◌, slice_get, Option, Some, None, refl, sym, ap, subst, ◌∙◌}
-use Rattle.std.specs.Prelude.{find, option_or}
+use Rattle.std.specs.Prelude.{find}
+use Rattle.std.specs.Option.{option_or}
 use Rattle.std.proofs.lemmas.Bool.{eq-eqb}
 use Rattle.std.proofs.lemmas.List.Folds.{find-append}
 use Rattle.m36_link.specs.Fields.{LaidFields, LayFields, KnownFields}
@@ -51,8 +52,9 @@ apart_more laid n apart none = record { found = found }
     found i l at = by l i (at_either laid n l i at)
 
 -- a section that may be laid is apart from the others
-pub apart_laid : (known : KnownFields) (lay : Option LayFields) (laid : List LaidFields) → laid ≡ with_laid known.laid lay → AreApart known.laid → MayBeLaid known lay
-    → AreApart laid
+pub apart_laid : (known : KnownFields) (before laid : List LaidFields) (lay : Option LayFields) → known.laid ≡ before → laid ≡ with_laid before lay
+    → AreApart before → MayBeLaid known lay → AreApart laid
 unfolding with_laid
-apart_laid known None laid is apart may = subst AreApart (sym is) apart
-apart_laid known (Some l) laid is apart may = subst AreApart (sym is) (apart_more known.laid (laid_of l) apart may.absent)
+apart_laid known before laid None same is apart may = subst AreApart (sym is) apart
+apart_laid known before laid (Some l) same is apart may =
+    subst AreApart (sym is) (apart_more before (laid_of l) apart (ap (λ (x : List LaidFields). laid_in x l.ring l.seg) (sym same) ∙ may.absent))

@@ -4,15 +4,15 @@ use Rattle.m36_page.proofs.Parts.{settled_by, frame_told, frame_here}
 use Rattle.m36_page.proofs.SetWords.{set_in_frame}
 use Rattle.m36_page.proofs.pager.Pager.place.Goals as goal
 
-pub overflow_mul-frame : goal.overflow_mul-frame
-overflow_mul-frame c =
+pub overflow_mul-result : goal.overflow_mul-result
+overflow_mul-result c =
     let room = frame_here c.args.self.now c.args.core.now c.args.seg (c.args.word / 1024) c.spot.result c.in-Some.frame c.frame_at.result
     c.spot.ensures.pager c.requires.reads c.requires.frames c.len.ensures.most c.requires.page c.spot.ensures.value c.frame_at.ensures c.in-Some.is in
     let most = c.len.ensures.most in
     omega (arith, room, most)
 
-pub overflow_add-frame : goal.overflow_add-frame
-overflow_add-frame c =
+pub overflow_add-result : goal.overflow_add-result
+overflow_add-result c =
     let room = frame_here c.args.self.now c.args.core.now c.args.seg (c.args.word / 1024) c.spot.result c.in-Some.frame c.frame_at.result
     c.spot.ensures.pager c.requires.reads c.requires.frames c.len.ensures.most c.requires.page c.spot.ensures.value c.frame_at.ensures c.in-Some.is in
     let most = c.len.ensures.most in
