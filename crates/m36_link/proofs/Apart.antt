@@ -48,6 +48,7 @@ apart_more laid n apart none = record { found = found }
     by l i (inl here) = found_still laid n l l.ring l.seg (apart.found i l here)
     by l i (inr is) =
         let P : LaidFields → Type 0 = λ x. laid_in (laid ++ n ∷ []) x.ring x.seg ≡ Some x in subst P is (found_last laid n none)
+
     found : (i : ℕ) (l : LaidFields) → slice_get (laid ++ n ∷ []) i ≡ Some l → laid_in (laid ++ n ∷ []) l.ring l.seg ≡ Some l
     found i l at = by l i (at_either laid n l i at)
 
