@@ -13,7 +13,8 @@ use Rattle.std.specs.Prelude.{ℕ, ◌≡◌, ◌+◌, Bool, true, false, if◌t
 use Rattle.std.specs.Prelude.{◌∷◌, ◌++◌, length, map, codes, Option, Some, None, Result}
 use Rattle.std.specs.Prelude.{Ok, Err}
 use Rattle.std.specs.List.{list_any}
-use Rattle.m36_text.specs.Texts.{is_text, is_file_name}
+use Rattle.m36_text.specs.Texts.{are_same, is_text, is_file_name}
+use Rattle.m36_text.specs.Once.{with_once}
 use Rattle.m36_text.specs.Lines.{lines_of, open_lines_of, by_words, last_of}
 use Rattle.m36_text.specs.Results.{and_then}
 use Rattle.m36_bindfile.specs.declared.line.BindLine.{BindLine}
@@ -121,20 +122,24 @@ bind_lines text = if has_object text then lines_from [] (lines_given text) else 
 
 -- ---- what the lines say
 
-abbrev pub object_in : BindLine → List (List ℕ)
-object_in line.Version = []
-object_in (line.Object name) = name ∷ []
-object_in (line.Retain name) = []
-
 abbrev pub retained_in : BindLine → List (List ℕ)
 retained_in line.Version = []
 retained_in (line.Object name) = []
 retained_in (line.Retain name) = name ∷ []
 
--- the components in their order
-unfoldable pub component_names : List BindLine → List (List ℕ)
-component_names [] = []
-component_names (next ∷ lines) = object_in next ++ component_names lines
+-- names, with that of one more component, unless it is among them
+abbrev pub with_component : List (List ℕ) → BindLine → List (List ℕ)
+with_component names line.Version = names
+with_component names (line.Object name) = with_once (are_same name) names name
+with_component names (line.Retain name) = names
+
+unfoldable pub with_components : List (List ℕ) → List BindLine → List (List ℕ)
+with_components names [] = names
+with_components names (next ∷ lines) = with_components (with_component names next) lines
+
+-- the components, each once, in the order in which they first stand
+abbrev pub component_names : List BindLine → List (List ℕ)
+component_names lines = with_components [] lines
 
 -- the retained names in their order
 unfoldable pub retained_names : List BindLine → List (List ℕ)

@@ -6,9 +6,9 @@
 //! retain NAME     any number
 //! ```
 //!
-//! What is promised: `read_lines` gives exactly the lines that a text is, and `components` the names of its `object` lines
-//! in their order; else B1 at the first line that is of no form or out of order, or at line 1 where there is no `object`
-//! line; want of memory may come at any time. `BindFault` has the codes of the binder too.
+//! What is promised: `read_lines` gives exactly the lines that a text is, and `components` the names of its `object` lines,
+//! each once, in the order in which they first stand; else B1 at the first line that is of no form or out of order, or at
+//! line 1 where there is no `object` line; want of memory may come at any time. `BindFault` has the codes of the binder too.
 //!
 //! Source: bind files are this project's own; what is bound, and how, follows the binder of the Multics Programmers'
 //! Manual.

@@ -1,12 +1,15 @@
 //! The lines of a bind file in turn, up to the first that is of no form or out of order.
 
 ghost use Rattle.std.specs.Prelude.{◌≡◌, ◌+◌, ◌++◌, ◌<◌, ◌≤◌, ◌^◌, [], length, IfOk, OnOk};
-ghost use Rattle.m36_bindfile.specs.BindFile.{lines_given, lines_from, is_cut, has_object, bind_lines, object_in, component_names, names_by, BindSays};
+ghost use Rattle.m36_bindfile.specs.BindFile.{lines_given, lines_from, is_cut, has_object, bind_lines, with_component, component_names, names_by, BindSays};
+ghost use Rattle.m36_text.specs.Once.{with_once};
+ghost use Rattle.m36_text.specs.Texts.{are_same};
 
 use crate::fault::BindFault;
 use crate::forms::{gives_object, line_behind};
 use crate::line::{BindLine, BindLines};
-use m36_text::{Names, first_line, first_open_line};
+use indexmap::IndexSet;
+use m36_text::{HashSeed, Name, Names, first_line, first_open_line};
 use m36_word::NoMemory;
 use std::alloc::Global;
 
@@ -76,34 +79,58 @@ pub fn read_lines(alloc: Global, text: &[u8]) -> Result<BindLines, BindFault>
     }
 }
 
-fn add_object(names: &mut Names, line: &BindLine) -> Result<(), NoMemory>
-    ensures { OnOk result (names.new ≡ names.old ++ object_in line.now) }
+// Adds a name, unless it is among them.
+fn add_name(
+    names: &mut Names,
+    seen: &mut IndexSet<Name, HashSeed>,
+    name: &Name,
+) -> Result<(), NoMemory>
+    requires { seen.old.keys ≡ names.old }
+    ensures names { OnOk result (names.new ≡ with_once (are_same name.now) names.old name.now) }
+    ensures seen { OnOk result (seen.new.keys ≡ names.new) }
+{
+    if seen.insert(name.copied())? {
+        names.push(name.copied())?;
+    }
+    Ok(())
+}
+
+fn add_component(
+    names: &mut Names,
+    seen: &mut IndexSet<Name, HashSeed>,
+    line: &BindLine,
+) -> Result<(), NoMemory>
+    requires { seen.old.keys ≡ names.old }
+    ensures names { OnOk result (names.new ≡ with_component names.old line.now) }
+    ensures seen { OnOk result (seen.new.keys ≡ names.new) }
 {
     match line {
-        BindLine::Object(name) => names.push(name.copied()),
+        BindLine::Object(name) => add_name(names, seen, name),
         _ => Ok(()),
     }
 }
 
-// The names of the components.
-#[tactic(auto, unfolding(crate::specs::BindFile::component_names))]
-fn names_in(alloc: Global, lines: &[BindLine]) -> Result<Names, NoMemory>
+// The names of the components, which are hashed by a seed.
+#[tactic(auto, unfolding(crate::specs::BindFile::with_components))]
+fn names_in(alloc: Global, seed: HashSeed, lines: &[BindLine]) -> Result<Names, NoMemory>
     ensures { IfOk result (λ names. names ≡ component_names lines.now) }
 {
     let mut names = Names::new(alloc);
+    let mut seen = IndexSet::with_hasher(alloc, seed);
     let mut rest = lines;
     while let [line, others @ ..] = rest {
-        add_object(&mut names, line)?;
+        add_component(&mut names, &mut seen, line)?;
         rest = others;
     }
     Ok(names)
 }
 
-/// The names of the components of a bind file in their order, or B1 at its line. The text has fewer than 2^32 bytes.
+/// The names of the components of a bind file, each once, in the order in which they first stand, or B1 at its line. The
+/// text has fewer than 2^32 bytes.
 pub fn components(alloc: Global, text: &[u8]) -> Result<Names, BindFault>
     requires { length text.now < 2 ^ 32 }
     ensures says { BindSays result (names_by (bind_lines text.now)) }
 {
     let lines = read_lines(alloc, text)?;
-    Ok(names_in(alloc, lines.items())?)
+    Ok(names_in(alloc, HashSeed::of(text), lines.items())?)
 }

@@ -1,5 +1,6 @@
 mod Sizes
 mod KnownNames
+mod Apart
 mod Made
 mod LinkTags
 mod LinkPlaces

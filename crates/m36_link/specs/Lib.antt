@@ -6,4 +6,5 @@ pub mod Links
 pub mod Landing
 pub mod Snap
 pub mod Accepted
+pub mod Apart
 pub mod Laws

@@ -11,6 +11,7 @@ ghost use Rattle.obj36_parts.specs.ObjectSegment.{segment_limit};
 
 use crate::laid::{Laid, Lay};
 use crate::names::RingName;
+use crate::places::{Sections, no_places, note_place};
 use crate::search::{initiated, searched_in_directories};
 use crate::snap::Snap;
 use indexmap::IndexMap;
@@ -28,18 +29,21 @@ use std::marker::Model;
 pub struct Known {
     names: IndexMap<RingName, u16, HashSeed>,
     laid: Vec<Laid>,
+    // Where each of these stands.
+    places: Vec<u16>,
 }
 
 impl Model for Known {
     ghost use Rattle.std.specs.Prelude.{◌≤◌, ◌<◌, ◌^◌, length};
     ghost use Rattle.m36_link.specs.Fields.{KnownFields};
     ghost use Rattle.m36_link.specs.Names.{AreNames};
+    ghost use Rattle.m36_link.specs.Apart.{AreApart};
 
     ghost Value = { KnownFields };
 
     ghost view = { λ k. record { names = k.names.entries; laid = k.laid.items } };
 
-    ghost invariant = { λ k. AreNames k.names.entries };
+    ghost invariant = { λ k. (AreNames k.names.entries) × (AreApart k.laid.items) };
 }
 
 // Adds a name that is none yet. Where no memory is found, nothing changes.
@@ -92,7 +96,7 @@ fn add_name(
 
 // Adds a section where there is room for it.
 #[tactic(auto, unfolding(crate::specs::Accepted::with_laid))]
-fn add_section(laid: &mut Vec<Laid>, lay: &Option<Lay>)
+fn add_section(laid: &mut Vec<Laid>, places: &mut Vec<u16>, lay: &Option<Lay>)
     requires room { vec_len laid.old < vec_capacity laid.old }
     requires fits { IfSome lay.now (λ l. l.base + length l.words ≤ segment_limit) }
     ensures { laid.new.items ≡ with_laid laid.old.items lay.now }
@@ -104,6 +108,7 @@ fn add_section(laid: &mut Vec<Laid>, lay: &Option<Lay>)
             seg: lay.seg,
             ring: lay.ring,
         };
+        note_place(places, lay.ring, lay.seg, laid.len());
         match laid.push(section) {
             Ok(()) => {}
             Err(_) => unreachable!(),
@@ -120,6 +125,7 @@ impl Known {
         Ok(Known {
             names: IndexMap::with_hasher(alloc, catalog.seed()),
             laid: Vec::new(alloc),
+            places: no_places(alloc)?,
         })
     }
 
@@ -128,6 +134,16 @@ impl Known {
         ensures { result.now ≡ self.now.laid }
     {
         self.laid.as_slice()
+    }
+
+    // The sections that are laid, with where they stand.
+    pub(crate) fn sections(&self) -> Sections<'_>
+        ensures { result ≡ self.now.laid }
+    {
+        Sections {
+            items: self.laid.as_slice(),
+            places: self.places.as_slice(),
+        }
     }
 
     /// The number of the segment that a reference name means in a ring, where a segment of a directory refers by it: what
@@ -154,7 +170,7 @@ impl Known {
     {
         self.laid.reserve(1)?;
         add_name(&mut self.names, s.ring, &s.link, s.target)?;
-        add_section(&mut self.laid, &s.lay);
+        add_section(&mut self.laid, &mut self.places, &s.lay);
         Ok(())
     }
 }

@@ -7,6 +7,7 @@ ghost use Rattle.obj36_parts.specs.ObjectSegment.{segment_limit};
 
 use crate::file::File;
 use crate::laid::Laid;
+use crate::places::Sections;
 use crate::points::{pair_of, pair_to, point_of};
 use crate::sections::{home_of, linkage_size};
 use m36_dir::{SegKind, Segment};
@@ -112,7 +113,7 @@ fn lay_if(is_new: bool, section: Laid) -> Option<Laid>
 
 #[tactic(auto, unfolding(crate::specs::Landing::object_landing))]
 fn object_landing(
-    laid: &[Laid],
+    laid: &Sections<'_>,
     ring: u8,
     section_ring: u8,
     seg: u16,
@@ -137,7 +138,7 @@ fn object_landing(
 /// A link to a segment that was found: type 3 or 4.
 #[tactic(auto, unfolding(crate::specs::Landing::target_landing))]
 pub(crate) fn target_landing(
-    laid: &[Laid],
+    laid: &Sections<'_>,
     ring: u8,
     seg: u16,
     segment: &Segment,

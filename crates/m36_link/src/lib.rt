@@ -17,6 +17,7 @@ pub mod laid;
 mod landing;
 pub mod laws;
 mod names;
+mod places;
 mod points;
 mod resolving;
 mod search;

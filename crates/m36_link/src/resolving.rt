@@ -120,7 +120,7 @@ fn outer_landing(
     let Some(file) = file_of(files, seg) else {
         return Err(LinkCode::L2);
     };
-    target_landing(known.laid(), ring, seg, segment, file, link)
+    target_landing(&known.sections(), ring, seg, segment, file, link)
 }
 
 // A link of an object whose section is laid.

@@ -1,11 +1,13 @@
 //! Where sections are laid.
 
-ghost use Rattle.std.specs.Prelude.{◌≡◌, ◌+◌, ◌<◌, ◌≤◌, ◌^◌, ◌&&◌, find, length};
+ghost use Rattle.std.specs.Prelude.{◌≡◌, ◌+◌, ◌<◌, ◌≤◌, ◌^◌, ◌&&◌, find, length, Some, IfSome};
 ghost use Rattle.obj36_parts.specs.ObjectSegment.{linkage_section, segment_limit, head_words};
 ghost use Rattle.m36_link.specs.Known.{laid_in, behind, base_behind, base_of, laid_words};
 ghost use Rattle.m36_link.specs.Landing.{home_of};
+ghost use Rattle.m36_link.specs.Apart.{AreApart};
 
 use crate::laid::{LOT_WORDS, Laid};
+use crate::places::{Sections, place_noted};
 use m36_model::LinkCode;
 use obj36::{Object, Section};
 use obj36_parts::sections::SEGMENT_LIMIT;
@@ -38,14 +40,36 @@ fn laid_size(object: &Object) -> u32
     linkage_size(object) + object.section(Section::Static).len() as u32
 }
 
-// The section of a segment that is laid in a ring.
+// The section at a place of the list, where it is that of a segment in a ring.
+#[tactic(auto, using(crate::proofs::Apart::found_there))]
+fn section_noted(laid: &[Laid], place: usize, ring: u8, seg: u16) -> Option<Laid>
+    requires { AreApart laid.now }
+    ensures { IfSome result (λ l. laid_in laid.now ring seg ≡ Some l) }
+{
+    match laid.get(place) {
+        Some(l) if l.ring == ring && l.seg == seg => Some(*l),
+        _ => None,
+    }
+}
+
+// The section of a segment that is laid in a ring, wherever in the list it stands.
 #[tactic(auto, unfolding(crate::specs::Known::laid_in))]
-pub(crate) fn laid_in(laid: &[Laid], ring: u8, seg: u16) -> Option<Laid>
+fn section_sought(laid: &[Laid], ring: u8, seg: u16) -> Option<Laid>
     ensures { result ≡ laid_in laid.now ring seg }
 {
     laid.iter()
         .copied()
         .find(|l| l.ring == ring && l.seg == seg)
+}
+
+// The section of a segment that is laid in a ring. It stands where the table says, or it is sought.
+pub(crate) fn laid_in(laid: &Sections<'_>, ring: u8, seg: u16) -> Option<Laid>
+    ensures { result ≡ laid_in laid.now ring seg }
+{
+    match section_noted(laid.items, place_noted(laid.places, ring, seg), ring, seg) {
+        Some(section) => Some(section),
+        None => section_sought(laid.items, ring, seg),
+    }
 }
 
 // The even word behind a section.
@@ -88,7 +112,12 @@ fn base_of(laid: &[Laid], ring: u8) -> u32
 
 /// The section of an object in a ring: as it is laid, or as it has to be; L6 where it would end past the segment.
 #[tactic(auto, unfolding(crate::specs::Landing::home_of))]
-pub(crate) fn home_of(laid: &[Laid], ring: u8, seg: u16, object: &Object) -> Result<Home, LinkCode>
+pub(crate) fn home_of(
+    laid: &Sections<'_>,
+    ring: u8,
+    seg: u16,
+    object: &Object,
+) -> Result<Home, LinkCode>
     requires ring { ring < 8 }
     requires seg { seg < 2 ^ 15 }
     requires size { length (laid_words object.now) ≤ segment_limit }
@@ -100,7 +129,7 @@ pub(crate) fn home_of(laid: &[Laid], ring: u8, seg: u16, object: &Object) -> Res
             is_new: false,
         });
     }
-    let base = base_of(laid, ring);
+    let base = base_of(laid.items, ring);
     let size = laid_size(object);
     if base + size > SEGMENT_LIMIT as u32 {
         return Err(LinkCode::L6(base, size));

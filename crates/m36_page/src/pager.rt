@@ -1,6 +1,6 @@
 //! Pagers.
 
-ghost use Rattle.std.specs.Prelude.{ℕ, ◌≡◌, ◌≢◌, ◌+◌, ◌-◌, ◌^◌, ◌*◌, ◌/◌, ◌<◌, ◌≤◌, ◌⊎◌, Bool, true, false, ◌&&◌, nat_eq, if◌then◌else◌, length, slice_index_or, replicate, IfOk, Some, None, IsSome, IfSome, IfNone, OnOk, OnErr};
+ghost use Rattle.std.specs.Prelude.{ℕ, ◌≡◌, ◌≢◌, ◌+◌, ◌-◌, ◌^◌, ◌*◌, ◌/◌, ◌<◌, ◌≤◌, ◌⊎◌, Bool, true, false, ◌&&◌, nat_eq, if◌then◌else◌, length, slice_index_or, slice_set, replicate, IfOk, Some, None, IsSome, IfSome, IfNone, OnOk, OnErr};
 ghost use Rattle.m36_model.specs.Core.{unmarked};
 ghost use Rattle.m36_page.specs.Residence.{has_page, spot_of, kept_word, frame_of, content_of, Holds, IsPager, Reads, EndBelow, HasFrames, IsSettled};
 ghost use Rattle.m36_page.specs.Changes.{IsBrought, IsSet, IsFreeSpot, AllPinned, AllEmpty, AreAbsent};
@@ -281,6 +281,24 @@ impl Pager {
         }
     }
 
+    /// Where core has a word of a segment whose page is in a frame.
+    pub fn place(&self, core: &Core, seg: u16, word: u32) -> Option<u32>
+        requires frames { HasFrames self.now core.now }
+        requires reads { Reads self.now core.now }
+        requires page { has_page self.now seg (word / 1024) ≡ true }
+        ensures inside { IfSome result (λ a. a < length core.now) }
+        ensures set { IfSome result (λ a. (v : ℕ) → IsSet self.now core.now self.now (slice_set core.now a v) seg word v) }
+        ensures reads { IfSome result (λ a. (v : ℕ) → Reads self.now (slice_set core.now a v)) }
+        ensures away { IfNone result (frame_of self.now core.now seg (word / 1024) ≡ None) }
+        ensures pager { IsPager self.now }
+    {
+        let _ = core.len();
+        match frame_at(core, self.spot(seg, word / PAGE)) {
+            Some(frame) => Some(PAGE * frame + word % PAGE),
+            None => None,
+        }
+    }
+
     // Keeps another word for a word of a segment.
     fn keep(&mut self, seg: u16, word: u32, value: Word)
         requires { has_page self.old seg (word / 1024) ≡ true }
@@ -288,6 +306,21 @@ impl Pager {
     {
         let i = table_place(&self.tables, seg);
         put_word(&mut self.tables[i], word, value);
+    }
+
+    /// Sets a word of a segment whose page is in no frame, where it is kept. Nothing else changes.
+    pub fn set_kept(&mut self, core: &Core, seg: u16, word: u32, w: Word)
+        requires frames { HasFrames self.old core.now }
+        requires reads { Reads self.old core.now }
+        requires page { has_page self.old seg (word / 1024) ≡ true }
+        requires pager { IsPager self.old }
+        requires away { frame_of self.old core.now seg (word / 1024) ≡ None }
+        ensures set { IsSet self.old core.now self.new core.now seg word w }
+        ensures reads { Reads self.new core.now }
+        ensures pager { IsPager self.new }
+    {
+        let _ = core.len();
+        self.keep(seg, word, w);
     }
 
     /// Sets a word of a segment: in its frame where its page is in one, and else where it is kept. Nothing else changes.
@@ -300,10 +333,9 @@ impl Pager {
         ensures pager { IsPager self.new }
         ensures frames { HasFrames self.new core.new }
     {
-        let _ = core.len();
-        match frame_at(core, self.spot(seg, word / PAGE)) {
-            Some(frame) => core.poke(PAGE * frame + word % PAGE, w),
-            None => self.keep(seg, word, w),
+        match self.place(core, seg, word) {
+            Some(place) => core.poke(place, w),
+            None => self.set_kept(core, seg, word, w),
         }
     }
 }

@@ -1,6 +1,6 @@
 //! The machine.
 
-ghost use Rattle.std.specs.Prelude.{ℕ, ◌≡◌, ◌+◌, ◌%◌, ◌^◌, ◌<◌, ◌≤◌, [], None, IfOk};
+ghost use Rattle.std.specs.Prelude.{ℕ, ◌≡◌, ◌+◌, ◌%◌, ◌^◌, ◌<◌, ◌≤◌, [], None, IfOk, length, slice_set};
 ghost use Rattle.std.specs.Borrow.{sem};
 ghost use Rattle.m36_model.specs.Core.{core_store};
 ghost use Rattle.m36_model.specs.Laws.{ExecutesLdbr, Keeps};
@@ -296,6 +296,16 @@ impl Machine {
             ≡ record { core = self.now.state.store; dbr = self.now.state.regs.dbr } }
     {
         &self.walk
+    }
+
+    /// Writes one core word.
+    pub fn store(&mut self, place: u32, w: Word)
+        requires { place < length self.old.state.store }
+        ensures state { self.new.state
+            ≡ record { regs = self.old.state.regs; store = slice_set self.old.state.store place w } }
+        ensures ended { self.new.ended ≡ self.old.ended }
+    {
+        self.walk.store(place, w);
     }
 
     /// Core, to be written. Nothing that was read from it before is used again.

@@ -14,7 +14,6 @@ ghost use Rattle.m36_super.specs.Writing.{ArePut};
 
 use crate::coming::Coming;
 use crate::naming::link_text;
-use m36_core::Core;
 use m36_dir::Catalog;
 use m36_link::{FIRST_LINKAGE, File, Known, Lay, LinkFault, Snap, link_laws};
 use m36_model::{At, End, LinkCode};
@@ -26,73 +25,85 @@ use std::alloc::Global;
 
 // Writes a word of the linkage segment of a ring.
 #[tactic(auto, using(crate::proofs::PagedContents::words_put))]
-fn write_word(core: &mut Core, pager: &mut Pager, ring: u8, word: u32, w: Word)
-    requires managed { IsManaged (length pager.old.holders) core.old pager.old }
+fn write_word(machine: &mut Machine, pager: &mut Pager, ring: u8, word: u32, w: Word)
+    requires managed { IsManaged (length pager.old.holders) machine.old.state.store pager.old }
     requires ring { ring < 8 }
     requires fits { word < 2 ^ 18 }
-    ensures { ArePut core.old pager.old core.new pager.new
+    ensures put { ArePut machine.old.state.store pager.old machine.new.state.store pager.new
         (written_from (linkage_segment ring) word (w ∷ [])) }
+    ensures regs { machine.new.state.regs ≡ machine.old.state.regs }
 {
-    pager.set(core, FIRST_LINKAGE + ring as u16, word, w);
+    let seg = FIRST_LINKAGE + ring as u16;
+    match pager.place(machine.walk().core(), seg, word) {
+        Some(place) => machine.store(place, w),
+        None => pager.set_kept(machine.walk().core(), seg, word, w),
+    }
 }
 
 // Writes words of the linkage segment of a ring, from a word on.
 #[tactic(auto, using(crate::proofs::LinkTurns::writing))]
-fn write_words(core: &mut Core, pager: &mut Pager, ring: u8, word: u32, words: &[Word])
-    requires managed { IsManaged (length pager.old.holders) core.old pager.old }
+fn write_words(machine: &mut Machine, pager: &mut Pager, ring: u8, word: u32, words: &[Word])
+    requires managed { IsManaged (length pager.old.holders) machine.old.state.store pager.old }
     requires ring { ring < 8 }
     requires fits { word + length words.now ≤ segment_limit }
-    ensures { ArePut core.old pager.old core.new pager.new
+    ensures put { ArePut machine.old.state.store pager.old machine.new.state.store pager.new
         (written_from (linkage_segment ring) word words.now) }
+    ensures regs { machine.new.state.regs ≡ machine.old.state.regs }
 {
     let mut at = word;
     for w in words {
-        write_word(core, pager, ring, at, *w);
+        write_word(machine, pager, ring, at, *w);
         at += 1;
     }
 }
 
 // Writes a section that is laid, and its word of the linkage offset table.
 #[tactic(auto, using(crate::proofs::LinkTurns::put_section))]
-fn write_section(core: &mut Core, pager: &mut Pager, lay: &Lay)
-    requires managed { IsManaged (length pager.old.holders) core.old pager.old }
+fn write_section(machine: &mut Machine, pager: &mut Pager, lay: &Lay)
+    requires managed { IsManaged (length pager.old.holders) machine.old.state.store pager.old }
     requires fits { lay.now.base + length lay.now.words ≤ segment_limit }
-    ensures { ArePut core.old pager.old core.new pager.new (laying (Some lay.now)) }
+    ensures put { ArePut machine.old.state.store pager.old machine.new.state.store pager.new
+        (laying (Some lay.now)) }
+    ensures regs { machine.new.state.regs ≡ machine.old.state.regs }
 {
-    write_words(core, pager, lay.ring, lay.base, lay.words.slice());
-    write_word(core, pager, lay.ring, lay.seg as u32, lay.lot_word());
+    write_words(machine, pager, lay.ring, lay.base, lay.words.slice());
+    write_word(machine, pager, lay.ring, lay.seg as u32, lay.lot_word());
 }
 
 // Writes the section that an answer lays, if it lays one.
 #[tactic(auto, using(crate::proofs::LinkTurns::put_nothing))]
-fn write_lay(core: &mut Core, pager: &mut Pager, lay: &Option<Lay>)
-    requires managed { IsManaged (length pager.old.holders) core.old pager.old }
+fn write_lay(machine: &mut Machine, pager: &mut Pager, lay: &Option<Lay>)
+    requires managed { IsManaged (length pager.old.holders) machine.old.state.store pager.old }
     requires fits { IfSome lay.now (λ l. l.base + length l.words ≤ segment_limit) }
-    ensures { ArePut core.old pager.old core.new pager.new (laying lay.now) }
+    ensures put { ArePut machine.old.state.store pager.old machine.new.state.store pager.new
+        (laying lay.now) }
+    ensures regs { machine.new.state.regs ≡ machine.old.state.regs }
 {
     match lay {
-        Some(lay) => write_section(core, pager, lay),
+        Some(lay) => write_section(machine, pager, lay),
         None => {}
     }
 }
 
 // Writes what an answer changes: the pair in the place of the link, and the section that is laid.
 #[tactic(auto, using(crate::proofs::LinkTurns::put_changes))]
-fn write_changes(core: &mut Core, pager: &mut Pager, at: At, snap: &Snap)
-    requires managed { IsManaged (length pager.old.holders) core.old pager.old }
+fn write_changes(machine: &mut Machine, pager: &mut Pager, at: At, snap: &Snap)
+    requires managed { IsManaged (length pager.old.holders) machine.old.state.store pager.old }
     requires seg { at.seg ≡ linkage_segment at.ring }
     requires even { at.word + 1 < 2 ^ 18 }
     requires fits { IfSome snap.now.lay (λ l. l.base + length l.words ≤ segment_limit) }
-    ensures { ArePut core.old pager.old core.new pager.new (link_changes at snap.now) }
+    ensures put { ArePut machine.old.state.store pager.old machine.new.state.store pager.new
+        (link_changes at snap.now) }
+    ensures regs { machine.new.state.regs ≡ machine.old.state.regs }
 {
     write_words(
-        core,
+        machine,
         pager,
         at.ring,
         at.word,
         &[snap.pair.even, snap.pair.odd],
     );
-    write_lay(core, pager, &snap.lay);
+    write_lay(machine, pager, &snap.lay);
 }
 
 // What is told of a link that was snapped.
@@ -146,7 +157,7 @@ fn snapped(
 {
     match known.accept(snap) {
         Ok(()) => {
-            write_changes(machine.core_mut(), pager, at, snap);
+            write_changes(machine, pager, at, snap);
             *coming = Coming::Step;
             Turn::Linked(note_snapped(at, snap))
         }

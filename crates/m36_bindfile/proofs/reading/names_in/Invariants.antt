@@ -1,10 +1,13 @@
-use Rattle.std.proofs.Common.{◌≡◌, ◌++◌, length}
-use Rattle.m36_bindfile.specs.BindFile.{component_names}
+use Rattle.std.proofs.Common.{◌≡◌, [], length}
+use Rattle.m36_bindfile.specs.BindFile.{with_components}
 use Rattle.m36_bindfile.proofs.reading.names_in.Given as goal
 
--- the names of the lines that are left complete the whole
+-- the names of the lines that are left complete the whole, and each name is known
 abbrev pub invariant-loop-rest : goal.invariant-loop-rest
-invariant-loop-rest l = l.names ++ component_names l.rest ≡ component_names l.lines
+invariant-loop-rest l = record {
+  whole : with_components l.names l.rest ≡ with_components [] l.lines;
+  known : l.seen.keys ≡ l.names;
+}
 
 abbrev pub decreases-loop-rest : goal.decreases-loop-rest
 decreases-loop-rest l = length l.rest

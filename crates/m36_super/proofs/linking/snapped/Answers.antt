@@ -9,5 +9,4 @@ use Rattle.m36_super.proofs.linking.snapped.Goals as goal
 
 pub returns-in-Ok-clause-turn : goal.returns-in-Ok-clause-turn
 returns-in-Ok-clause-turn c loaded =
-    let put = subst (λ (core : List ℕ). ArePut core c.args.pager.now c.write_changes.new.core c.write_changes.new.pager (link_changes c.args.at c.args.snap.now)) c.core_mut.ensures.value c.write_changes.ensures in
-    linked c.args.machine.now.state (record { regs = c.args.machine.now.state.regs; store = c.write_changes.new.core }) c.args.pager.now c.write_changes.new.pager c.args.known.now c.accept.new.self c.args.coming.now Step loaded c.args.at c.args.snap.now (Linked c.note_snapped.result) put refl c.in-Ok.ensures.ok refl (ap Linked c.note_snapped.ensures)
+    linked c.args.machine.now.state c.write_changes.new.machine.state c.args.pager.now c.write_changes.new.pager c.args.known.now c.accept.new.self c.args.coming.now Step loaded c.args.at c.args.snap.now (Linked c.note_snapped.result) c.write_changes.ensures.put c.write_changes.ensures.regs c.in-Ok.ensures.ok refl (ap Linked c.note_snapped.ensures)
