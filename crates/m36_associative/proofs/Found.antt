@@ -2,15 +2,13 @@
 use Rattle.std.proofs.Common.{ℕ, ◌≡◌, ◌+◌, ◌*◌, ◌/◌, ◌%◌, ◌<◌, ◌^◌, ◌++◌, Bool, true, false, if◌then◌else◌, List, [], ◌∷◌, length, Option, Some, None, IfSome, OnSome, option_map, Ok, slice_get, slice_set, slice_index, nat_eq, refl, sym, ap, ◌∙◌, arith}
 use Rattle.std.proofs.lemmas.List.{set-get_or}
 use Rattle.std.proofs.lemmas.Option.{slice_get_within}
-use Rattle.std.specs.Map.{lookup}
 use Rattle.m36_desc.specs.Fields.{SdwFields, PtwFields, DbrFields}
 use Rattle.m36_desc.specs.Descriptors.{ptw_of}
 use Rattle.m36_model.specs.Place.{wrapped, frame_at, in_frame, in_frame_by, ptw_at, directory_at, page_at, in_bounds, sdw_place_by, sdw_at, core_sdw, marked_word, with_mark, with_marks, marks_by}
 use Rattle.m36_tables.specs.Tables.{TableIn}
-use Rattle.m36_associative.specs.Right.{IsMarked, IsFace, IsPage, AreRight}
+use Rattle.m36_associative.specs.Right.{IsMarked, IsFace, IsPage, IsDescriptor, IsTableWord}
 use Rattle.m36_associative.specs.declared.front.Page.{Page}
 use Rattle.m36_associative.specs.declared.memories.Memories.{Memories}
-use Rattle.m36_associative.proofs.Keeping.{found_descriptor, found_table_word}
 
 -- A segment that has a descriptor has passed a word of core in a paged descriptor segment.
 passes_by : (core : List ℕ) (dbr : DbrFields) (seg a : ℕ) (d : SdwFields) (b u : Bool) (found : Option ℕ) → slice_get core a ≡ found → sdw_at core (sdw_place_by b u dbr seg (option_map ptw_of found)) ≡ Ok d → TableIn (length core) u a
@@ -50,9 +48,8 @@ module _ (core : List ℕ) (dbr : DbrFields) (m : Memories) (p : Page) (seg word
     whole_place : (w : ℕ) → w / 1024 ≡ word / 1024 → p.base ≡ wrapped (d.addr + word / 1024 * 1024) → wrapped (d.addr + w) ≡ wrapped (p.base + w % 1024)
     whole_place w e b = omega arith
 
-    pub page_unpaged : AreRight core dbr m → lookup (nat_eq seg) m.sdws.entries ≡ Some d → d.unpaged ≡ true → (dbr.unpaged ≡ false → IsMarked core (directory_at dbr seg) false) → p.base ≡ wrapped (d.addr + word / 1024 * 1024) → p.base < 2 ^ 24 → IsPage core dbr m.words m.tables p seg (word / 1024)
-    page_unpaged h e u q b l =
-        let k = found_descriptor core dbr m seg d h e in
+    pub page_unpaged : IsDescriptor core dbr m.words m.tables seg d → d.unpaged ≡ true → (dbr.unpaged ≡ false → IsMarked core (directory_at dbr seg) false) → p.base ≡ wrapped (d.addr + word / 1024 * 1024) → p.base < 2 ^ 24 → IsPage core dbr m.words m.tables p seg (word / 1024)
+    page_unpaged k u q b l =
         record {
           sdw = d;
           found = k.found;
@@ -73,11 +70,9 @@ module _ (core : List ℕ) (dbr : DbrFields) (m : Memories) (p : Page) (seg word
     in_frame_on : (t : PtwFields) (w : ℕ) → t.f ≡ true → p.base ≡ wrapped (t.addr / 16 * 1024) → in_frame (Some t) (w % 1024) ≡ Ok (wrapped (p.base + w % 1024))
     in_frame_on t w f b = ap (λ (x : Bool). in_frame_by x t (w % 1024)) f ∙ ap Ok (frame_place t w b)
 
-    pub page_paged : (t : PtwFields) → AreRight core dbr m → lookup (nat_eq seg) m.sdws.entries ≡ Some d → d.unpaged ≡ false → (dbr.unpaged ≡ false → IsMarked core (directory_at dbr seg) false) → lookup (nat_eq (page_at d (word / 1024))) m.ptws.entries ≡ Some t → t.f ≡ true → p.base ≡ wrapped (t.addr / 16 * 1024) → p.base < 2 ^ 24
+    pub page_paged : (t : PtwFields) → IsDescriptor core dbr m.words m.tables seg d → d.unpaged ≡ false → (dbr.unpaged ≡ false → IsMarked core (directory_at dbr seg) false) → IsTableWord core dbr m.words m.tables (page_at d (word / 1024)) t → t.f ≡ true → p.base ≡ wrapped (t.addr / 16 * 1024) → p.base < 2 ^ 24
         → IsMarked core (page_at d (word / 1024)) false → (0 < p.write_below → IsMarked core (page_at d (word / 1024)) true) → IsPage core dbr m.words m.tables p seg (word / 1024)
-    page_paged t h e u q g f b l i j =
-        let k = found_descriptor core dbr m seg d h e in
-        let x = found_table_word core dbr m (page_at d (word / 1024)) t h g in
+    page_paged t k u q x f b l i j =
         record {
           sdw = d;
           found = k.found;
@@ -90,23 +85,6 @@ module _ (core : List ℕ) (dbr : DbrFields) (m : Memories) (p : Page) (seg word
           modified = λ y v. j y;
           face = face;
         }
-
--- what a look-up finds in the memories
-pub recalled : (r : Option SdwFields) (core : List ℕ) (dbr : DbrFields) (m : Memories) (seg : ℕ) → AreRight core dbr m → r ≡ lookup (nat_eq seg) m.sdws.entries → IfSome r (λ d. core_sdw core dbr seg ≡ Ok d)
-recalled None core dbr m seg h e = tt
-recalled (Some d) core dbr m seg h e = (found_descriptor core dbr m seg d h (sym e)).found
-
-pub recalled_passes : (r : Option SdwFields) (core : List ℕ) (dbr : DbrFields) (m : Memories) (seg : ℕ) → AreRight core dbr m → r ≡ lookup (nat_eq seg) m.sdws.entries → OnSome r (TableIn (length core) dbr.unpaged (directory_at dbr seg))
-recalled_passes None core dbr m seg h e = tt
-recalled_passes (Some d) core dbr m seg h e = passes core dbr seg d (found_descriptor core dbr m seg d h (sym e)).found
-
-pub recalled_finds : (r : Option PtwFields) (core : List ℕ) (dbr : DbrFields) (m : Memories) (a : ℕ) → AreRight core dbr m → r ≡ lookup (nat_eq a) m.ptws.entries → IfSome r (λ p. (offset : ℕ) → in_frame (ptw_at core a) offset ≡ in_frame (Some p) offset)
-recalled_finds None core dbr m a h e = tt
-recalled_finds (Some p) core dbr m a h e = (found_table_word core dbr m a p h (sym e)).finds
-
-pub recalled_inside : (r : Option PtwFields) (core : List ℕ) (dbr : DbrFields) (m : Memories) (a : ℕ) → AreRight core dbr m → r ≡ lookup (nat_eq a) m.ptws.entries → OnSome r (a < length core)
-recalled_inside None core dbr m a h e = tt
-recalled_inside (Some p) core dbr m a h e = (found_table_word core dbr m a p h (sym e)).inside
 
 -- a mark that stands already
 pub unchanged : (core : List ℕ) (a w v : ℕ) (m : Bool) → w ≡ slice_index core a → v ≡ marked_word m w → v ≡ w → core ≡ with_mark core (record { address = a; modified = m })

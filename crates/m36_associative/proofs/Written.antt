@@ -97,8 +97,8 @@ right_written core dbr m a v h k r =
     let alike = alike_written core m.words m.tables a v h k in
     let same = λ (b : ℕ) (e : watched m.tables b ≡ true). get_or-set_other core a b v 0 (differs m.tables a b e k) in
     record {
-      descriptors = λ seg d c. descriptor_alike core (slice_set core a v) m.words m.tables dbr alike seg d (r.descriptors seg d c);
-      table_words = λ b p c. table_word_alike core (slice_set core a v) m.words m.tables dbr alike b p (r.table_words b p c);
+      descriptors = λ e seg c n. descriptor_alike core (slice_set core a v) m.words m.tables dbr alike seg e.sdw (r.descriptors e seg c n);
+      table_words = λ e b c n. table_word_alike core (slice_set core a v) m.words m.tables dbr alike b e.ptw (r.table_words e b c n);
       pages = λ p c seg page b e. page_alike core (slice_set core a v) m.words m.tables dbr alike same p seg page (r.pages p c seg page b e);
       fetching = λ n. fetching_alike core (slice_set core a v) m.words m.tables dbr alike same m.fetching (r.fetching n);
     }
@@ -190,8 +190,8 @@ right_marked core dbr m a modified h none z r =
       frame = λ b e o. frame_at_by core a modified o b (b == a) refl;
     } in
     record {
-      descriptors = λ seg d c. descriptor_alike core now m.words m.tables dbr alike seg d (r.descriptors seg d c);
-      table_words = λ b p c. table_word_alike core now m.words m.tables dbr alike b p (r.table_words b p c);
+      descriptors = λ e seg c n. descriptor_alike core now m.words m.tables dbr alike seg e.sdw (r.descriptors e seg c n);
+      table_words = λ e b c n. table_word_alike core now m.words m.tables dbr alike b e.ptw (r.table_words e b c n);
       pages = λ p c seg page b e. absurd (let zero_key = none p c in omega arith);
       fetching = λ n. absurd (omega arith);
     }

@@ -10,6 +10,8 @@ use Rattle.m36_model.specs.Store.{within}
 use Rattle.m36_associative.specs.Watched.{watched}
 use Rattle.m36_associative.specs.declared.front.Fetching.{Fetching}
 use Rattle.m36_associative.specs.declared.front.Page.{Page}
+use Rattle.m36_associative.specs.declared.kept.KeptSdw.{KeptSdw}
+use Rattle.m36_associative.specs.declared.kept.KeptPtw.{KeptPtw}
 use Rattle.m36_associative.specs.declared.memories.Memories.{Memories}
 
 -- the key under which a page of a segment is kept in front
@@ -104,11 +106,11 @@ module _ (core : List ℕ) (dbr : DbrFields) (words tables : List ℕ) where
 -- all that is kept
 pub record AreRight (core : List ℕ) (dbr : DbrFields) (m : Memories) : Type 0 where
   pub descriptors :
-      (seg : ℕ) (d : SdwFields) → Contains m.sdws.entries (seg, d)
-      → IsDescriptor core dbr m.words m.tables seg d
+      (e : KeptSdw) (seg : ℕ) → Contains m.sdws e → e.key ≡ seg + 1
+      → IsDescriptor core dbr m.words m.tables seg e.sdw
   pub table_words :
-      (a : ℕ) (p : PtwFields) → Contains m.ptws.entries (a, p)
-      → IsTableWord core dbr m.words m.tables a p
+      (e : KeptPtw) (a : ℕ) → Contains m.ptws e → e.key ≡ a + 1
+      → IsTableWord core dbr m.words m.tables a e.ptw
   pub pages : (p : Page) → Contains m.pages p → IsPageInFront core dbr m.words m.tables p
   pub fetching : 0 < m.fetching.len → IsFetching core dbr m.words m.tables m.fetching
 

@@ -16,17 +16,19 @@
 //!   was passed to find one, empties all when it is written, as long as the entry is kept. A mark that changes a word does so where a descriptor was read
 //!   from it, and else takes the pages out of the front.
 //!
-//! A page in front answers without asking the memories behind it. So it is told there later that it was used: `settle`
-//! does so, oldest first, before the memories are asked, and whoever looks at their order calls it first. An entry that
-//! makes room for another takes its pages out of the front. So the memories keep what they would keep if there were no front.
+//! A page in front answers without asking the memories. So each has a time of its last use, and an entry that would make
+//! room for another first learns when its pages in front were used (`uses`). An entry that makes room takes its pages out
+//! of the front. So the memories keep what they would keep if there were no front.
 #![tactic(auto)]
 
 pub mod answering;
 mod face;
 pub mod front;
+pub mod kept;
 pub mod memories;
 pub mod reading;
 mod resting;
+pub mod uses;
 pub mod watch;
 pub mod writing;
 

@@ -1,25 +1,15 @@
 //! The two memories, and the pages in front of them.
 
-ghost use Rattle.std.specs.Prelude.{ℕ, ◌≡◌, ◌/◌, ◌<◌, ◌≤◌, ◌^◌, List, Contains, IfOk, nat_eq};
-ghost use Rattle.std.specs.Map.{lookup};
-ghost use Rattle.lru.specs.LruCache.{lru_cache, promoted};
+ghost use Rattle.std.specs.Prelude.{ℕ, ◌≡◌, ◌+◌, ◌/◌, ◌<◌, ◌≤◌, ◌^◌, List, Contains};
 ghost use Rattle.m36_desc.specs.Fields.{DbrFields};
-ghost use Rattle.m36_associative.specs.Right.{AreRight, IsPage, IsPageInFront};
+ghost use Rattle.m36_associative.specs.Right.{AreRight, IsPage, IsPageInFront, IsDescriptor, IsTableWord};
 ghost use Rattle.m36_associative.specs.declared.front.Page.{Page};
 
 use crate::front::{Fetching, PAGES, Page, no_fetching, no_page, no_pages, slot_of};
+use crate::kept::{KeptPtw, KeptSdw, no_ptws, no_sdws};
+use crate::uses::Uses;
 use crate::watch::Watch;
-use lru::LruCache;
 use m36_desc::{Ptw, Sdw};
-use m36_word::NoMemory;
-use std::alloc::Global;
-use std::num::NonZeroUsize;
-
-/// How many entries each memory has.
-pub(crate) const ENTRIES: usize = 16;
-
-/// The address of no page table word: the page of a segment that lies in one piece has none.
-pub(crate) const NO_TABLE: u32 = u32::MAX;
 
 /// What the walk keeps of the tables that it has read.
 #[derive(Drop)]
@@ -28,44 +18,32 @@ pub struct Memories {
     pub(crate) pages: [Page; 16],
     /// The page that instructions are fetched from.
     pub(crate) fetching: Fetching,
-    /// When each page in front was used last but for fetches from the page above, by the clock.
-    pub(crate) hits: [u64; 16],
-    /// The address of the page table word of each page in front, or `NO_TABLE`.
-    pub(crate) addresses: [u32; 16],
-    /// Goes on by 2 at each use of a page in front; a fetch from the page above stands between two of them.
-    pub(crate) clock: u64,
-    /// When the memories last learned which pages were used.
-    pub(crate) settled: u64,
+    /// When all of it was used.
+    pub(crate) uses: Uses,
+    /// Descriptors by segment number.
+    pub(crate) sdws: [KeptSdw; 16],
+    /// Page table words by their address.
+    pub(crate) ptws: [KeptPtw; 16],
     /// The words from which descriptors were read.
     pub(crate) words: Watch,
     /// The page table words that were read or passed.
     pub(crate) tables: Watch,
-    /// Descriptors by segment number.
-    pub(crate) sdws: LruCache<u16, Sdw>,
-    /// Page table words by their address.
-    pub(crate) ptws: LruCache<u32, Ptw>,
 }
 
 impl Memories {
-    /// Empty memories. The error is want of memory alone.
-    pub fn new(alloc: Global) -> Result<Memories, NoMemory>
-        ensures { IfOk result (λ m. (core : List ℕ) (dbr : DbrFields) → AreRight core dbr m) }
+    /// Empty memories.
+    pub fn new() -> Memories
+        ensures { (core : List ℕ) (dbr : DbrFields) → AreRight core dbr result }
     {
-        let room = NonZeroUsize::new(ENTRIES).unwrap();
-        let sdws = LruCache::new(alloc, room)?;
-        let ptws = LruCache::new(alloc, room)?;
-        Ok(Memories {
+        Memories {
             pages: no_pages(),
             fetching: no_fetching(),
-            hits: [0; 16],
-            addresses: [NO_TABLE; 16],
-            clock: 0,
-            settled: 0,
+            uses: Uses::none(),
+            sdws: no_sdws(),
+            ptws: no_ptws(),
             words: Watch::new(),
             tables: Watch::new(),
-            sdws,
-            ptws,
-        })
+        }
     }
 
     /// Empties the front.
@@ -76,6 +54,8 @@ impl Memories {
         ensures fetching { self.new.fetching.len ≡ 0 }
         ensures words { self.new.words ≡ self.old.words }
     {
+        self.uses.note_fetch(&self.fetching);
+        self.uses.leave_all();
         let front = no_pages();
         self.pages = front;
         self.fetching = no_fetching();
@@ -90,10 +70,13 @@ impl Memories {
         let front = no_pages();
         self.pages = front;
         self.fetching = no_fetching();
-        self.words = Watch::new();
-        self.tables = Watch::new();
-        self.sdws.clear();
-        self.ptws.clear();
+        self.uses = Uses::none();
+        let sdws = no_sdws();
+        self.sdws = sdws;
+        let ptws = no_ptws();
+        self.ptws = ptws;
+        self.words.clear();
+        self.tables.clear();
     }
 
     /// A page in front is used.
@@ -103,8 +86,7 @@ impl Memories {
         ensures { (core : List ℕ) (dbr : DbrFields) → AreRight core dbr self.old
             → AreRight core dbr self.new }
     {
-        self.clock = self.clock.wrapping_add(2);
-        self.hits[i] = self.clock;
+        self.uses.touch_page(i);
     }
 
     /// The page that is fetched from is used.
@@ -113,25 +95,25 @@ impl Memories {
         ensures { (core : List ℕ) (dbr : DbrFields) → AreRight core dbr self.old
             → AreRight core dbr self.new }
     {
-        self.fetching.hit = self.clock;
+        self.fetching.hit = self.uses.clock;
     }
 
-    /// Notes when the page that is fetched from was last fetched from: after the use of a page at its time, and before the
-    /// next.
-    fn note_fetch(&mut self)
-        ensures right { (core : List ℕ) (dbr : DbrFields) → AreRight core dbr self.old
+    /// A descriptor that is kept is used.
+    pub(crate) fn touch_sdw(&mut self, e: usize)
+        requires { e < 16 }
+        ensures { (core : List ℕ) (dbr : DbrFields) → AreRight core dbr self.old
             → AreRight core dbr self.new }
-        ensures words { self.new.words ≡ self.old.words }
-        ensures tables { self.new.tables ≡ self.old.tables }
     {
-        if self.fetching.len == 0 {
-            return;
-        }
-        let i = self.fetching.slot as usize % PAGES;
-        let hit = self.fetching.hit.wrapping_add(1);
-        if self.hits[i] < hit {
-            self.hits[i] = hit;
-        }
+        self.uses.touch_sdw(e);
+    }
+
+    /// A page table word that is kept is used.
+    pub(crate) fn touch_ptw(&mut self, e: usize)
+        requires { e < 16 }
+        ensures { (core : List ℕ) (dbr : DbrFields) → AreRight core dbr self.old
+            → AreRight core dbr self.new }
+    {
+        self.uses.touch_ptw(e);
     }
 
     /// Fetches from a page in front, in a ring.
@@ -144,10 +126,10 @@ impl Memories {
             → IsPage core dbr self.old.words self.old.tables page.now seg (word / 1024)
             → AreRight core dbr self.new }
     {
-        self.note_fetch();
-        self.clock = self.clock.wrapping_add(2);
+        self.uses.note_fetch(&self.fetching);
+        self.uses.clock = self.uses.clock.wrapping_add(2);
         self.fetching = Fetching {
-            hit: self.clock,
+            hit: self.uses.clock,
             first: word - word % 1024,
             base: page.base,
             len: page.end as u32,
@@ -158,151 +140,127 @@ impl Memories {
         };
     }
 
-    /// Puts a page in front, of which the memories know that it was used. No page is fetched from until the next fetch.
-    pub(crate) fn put_in_front(&mut self, i: usize, page: Page, address: u32)
+    /// Puts a page in front, in place of another. No page is fetched from until the next fetch.
+    pub(crate) fn put_in_front(&mut self, i: usize, page: Page)
         requires { i < 16 }
         ensures { (core : List ℕ) (dbr : DbrFields) → AreRight core dbr self.old
             → IsPageInFront core dbr self.old.words self.old.tables page
             → AreRight core dbr self.new }
     {
+        self.uses.note_fetch(&self.fetching);
+        self.uses.leave(i);
         self.fetching = no_fetching();
         self.pages[i] = page;
-        self.hits[i] = self.settled;
-        self.addresses[i] = address;
     }
 
-    /// The pages of a segment leave the front.
-    pub(crate) fn leave_segment(&mut self, seg: u16)
-        ensures { (core : List ℕ) (dbr : DbrFields) → AreRight core dbr self.old
-            → AreRight core dbr self.new }
-    {
-        for i in 0..PAGES {
-            let key = self.pages[i].key;
-            if key > 0 && (key - 1) / 256 == seg as u32 {
-                self.put_in_front(i, no_page(), NO_TABLE);
-            }
-        }
-    }
-
-    /// The pages that are found by the page table word at an address leave the front.
-    pub(crate) fn leave_table(&mut self, a: u32)
-        ensures { (core : List ℕ) (dbr : DbrFields) → AreRight core dbr self.old
-            → AreRight core dbr self.new }
-    {
-        for i in 0..PAGES {
-            if self.addresses[i] == a {
-                self.put_in_front(i, no_page(), NO_TABLE);
-            }
-        }
-    }
-
-    /// Of the pages in front of which the memories do not know that they were used, where the one stands that was used
-    /// longest ago; past the front if they know of all.
-    fn oldest(&self) -> usize
-        ensures { result ≤ 16 }
-    {
-        let mut oldest = PAGES;
-        let mut at = u64::MAX;
-        for i in 0..PAGES {
-            let hit = self.hits[i];
-            if self.settled < hit && hit <= at {
-                oldest = i;
-                at = hit;
-            }
-        }
-        oldest
-    }
-
-    /// A descriptor and a page table word become those used last, where they are kept.
-    fn promote_both(&mut self, seg: u16, a: u32)
-        ensures { (core : List ℕ) (dbr : DbrFields) → AreRight core dbr self.old
-            → AreRight core dbr self.new }
-    {
-        let _ = self.sdws.promote(&seg);
-        let _ = self.ptws.promote(&a);
-    }
-
-    /// Tells the memories that a page in front was used.
-    fn promote(&mut self, i: usize)
+    /// Notes that the page at a place in front was found by the entries that were used last.
+    pub(crate) fn note_entries(&mut self, i: usize, paged: bool)
         requires { i < 16 }
         ensures { (core : List ℕ) (dbr : DbrFields) → AreRight core dbr self.old
             → AreRight core dbr self.new }
     {
-        self.settled = self.hits[i];
-        let key = self.pages[i].key;
-        if key == 0 {
-            return;
-        }
-        let a = self.addresses[i];
-        self.promote_both(((key - 1) / 256 % 32768) as u16, a);
+        self.uses.enter(i, paged);
     }
 
-    /// The memories know of every use in front until now.
-    fn know_all(&mut self)
+    /// A page leaves the front.
+    fn leave(&mut self, i: usize)
+        requires { i < 16 }
         ensures { (core : List ℕ) (dbr : DbrFields) → AreRight core dbr self.old
             → AreRight core dbr self.new }
     {
-        self.clock = self.clock.wrapping_add(2);
-        self.settled = self.clock;
+        let page = no_page();
+        self.put_in_front(i, page);
     }
 
-    /// Tells the memories which pages in front were used since they were last told, in the order of use.
-    pub fn settle(&mut self)
+    /// The pages at these places, a bit for each, leave the front.
+    pub(crate) fn leave_places(&mut self, places: u16)
         ensures { (core : List ℕ) (dbr : DbrFields) → AreRight core dbr self.old
             → AreRight core dbr self.new }
     {
-        self.note_fetch();
-        'turns: for _ in 0..PAGES {
-            let i = self.oldest();
-            if i < PAGES {
-                self.promote(i);
+        let mut left = places;
+        for _ in 0..PAGES {
+            if left == 0 {
+                return;
             }
+            let i = left.trailing_zeros() as usize % PAGES;
+            left &= left - 1;
+            self.leave(i);
         }
-        self.know_all();
     }
 
-    /// The memory of descriptors, by segment number.
-    pub fn descriptors(&self) -> &LruCache<u16, Sdw>
-        ensures { result.now ≡ self.now.sdws }
+    /// A place for a descriptor: that of the one that was used longest ago, whose pages leave the front.
+    pub(crate) fn place_for_sdw(&mut self) -> usize
+        ensures place { result < 16 }
+        ensures right { (core : List ℕ) (dbr : DbrFields) → AreRight core dbr self.old
+            → AreRight core dbr self.new }
     {
-        &self.sdws
+        self.uses.note_fetch(&self.fetching);
+        let e = self.uses.oldest_sdw();
+        let places = self.uses.fronts_of_sdw(e);
+        self.leave_places(places);
+        e
     }
 
-    /// The memory of page table words, by address.
-    pub fn table_words(&self) -> &LruCache<u32, Ptw>
-        ensures { result.now ≡ self.now.ptws }
+    /// As `place_for_sdw`, for a page table word.
+    pub(crate) fn place_for_ptw(&mut self) -> usize
+        ensures place { result < 16 }
+        ensures right { (core : List ℕ) (dbr : DbrFields) → AreRight core dbr self.old
+            → AreRight core dbr self.new }
     {
-        &self.ptws
+        self.uses.note_fetch(&self.fetching);
+        let e = self.uses.oldest_ptw();
+        let places = self.uses.fronts_of_ptw(e);
+        self.leave_places(places);
+        e
     }
-}
 
-/// The descriptor that is kept of a segment, which becomes the one used last.
-pub(crate) fn recalled_sdw(sdws: &mut LruCache<u16, Sdw>, seg: u16) -> Option<Sdw>
-    ensures value { result ≡ lookup (nat_eq seg) sdws.old.entries }
-    ensures order { sdws.new
-        ≡ lru_cache (promoted (nat_eq seg) sdws.old.entries) sdws.old.cap }
-{
-    sdws.get(&seg).copied()
-}
+    /// Keeps a descriptor at a place, as the one used last.
+    pub(crate) fn put_sdw(&mut self, e: usize, seg: u16, sdw: &Sdw)
+        requires { e < 16 }
+        ensures { (core : List ℕ) (dbr : DbrFields) → AreRight core dbr self.old
+            → IsDescriptor core dbr self.old.words self.old.tables seg sdw.now
+            → AreRight core dbr self.new }
+    {
+        self.sdws[e] = KeptSdw {
+            key: seg as u32 + 1,
+            sdw: *sdw,
+        };
+        self.uses.touch_sdw(e);
+    }
 
-/// The page table word that is kept of an address, which becomes the one used last.
-pub(crate) fn recalled_ptw(ptws: &mut LruCache<u32, Ptw>, a: u32) -> Option<Ptw>
-    ensures value { result ≡ lookup (nat_eq a) ptws.old.entries }
-    ensures order { ptws.new ≡ lru_cache (promoted (nat_eq a) ptws.old.entries) ptws.old.cap }
-{
-    ptws.get(&a).copied()
-}
+    /// Keeps a page table word at a place, as the one used last.
+    pub(crate) fn put_ptw(&mut self, e: usize, a: u32, ptw: &Ptw)
+        requires place { e < 16 }
+        requires address { a < 2 ^ 24 }
+        ensures { (core : List ℕ) (dbr : DbrFields) → AreRight core dbr self.old
+            → IsTableWord core dbr self.old.words self.old.tables a ptw.now
+            → AreRight core dbr self.new }
+    {
+        self.ptws[e] = KeptPtw {
+            key: a + 1,
+            ptw: *ptw,
+        };
+        self.uses.touch_ptw(e);
+    }
 
-/// The descriptor that is kept of a segment.
-pub(crate) fn seen_sdw(sdws: &LruCache<u16, Sdw>, seg: u16) -> Option<Sdw>
-    ensures { result ≡ lookup (nat_eq seg) sdws.now.entries }
-{
-    sdws.peek(&seg).copied()
-}
+    /// The segment whose descriptor is kept and was used last but so many.
+    pub fn segment_by_use(&mut self, rank: usize) -> Option<u16>
+        ensures { (core : List ℕ) (dbr : DbrFields) → AreRight core dbr self.old
+            → AreRight core dbr self.new }
+    {
+        self.uses.note_fetch(&self.fetching);
+        let e = self.uses.sdw_by_use(rank)?;
+        let key = self.sdws[e].key;
+        Some((key.saturating_sub(1) % 32768) as u16)
+    }
 
-/// The page table word that is kept of an address.
-pub(crate) fn seen_ptw(ptws: &LruCache<u32, Ptw>, a: u32) -> Option<Ptw>
-    ensures { result ≡ lookup (nat_eq a) ptws.now.entries }
-{
-    ptws.peek(&a).copied()
+    /// The address of the page table word that is kept and was used last but so many.
+    pub fn table_word_by_use(&mut self, rank: usize) -> Option<u32>
+        ensures { (core : List ℕ) (dbr : DbrFields) → AreRight core dbr self.old
+            → AreRight core dbr self.new }
+    {
+        self.uses.note_fetch(&self.fetching);
+        let e = self.uses.ptw_by_use(rank)?;
+        Some(self.ptws[e].key.saturating_sub(1))
+    }
 }

@@ -4,20 +4,89 @@ ghost use Rattle.std.specs.Prelude.{ℕ, ◌≡◌, ◌+◌, ◌/◌, ◌%◌, �
 ghost use Rattle.m36_desc.specs.Fields.{DbrFields};
 ghost use Rattle.m36_model.specs.Place.{wrapped, in_frame, ptw_at, directory_at, page_at, sdw_place, core_sdw, word_place, marks_by, with_marks};
 ghost use Rattle.m36_tables.specs.Tables.{TableIn};
-ghost use Rattle.m36_associative.specs.Right.{AreRight, IsWatched, IsPage, IsMarked, page_key};
+ghost use Rattle.m36_associative.specs.Right.{AreRight, IsWatched, IsDescriptor, IsTableWord, IsPage, IsMarked, page_key};
 ghost use Rattle.m36_associative.specs.Watched.{watched};
 
 use crate::face::page_of;
 use crate::front::{Page, slot_of};
-use crate::memories::{
-    ENTRIES, Memories, NO_TABLE, recalled_ptw, recalled_sdw, seen_ptw, seen_sdw,
-};
+use crate::kept::ENTRIES;
+use crate::memories::Memories;
 use crate::resting::{watch_anew, watch_words};
 use crate::writing::with_mark;
 use m36_core::Core;
 use m36_desc::{Dbr, Ptw, Sdw};
 use m36_model::Refusal;
 use m36_tables::{directory_at, in_frame, page_at, page_table_word, wrapped};
+
+/// The descriptor of a segment, if an entry has it.
+#[inline(always)]
+fn sdw_of_entry(_core: &Core, _dbr: Dbr, memories: &Memories, e: usize, seg: u16) -> Option<Sdw>
+    requires entry { e < 16 }
+    requires right { AreRight _core.now _dbr memories.now }
+    ensures { IfSome result (λ d. IsDescriptor _core.now _dbr memories.now.words
+        memories.now.tables seg d) }
+{
+    let kept = &memories.sdws[e];
+    if kept.key != seg as u32 + 1 {
+        return None;
+    }
+    Some(kept.sdw)
+}
+
+/// The descriptor that is kept of a segment, and its entry. The one that was used last is looked at first.
+fn kept_sdw(core: &Core, dbr: Dbr, memories: &Memories, seg: u16) -> Option<(usize, Sdw)>
+    requires { AreRight core.now dbr memories.now }
+    ensures entry { IfSome result (λ r. r.0 < 16) }
+    ensures kept { IfSome result (λ r. IsDescriptor core.now dbr memories.now.words
+        memories.now.tables seg r.1) }
+{
+    let last = memories.uses.sdws.last as usize % ENTRIES;
+    if let Some(sdw) = sdw_of_entry(core, dbr, memories, last, seg) {
+        return Some((last, sdw));
+    }
+    for e in 0..ENTRIES {
+        if let Some(sdw) = sdw_of_entry(core, dbr, memories, e, seg) {
+            return Some((e, sdw));
+        }
+    }
+    None
+}
+
+/// The page table word of an address, if an entry has it.
+#[inline(always)]
+fn ptw_of_entry(_core: &Core, _dbr: Dbr, memories: &Memories, e: usize, a: u32) -> Option<Ptw>
+    requires entry { e < 16 }
+    requires address { a < 2 ^ 24 }
+    requires right { AreRight _core.now _dbr memories.now }
+    ensures { IfSome result (λ p. IsTableWord _core.now _dbr memories.now.words
+        memories.now.tables a p) }
+{
+    let kept = &memories.ptws[e];
+    if kept.key != a + 1 {
+        return None;
+    }
+    Some(kept.ptw)
+}
+
+/// The page table word that is kept of an address, and its entry. The one that was used last is looked at first.
+fn kept_ptw(core: &Core, dbr: Dbr, memories: &Memories, a: u32) -> Option<(usize, Ptw)>
+    requires address { a < 2 ^ 24 }
+    requires right { AreRight core.now dbr memories.now }
+    ensures entry { IfSome result (λ r. r.0 < 16) }
+    ensures kept { IfSome result (λ r. IsTableWord core.now dbr memories.now.words
+        memories.now.tables a r.1) }
+{
+    let last = memories.uses.ptws.last as usize % ENTRIES;
+    if let Some(ptw) = ptw_of_entry(core, dbr, memories, last, a) {
+        return Some((last, ptw));
+    }
+    for e in 0..ENTRIES {
+        if let Some(ptw) = ptw_of_entry(core, dbr, memories, e, a) {
+            return Some((e, ptw));
+        }
+    }
+    None
+}
 
 /// The descriptor that is kept of a segment, which becomes the one used last.
 fn recalled_descriptor(_core: &Core, _dbr: Dbr, memories: &mut Memories, seg: u16) -> Option<Sdw>
@@ -27,7 +96,9 @@ fn recalled_descriptor(_core: &Core, _dbr: Dbr, memories: &mut Memories, seg: u1
         (directory_at _dbr seg)) }
     ensures right { AreRight _core.now _dbr memories.new }
 {
-    recalled_sdw(&mut memories.sdws, seg)
+    let (e, sdw) = kept_sdw(_core, _dbr, memories, seg)?;
+    memories.touch_sdw(e);
+    Some(sdw)
 }
 
 /// Watches the words by which the descriptor of a segment is found. False says that there is no room.
@@ -50,33 +121,19 @@ fn watch_descriptor(_core: &Core, dbr: Dbr, memories: &mut Memories, seg: u16, e
     )
 }
 
-/// Where all entries hold a descriptor, the one that was used longest ago is to make room: its pages leave the front.
-fn make_room_for_descriptor(memories: &mut Memories)
-    ensures { (core : List ℕ) (dbr : DbrFields) → AreRight core dbr memories.old
-        → AreRight core dbr memories.new }
-{
-    if memories.sdws.len() < ENTRIES {
-        return;
-    }
-    let seg = match memories.sdws.peek_lru() {
-        Some((seg, _)) => *seg,
-        None => return,
-    };
-    memories.leave_segment(seg);
-}
-
-/// Puts a descriptor, where there is memory for it.
-fn put_descriptor(_core: &Core, _dbr: Dbr, memories: &mut Memories, seg: u16, sdw: &Sdw)
+/// Puts a descriptor in place of the one that was used longest ago.
+fn put_descriptor(_core: &Core, _dbr: Dbr, memories: &mut Memories, e: usize, seg: u16, sdw: &Sdw)
+    requires place { e < 16 }
     requires found { core_sdw _core.now _dbr seg ≡ Ok sdw.now }
     requires watches { IsWatched _core.now _dbr memories.old.words memories.old.tables seg }
     requires right { AreRight _core.now _dbr memories.old }
     ensures { AreRight _core.now _dbr memories.new }
 {
-    let _ = memories.sdws.put(seg, *sdw);
+    memories.put_sdw(e, seg, sdw);
 }
 
-/// Keeps the descriptor of a segment, whose even word stands at a place. Where there is no memory for it, or no room to
-/// watch its words, it is not kept.
+/// Keeps the descriptor of a segment, whose even word stands at a place. Where there is no room to watch its words, it is
+/// not kept.
 fn keep_descriptor(core: &Core, dbr: Dbr, memories: &mut Memories, seg: u16, even: u32, sdw: &Sdw)
     requires seg { seg < 2 ^ 15 }
     requires place { even < 2 ^ 24 }
@@ -85,7 +142,7 @@ fn keep_descriptor(core: &Core, dbr: Dbr, memories: &mut Memories, seg: u16, eve
     requires right { AreRight core.now dbr memories.old }
     ensures { AreRight core.now dbr memories.new }
 {
-    make_room_for_descriptor(memories);
+    let e = memories.place_for_sdw();
     if !watch_descriptor(core, dbr, memories, seg, even) {
         watch_anew(core, dbr, memories);
         if !watch_descriptor(core, dbr, memories, seg, even) {
@@ -93,7 +150,7 @@ fn keep_descriptor(core: &Core, dbr: Dbr, memories: &mut Memories, seg: u16, eve
             return;
         }
     }
-    put_descriptor(core, dbr, memories, seg, sdw);
+    put_descriptor(core, dbr, memories, e, seg, sdw);
 }
 
 /// The descriptor of a live segment, as the tables in core have it.
@@ -116,13 +173,16 @@ pub fn descriptor(core: &Core, dbr: Dbr, memories: &mut Memories, seg: u16) -> R
 
 /// The page table word that is kept of an address, which becomes the one used last.
 fn recalled_table_word(_core: &Core, _dbr: Dbr, memories: &mut Memories, a: u32) -> Option<Ptw>
-    requires { AreRight _core.now _dbr memories.old }
+    requires address { a < 2 ^ 24 }
+    requires right { AreRight _core.now _dbr memories.old }
     ensures finds { IfSome result (λ p. (offset : ℕ) → in_frame (ptw_at _core.now a) offset
         ≡ in_frame (Some p) offset) }
     ensures inside { OnSome result (a < length _core.now) }
     ensures right { AreRight _core.now _dbr memories.new }
 {
-    recalled_ptw(&mut memories.ptws, a)
+    let (e, ptw) = kept_ptw(_core, _dbr, memories, a)?;
+    memories.touch_ptw(e);
+    Some(ptw)
 }
 
 /// Watches a page table word. False says that there is no room.
@@ -134,42 +194,30 @@ fn watch_table_word(_core: &Core, _dbr: Dbr, memories: &mut Memories, a: u32) ->
     memories.tables.add(a)
 }
 
-/// As `make_room_for_descriptor`, for a page table word.
-fn make_room_for_table_word(memories: &mut Memories)
-    ensures { (core : List ℕ) (dbr : DbrFields) → AreRight core dbr memories.old
-        → AreRight core dbr memories.new }
-{
-    if memories.ptws.len() < ENTRIES {
-        return;
-    }
-    let a = match memories.ptws.peek_lru() {
-        Some((a, _)) => *a,
-        None => return,
-    };
-    memories.leave_table(a);
-}
-
-/// Puts a page table word, where there is memory for it.
-fn put_table_word(_core: &Core, _dbr: Dbr, memories: &mut Memories, a: u32, ptw: Ptw)
-    requires found { ptw_at _core.now a ≡ Some ptw }
+/// Puts a page table word in place of the one that was used longest ago.
+fn put_table_word(_core: &Core, _dbr: Dbr, memories: &mut Memories, e: usize, a: u32, ptw: &Ptw)
+    requires place { e < 16 }
+    requires found { ptw_at _core.now a ≡ Some ptw.now }
     requires inside { a < length _core.now }
+    requires address { a < 2 ^ 24 }
     requires watches { watched memories.old.tables a ≡ true }
     requires right { AreRight _core.now _dbr memories.old }
     ensures { AreRight _core.now _dbr memories.new }
 {
-    let _ = memories.ptws.put(a, ptw);
+    memories.put_ptw(e, a, ptw);
 }
 
-/// Keeps the page table word at an address. Where there is no memory for it, or no room to watch it, it is not kept.
+/// Keeps the page table word at an address. Where there is no room to watch it, it is not kept.
 fn keep_table_word(core: &Core, dbr: Dbr, memories: &mut Memories, a: u32)
-    requires { AreRight core.now dbr memories.old }
+    requires address { a < 2 ^ 24 }
+    requires right { AreRight core.now dbr memories.old }
     ensures { AreRight core.now dbr memories.new }
 {
     let ptw = match page_table_word(core, a) {
         Some(ptw) => ptw,
         None => return,
     };
-    make_room_for_table_word(memories);
+    let e = memories.place_for_ptw();
     if !watch_table_word(core, dbr, memories, a) {
         watch_anew(core, dbr, memories);
         if !watch_table_word(core, dbr, memories, a) {
@@ -177,7 +225,7 @@ fn keep_table_word(core: &Core, dbr: Dbr, memories: &mut Memories, a: u32)
             return;
         }
     }
-    put_table_word(core, dbr, memories, a, ptw);
+    put_table_word(core, dbr, memories, e, a, &ptw);
 }
 
 /// The place of a word within the bound, which may be past the end of core, as the tables in core have it.
@@ -231,14 +279,14 @@ fn is_passed(core: &Core, dbr: Dbr, seg: u16) -> bool
     is_marked(core, directory_at(dbr, seg), false)
 }
 
-/// The page of a word, by what the memories have of it, and the address of its page table word.
+/// The page of a word, by what the memories have of it, and whether it was found by a page table word.
 fn found_page(
     core: &Core,
     dbr: Dbr,
     memories: &Memories,
     seg: u16,
     word: u32,
-) -> Option<(Page, u32)>
+) -> Option<(Page, bool)>
     requires seg { seg < 2 ^ 15 }
     requires word { word < 2 ^ 18 }
     requires right { AreRight core.now dbr memories.now }
@@ -246,16 +294,16 @@ fn found_page(
         r.0 seg (word / 1024)) }
     ensures key { IfSome result (λ r. r.0.key ≡ page_key seg (word / 1024)) }
 {
-    let sdw = seen_sdw(&memories.sdws, seg)?;
+    let (_entry, sdw) = kept_sdw(core, dbr, memories, seg)?;
     if !is_passed(core, dbr, seg) {
         return None;
     }
     if sdw.unpaged {
         let base = wrapped(sdw.addr + word / 1024 * 1024);
-        return Some((page_of(core, &sdw, seg, word, base, true), NO_TABLE));
+        return Some((page_of(core, &sdw, seg, word, base, true), false));
     }
     let a = page_at(&sdw, word / 1024);
-    let ptw = seen_ptw(&memories.ptws, a)?;
+    let (_word_entry, ptw) = kept_ptw(core, dbr, memories, a)?;
     if !ptw.f {
         return None;
     }
@@ -264,17 +312,19 @@ fn found_page(
     }
     let base = wrapped(ptw.addr / 16 * 1024);
     let modified = is_marked(core, a, true);
-    Some((page_of(core, &sdw, seg, word, base, modified), a))
+    Some((page_of(core, &sdw, seg, word, base, modified), true))
 }
 
-/// Puts the page of a word in front, where both memories have what finds it and its marks stand. They know of this use.
+/// Puts the page of a word in front, where both memories have what finds it and its marks stand. It was found by the
+/// entries that were used last.
 pub fn enter(core: &Core, dbr: Dbr, memories: &mut Memories, seg: u16, word: u32)
     requires seg { seg < 2 ^ 15 }
     requires word { word < 2 ^ 18 }
     requires right { AreRight core.now dbr memories.old }
     ensures { AreRight core.now dbr memories.new }
 {
-    if let Some((page, address)) = found_page(core, dbr, memories, seg, word) {
-        memories.put_in_front(slot_of(seg, word), page, address);
+    if let Some((page, paged)) = found_page(core, dbr, memories, seg, word) {
+        memories.put_in_front(slot_of(seg, word), page);
+        memories.note_entries(slot_of(seg, word), paged);
     }
 }

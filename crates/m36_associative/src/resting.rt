@@ -1,16 +1,17 @@
 //! Which words are watched: those on which what is kept rests.
 
-ghost use Rattle.std.specs.Prelude.{ℕ, ◌≡◌, ◌<◌, ◌^◌, true, Contains, IsTrue, Ok};
-ghost use Rattle.m36_desc.specs.Fields.{SdwFields, PtwFields};
+ghost use Rattle.std.specs.Prelude.{ℕ, ◌≡◌, ◌+◌, ◌<◌, ◌^◌, true, Contains, IsTrue, Ok};
 ghost use Rattle.m36_model.specs.Place.{directory_at, sdw_place};
 ghost use Rattle.m36_associative.specs.Right.{AreRight, IsWatched};
 ghost use Rattle.m36_associative.specs.Watched.{watched};
+ghost use Rattle.m36_associative.specs.declared.kept.KeptSdw.{KeptSdw};
+ghost use Rattle.m36_associative.specs.declared.kept.KeptPtw.{KeptPtw};
 
+use crate::kept::{KeptPtw, KeptSdw};
 use crate::memories::Memories;
 use crate::watch::Watch;
-use lru::LruCache;
 use m36_core::Core;
-use m36_desc::{Dbr, Ptw, Sdw};
+use m36_desc::Dbr;
 use m36_tables::{SEGMENTS, descriptor_place, directory_at, wrapped};
 
 /// Watches the words by which the descriptor of a segment is found, whose even word stands at a place. False says that there
@@ -57,33 +58,63 @@ fn watch_segment(core: &Core, dbr: Dbr, words: &mut Watch, tables: &mut Watch, s
     }
 }
 
+/// Watches the words by which a descriptor is found, if one is kept. False says that there is none, or no room.
+fn watch_kept(core: &Core, dbr: Dbr, kept: &KeptSdw, words: &mut Watch, tables: &mut Watch) -> bool
+    ensures watches { IsTrue result → (seg : ℕ) → kept.now.key ≡ seg + 1
+        → IsWatched core.now dbr words.new tables.new seg }
+    ensures words { (b : ℕ) → watched words.old b ≡ true → watched words.new b ≡ true }
+    ensures tables { (b : ℕ) → watched tables.old b ≡ true → watched tables.new b ≡ true }
+{
+    let key = kept.key;
+    if key == 0 {
+        return true;
+    }
+    if key > SEGMENTS as u32 {
+        return false;
+    }
+    watch_segment(core, dbr, words, tables, (key - 1) as u16)
+}
+
 /// Watches the words by which the descriptors that are kept are found. False says that there is no room.
 fn watch_descriptors(
     core: &Core,
     dbr: Dbr,
-    sdws: &LruCache<u16, Sdw>,
+    sdws: &[KeptSdw; 16],
     words: &mut Watch,
     tables: &mut Watch,
 ) -> bool
-    ensures { IsTrue result → (seg : ℕ) (d : SdwFields) → Contains sdws.now.entries (seg, d)
+    ensures { IsTrue result → (e : KeptSdw) (seg : ℕ) → Contains sdws.now e → e.key ≡ seg + 1
         → IsWatched core.now dbr words.new tables.new seg }
 {
-    for (seg, _sdw) in sdws.iter() {
-        if !watch_segment(core, dbr, words, tables, *seg) {
+    for kept in sdws {
+        if !watch_kept(core, dbr, kept, words, tables) {
             return false;
         }
     }
     true
 }
 
-/// Watches the page table words that are kept. False says that there is no room.
-fn watch_table_words(ptws: &LruCache<u32, Ptw>, tables: &mut Watch) -> bool
-    ensures watches { IsTrue result → (a : ℕ) (p : PtwFields) → Contains ptws.now.entries (a, p)
+/// Watches a page table word, if one is kept. False says that there is no room.
+fn watch_kept_word(kept: &KeptPtw, tables: &mut Watch) -> bool
+    ensures watches { IsTrue result → (a : ℕ) → kept.now.key ≡ a + 1
         → watched tables.new a ≡ true }
     ensures more { (b : ℕ) → watched tables.old b ≡ true → watched tables.new b ≡ true }
 {
-    for (a, _ptw) in ptws.iter() {
-        if !tables.add(*a) {
+    let key = kept.key;
+    if key == 0 {
+        return true;
+    }
+    tables.add(key - 1)
+}
+
+/// Watches the page table words that are kept. False says that there is no room.
+fn watch_table_words(ptws: &[KeptPtw; 16], tables: &mut Watch) -> bool
+    ensures watches { IsTrue result → (e : KeptPtw) (a : ℕ) → Contains ptws.now e → e.key ≡ a + 1
+        → watched tables.new a ≡ true }
+    ensures more { (b : ℕ) → watched tables.old b ≡ true → watched tables.new b ≡ true }
+{
+    for kept in ptws {
+        if !watch_kept_word(kept, tables) {
             return false;
         }
     }

@@ -7,12 +7,12 @@ use arrayvec::ArrayVec;
 use std::marker::Model;
 
 /// How many places are watched at most.
-const ROOM: usize = 96;
+const ROOM: usize = 128;
 
-/// Watched places. It is seen as their list.
+/// Watched places, some of them maybe more than once. It is seen as their list.
 #[derive(Drop)]
 pub struct Watch {
-    places: ArrayVec<u32, 96>,
+    places: ArrayVec<u32, 128>,
     low: u32,
     high: u32,
 }
@@ -80,15 +80,21 @@ impl Watch {
         self.places.as_slice().contains(&a)
     }
 
-    /// Watches a place too. False says that there is no room for it, and then nothing has changed.
+    /// Watches no place.
+    pub fn clear(&mut self)
+        ensures { self.new ≡ [] }
+    {
+        self.places.clear();
+        self.low = u32::MAX;
+        self.high = 0;
+    }
+
+    /// Watches a place too, which may be watched already. False says that there is no room for it, and then nothing has changed.
     pub fn add(&mut self, a: u32) -> bool
         ensures added { IsTrue result → watched self.new a ≡ true }
         ensures more { (b : ℕ) → watched self.old b ≡ true → watched self.new b ≡ true }
         ensures full { IsFalse result → self.new ≡ self.old }
     {
-        if self.listed(a) {
-            return true;
-        }
         if self.places.len() >= ROOM {
             return false;
         }

@@ -124,7 +124,6 @@ pub(crate) fn read_by_tables(
     ensures len { length core.new ≡ length core.old }
     ensures right { AreRight core.new dbr memories.new }
 {
-    memories.settle();
     let sdw = described_kept(core, dbr, memories, at)?;
     permitted(may_read(&sdw, at.ring, at.seg == psr), at)?;
     marked_run(core, dbr, memories, &sdw, at, count, false)
@@ -152,7 +151,6 @@ pub(crate) fn write_by_tables(
     ensures len { length core.new ≡ length core.old }
     ensures right { AreRight core.new dbr memories.new }
 {
-    memories.settle();
     let sdw = described_kept(core, dbr, memories, at)?;
     permitted(may_write(&sdw, at.ring), at)?;
     marked_run(core, dbr, memories, &sdw, at, count, true)
@@ -177,7 +175,6 @@ pub(crate) fn fetch_by_tables(
     ensures len { length core.new ≡ length core.old }
     ensures right { AreRight core.new dbr memories.new }
 {
-    memories.settle();
     let sdw = described_kept(core, dbr, memories, at)?;
     permitted(may_fetch(&sdw, at.ring), at)?;
     marked_run(core, dbr, memories, &sdw, at, 1, false)

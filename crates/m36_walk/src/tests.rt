@@ -116,11 +116,10 @@ fn walk_of(alloc: Global, dbr: Dbr) -> Result<Walk, NoMemory> {
 
 /// The segments whose descriptors are kept, the one that was used last first.
 fn segments_kept(walk: &mut Walk) -> [u32; 16] {
-    walk.memories.settle();
     let mut keys = [NONE; 16];
-    for (i, (seg, _)) in walk.memories.descriptors().iter().enumerate() {
-        if i < 16 {
-            keys[i] = *seg as u32;
+    for i in 0..16 {
+        if let Some(seg) = walk.memories.segment_by_use(i) {
+            keys[i] = seg as u32;
         }
     }
     keys
@@ -128,11 +127,10 @@ fn segments_kept(walk: &mut Walk) -> [u32; 16] {
 
 /// The addresses of the page table words that are kept, the one that was used last first.
 fn tables_kept(walk: &mut Walk) -> [u32; 16] {
-    walk.memories.settle();
     let mut keys = [NONE; 16];
-    for (i, (a, _)) in walk.memories.table_words().iter().enumerate() {
-        if i < 16 {
-            keys[i] = *a;
+    for i in 0..16 {
+        if let Some(a) = walk.memories.table_word_by_use(i) {
+            keys[i] = a;
         }
     }
     keys

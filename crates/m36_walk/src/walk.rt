@@ -33,19 +33,16 @@ impl Model for Walk {
 impl Walk {
     ghost use Rattle.m36_walk.specs.Lending.{LendsCore};
 
-    /// A walk over core. The error hands core back, and is want of memory alone.
-    pub fn new(alloc: Global, core: Core, dbr: Dbr) -> Result<Walk, Core>
+    /// A walk over core. The error would hand core back; none comes, as the memories take no memory of the allocator.
+    pub fn new(_alloc: Global, core: Core, dbr: Dbr) -> Result<Walk, Core>
         ensures ok { IfOk result (λ walk. (walk.core ≡ core) × (walk.dbr ≡ dbr)) }
         ensures err { IfErr result (λ back. back ≡ core) }
     {
-        match Memories::new(alloc) {
-            Ok(memories) => Ok(Walk {
-                core,
-                dbr,
-                memories,
-            }),
-            Err(NoMemory) => Err(core),
-        }
+        Ok(Walk {
+            core,
+            dbr,
+            memories: Memories::new(),
+        })
     }
 
     /// A second walk over a copy of core, by the same register. The error is want of memory alone.

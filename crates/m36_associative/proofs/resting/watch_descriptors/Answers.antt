@@ -1,21 +1,16 @@
-use Rattle.std.proofs.Common.{ℕ, inl, inr, ap, subst, rules}
-use Rattle.m36_associative.specs.Right.{IsWatched}
-use Rattle.m36_associative.proofs.Keeping.{watches_on, comes, none_comes}
+use Rattle.std.proofs.Common.{ℕ, ◌≡◌, ◌+◌, ◌<◌, inl, inr, length, get_or, ◌∙◌, subst, rules, arith}
+use Rattle.m36_associative.specs.declared.kept.KeptSdw.{KeptSdw}
+use Rattle.m36_associative.proofs.Keeping.{watches_on, is_item, before_or_here}
 use Rattle.m36_associative.proofs.resting.watch_descriptors.Goals as goal
 
-pub loop-seg-preserved : goal.loop-seg-preserved
-loop-seg-preserved c = λ seg d e.
-    let here : IsWatched c.args.core.now c.args.dbr c.watch_segment.new.words c.watch_segment.new.tables c.in-Some.seg.now = c.watch_segment.ensures.watches (search rules) in
-    elim (c.loop-seg.invariant seg d e) [
-      | inl k ↦ elim (comes _ _ c.next.new.self (seg, d) (c.in-Some.ensures {u = tt}).steps k) [
-        | inl same ↦ inr (subst (λ (s : ℕ). IsWatched c.args.core.now c.args.dbr c.watch_segment.new.words c.watch_segment.new.tables s) (ap (λ x. x.0) same) here)
-        | inr later ↦ inl later
-      ]
-      | inr w ↦ inr (watches_on c.args.core.now c.args.dbr c.loop-seg.words c.loop-seg.tables c.watch_segment.new.words c.watch_segment.new.tables c.watch_segment.ensures.words c.watch_segment.ensures.tables seg w)
+pub loop-kept-preserved : goal.loop-kept-preserved
+loop-kept-preserved c = λ k e seg b i n.
+    let here = c.loop-kept.kept-index in
+    let within : here < length c.args.sdws.now = omega arith in
+    elim (before_or_here k here (omega arith)) [
+      | inl l ↦ watches_on c.args.core.now c.args.dbr c.loop-kept.words c.loop-kept.tables c.watch_kept.new.words c.watch_kept.new.tables c.watch_kept.ensures.words c.watch_kept.ensures.tables seg (c.loop-kept.invariant k e seg l i n)
+      | inr is ↦
+          let at : get_or c.args.sdws.now here e ≡ e = subst (λ (j : ℕ). get_or c.args.sdws.now j e ≡ e) is i in
+          let same : e ≡ get_or c.args.sdws.now here c.kept-item.result = is_item c.args.sdws.now here e c.kept-item.result within c.kept-item.is at ∙ c.kept-item.is in
+          c.watch_kept.ensures.watches (search rules) seg (subst (λ (x : KeptSdw). x.key ≡ seg + 1) same n)
     ]
-
-pub returns : goal.returns
-returns c = λ t seg d e. elim (c.loop-seg.invariant seg d e) [
-  | inl k ↦ absurd (none_comes _ (seg, d) (c.in-None.ensures {u = tt}).steps.0 k)
-  | inr w ↦ w
-]

@@ -1,6 +1,5 @@
-use Rattle.std.proofs.Common.{ap}
 use Rattle.m36_associative.proofs.Keeping.{nothing_kept}
 use Rattle.m36_associative.proofs.memories.Memories.new.Goals as goal
 
 pub returns : goal.returns
-returns c = λ core dbr. nothing_kept core dbr _ (ap (λ x. x.entries) c.in_ok-sdws.ensures) (ap (λ x. x.entries) c.in_ok-ptws.ensures) c.no_pages.ensures c.no_fetching.ensures
+returns c = λ core dbr. nothing_kept core dbr _ c.no_sdws.ensures c.no_ptws.ensures c.no_pages.ensures c.no_fetching.ensures

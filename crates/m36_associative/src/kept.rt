@@ -1,0 +1,82 @@
+//! The entries of the two memories.
+
+ghost use Rattle.std.specs.Prelude.{◌≡◌, Contains};
+ghost use Rattle.m36_associative.specs.declared.kept.KeptSdw.{KeptSdw};
+ghost use Rattle.m36_associative.specs.declared.kept.KeptPtw.{KeptPtw};
+
+use m36_desc::{Ptw, Sdw};
+
+/// How many entries each memory has.
+pub(crate) const ENTRIES: usize = 16;
+
+/// A descriptor, by its segment.
+#[derive(Clone, Copy)]
+pub struct KeptSdw {
+    /// The number of its segment and 1 more; 0: none is kept.
+    pub(crate) key: u32,
+    pub(crate) sdw: Sdw,
+}
+
+/// A page table word, by its address.
+#[derive(Clone, Copy)]
+pub struct KeptPtw {
+    /// Its address and 1 more; 0: none is kept.
+    pub(crate) key: u32,
+    pub(crate) ptw: Ptw,
+}
+
+/// No descriptor.
+fn no_sdw() -> KeptSdw
+    ensures { result.key ≡ 0 }
+{
+    KeptSdw {
+        key: 0,
+        sdw: Sdw {
+            addr: 0,
+            bound: 0,
+            limit: 0,
+            r1: 0,
+            r2: 0,
+            r3: 0,
+            fc: 0,
+            f: false,
+            readable: false,
+            executable: false,
+            writable: false,
+            privileged: false,
+            unpaged: false,
+            no_gate: false,
+            cached: false,
+        },
+    }
+}
+
+/// No page table word.
+fn no_ptw() -> KeptPtw
+    ensures { result.key ≡ 0 }
+{
+    KeptPtw {
+        key: 0,
+        ptw: Ptw {
+            addr: 0,
+            fc: 0,
+            used: false,
+            modified: false,
+            f: false,
+        },
+    }
+}
+
+/// A memory without a descriptor.
+pub(crate) fn no_sdws() -> [KeptSdw; 16]
+    ensures { (e : KeptSdw) → Contains result e → e.key ≡ 0 }
+{
+    [no_sdw(); 16]
+}
+
+/// A memory without a page table word.
+pub(crate) fn no_ptws() -> [KeptPtw; 16]
+    ensures { (e : KeptPtw) → Contains result e → e.key ≡ 0 }
+{
+    [no_ptw(); 16]
+}
