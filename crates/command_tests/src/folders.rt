@@ -1,4 +1,4 @@
-//! Folders that boot. What is expected was worked out by hand.
+//! Folders that boot, and what is written of their sources. What is expected was worked out by hand.
 
 use crate::memory::{Due, World, comes_to};
 use m36_word::NoMemory;
@@ -46,6 +46,15 @@ work >udd>demo
 library >sss
 segment >udd>demo main main object re 4 4 4
 segment >sss con_ con_ object rep 0 0 5
+start 4 main$start
+";
+
+/// The folder of `HELLO`, in a core where each of its pages finds a frame.
+const WIDE: &[u8] = b"frames 400
+work >udd>demo
+library >sss
+segment >udd>demo main main object re 4 4 4
+segment >sss con_ con_ gate rep 0 0 5
 start 4 main$start
 ";
 
@@ -110,10 +119,121 @@ link 4 00100|000003 ? L1
 end link L1 4
 ";
 
-const ASSEMBLIES: &[&[u8]] = &[b"alm main", b"alm con_", b"alm changes"];
+/// Writes `ok` in ring 0, and stops.
+const ONE: &[u8] = b" entry start
+start: epp2 msg
+ lda 3,dl
+ mme 0
+ dis 0
+msg: oct 157153012000
+";
+
+const ONE_BOOT: &[u8] = b"frames 2177
+work >t
+segment >t one one object rep 0 0 0
+start 0 one$start
+";
+
+const ONE_TRACE: &[u8] = b"audit yes
+1 0 00100|000000 000004352000 0:00100|000004 000000000000 000000000000 ...... next
+2 0 00100|000001 000003235007 =000000000003 000000000003 000000000000 ...... next
+3 0 00100|000002 000000001000 - 000000000003 000000000000 ...... fault 2
+console ok\\012
+4 0 00100|000003 000000616000 - 000000000003 000000000000 ...... dis
+end dis 4
+";
+
+/// The definition section has two words, the definition of `start` two, and its name two. The
+/// symbol section has one relocation, of the address of `msg`.
+const ONE_PRINT: &[u8] = b"object one 28
+text 000000 000005
+definition 000005 000006
+linkage 000013 000010
+symbol 000023 000002
+entrybound 000000
+def start text 000000 entry
+000000 000004352000 epp2 4
+000001 000003235007 lda 3,dl
+000002 000000001000 mme 0
+000003 000000616000 dis 0
+000004 157153012000 oct 157153012000
+";
+
+/// A static word in the linkage section, and a link after it.
+const COUNT: &[u8] = b" use link
+cnt: dec 5
+ use text
+ entry go
+go: aos pr4|cnt
+ lda b$x
+";
+
+const COUNT_LISTING: &[u8] = b"text 000000 400010054100 5
+text 000001 400012235120 6
+link 000010 000000000005 2
+object m 33
+text 000000 000002
+definition 000002 000011
+linkage 000013 000014
+symbol 000027 000003
+entrybound 000000
+def go text 000000 entry
+link 000012 b$x 000000 00
+000000 400010054100 aos pr4|8
+000001 400012235120 lda pr4|10,*
+";
+
+const BIND: &[u8] = b"version 2\nobject m\nretain go\n";
+
+/// Bound in version 2 the link is first, and the two static words have a section of their own.
+const BOUND: &[u8] = b"object c 34
+text 000000 000002
+definition 000002 000011
+linkage 000013 000012
+static 000025 000002
+symbol 000027 000003
+entrybound 000000
+def go text 000000 entry
+link 000010 b$x 000000 00
+000000 400012054100 aos pr4|10
+000001 400010235120 lda pr4|8,*
+";
+
+/// Has one link, to its own static words.
+const OWN: &[u8] = b" use static
+ dec 5
+ use text
+ entry go
+go: lda *static$
+ dis 0
+";
+
+const OWN_BOOT: &[u8] = b"frames 24
+work >t
+segment >t own own object re 4 4 4
+start 4 own$go
+";
+
+/// The linkage section has ten words, and the static words follow it.
+const OWN_TRACE: &[u8] = b"audit yes
+1 4 00100|000000 400010235120 - 000000000000 000000000000 ...... fault 24
+link 4 00024|002010 *static$ 000024400043 002012000000
+2 4 00100|000000 400010235120 4:00024|002012 000000000005 000000000000 ...... next
+3 4 00100|000001 000000616000 - 000000000005 000000000000 ...... fault 10
+end fault 10 3
+";
+
+const ASSEMBLIES: &[&[u8]] = &[
+    b"alm main",
+    b"alm con_",
+    b"alm changes",
+    b"alm one",
+    b"alm m",
+    b"alm own",
+];
 
 // Whether a command comes to what is due over a folder of these sources, assembled, and a boot text, where a read and a put
-// fail. The sources are read first, so the boot text is the fourth file.
+// fail. The sources are read first, so the boot text is the seventh file.
 fn command_comes_to(
     alloc: Global,
     boot: &[u8],
@@ -127,6 +247,10 @@ fn command_comes_to(
             (b"main.alm", MAIN),
             (b"con_.alm", CON),
             (b"changes.alm", CHANGES),
+            (b"one.alm", ONE),
+            (b"m.alm", COUNT),
+            (b"c.bind", BIND),
+            (b"own.alm", OWN),
         ],
         before: ASSEMBLIES,
         input: b"",
@@ -136,9 +260,12 @@ fn command_comes_to(
 }
 
 /// The boot text, the command, the number of the status, and what is written.
-const BOOTS: &[(&[u8], &[u8], u8, &[u8])] = &[
+type Row<'a> = (&'a [u8], &'a [u8], u8, &'a [u8]);
+
+const BOOTS: &[Row] = &[
     (HELLO, b"run", 0, b"audit yes\nhello\nend dis 13\n"),
     (HELLO, b"trace", 0, TRACE),
+    (WIDE, b"trace", 0, TRACE),
     (HELLO, b"audit", 0, b"audit yes\n"),
     (HELLO, b"run --steps 0", 7, b"audit yes\nend limit 0\n"),
     (
@@ -172,9 +299,31 @@ fn boots_folders(rt: HostRuntime) -> Result<(), NoMemory> {
     Ok(())
 }
 
+/// The sources with all that a command writes of them.
+const SOURCES: &[Row] = &[
+    (ONE_BOOT, b"run", 0, b"audit yes\nok\nend dis 4\n"),
+    (ONE_BOOT, b"trace", 0, ONE_TRACE),
+    (ONE_BOOT, b"print one", 0, ONE_PRINT),
+    (HELLO, b"alm m", 0, COUNT_LISTING),
+    (HELLO, b"bind c", 0, BOUND),
+    (OWN_BOOT, b"trace", 6, OWN_TRACE),
+];
+
+#[test]
+fn writes_of_sources(rt: HostRuntime) -> Result<(), NoMemory> {
+    for (boot, command, number, output) in SOURCES {
+        let due = Due::Writes(*number, output);
+        assert!(rt;
+            command_comes_to(rt.alloc(), boot, command, (0, 0), due)?,
+            "{command:?}"
+        );
+    }
+    Ok(())
+}
+
 /// A run whose second read fails, or a put, 0 for none: the number of the status, and how much is written.
 const FAULTS: &[(u32, u32, u8, usize)] = &[
-    (5, 0, 2, 0),
+    (8, 0, 2, 0),
     (0, 1, 3, 0),
     (0, 2, 3, 10),
     (0, 3, 3, 16),

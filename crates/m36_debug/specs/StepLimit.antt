@@ -2,8 +2,12 @@
 use Rattle.std.specs.Prelude.{ℕ, ◌≡◌, ◌+◌, ◌<◌, ◌≤◌, List, [], ◌∷◌}
 use Rattle.m36_step.specs.Counting.{counted}
 use Rattle.m36_debug.specs.declared.commands.Run.{Run}
-use Rattle.m36_debug.specs.Session.{Turning, Running, Standing, standing, Event, Happening, Took}
-use Rattle.m36_debug.specs.Session.{Turned, Went, Follow, lines_in}
+use Rattle.m36_debug.specs.declared.session_line.SessionLine.{SessionLine}
+use Rattle.m36_debug.specs.declared.session_line.SessionLine.TheVariants as session
+use Rattle.m36_debug.specs.Commands.{go_limit}
+use Rattle.m36_debug.specs.Session.{Turning, Waiting, Running, Standing, standing, Event, Happening}
+use Rattle.m36_debug.specs.Session.{Took, Turned, Went, Follow, lines_in}
+use Rattle.m36_debug.specs.SessionLines.{session_line}
 use Rattle.m36_debug.specs.Sitting.{SittingFields}
 
 -- 1 for a step, and 0 for all else
@@ -17,9 +21,29 @@ unfoldable pub steps_taken : {M : Type 0} → List (Event M) → ℕ
 steps_taken [] = 0
 steps_taken (e ∷ events) = step_in e.happened + steps_taken events
 
--- From its beginning, and until another line is taken, a command takes at most the steps that are
--- left to it.
+-- the most steps that a line takes
+abbrev pub most_of : SessionLine → ℕ
+most_of (session.Step n) = n
+most_of session.Go = go_limit
+most_of (session.Break seg word) = 0
+most_of session.Regs = 0
+most_of (session.Seg seg word) = 0
+most_of session.Where = 0
+most_of (session.Back n) = 0
+most_of session.Quit = 0
+most_of session.Empty = 0
+most_of session.Unknown = 0
+
+-- Until another line is taken, a line takes at most its steps: `step N` at most N, `go` at most
+-- 100,000, and any other line none. A command under way takes at most the steps that are left to
+-- it.
 pub record StepsWithin {M : Type 0} (o : Turning M) : Type 0 where
+  pub line :
+      (text : List ℕ) (s : SittingFields) (m after : M) (events : List (Event M)) (s' : Standing)
+      (m' : M)
+      → Follow o (standing s Waiting) m (record { happened = Took text; after = after } ∷ events)
+      s' m'
+      → lines_in events ≡ [] → steps_taken events ≤ most_of (session_line text)
   pub within :
       (run : Run) (s : SittingFields) (m : M) (events : List (Event M)) (s' : Standing) (m' : M)
       → 0 < run.left → Follow o (standing s (Running run)) m events s' m' → lines_in events ≡ []

@@ -4,9 +4,11 @@ ghost use Rattle.std.specs.Prelude.{ℕ, ◌≡◌, ◌≤◌, length};
 ghost use Rattle.m36_debug.specs.Putting.{seen};
 ghost use Rattle.m36_debug.specs.Session.{turning};
 ghost use Rattle.m36_debug.specs.SessionSays.{SessionSays, input, answer_of};
+ghost use Rattle.m36_debug.specs.StepLimit.{StepsWithin};
 ghost use Rattle.m36_debug.specs.Taking.{PieceTaken};
 
 use crate::fault::SessionFault;
+use crate::laws::step_limit;
 use crate::reading::{answer_last, answer_piece};
 use crate::sitting::Sitting;
 use crate::turning::Ends;
@@ -47,19 +49,22 @@ fn take_piece<L: Lines>(lines: &mut L, most: usize, buffer: &mut [u8]) -> Piece
     }
 }
 
-/// A session: does what the lines say, up to `quit` or their end. The last line may lack its line feed.
+/// A session: does what the lines say, up to `quit` or their end. The last line may lack its line
+/// feed. `step N` takes at most N steps, and `go` at most 100,000, whatever the machine is.
 pub fn debug<M: Stepper, L: Lines, S: Sink>(
     alloc: Global,
     m: &mut M,
     lines: &mut L,
     out: &mut S,
 ) -> Result<(), SessionFault>
-    ensures { SessionSays (turning M.regs M.content M.next M.went) result m.old m.new
+    ensures says { SessionSays (turning M.regs M.content M.next M.went) result m.old m.new
         (input (L.left lines.old) (L.given lines.old) (L.faults lines.old))
         (input (L.left lines.new) (L.given lines.new) (L.faults lines.new))
         (seen (S.written out.old) (S.taken out.old) (S.faults out.old))
         (seen (S.written out.new) (S.taken out.new) (S.faults out.new)) }
+    ensures limit { StepsWithin (turning M.regs M.content M.next M.went) }
 {
+    step_limit::<M>();
     let mut sitting = Sitting::new();
     let mut begun = Text::new(alloc);
     let mut buffer = [0; PIECE];

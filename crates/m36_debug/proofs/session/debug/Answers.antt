@@ -29,59 +29,59 @@ pieces-preserved g c =
       taken = omega (arith, c.in-Line.ensures.taken, c.pieces.invariant.taken, c.in-Got.ensures.within, c.in-Got.ensures.moved.room, length-take c.in-Got.count c.take_piece.new.buffer);
     }
 
-pub returns-in-Failed : goal.returns-in-Failed
-returns-in-Failed g c =
+pub returns-in-Failed-clause-says : goal.returns-in-Failed-clause-says
+returns-in-Failed-clause-says g c =
     let s = g.S.Sink in
     let m = g.M.Stepper in
     let i = g.L.Lines in
     going_unread (turning m.regs m.content m.next m.went) c.args.m.now c.pieces.m (input (i.left c.args.lines.now) (i.given c.args.lines.now) (i.faults c.args.lines.now)) (input (i.left c.pieces.lines) (i.given c.pieces.lines) (i.faults c.pieces.lines)) (input (i.left c.take_piece.new.lines) (i.given c.take_piece.new.lines) (i.faults c.take_piece.new.lines)) (seen (s.written c.args.out.now) (s.taken c.args.out.now) (s.faults c.args.out.now)) (seen (s.written c.pieces.out) (s.taken c.pieces.out) (s.faults c.pieces.out)) c.pieces.left c.pieces.begun c.pieces.sitting c.pieces.invariant.going c.in-Failed.ensures
 
-pub returns-in-End : goal.returns-in-End
-returns-in-End g c =
+pub returns-in-End-clause-says : goal.returns-in-End-clause-says
+returns-in-End-clause-says g c =
     let s = g.S.Sink in
     let m = g.M.Stepper in
     let i = g.L.Lines in
     subst (λ (r : Result (Unit {0}) SessionFault). SessionSays (turning m.regs m.content m.next m.went) r c.args.m.now c.answer_last.new.m (input (i.left c.args.lines.now) (i.given c.args.lines.now) (i.faults c.args.lines.now)) (input (i.left c.take_piece.new.lines) (i.given c.take_piece.new.lines) (i.faults c.take_piece.new.lines)) (seen (s.written c.args.out.now) (s.taken c.args.out.now) (s.faults c.args.out.now)) (seen (s.written c.answer_last.new.out) (s.taken c.answer_last.new.out) (s.faults c.answer_last.new.out))) (sym c.answer_of.ensures)
     (going_end (turning m.regs m.content m.next m.went) c.answer_last.result c.args.m.now c.pieces.m c.answer_last.new.m (input (i.left c.args.lines.now) (i.given c.args.lines.now) (i.faults c.args.lines.now)) (input (i.left c.pieces.lines) (i.given c.pieces.lines) (i.faults c.pieces.lines)) (input (i.left c.take_piece.new.lines) (i.given c.take_piece.new.lines) (i.faults c.take_piece.new.lines)) (seen (s.written c.args.out.now) (s.taken c.args.out.now) (s.faults c.args.out.now)) (seen (s.written c.pieces.out) (s.taken c.pieces.out) (s.faults c.pieces.out)) (seen (s.written c.answer_last.new.out) (s.taken c.answer_last.new.out) (s.faults c.answer_last.new.out)) c.pieces.left c.pieces.begun c.pieces.sitting c.answer_last.new.sitting c.pieces.invariant.going c.in-End.ensures c.answer_last.ensures)
 
-pub returns-in-Quit : goal.returns-in-Quit
-returns-in-Quit g c =
+pub returns-in-Quit-clause-says : goal.returns-in-Quit-clause-says
+returns-in-Quit-clause-says g c =
     let s = g.S.Sink in
     let m = g.M.Stepper in
     let i = g.L.Lines in
     going_quit (turning m.regs m.content m.next m.went) c.args.m.now c.pieces.m c.answer_piece.new.m (input (i.left c.args.lines.now) (i.given c.args.lines.now) (i.faults c.args.lines.now)) (input (i.left c.pieces.lines) (i.given c.pieces.lines) (i.faults c.pieces.lines)) (input (i.left c.take_piece.new.lines) (i.given c.take_piece.new.lines) (i.faults c.take_piece.new.lines)) (seen (s.written c.args.out.now) (s.taken c.args.out.now) (s.faults c.args.out.now)) (seen (s.written c.pieces.out) (s.taken c.pieces.out) (s.faults c.pieces.out)) (seen (s.written c.answer_piece.new.out) (s.taken c.answer_piece.new.out) (s.faults c.answer_piece.new.out)) c.in-Got.count c.pieces.left c.pieces.begun c.take_piece.new.buffer c.pieces.sitting c.answer_piece.new.sitting c.pieces.invariant.going c.in-Got.ensures c.in-Quit.ensures.says
 
-pub returns-in-Starved : goal.returns-in-Starved
-returns-in-Starved g c =
+pub returns-in-Starved-clause-says : goal.returns-in-Starved-clause-says
+returns-in-Starved-clause-says g c =
     let s = g.S.Sink in
     let m = g.M.Stepper in
     let i = g.L.Lines in
     going_starved (turning m.regs m.content m.next m.went) c.args.m.now c.pieces.m c.answer_piece.new.m (input (i.left c.args.lines.now) (i.given c.args.lines.now) (i.faults c.args.lines.now)) (input (i.left c.pieces.lines) (i.given c.pieces.lines) (i.faults c.pieces.lines)) (input (i.left c.take_piece.new.lines) (i.given c.take_piece.new.lines) (i.faults c.take_piece.new.lines)) (seen (s.written c.args.out.now) (s.taken c.args.out.now) (s.faults c.args.out.now)) (seen (s.written c.pieces.out) (s.taken c.pieces.out) (s.faults c.pieces.out)) (seen (s.written c.answer_piece.new.out) (s.taken c.answer_piece.new.out) (s.faults c.answer_piece.new.out)) c.in-Got.count c.pieces.left c.pieces.begun c.take_piece.new.buffer c.pieces.sitting c.pieces.invariant.going c.in-Got.ensures c.in-Starved.ensures.says
 
-pub returns-in-Cut : goal.returns-in-Cut
-returns-in-Cut g c =
+pub returns-in-Cut-clause-says : goal.returns-in-Cut-clause-says
+returns-in-Cut-clause-says g c =
     let s = g.S.Sink in
     let m = g.M.Stepper in
     let i = g.L.Lines in
     going_cut (turning m.regs m.content m.next m.went) c.args.m.now c.pieces.m c.answer_piece.new.m (input (i.left c.args.lines.now) (i.given c.args.lines.now) (i.faults c.args.lines.now)) (input (i.left c.pieces.lines) (i.given c.pieces.lines) (i.faults c.pieces.lines)) (input (i.left c.take_piece.new.lines) (i.given c.take_piece.new.lines) (i.faults c.take_piece.new.lines)) (seen (s.written c.args.out.now) (s.taken c.args.out.now) (s.faults c.args.out.now)) (seen (s.written c.pieces.out) (s.taken c.pieces.out) (s.faults c.pieces.out)) (seen (s.written c.answer_piece.new.out) (s.taken c.answer_piece.new.out) (s.faults c.answer_piece.new.out)) c.in-Got.count c.pieces.left c.pieces.begun c.take_piece.new.buffer c.pieces.sitting c.pieces.invariant.going c.in-Got.ensures c.in-Cut.ensures.says
 
-pub returns-in-Failed-take_piece : goal.returns-in-Failed-take_piece
-returns-in-Failed-take_piece g c =
+pub returns-in-Failed-take_piece-clause-says : goal.returns-in-Failed-take_piece-clause-says
+returns-in-Failed-take_piece-clause-says g c =
     let s = g.S.Sink in
     let m = g.M.Stepper in
     let i = g.L.Lines in
     going_unread (turning m.regs m.content m.next m.went) c.args.m.now c.pieces.m (input (i.left c.args.lines.now) (i.given c.args.lines.now) (i.faults c.args.lines.now)) (input (i.left c.pieces.lines) (i.given c.pieces.lines) (i.faults c.pieces.lines)) (input (i.left c.take_piece-2.new.lines) (i.given c.take_piece-2.new.lines) (i.faults c.take_piece-2.new.lines)) (seen (s.written c.args.out.now) (s.taken c.args.out.now) (s.faults c.args.out.now)) (seen (s.written c.pieces.out) (s.taken c.pieces.out) (s.faults c.pieces.out)) c.pieces.left c.pieces.begun c.pieces.sitting c.pieces.invariant.going c.in-Failed-take_piece.ensures
 
-pub returns-in-End-take_piece : goal.returns-in-End-take_piece
-returns-in-End-take_piece g c =
+pub returns-in-End-take_piece-clause-says : goal.returns-in-End-take_piece-clause-says
+returns-in-End-take_piece-clause-says g c =
     let s = g.S.Sink in
     let m = g.M.Stepper in
     let i = g.L.Lines in
     subst (λ (r : Result (Unit {0}) SessionFault). SessionSays (turning m.regs m.content m.next m.went) r c.args.m.now c.answer_last-in-End-take_piece.new.m (input (i.left c.args.lines.now) (i.given c.args.lines.now) (i.faults c.args.lines.now)) (input (i.left c.take_piece-2.new.lines) (i.given c.take_piece-2.new.lines) (i.faults c.take_piece-2.new.lines)) (seen (s.written c.args.out.now) (s.taken c.args.out.now) (s.faults c.args.out.now)) (seen (s.written c.answer_last-in-End-take_piece.new.out) (s.taken c.answer_last-in-End-take_piece.new.out) (s.faults c.answer_last-in-End-take_piece.new.out))) (sym c.answer_of-in-End-take_piece.ensures)
     (going_end (turning m.regs m.content m.next m.went) c.answer_last-in-End-take_piece.result c.args.m.now c.pieces.m c.answer_last-in-End-take_piece.new.m (input (i.left c.args.lines.now) (i.given c.args.lines.now) (i.faults c.args.lines.now)) (input (i.left c.pieces.lines) (i.given c.pieces.lines) (i.faults c.pieces.lines)) (input (i.left c.take_piece-2.new.lines) (i.given c.take_piece-2.new.lines) (i.faults c.take_piece-2.new.lines)) (seen (s.written c.args.out.now) (s.taken c.args.out.now) (s.faults c.args.out.now)) (seen (s.written c.pieces.out) (s.taken c.pieces.out) (s.faults c.pieces.out)) (seen (s.written c.answer_last-in-End-take_piece.new.out) (s.taken c.answer_last-in-End-take_piece.new.out) (s.faults c.answer_last-in-End-take_piece.new.out)) c.pieces.left c.pieces.begun c.pieces.sitting c.answer_last-in-End-take_piece.new.sitting c.pieces.invariant.going c.in-End-take_piece.ensures c.answer_last-in-End-take_piece.ensures)
 
-pub returns : goal.returns
-returns g c =
+pub returns-clause-says : goal.returns-clause-says
+returns-clause-says g c =
     let s = g.S.Sink in
     let m = g.M.Stepper in
     let i = g.L.Lines in
