@@ -1,0 +1,4 @@
+pub mod Answers
+pub mod Did
+pub mod Follow
+pub mod Seen
