@@ -1,4 +1,5 @@
 pub mod Answers
 pub mod Did
 pub mod Follow
+pub mod Noted
 pub mod Seen

@@ -17,10 +17,13 @@
 //! one after another. So a contract says with one clause what a function did to the outside, and in which order.
 #![tactic(auto)]
 
+mod calls;
 pub mod event;
+pub mod outside;
 pub mod pieces;
 pub mod world;
 
 pub use event::Event;
+pub use outside::Outside;
 pub use pieces::Pieces;
 pub use world::World;
