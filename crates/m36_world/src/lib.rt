@@ -17,12 +17,14 @@
 //! one after another. So a contract says with one clause what a function did to the outside, and in which order.
 #![tactic(auto)]
 
+pub mod borrowed;
 mod calls;
 pub mod event;
 pub mod outside;
 pub mod pieces;
 pub mod world;
 
+pub use borrowed::Borrowed;
 pub use event::Event;
 pub use outside::Outside;
 pub use pieces::Pieces;
