@@ -1,5 +1,5 @@
 -- Puts of a piece and of a block: what the sink says of them is what a world says.
-use Rattle.std.proofs.Common.{◌≡◌, ℕ, ◌+◌, ◌≤◌, ◌<◌, ◌^◌, ◌⊎◌, List, [], ◌∷◌, ◌++◌, length, Option, refl, sym, ap, subst, ◌∙◌, inl, inr, arith, length-append}
+use Rattle.std.proofs.Common.{◌≡◌, ℕ, ◌≤◌, ◌<◌, ◌^◌, ◌⊎◌, List, [], ◌∷◌, ◌++◌, length, Option, refl, sym, ap, subst, ◌∙◌, inr, arith, length-append}
 use Rattle.std.proofs.lemmas.List.{append-nil, append_assoc}
 use Rattle.m36_outside.specs.Passing.{joined, PutTakes, TakesLines, TakesSome}
 use Rattle.m36_outside.specs.Put.{PutSays, PutHasCause}
@@ -35,13 +35,13 @@ put_did Done piece old events outputs written faults says took cause count bound
 put_did Failed piece old events outputs written faults says took cause count bound noted = record {
   part = took;
   failed = record {
-      took = takes_some_of_line old.written written old.outputs outputs piece took;
-      grew = grew_longer old.written written piece [] says;
-      cause = cause;
-      count = count;
-      bound = bound;
-      rest = λ i. after_put old (noted i) outputs written faults;
-    };
+    took = takes_some_of_line old.written written old.outputs outputs piece took;
+    grew = grew_longer old.written written piece [] says;
+    cause = cause;
+    count = count;
+    bound = bound;
+    rest = λ i. after_put old (noted i) outputs written faults;
+  };
 }
 
 -- pieces, each written whole
