@@ -1,8 +1,14 @@
 -- Laws of events that follow one another.
-use Rattle.std.proofs.Common.{◌≡◌, List, [], ◌∷◌, ◌++◌, refl, sym, ap, subst, ◌∙◌}
+use Rattle.std.proofs.Common.{◌≡◌, ℕ, List, [], ◌∷◌, ◌++◌, refl, sym, ap, subst, ◌∙◌, take}
 use Rattle.std.proofs.lemmas.List.{append-nil, append_assoc}
 use Rattle.std.specs.List.{flat_map}
+use Rattle.m36_outside.specs.declared.lines.Piece.{Piece}
+use Rattle.m36_outside.specs.declared.lines.Piece.TheVariants as piece
+use Rattle.m36_outside.specs.declared.sink.Put.{Put}
+use Rattle.m36_outside.specs.declared.sink.Put.TheVariants as put
+use Rattle.m36_world.specs.Answers.{PutDid, PutBlockDid, NextPieceDid}
 use Rattle.m36_world.specs.Did.{Did}
+use Rattle.m36_world.specs.Noted.{put_events, block_events, input_events}
 use Rattle.m36_world.specs.Follow.{Next, Follow}
 use Rattle.m36_world.specs.Logs.{read_of, write_of, input_of, Takes, TakesAll, Logs}
 use Rattle.m36_world.specs.Seen.{Seen}
@@ -44,6 +50,27 @@ follow_split (event ∷ first) rest old new all =
       begins = record { between = all.between; begins = all.begins; goes_on = later.begins };
       goes_on = later.goes_on;
     }
+
+-- ---- the events of a call, by its answer
+
+pub follow_put :
+    (answer : Put) (piece : List ℕ) (old new : Seen)
+    → PutDid answer piece old new → Follow (put_events answer piece) old new
+follow_put put.Done piece old new did = follow_one (Output piece) old new did
+follow_put put.Failed piece old new did = follow_one (OutputFailed (piece ∷ [])) old new did.failed
+
+pub follow_put_block :
+    (answer : Put) (pieces : List (List ℕ)) (old new : Seen)
+    → PutBlockDid answer pieces old new → Follow (block_events answer pieces) old new
+follow_put_block put.Done pieces old new did = did
+follow_put_block put.Failed pieces old new did = follow_one (OutputFailed pieces) old new did
+
+pub follow_next_piece :
+    (answer : Piece) (into : List ℕ) (old new : Seen)
+    → NextPieceDid answer into old new → Follow (input_events answer into) old new
+follow_next_piece (piece.Got count) into old new did = follow_one (Input (take count into)) old new did.input
+follow_next_piece piece.End into old new did = follow_one (Input []) old new did
+follow_next_piece piece.Failed into old new did = follow_one InputFailed old new did
 
 -- ---- what is noted, and what the objects recorded
 

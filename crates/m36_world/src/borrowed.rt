@@ -9,6 +9,7 @@ use m36_outside::{Block, Folder, Lines, Passed, Piece, Put, ReadAnswer, Sink, Wr
 use std::alloc::Global;
 
 /// A caller's folder, input and output, with the events since they were borrowed.
+#[derive(Drop)]
 pub struct Borrowed<'a, F, L, S> {
     folder: &'a mut F,
     input: &'a mut L,

@@ -9,3 +9,5 @@ mod caller;
 mod memory;
 #[cfg(test)]
 mod system;
+#[cfg(test)]
+mod world;
