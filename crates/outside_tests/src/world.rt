@@ -1,7 +1,6 @@
 //! A function over any world, and a caller who lends it a folder, an input and an output.
 
 ghost use Rattle.std.specs.Prelude.{ℕ, [], ◌∷◌, ◌++◌, ◌≡◌, List, MatchResult};
-ghost use Rattle.m36_outside.specs.Put.{PutSays};
 ghost use Rattle.m36_outside.specs.Passing.{TakesLines};
 ghost use Rattle.m36_world.specs.Follow.{Follow};
 ghost use Rattle.m36_world.specs.Noted.{put_events};
@@ -33,17 +32,13 @@ fn show_from<F: Folder, L: Lines, S: Sink>(
     input: &mut L,
     output: &mut S,
 ) -> Result<Put, ReadAnswer>
-    ensures read { MatchResult result
+    ensures through { MatchResult result
         (λ put. (bytes : List ℕ)
         × (F.asked folder.new ≡ F.asked folder.old ++ (name.now, ReadAnswer.Read bytes) ∷ [])
-        × TakesLines put (S.taken output.old) (S.taken output.new) (bytes ∷ [])
-        × PutSays put (S.written output.old) (S.written output.new) (bytes ++ []))
+        × TakesLines put (S.taken output.old) (S.taken output.new) (bytes ∷ []))
         (λ answer. (F.asked folder.new ≡ F.asked folder.old ++ (name.now, answer) ∷ [])
-        × (S.taken output.new ≡ S.taken output.old)
-        × (S.written output.new ≡ S.written output.old)) }
-    ensures files { F.files folder.new ≡ F.files folder.old }
+        × (S.taken output.new ≡ S.taken output.old)) }
     ensures wrote { F.wrote folder.new ≡ F.wrote folder.old }
-    ensures left { L.left input.new ≡ L.left input.old }
     ensures given { L.given input.new ≡ L.given input.old }
 {
     let mut world = Borrowed::new(folder, input, output);
