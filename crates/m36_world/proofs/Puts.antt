@@ -1,9 +1,10 @@
 -- Puts of a piece and of a block: what the sink says of them is what a world says.
-use Rattle.std.proofs.Common.{◌≡◌, ℕ, ◌≤◌, ◌<◌, ◌^◌, ◌⊎◌, List, [], ◌∷◌, ◌++◌, length, Option, refl, sym, ap, subst, ◌∙◌, inr, arith, length-append}
+use Rattle.std.proofs.Common.{◌≡◌, ℕ, ◌≤◌, ◌<◌, ◌^◌, ◌⊎◌, List, [], ◌∷◌, ◌++◌, length, Option, refl, sym, ap}
+use Rattle.std.proofs.Common.{subst, ◌∙◌, inl, inr, arith, length-append}
 use Rattle.std.proofs.lemmas.List.{append-nil, append_assoc}
 use Rattle.m36_outside.specs.Passing.{joined, PutTakes, TakesLines, TakesSome}
 use Rattle.m36_outside.specs.Put.{PutSays, PutHasCause}
-use Rattle.m36_outside.specs.Written.{appended}
+use Rattle.m36_outside.specs.Written.{appended, Grew}
 use Rattle.m36_outside.specs.declared.sink.Put.{Put}
 use Rattle.m36_outside.specs.declared.sink.Put.TheVariants.{Done, Failed}
 use Rattle.m36_outside.proofs.Grown.{appended-nil, appended-appended, grew_longer}
@@ -44,10 +45,11 @@ put_did Failed piece old events outputs written faults says took cause count bou
   };
 }
 
--- pieces, each written whole
-after_pieces : Seen → List (List ℕ) → Seen
+-- what is observed after pieces, each written whole
+pub after_pieces : Seen → List (List ℕ) → Seen
 after_pieces old pieces =
-    after_put old (old.events ++ outputs pieces) (old.outputs ++ pieces) (appended (joined pieces) old.written) old.output_faults
+    after_put old (old.events ++ outputs pieces) (old.outputs ++ pieces) (appended (joined pieces) old.written)
+    old.output_faults
 
 one_piece_more :
     (old : Seen) (piece : List ℕ) (pieces : List (List ℕ))
@@ -56,8 +58,7 @@ unfolding after_pieces
 one_piece_more old piece pieces =
     let events = append_assoc old.events (Output piece ∷ []) (outputs pieces) in
     let taken = append_assoc old.outputs (piece ∷ []) pieces in
-    let written : appended (joined pieces) (appended (piece ++ []) old.written) ≡ appended (piece ++ joined pieces) old.written =
-    ap (λ first. appended (joined pieces) (appended first old.written)) (append-nil piece)
+    let written = ap (λ first. appended (joined pieces) (appended first old.written)) (append-nil piece)
     ∙ appended-appended piece (joined pieces) old.written in
     λ i. after_put old (events i) (taken i) (written i) old.output_faults
 
@@ -72,7 +73,8 @@ one_piece old piece bound = record {
 
 no_piece : (old : Seen) → after_pieces old [] ≡ old
 unfolding after_pieces
-no_piece old = λ i. after_put old (append-nil old.events i) (append-nil old.outputs i) (appended-nil old.written i) old.output_faults
+no_piece old = λ i. after_put old (append-nil old.events i) (append-nil old.outputs i) (appended-nil old.written i)
+    old.output_faults
 
 same_faults : (old : Seen) (pieces : List (List ℕ)) → (after_pieces old pieces).output_faults ≡ old.output_faults
 unfolding after_pieces
@@ -96,7 +98,8 @@ pieces_follow (piece ∷ pieces) old bound =
 
 some_pieces : (old new pieces : List (List ℕ)) → TakesSome old new pieces → 1 ≤ length pieces
 some_pieces old new pieces some =
-    subst (λ (l : List (List ℕ)). 1 ≤ length l) (sym some.is) (omega (arith, length-append some.lines (some.line ∷ some.left)))
+    subst (λ (l : List (List ℕ)). 1 ≤ length l) (sym some.is)
+    (omega (arith, length-append some.lines (some.line ∷ some.left)))
 
 pub put_block_did :
     (answer : Put) (pieces : List (List ℕ)) (old : Seen)
@@ -121,3 +124,42 @@ put_block_did Failed pieces old events outs written faults says took cause count
   bound = bound (inr (some_pieces old.outputs outs pieces took));
   rest = λ i. after_put old (noted i) outs written faults;
 }
+
+-- ---- what pieces that were written whole leave
+
+pub pieces_done :
+    (pieces : List (List ℕ)) (old new : Seen) → Follow (outputs pieces) old new → new ≡ after_pieces old pieces
+unfolding Follow after_pieces
+pieces_done [] old new none = none ∙ sym (no_piece old)
+pieces_done (piece ∷ pieces) old new some =
+    let one : some.between ≡ after_pieces old (piece ∷ []) = some.begins.rest
+    ∙ (λ i. after_put old (old.events ++ Output piece ∷ []) (old.outputs ++ piece ∷ [])
+    (appended (sym (append-nil piece) i) old.written) old.output_faults) in
+    pieces_done pieces some.between new some.goes_on
+    ∙ ap (λ seen. after_pieces seen pieces) one
+    ∙ one_piece_more old piece pieces
+
+pub pieces_written :
+    (pieces : List (List ℕ)) (old new : Seen) → Follow (outputs pieces) old new → Grew old.written new.written (joined pieces)
+unfolding after_pieces
+pieces_written pieces old new some = ap (λ s. s.written) (pieces_done pieces old new some)
+
+pub pieces_taken :
+    (pieces : List (List ℕ)) (old new : Seen) → Follow (outputs pieces) old new → new.outputs ≡ old.outputs ++ pieces
+unfolding after_pieces
+pieces_taken pieces old new some = ap (λ s. s.outputs) (pieces_done pieces old new some)
+
+pub pieces_no_fault :
+    (pieces : List (List ℕ)) (old new : Seen)
+    → Follow (outputs pieces) old new → new.output_faults ≡ old.output_faults
+unfolding after_pieces
+pieces_no_fault pieces old new some = ap (λ s. s.output_faults) (pieces_done pieces old new some)
+
+pub pieces_bound :
+    (pieces : List (List ℕ)) (old new : Seen)
+    → Follow (outputs pieces) old new → (old.output_faults < 2 ^ 64) ⊎ (1 ≤ length pieces) → new.output_faults < 2 ^ 64
+unfolding Follow
+pieces_bound [] old new none (inl below) = subst (λ s. s.output_faults < 2 ^ 64) (sym none) below
+pieces_bound [] old new none (inr some) = absurd (omega arith)
+pieces_bound (piece ∷ pieces) old new some _ =
+    pieces_bound pieces some.between new some.goes_on (inl some.begins.bound)

@@ -11,8 +11,8 @@ use Rattle.m36_outside.specs.declared.folder.ReadAnswer.{ReadAnswer}
 use Rattle.m36_outside.specs.declared.folder.WriteAnswer.{WriteAnswer}
 use Rattle.m36_world.specs.Seen.{Seen, noted}
 use Rattle.m36_world.specs.declared.event.Event.{Event}
-use Rattle.m36_world.specs.declared.event.Event.TheVariants.{FileRead, FileWrite, Output, OutputFailed}
-use Rattle.m36_world.specs.declared.event.Event.TheVariants.{Input, InputFailed}
+use Rattle.m36_world.specs.declared.event.Event.TheVariants.{FileRead, FileWrite, Output}
+use Rattle.m36_world.specs.declared.event.Event.TheVariants.{OutputFailed, Input, InputFailed}
 
 -- A file was read, or the read failed. Each `rest` says that everything else is as it was.
 pub record IsFileRead (name : List ℕ) (answer : ReadAnswer) (old new : Seen) : Type 0 where

@@ -5,8 +5,8 @@ use Rattle.m36_outside.specs.FolderCalls.{Asked, Wrote}
 use Rattle.m36_outside.specs.Passing.{TakesSome}
 use Rattle.m36_world.specs.Seen.{Seen}
 use Rattle.m36_world.specs.declared.event.Event.{Event}
-use Rattle.m36_world.specs.declared.event.Event.TheVariants.{FileRead, FileWrite, Output, OutputFailed}
-use Rattle.m36_world.specs.declared.event.Event.TheVariants.{Input, InputFailed}
+use Rattle.m36_world.specs.declared.event.Event.TheVariants.{FileRead, FileWrite, Output}
+use Rattle.m36_world.specs.declared.event.Event.TheVariants.{OutputFailed, Input, InputFailed}
 
 -- the read of a file that an event is, if it is one
 abbrev pub read_of : Event → List Asked

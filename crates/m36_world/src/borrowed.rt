@@ -18,7 +18,7 @@ pub struct Borrowed<'a, F, L, S> {
 }
 
 impl<'a, F: Folder, L: Lines, S: Sink> Borrowed<'a, F, L, S> {
-    /// These objects, of which no call is noted yet.
+    /// These objects. No event is noted yet.
     pub fn new(folder: &'a mut F, input: &'a mut L, output: &'a mut S) -> Borrowed<'a, F, L, S>
         ensures folder { result.folder.now ≡ folder.old }
         ensures same_folder { result.folder.ghost_name ≡ folder.entry.ghost_name }

@@ -17,6 +17,30 @@ pub struct Outside<F, L, S> {
     events: Passed<Event>,
 }
 
+impl<F: Folder, L: Lines, S: Sink> Outside<F, L, S> {
+    /// These objects. No event is noted yet.
+    pub fn new(folder: F, input: L, output: S) -> Outside<F, L, S>
+        ensures folder { result.folder ≡ folder }
+        ensures input { result.input ≡ input }
+        ensures output { result.output ≡ output }
+        ensures events { result.events.entries ≡ [] }
+    {
+        Outside {
+            folder,
+            input,
+            output,
+            events: Passed::new(),
+        }
+    }
+
+    /// The output.
+    pub fn output(&self) -> &S
+        ensures { result.now ≡ self.now.output }
+    {
+        &self.output
+    }
+}
+
 impl<F: Folder, L: Lines, S: Sink> World for Outside<F, L, S> {
     ghost seen = { λ w. record {
       events = w.events.entries;

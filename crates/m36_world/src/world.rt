@@ -10,8 +10,8 @@ use std::alloc::Global;
 
 /// A folder, an input and an output, with one record of all that is observed of them.
 ///
-/// Whether the files, the output and the input are known never changes. The counts of faults never fall, are below 2^64,
-/// and stay where they are once they have reached 2^64 - 1.
+/// Whether the files, the output and the input are known never changes. The counts of faults never
+/// fall, are below 2^64, and stay where they are once they have reached 2^64 - 1.
 pub trait World {
     /// All that is observed of the outside.
     ghost seen: { Self → Seen };
@@ -28,12 +28,13 @@ pub trait World {
     fn put(&mut self, piece: &[u8]) -> Put
         ensures { PutDid result piece.now (seen self.old) (seen self.new) };
 
-    /// Writes the pieces of a block at the end of the output, each as a piece of its own. A block of no pieces never
-    /// fails.
+    /// Writes the pieces of a block at the end of the output, each as a piece of its own. A block
+    /// of no pieces never fails.
     fn put_block(&mut self, block: &Block) -> Put
         ensures { PutBlockDid result block.now (seen self.old) (seen self.new) };
 
-    /// Moves the next bytes of the input to the beginning of `into`. What the buffer holds after them is left open.
+    /// Moves the next bytes of the input to the beginning of `into`. What the buffer holds after
+    /// them is left open.
     fn next_piece(&mut self, into: &mut [u8]) -> Piece
         requires room { 1 ≤ length into.old }
         ensures { NextPieceDid result into.new (seen self.old) (seen self.new) };
