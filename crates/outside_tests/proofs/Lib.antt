@@ -1,1 +1,2 @@
+mod EachClause
 mod Shown

@@ -22,7 +22,8 @@ Shows result name old new = MatchResult result
 abbrev pub Through :
     Result Put ReadAnswer → List ℕ → List Asked → List Asked → List (List ℕ) → List (List ℕ) → Type 0
 Through result name asked asked' taken taken' = MatchResult result
-    (λ answer. (bytes : List ℕ) × (asked' ≡ asked ++ (name, Read bytes) ∷ []) × TakesLines answer taken taken' (bytes ∷ []))
+    (λ answer. (bytes : List ℕ)
+    × (asked' ≡ asked ++ (name, Read bytes) ∷ []) × TakesLines answer taken taken' (bytes ∷ []))
     (λ answer. (asked' ≡ asked ++ (name, answer) ∷ []) × (taken' ≡ taken))
 
 pub record Shown (result : Result Put ReadAnswer) (name : List ℕ) (old new : Seen) : Type 0 where
@@ -31,7 +32,9 @@ pub record Shown (result : Result Put ReadAnswer) (name : List ℕ) (old new : S
   pub inputs : new.inputs ≡ old.inputs
   pub references : new.references ≡ old.references
 
-pub shown : (result : Result Put ReadAnswer) (name : List ℕ) (old new : Seen) → Shows result name old new → Shown result name old new
+pub shown :
+    (result : Result Put ReadAnswer) (name : List ℕ) (old new : Seen)
+    → Shows result name old new → Shown result name old new
 unfolding TakesAll
 shown (Ok put.Done) name old new (bytes, some) =
     let logs = follow_logs (FileRead name (Read bytes) ∷ Output bytes ∷ []) old new some in
@@ -44,9 +47,12 @@ shown (Ok put.Done) name old new (bytes, some) =
 shown (Ok put.Failed) name old new (bytes, some) =
     let logs = follow_logs (FileRead name (Read bytes) ∷ OutputFailed (bytes ∷ []) ∷ []) old new some in
     let one = logs.outputs in let two = one.goes_on in record {
-      through = (bytes, logs.reads,
-          subst (λ l. TakesSome l new.outputs (bytes ∷ [])) one.begins
-          (subst (λ l. TakesSome one.between l (bytes ∷ [])) (sym two.goes_on) two.begins));
+      through = (
+        bytes,
+        logs.reads,
+        subst (λ l. TakesSome l new.outputs (bytes ∷ [])) one.begins
+            (subst (λ l. TakesSome one.between l (bytes ∷ [])) (sym two.goes_on) two.begins),
+      );
       writes = logs.writes ∙ append-nil old.writes;
       inputs = logs.inputs ∙ append-nil old.inputs;
       references = logs.references;
