@@ -1,4 +1,5 @@
-//! Tests of the outside: folders, input and output in memory and of the system, and a caller over their traits.
+//! Tests of the outside: folders, input and output in memory and of the system, a caller over their
+//! traits, and worlds, which are the three as one object.
 #![tactic(auto)]
 
 #[cfg(test)]
@@ -6,6 +7,10 @@ mod answers;
 #[cfg(test)]
 mod caller;
 #[cfg(test)]
+mod clauses;
+#[cfg(test)]
 mod memory;
 #[cfg(test)]
 mod system;
+#[cfg(test)]
+mod world;

@@ -1,0 +1,21 @@
+-- Events, one after another.
+use Rattle.std.specs.Prelude.{ℕ, ◌≡◌, List, [], ◌∷◌, map}
+use Rattle.m36_world.specs.Did.{Did}
+use Rattle.m36_world.specs.Seen.{Seen}
+use Rattle.m36_world.specs.declared.event.Event.{Event}
+use Rattle.m36_world.specs.declared.event.Event.TheVariants.{Output}
+
+-- One thing was done, and then the rest.
+pub record Next (first rest : Seen → Seen → Type 0) (old new : Seen) : Type 0 where
+  pub between : Seen
+  pub begins : first old between
+  pub goes_on : rest between new
+
+-- These events happened, one after another.
+unfoldable pub Follow : List Event → Seen → Seen → Type 0
+Follow [] old new = new ≡ old
+Follow (event ∷ events) old new = Next (Did event) (Follow events) old new
+
+-- these pieces of output, each written whole
+abbrev pub outputs : List (List ℕ) → List Event
+outputs pieces = map (λ piece. Output piece) pieces

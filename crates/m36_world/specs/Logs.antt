@@ -1,0 +1,66 @@
+-- What events mean for the objects' own records of their calls.
+use Rattle.std.specs.Prelude.{ℕ, ◌≡◌, List, [], ◌∷◌, ◌++◌}
+use Rattle.std.specs.List.{flat_map}
+use Rattle.m36_outside.specs.FolderCalls.{Asked, Wrote}
+use Rattle.m36_outside.specs.Passing.{TakesSome}
+use Rattle.m36_world.specs.Seen.{Seen}
+use Rattle.m36_world.specs.declared.event.Event.{Event}
+use Rattle.m36_world.specs.declared.event.Event.TheVariants.{FileRead, FileWrite, Output}
+use Rattle.m36_world.specs.declared.event.Event.TheVariants.{OutputFailed, Input, InputFailed}
+
+-- the read of a file that an event is, if it is one
+abbrev pub read_of : Event → List Asked
+read_of (FileRead name answer) = (name, answer) ∷ []
+read_of (FileWrite name content answer) = []
+read_of (Output piece) = []
+read_of (OutputFailed pieces) = []
+read_of (Input piece) = []
+read_of InputFailed = []
+
+-- the write of a file
+abbrev pub write_of : Event → List Wrote
+write_of (FileRead name answer) = []
+write_of (FileWrite name content answer) = (name, content, answer) ∷ []
+write_of (Output piece) = []
+write_of (OutputFailed pieces) = []
+write_of (Input piece) = []
+write_of InputFailed = []
+
+-- the piece of input
+abbrev pub input_of : Event → List (List ℕ)
+input_of (FileRead name answer) = []
+input_of (FileWrite name content answer) = []
+input_of (Output piece) = []
+input_of (OutputFailed pieces) = []
+input_of (Input piece) = piece ∷ []
+input_of InputFailed = []
+
+-- The pieces that the output took in an event.
+abbrev pub Takes : Event → List (List ℕ) → List (List ℕ) → Type 0
+Takes (FileRead name answer) old new = new ≡ old
+Takes (FileWrite name content answer) old new = new ≡ old
+Takes (Output piece) old new = new ≡ old ++ piece ∷ []
+Takes (OutputFailed pieces) old new = TakesSome old new pieces
+Takes (Input piece) old new = new ≡ old
+Takes InputFailed old new = new ≡ old
+
+-- The output took these pieces, one event after another.
+pub record TakesNext (event : Event) (rest : List (List ℕ) → List (List ℕ) → Type 0)
+    (old new : List (List ℕ)) : Type 0 where
+  pub between : List (List ℕ)
+  pub begins : Takes event old between
+  pub goes_on : rest between new
+
+unfoldable pub TakesAll : List Event → List (List ℕ) → List (List ℕ) → Type 0
+TakesAll [] old new = new ≡ old
+TakesAll (event ∷ events) old new = TakesNext event (TakesAll events) old new
+
+-- All events are noted, and each object recorded its calls among them. The world holds the same
+-- references.
+pub record Logs (events : List Event) (old new : Seen) : Type 0 where
+  pub all : new.events ≡ old.events ++ events
+  pub reads : new.reads ≡ old.reads ++ flat_map read_of events
+  pub writes : new.writes ≡ old.writes ++ flat_map write_of events
+  pub inputs : new.inputs ≡ old.inputs ++ flat_map input_of events
+  pub outputs : TakesAll events old.outputs new.outputs
+  pub references : new.references ≡ old.references

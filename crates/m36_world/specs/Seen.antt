@@ -1,0 +1,28 @@
+-- All that is observed of the outside.
+use Rattle.std.specs.Prelude.{ℕ, List, [], ◌∷◌, ◌++◌, Option}
+use Rattle.m36_outside.specs.Files.{Files}
+use Rattle.m36_outside.specs.FolderCalls.{Asked, Wrote}
+use Rattle.m36_world.specs.declared.event.Event.{Event}
+
+-- Everything that happened, in order; what the folder, the output and the input each recorded of
+-- their own calls, in order; the files, all that is written and all input that is left, where they
+-- are known; how many reads, writes, puts and takings of input failed; and the names of the
+-- references by which the world holds its objects, of which a world that owns them has none.
+pub record Seen : Type 0 where
+  pub events : List Event
+  pub reads : List Asked
+  pub writes : List Wrote
+  pub outputs : List (List ℕ)
+  pub inputs : List (List ℕ)
+  pub files : Option Files
+  pub written : Option (List ℕ)
+  pub left : Option (List ℕ)
+  pub read_faults : ℕ
+  pub write_faults : ℕ
+  pub output_faults : ℕ
+  pub input_faults : ℕ
+  pub references : List ℕ
+
+-- the same with one more event
+abbrev pub noted : Event → Seen → Seen
+noted event seen = record seen { events = seen.events ++ event ∷ [] }

@@ -1,0 +1,18 @@
+//! Pieces of output in an event.
+
+use m36_outside::{Passed, Text};
+use std::marker::Model;
+
+/// A list of pieces that no memory holds, seen as that list.
+#[derive(Drop)]
+pub struct Pieces {
+    pieces: Passed<Text>,
+}
+
+impl Model for Pieces {
+    ghost use Rattle.std.specs.Prelude.{ℕ, List};
+
+    ghost Value = { List (List ℕ) };
+
+    ghost view = { λ p. p.pieces.entries };
+}

@@ -1,0 +1,2 @@
+mod EachClause
+mod Shown
