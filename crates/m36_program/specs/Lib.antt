@@ -1,0 +1,5 @@
+pub mod Gathered
+pub mod Goes
+pub mod Performs
+pub mod Program
+pub mod Readers
