@@ -51,7 +51,7 @@ no_failed_input : {A P : Type 0} (a : A) (events : List Event) → FailedInput {
 no_failed_input a events failed = absurd (let e = failed.result_is in cc)
 
 -- A failed output ends the program with WriteFault, in whatever part of it the last of its pieces is put.
-fails_with :
+pub fails_with :
     {A : Type 0} (pieces : List (List ℕ)) (goes : List Event → Type 0) (result : Result A Status)
     → (goes (OutputFailed pieces ∷ []) → result ≡ Err WriteFault) → FailsWith pieces goes result → result ≡ Err WriteFault
 fails_with [] goes result on fails = fails

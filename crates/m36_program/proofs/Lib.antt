@@ -1,7 +1,12 @@
+pub mod CauseLaws
 pub mod Following
 pub mod Gathered
 pub mod GoesLaws
+pub mod KeptLaws
 pub mod LeadLaws
 pub mod Performing
+pub mod ProgramLaws
 pub mod PutLaws
 pub mod ReadLaws
+pub mod TextLaws
+pub mod TrailLaws

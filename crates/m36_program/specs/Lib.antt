@@ -3,3 +3,4 @@ pub mod Goes
 pub mod Performs
 pub mod Program
 pub mod Readers
+pub mod Trail
