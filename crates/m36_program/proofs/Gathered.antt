@@ -9,7 +9,7 @@ use Rattle.m36_world.specs.Seen.{Seen}
 use Rattle.m36_world.specs.Did.{IsOutput, IsOutputFailed}
 use Rattle.m36_world.specs.Follow.{Follow, outputs}
 use Rattle.m36_program.specs.Gathered.{Gathers, Loses, Adds, Puts}
-use Rattle.m36_program.proofs.Following.{follow_on, follow_none, follow_one}
+use Rattle.m36_world.proofs.Following.{follow_on, follow_none, follow_one}
 
 outputs_both : (first more : List (List ℕ)) → outputs (first ++ more) ≡ outputs first ++ outputs more
 outputs_both [] more = refl

@@ -4,13 +4,13 @@ use Rattle.std.proofs.lemmas.List.{append_assoc}
 use Rattle.m36_world.specs.declared.event.Event.{Event}
 use Rattle.m36_world.specs.Seen.{Seen}
 use Rattle.m36_world.specs.Follow.{Follow, outputs}
-use Rattle.m36_program.specs.declared.status.Status.{Status}
-use Rattle.m36_program.specs.declared.status.Status.TheVariants.{WriteFault}
+use Rattle.m36_reading.specs.declared.status.Status.{Status}
+use Rattle.m36_reading.specs.declared.status.Status.TheVariants.{WriteFault}
 use Rattle.m36_program.specs.Program.{May, Program, then_with, puts, puts_all}
 use Rattle.m36_program.specs.Goes.{Goes}
 use Rattle.m36_program.specs.Performs.{Performs, Leads}
 use Rattle.m36_program.specs.Gathered.{Gathers, Loses}
-use Rattle.m36_program.proofs.Following.{follow_on, follow_none}
+use Rattle.m36_world.proofs.Following.{follow_on, follow_none}
 use Rattle.m36_program.proofs.GoesLaws.{goes_then, goes_stop}
 use Rattle.m36_program.proofs.PutLaws.{goes_puts, puts_both, puts_one, puts_none, loses_performs}
 

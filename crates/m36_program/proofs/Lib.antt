@@ -1,5 +1,4 @@
 pub mod CauseLaws
-pub mod Following
 pub mod Gathered
 pub mod GoesLaws
 pub mod KeptLaws

@@ -1,10 +1,10 @@
 -- Calls that perform programs, one after another.
 use Rattle.std.proofs.Common.{◌++◌, Result, Ok, Err}
 use Rattle.m36_world.specs.Seen.{Seen}
-use Rattle.m36_program.specs.declared.status.Status.{Status}
+use Rattle.m36_reading.specs.declared.status.Status.{Status}
 use Rattle.m36_program.specs.Program.{May, Program, then_with}
 use Rattle.m36_program.specs.Performs.{Performs}
-use Rattle.m36_program.proofs.Following.{follow_on}
+use Rattle.m36_world.proofs.Following.{follow_on}
 use Rattle.m36_program.proofs.GoesLaws.{goes_then, goes_stop}
 
 -- the first gave a value, and the second went on by it

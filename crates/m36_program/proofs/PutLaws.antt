@@ -5,13 +5,13 @@ use Rattle.m36_world.specs.declared.event.Event.TheVariants.{OutputFailed}
 use Rattle.m36_world.specs.Seen.{Seen}
 use Rattle.m36_world.specs.Did.{IsOutputFailed}
 use Rattle.m36_world.specs.Follow.{Follow, outputs}
-use Rattle.m36_program.specs.declared.status.Status.{Status}
-use Rattle.m36_program.specs.declared.status.Status.TheVariants.{WriteFault}
+use Rattle.m36_reading.specs.declared.status.Status.{Status}
+use Rattle.m36_reading.specs.declared.status.Status.TheVariants.{WriteFault}
 use Rattle.m36_program.specs.Program.{May, Program, puts, puts_all}
 use Rattle.m36_program.specs.Goes.{Goes}
 use Rattle.m36_program.specs.Performs.{Performs}
 use Rattle.m36_program.specs.Gathered.{Loses}
-use Rattle.m36_program.proofs.Following.{follow_on, follow_one}
+use Rattle.m36_world.proofs.Following.{follow_on, follow_one}
 
 -- pieces, and then the rest
 pub goes_puts :

@@ -8,17 +8,17 @@ use Rattle.m36_world.specs.declared.event.Event.{Event}
 use Rattle.m36_world.specs.declared.event.Event.TheVariants.{FileRead, FileWrite, Output, OutputFailed}
 use Rattle.m36_world.specs.Seen.{Seen}
 use Rattle.m36_world.specs.Did.{IsFileRead, IsFileWrite, IsOutput, IsOutputFailed}
-use Rattle.m36_program.specs.declared.status.Bad.{Bad}
-use Rattle.m36_program.specs.declared.status.Code.TheVariants as code
-use Rattle.m36_program.specs.declared.status.Status.{Status}
-use Rattle.m36_program.specs.declared.status.Status.TheVariants.{Done, Usage, ReadFault, WriteFault}
-use Rattle.m36_program.specs.declared.status.Status.TheVariants.{BadFile, AuditNo, MachineStop}
-use Rattle.m36_program.specs.declared.status.Status.TheVariants.{Steps, NoMemory}
+use Rattle.m36_reading.specs.declared.status.Bad.{Bad}
+use Rattle.m36_reading.specs.declared.status.Code.TheVariants as code
+use Rattle.m36_reading.specs.declared.status.Status.{Status}
+use Rattle.m36_reading.specs.declared.status.Status.TheVariants.{Done, Usage, ReadFault, WriteFault}
+use Rattle.m36_reading.specs.declared.status.Status.TheVariants.{BadFile, AuditNo, MachineStop}
+use Rattle.m36_reading.specs.declared.status.Status.TheVariants.{Steps, NoMemory}
 use Rattle.m36_program.specs.Program.{Found, May, Program, reads, wants}
 use Rattle.m36_program.specs.Goes.{Ends, AfterRead, AfterWrite, Goes}
 use Rattle.m36_program.specs.Performs.{Performs}
 use Rattle.m36_program.specs.Readers.{refused, refuses, IsRefusal, file_bytes, put_one, write_one}
-use Rattle.m36_program.proofs.Following.{follow_none, follow_one}
+use Rattle.m36_world.proofs.Following.{follow_none, follow_one}
 
 -- ---- calls in which nothing passes
 

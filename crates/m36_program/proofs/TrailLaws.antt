@@ -12,8 +12,8 @@ use Rattle.m36_outside.specs.declared.sink.Put.{Put}
 use Rattle.m36_outside.specs.declared.sink.Put.TheVariants.{Done, Failed}
 use Rattle.m36_world.specs.declared.event.Event.{Event}
 use Rattle.m36_world.specs.declared.event.Event.TheVariants.{FileRead, FileWrite, Output, OutputFailed, Input, InputFailed}
-use Rattle.m36_program.specs.declared.status.Status.{Status}
-use Rattle.m36_program.specs.declared.status.Status.TheVariants as status
+use Rattle.m36_reading.specs.declared.status.Status.{Status}
+use Rattle.m36_reading.specs.declared.status.Status.TheVariants as status
 use Rattle.m36_program.specs.Program.{Found, Content, Absent, TooLarge, May, IsOwn, Program}
 use Rattle.m36_program.specs.Program.{done, stops, reads, writes, puts, takes, some, wants}
 use Rattle.m36_program.specs.Goes.{Ends, AfterRead, AfterWrite, FailsWith, FailedOutput, FailedInput, Goes}

@@ -1,13 +1,13 @@
 -- Programs that several commands share: a file is refused, the bytes of a file are read, a piece is
 -- put, a file is written.
 use Rattle.std.specs.Prelude.{ℕ, ◌≡◌, true, ⊤, List}
-use Rattle.m36_program.specs.declared.status.Bad.{Bad}
-use Rattle.m36_program.specs.declared.status.Code.{Code}
-use Rattle.m36_program.specs.declared.status.Code.TheVariants as code
-use Rattle.m36_program.specs.declared.status.Status.{Status}
-use Rattle.m36_program.specs.declared.status.Status.TheVariants.{Done, Usage, ReadFault, WriteFault}
-use Rattle.m36_program.specs.declared.status.Status.TheVariants.{BadFile, AuditNo, MachineStop}
-use Rattle.m36_program.specs.declared.status.Status.TheVariants.{Steps, NoMemory}
+use Rattle.m36_reading.specs.declared.status.Bad.{Bad}
+use Rattle.m36_reading.specs.declared.status.Code.{Code}
+use Rattle.m36_reading.specs.declared.status.Code.TheVariants as code
+use Rattle.m36_reading.specs.declared.status.Status.{Status}
+use Rattle.m36_reading.specs.declared.status.Status.TheVariants.{Done, Usage, ReadFault, WriteFault}
+use Rattle.m36_reading.specs.declared.status.Status.TheVariants.{BadFile, AuditNo, MachineStop}
+use Rattle.m36_reading.specs.declared.status.Status.TheVariants.{Steps, NoMemory}
 use Rattle.m36_program.specs.Program.{Found, Content, Absent, TooLarge, May, Program}
 use Rattle.m36_program.specs.Program.{done, stops, reads, writes, puts, wants}
 

@@ -4,9 +4,7 @@
 pub mod gathering;
 pub mod putting;
 pub mod reading;
-pub mod status;
 
 pub use gathering::{add_line, add_piece, finish, hand_over};
 pub use putting::{put_piece, write_file};
 pub use reading::{read_bytes, refuse, refuse_at};
-pub use status::{Bad, Code, Status};
