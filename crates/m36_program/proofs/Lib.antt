@@ -7,5 +7,6 @@ pub mod Performing
 pub mod ProgramLaws
 pub mod PutLaws
 pub mod ReadLaws
+pub mod SplitLaws
 pub mod TextLaws
 pub mod TrailLaws

@@ -1,6 +1,9 @@
+pub mod Alike
+pub mod Found
 pub mod Gathered
 pub mod Goes
 pub mod Performs
 pub mod Program
 pub mod Readers
+pub mod Split
 pub mod Trail
