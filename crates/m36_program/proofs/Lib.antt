@@ -3,6 +3,7 @@ pub mod Gathered
 pub mod GoesLaws
 pub mod KeptLaws
 pub mod LeadLaws
+pub mod OneText
 pub mod Performing
 pub mod ProgramLaws
 pub mod PutLaws

@@ -2,6 +2,9 @@
 -- pieces and take the same input, one after another, and come to the same value or status, whatever
 -- they choose on the way. A program that is alike to itself has one text.
 use Rattle.std.specs.Prelude.{ℕ, ◌≡◌, ⊤, List, [], ◌∷◌, ◌++◌, Result, Ok, Err}
+use Rattle.std.specs.List.{flat_map}
+use Rattle.m36_world.specs.Logs.{input_of}
+use Rattle.m36_world.specs.declared.event.Event.{Event}
 use Rattle.m36_reading.specs.declared.status.Status.{Status}
 use Rattle.m36_program.specs.Program.{Found, May, IsOwn, Program}
 use Rattle.m36_program.specs.Program.{done, stops, reads, writes, puts, takes, some, wants}
@@ -92,6 +95,10 @@ pub record OneText {A : Type 0} (first all : List (List ℕ)) (result end : Resu
   pub left : List (List ℕ)
   pub is : all ≡ first ++ left
   pub ended : IsEnd result → (left ≡ []) × (result ≡ end)
+
+-- the pieces of input that were taken
+abbrev pub inputs_of : List Event → List (List ℕ)
+inputs_of events = flat_map input_of events
 
 -- The pieces of input are the same, as far as both calls took them.
 abbrev pub SameInput : List (List ℕ) → List (List ℕ) → Type 0
