@@ -37,7 +37,7 @@ unfolding Follow
 passed_none more old new none follow =
     let same : Follow [] old new = subst (λ events. Follow events old new) none follow in same
 
-false_true : {P : Type 0} (b : Bool) → b ≡ false → b ≡ true → P
+pub false_true : {P : Type 0} (b : Bool) → b ≡ false → b ≡ true → P
 false_true b never holds = absurd (cc)
 
 -- ---- files

@@ -1,8 +1,10 @@
+pub mod AlikeLaws
 pub mod CauseLaws
 pub mod Gathered
 pub mod GoesLaws
 pub mod KeptLaws
 pub mod LeadLaws
+pub mod LiveLaws
 pub mod OneText
 pub mod Performing
 pub mod ProgramLaws

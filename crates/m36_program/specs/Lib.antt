@@ -2,6 +2,7 @@ pub mod Alike
 pub mod Found
 pub mod Gathered
 pub mod Goes
+pub mod Lives
 pub mod Performs
 pub mod Program
 pub mod Readers
