@@ -6,12 +6,14 @@ use Rattle.m36_world.specs.Seen.{Seen}
 use Rattle.m36_world.specs.Follow.{Follow, outputs}
 use Rattle.m36_reading.specs.declared.status.Status.{Status}
 use Rattle.m36_reading.specs.declared.status.Status.TheVariants.{WriteFault}
-use Rattle.m36_program.specs.Program.{May, Program, then_with, puts, puts_all}
+use Rattle.m36_program.specs.Program.{May, Program, then_with, puts, some, wants, puts_all}
 use Rattle.m36_program.specs.Goes.{Goes}
 use Rattle.m36_program.specs.Performs.{Performs, Leads}
 use Rattle.m36_program.specs.Gathered.{Gathers, Loses}
+use Rattle.m36_program.specs.Readers.{put_one}
 use Rattle.m36_world.proofs.Following.{follow_on, follow_none}
 use Rattle.m36_program.proofs.GoesLaws.{goes_then, goes_stop}
+use Rattle.m36_program.proofs.Performing.{goes_some, goes_wants, puts_then, performs_unput}
 use Rattle.m36_program.proofs.PutLaws.{goes_puts, puts_both, puts_one, puts_none, loses_performs}
 
 -- the whole program is left
@@ -64,6 +66,42 @@ leads_stop part next first s old between new left performs = record {
 pub leads_as :
     {may : May} {A : Type 0} (now next first : Program may A) (old new : Seen) → now ≡ next → Leads now first old new → Leads next first old new
 leads_as now next first old new same left = subst (λ p. Leads p first old new) same left
+
+-- ---- one step of what is left
+
+-- one value is chosen
+pub leads_some :
+    {may : May} {A B : Type 0} (Is : B → Type 0) (go : B → Program may A) (b : B) (first : Program may A) (old new : Seen)
+    → Is b → Leads (some Is go) first old new → Leads (go b) first old new
+leads_some Is go b first old new is left = record {
+  events = left.events;
+  follow = left.follow;
+  leads = λ more result goes. left.leads more result (goes_some Is go b more result is goes);
+}
+
+-- memory was there
+pub leads_wants :
+    {may : May} {A : Type 0} (p first : Program may A) (old new : Seen) → Leads (wants p) first old new → Leads p first old new
+leads_wants p first old new left = record {
+  events = left.events;
+  follow = left.follow;
+  leads = λ more result goes. left.leads more result (goes_wants p more result goes);
+}
+
+-- a piece was put
+pub leads_put :
+    {may : May} {A : Type 0} (piece : List ℕ) (rest first : Program may A) (old between new : Seen)
+    → Leads (puts piece rest) first old between → Performs {may = may} (put_one piece) (Ok tt) between new → Leads rest first old new
+leads_put piece rest first old between new left put =
+    leads_then (put_one piece) (λ u. rest) first tt old between new
+    (subst (λ p. Leads p first old between) (sym (puts_then piece rest)) left) put
+
+-- the output failed
+pub leads_unput :
+    {may : May} {A : Type 0} (piece : List ℕ) (rest first : Program may A) (s : Status) (old between new : Seen)
+    → Leads (puts piece rest) first old between → Performs {may = may} (put_one piece) (Err s) between new → Performs first (Err s) old new
+leads_unput piece rest first s old between new left put =
+    leads_ends (puts piece rest) first (Err s) old between new left (performs_unput piece rest s between new put)
 
 -- ---- pieces that are gathered
 

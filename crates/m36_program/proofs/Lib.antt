@@ -12,4 +12,5 @@ pub mod PutLaws
 pub mod ReadLaws
 pub mod SplitLaws
 pub mod TextLaws
+pub mod ToldLaws
 pub mod TrailLaws

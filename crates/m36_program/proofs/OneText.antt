@@ -61,7 +61,7 @@ found_large : (bytes : List ℕ) → file_limit < length bytes → found_in (Som
 found_large bytes over = ap (λ b. cond b TooLarge (Content bytes)) (lt-ltb file_limit (length bytes) over)
 
 -- a read that was answered by the file, or one that ended the program
-found_or_ended :
+pub found_or_ended :
     {A P : Type 0} (answer : ReadAnswer) (file : Option (List ℕ)) (goes : Found → List Event → Type 0) (more : List Event) (result : Result A Status)
     → ReadSays answer file → IsWithinLimit answer → AfterRead answer goes more result
     → (goes (found_in file) more → P) → (more ≡ [] → ((Q : Type 0) → IsEnd result → Q) → P) → P
@@ -87,7 +87,7 @@ written_or_ended write.Failed goes more result name content old new says after o
 written_or_ended write.NoMemory goes more result name content old new says after on ends =
     ends after.none (λ Q ended. no_memory result after.result_is ended)
 
-said : (answer : ReadAnswer) (name : List ℕ) (told : Option Files) (files : Files) → told ≡ Some files → IfSome told (λ f. ReadSays answer (f name)) → ReadSays answer (files name)
+pub said : (answer : ReadAnswer) (name : List ℕ) (told : Option Files) (files : Files) → told ≡ Some files → IfSome told (λ f. ReadSays answer (f name)) → ReadSays answer (files name)
 said answer name told files is says =
     let at : IfSome (Some files) (λ f. ReadSays answer (f name)) = subst (λ t. IfSome t (λ f. ReadSays answer (f name))) is says in at
 

@@ -18,15 +18,10 @@ use Rattle.m36_program.specs.Program.{Found, May, Program, reads, wants}
 use Rattle.m36_program.specs.Goes.{Ends, AfterRead, AfterWrite, Goes}
 use Rattle.m36_program.specs.Performs.{Performs}
 use Rattle.m36_program.specs.Readers.{refused, refuses, IsRefusal, file_bytes, put_one, write_one}
-use Rattle.m36_world.proofs.Following.{follow_none, follow_one}
+use Rattle.m36_world.proofs.Following.{follow_one}
 
--- ---- calls in which nothing passes
+-- ---- a refusal
 
-pub performs_none :
-    {may : May} {A : Type 0} (p : Program may A) (result : Result A Status) (seen : Seen) → Goes p [] result → Performs p result seen seen
-performs_none p result seen goes = record { events = []; follow = follow_none seen; goes = goes }
-
--- a refusal
 pub goes_refused : (may : May) (A : Type 0) (status : Status) (bad : Bad) → IsRefusal status bad → Goes {may = may} {A = A} (refuses bad) [] (Err status)
 unfolding Goes refuses
 goes_refused may A Done bad is = absurd is
