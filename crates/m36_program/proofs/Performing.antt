@@ -104,3 +104,6 @@ pub performs_unput :
     → Performs {may = may} (put_one piece) (Err s) old new → Performs (puts piece rest) (Err s) old new
 performs_unput piece rest s old new put =
     subst (λ p. Performs p (Err s) old new) (puts_then piece rest) (performs_stop (put_one piece) (λ u. rest) s old new put)
+
+-- what a function that performs one program after another takes by `using`
+pub ruleset performing = (performs_then, performs_stop)
