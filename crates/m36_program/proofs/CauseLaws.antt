@@ -29,8 +29,8 @@ none_failed old new same = record {
 -- where no call failed
 unfailed_cause : {A : Type 0} (result : Result A Status) (old new : Seen) → IsUnfailed result → NoneFailed old new → HasCause result old new
 unfailed_cause (Ok a) old new is none = none
-unfailed_cause (Err status.Done) old new is none = none
-unfailed_cause (Err status.Usage) old new is none = none
+unfailed_cause (Err status.Done) old new is none = absurd is
+unfailed_cause (Err status.Usage) old new is none = absurd is
 unfailed_cause (Err status.ReadFault) old new is none = absurd is
 unfailed_cause (Err status.WriteFault) old new is none = absurd is
 unfailed_cause (Err (status.BadFile bad)) old new is none = none

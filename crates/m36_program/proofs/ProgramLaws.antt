@@ -15,8 +15,9 @@ use Rattle.m36_world.specs.Seen.{Seen}
 use Rattle.m36_reading.specs.declared.status.Status.{Status}
 use Rattle.m36_reading.specs.declared.status.Status.TheVariants as status
 use Rattle.m36_program.specs.Program.{May, Program}
-use Rattle.m36_program.specs.Goes.{AfterRead, AfterWrite}
+use Rattle.m36_program.specs.Goes.{Ends, AfterRead, AfterWrite, Goes}
 use Rattle.m36_program.specs.Performs.{Performs}
+use Rattle.m36_program.specs.Early.{IsGiven, early, status_by, MayEnd, ends}
 use Rattle.m36_program.specs.Trail.{IsUnfailed, Trail, NoneFailed, ReadFailed, WriteFailed, PutFailed, TakeFailed, HasCause, FilesKept, InputKept, pieces_of, put_of, output_of}
 use Rattle.m36_program.proofs.TrailLaws.{goes_trail}
 use Rattle.m36_program.proofs.CauseLaws.{trail_cause}
@@ -66,58 +67,106 @@ rose_at old new was is rose = rose_never (subst (λ n. Rose n 0) was (subst (λ 
 
 cause_never :
     {A : Type 0} (result : Result A Status) (old new : Seen)
-    → (result ≡ Err status.Usage → ⊥) → NeverFailed old → NeverFailed new → HasCause result old new → IsUnfailed result
-cause_never (Ok a) old new asked was is cause = tt
-cause_never (Err status.Done) old new asked was is cause = tt
-cause_never (Err status.Usage) old new asked was is cause = absurd (asked refl)
-cause_never (Err status.ReadFault) old new asked was is (inl cause) = rose_at old.read_faults new.read_faults was.reads is.reads cause.reads
-cause_never (Err status.ReadFault) old new asked was is (inr cause) = rose_at old.input_faults new.input_faults was.inputs is.inputs cause.inputs
-cause_never (Err status.WriteFault) old new asked was is (inl cause) = rose_at old.write_faults new.write_faults was.writes is.writes cause.writes
-cause_never (Err status.WriteFault) old new asked was is (inr cause) = rose_at old.output_faults new.output_faults was.outputs is.outputs cause.outputs
-cause_never (Err (status.BadFile bad)) old new asked was is cause = tt
-cause_never (Err status.AuditNo) old new asked was is cause = tt
-cause_never (Err (status.MachineStop end)) old new asked was is cause = tt
-cause_never (Err status.Steps) old new asked was is cause = tt
-cause_never (Err status.NoMemory) old new asked was is cause = tt
+    → IsGiven result → NeverFailed old → NeverFailed new → HasCause result old new → IsUnfailed result
+cause_never (Ok a) old new given was is cause = tt
+cause_never (Err status.Done) old new given was is cause = absurd given
+cause_never (Err status.Usage) old new given was is cause = absurd given
+cause_never (Err status.ReadFault) old new given was is (inl cause) = rose_at old.read_faults new.read_faults was.reads is.reads cause.reads
+cause_never (Err status.ReadFault) old new given was is (inr cause) = rose_at old.input_faults new.input_faults was.inputs is.inputs cause.inputs
+cause_never (Err status.WriteFault) old new given was is (inl cause) = rose_at old.write_faults new.write_faults was.writes is.writes cause.writes
+cause_never (Err status.WriteFault) old new given was is (inr cause) = rose_at old.output_faults new.output_faults was.outputs is.outputs cause.outputs
+cause_never (Err (status.BadFile bad)) old new given was is cause = tt
+cause_never (Err status.AuditNo) old new given was is cause = tt
+cause_never (Err (status.MachineStop end)) old new given was is cause = tt
+cause_never (Err status.Steps) old new given was is cause = tt
+cause_never (Err status.NoMemory) old new given was is cause = tt
 
--- what follows after a call that did not fail, where the result is none of a failed one
-asked_read :
-    {A P : Type 0} (answer : ReadAnswer) (goes : Type 0) (more : List Event) (result : Result A Status)
-    → (goes → P) → result ≡ Err status.Usage → AfterRead answer (λ found events. goes) more result → P
-asked_read (read.Read bytes) goes more result on is after = on after
-asked_read read.Absent goes more result on is after = on after
-asked_read read.TooLarge goes more result on is after = on after
-asked_read read.Failed goes more result on is after = absurd (let other = after.result_is in cc)
-asked_read read.NoMemory goes more result on is after = absurd (let other = after.result_is in cc)
+unfailed_given : {A : Type 0} (result : Result A Status) → IsUnfailed result → IsGiven result
+unfailed_given (Ok a) is = tt
+unfailed_given (Err status.Done) is = absurd is
+unfailed_given (Err status.Usage) is = absurd is
+unfailed_given (Err status.ReadFault) is = tt
+unfailed_given (Err status.WriteFault) is = tt
+unfailed_given (Err (status.BadFile bad)) is = tt
+unfailed_given (Err status.AuditNo) is = tt
+unfailed_given (Err (status.MachineStop end)) is = tt
+unfailed_given (Err status.Steps) is = tt
+unfailed_given (Err status.NoMemory) is = tt
 
-asked_write :
-    {A P : Type 0} (answer : WriteAnswer) (goes : Type 0) (more : List Event) (result : Result A Status)
-    → (goes → P) → result ≡ Err status.Usage → AfterWrite answer (λ events. goes) more result → P
-asked_write write.Written goes more result on is after = on after
-asked_write write.Failed goes more result on is after = absurd (let other = after.result_is in cc)
-asked_write write.NoMemory goes more result on is after = absurd (let other = after.result_is in cc)
+ended_given :
+    {A : Type 0} (value : Result A Status) (more : List Event) (result : Result A Status) → IsGiven value → Ends value more result → IsGiven result
+ended_given {A} value more result given ends = subst (IsGiven {A = A}) (sym ends.result_is) given
 
-trail_asked :
-    {A : Type 0} (may : May) (events : List Event) (result : Result A Status) → Trail may events result → result ≡ Err status.Usage → ⊥
-trail_asked {A} may [] result trail is = let none : IsUnfailed {A = A} (Err status.Usage) = subst (IsUnfailed {A = A}) is trail in none
-trail_asked may (FileRead name answer ∷ more) result trail is =
-    asked_read answer (Trail may more result) more result (λ on. trail_asked may more result on is) is trail
-trail_asked may (FileWrite name content answer ∷ more) result trail is =
-    asked_write answer (Trail may more result) more result (λ on. trail_asked may more result on is) is trail.1
-trail_asked may (Output piece ∷ more) result trail is = trail_asked may more result trail is
-trail_asked may (OutputFailed pieces ∷ more) result trail is = let other = trail.result_is in cc
-trail_asked may (Input piece ∷ more) result trail is = trail_asked may more result trail.1 is
-trail_asked may (InputFailed ∷ more) result trail is = let other = trail.1.result_is in cc
+read_given :
+    {A : Type 0} (answer : ReadAnswer) (goes : Type 0) (more : List Event) (result : Result A Status)
+    → (goes → IsGiven result) → AfterRead answer (λ found events. goes) more result → IsGiven result
+read_given (read.Read bytes) goes more result on after = on after
+read_given read.Absent goes more result on after = on after
+read_given read.TooLarge goes more result on after = on after
+read_given {A} read.Failed goes more result on after = ended_given {A = A} (Err status.ReadFault) more result tt after
+read_given {A} read.NoMemory goes more result on after = ended_given {A = A} (Err status.NoMemory) more result tt after
 
--- A program never says that the words are no command.
-pub performs_asked :
-    {may : May} {A : Type 0} (p : Program may A) (result : Result A Status) (old new : Seen) → Performs p result old new → result ≡ Err status.Usage → ⊥
-performs_asked {may = may} p result old new performs is =
-    trail_asked may performs.events result (goes_trail p performs.events result performs.goes) is
+write_given :
+    {A : Type 0} (answer : WriteAnswer) (goes : Type 0) (more : List Event) (result : Result A Status)
+    → (goes → IsGiven result) → AfterWrite answer (λ events. goes) more result → IsGiven result
+write_given write.Written goes more result on after = on after
+write_given {A} write.Failed goes more result on after = ended_given {A = A} (Err status.WriteFault) more result tt after
+write_given {A} write.NoMemory goes more result on after = ended_given {A = A} (Err status.NoMemory) more result tt after
+
+trail_given : {A : Type 0} (may : May) (events : List Event) (result : Result A Status) → Trail may events result → IsGiven result
+trail_given may [] result trail = unfailed_given result trail
+trail_given may (FileRead name answer ∷ more) result trail =
+    read_given answer (Trail may more result) more result (λ on. trail_given may more result on) trail
+trail_given may (FileWrite name content answer ∷ more) result trail =
+    write_given answer (Trail may more result) more result (λ on. trail_given may more result on) trail.1
+trail_given may (Output piece ∷ more) result trail = trail_given may more result trail
+trail_given {A} may (OutputFailed pieces ∷ more) result trail = ended_given {A = A} (Err status.WriteFault) more result tt trail
+trail_given may (Input piece ∷ more) result trail = trail_given may more result trail.1
+trail_given {A} may (InputFailed ∷ more) result trail = ended_given {A = A} (Err status.ReadFault) more result tt trail.1
+
+-- A call gives the value for Done, and never says that the words are no command.
+pub performs_given :
+    {may : May} {A : Type 0} (p : Program may A) (result : Result A Status) (old new : Seen) → Performs p result old new → IsGiven result
+performs_given {may = may} p result old new performs =
+    trail_given may performs.events result (goes_trail p performs.events result performs.goes)
 
 -- Over objects that never fail no fault comes.
 pub performs_never :
     {may : May} {A : Type 0} (p : Program may A) (result : Result A Status) (old new : Seen)
     → NeverFailed old → NeverFailed new → Performs p result old new → IsUnfailed result
 performs_never p result old new was is performs =
-    cause_never result old new (performs_asked p result old new performs) was is (performs_cause p result old new performs)
+    cause_never result old new (performs_given p result old new performs) was is (performs_cause p result old new performs)
+
+-- ---- statuses and results
+
+pub early_given : (result : Result (Unit {0}) Status) → IsGiven result → early (status_by result) ≡ result
+early_given (Ok tt) given = refl
+early_given (Err status.Done) given = absurd given
+early_given (Err status.Usage) given = refl
+early_given (Err status.ReadFault) given = refl
+early_given (Err status.WriteFault) given = refl
+early_given (Err (status.BadFile bad)) given = refl
+early_given (Err status.AuditNo) given = refl
+early_given (Err (status.MachineStop end)) given = refl
+early_given (Err status.Steps) given = refl
+early_given (Err status.NoMemory) given = refl
+
+-- a call of a whole command, by the status that is answered for it
+pub performs_early :
+    {may : May} (p : Program may (Unit {0})) (result : Result (Unit {0}) Status) (old new : Seen)
+    → Performs p result old new → Performs p (early (status_by result)) old new
+performs_early p result old new performs =
+    subst (λ r. Performs p r old new) (sym (early_given result (performs_given p result old new performs))) performs
+
+-- the end of a program by a status
+pub goes_ends : (may : May) (s : Status) (own : MayEnd s) → Goes {may = may} (ends s own) [] (early s)
+unfolding Goes ends
+goes_ends may status.Done own = record { none = refl; result_is = refl }
+goes_ends may status.Usage own = absurd own
+goes_ends may status.ReadFault own = absurd own
+goes_ends may status.WriteFault own = absurd own
+goes_ends may (status.BadFile bad) own = record { none = refl; result_is = refl }
+goes_ends may status.AuditNo own = record { none = refl; result_is = refl }
+goes_ends may (status.MachineStop end) own = record { none = refl; result_is = refl }
+goes_ends may status.Steps own = record { none = refl; result_is = refl }
+goes_ends may status.NoMemory own = absurd own

@@ -41,7 +41,7 @@ write_map write.NoMemory goes goes' more result on rest = rest
 -- ---- each program leaves a trail
 
 own_unfailed : (A : Type 0) (s : Status) → IsOwn s → IsUnfailed {A = A} (Err s)
-own_unfailed A status.Done own = tt
+own_unfailed A status.Done own = absurd own
 own_unfailed A status.Usage own = absurd own
 own_unfailed A status.ReadFault own = absurd own
 own_unfailed A status.WriteFault own = absurd own

@@ -1,4 +1,5 @@
 pub mod Alike
+pub mod Early
 pub mod Found
 pub mod Gathered
 pub mod Goes

@@ -20,10 +20,11 @@ pub data Found : Type 0 where
   Absent : Found
   TooLarge : Found
 
--- A status that a program itself ends with. A failed call and want of memory end it with others,
--- and words that are no command have no program.
+-- A status that a program itself stops with. With Done it gives its value, a
+-- failed call and a failed allocation have statuses of their own, and words that are no command
+-- have no program.
 abbrev pub IsOwn : Status → Type 0
-IsOwn status.Done = ⊤
+IsOwn status.Done = ⊥
 IsOwn status.Usage = ⊥
 IsOwn status.ReadFault = ⊥
 IsOwn status.WriteFault = ⊥

@@ -15,10 +15,10 @@ use Rattle.m36_reading.specs.declared.status.Status.TheVariants as status
 use Rattle.m36_program.specs.Program.{May}
 use Rattle.m36_program.specs.Goes.{Ends, AfterRead, AfterWrite}
 
--- No failed call gave the result, and the words were a command.
+-- No failed call gave the result.
 abbrev pub IsUnfailed : {A : Type 0} → Result A Status → Type 0
 IsUnfailed (Ok a) = ⊤
-IsUnfailed (Err status.Done) = ⊤
+IsUnfailed (Err status.Done) = ⊥
 IsUnfailed (Err status.Usage) = ⊥
 IsUnfailed (Err status.ReadFault) = ⊥
 IsUnfailed (Err status.WriteFault) = ⊥
