@@ -1,5 +1,5 @@
 -- The causes of what a program comes to, by the trail that it leaves.
-use Rattle.std.proofs.Common.{◌≡◌, ℕ, Bool, true, false, List, [], ◌∷◌, ◌++◌, Result, Ok, Err, refl, sym, ap, subst, ◌∙◌, inl, inr}
+use Rattle.std.proofs.Common.{◌≡◌, ℕ, List, [], ◌∷◌, Result, Ok, Err, sym, ap, subst, ◌∙◌, inl, inr}
 use Rattle.m36_outside.specs.Counts.{Rose}
 use Rattle.m36_outside.specs.declared.folder.ReadAnswer.{ReadAnswer}
 use Rattle.m36_outside.specs.declared.folder.ReadAnswer.TheVariants as read
@@ -8,13 +8,13 @@ use Rattle.m36_outside.specs.declared.folder.WriteAnswer.TheVariants as write
 use Rattle.m36_world.specs.declared.event.Event.{Event}
 use Rattle.m36_world.specs.declared.event.Event.TheVariants.{FileRead, FileWrite, Output, OutputFailed, Input, InputFailed}
 use Rattle.m36_world.specs.Seen.{Seen}
-use Rattle.m36_world.specs.Did.{Did, IsFileRead, IsFileWrite, IsOutput, IsOutputFailed, IsInput, IsInputFailed}
-use Rattle.m36_world.specs.Follow.{Next, Follow}
+use Rattle.m36_world.specs.Did.{IsFileRead, IsFileWrite, IsOutput, IsOutputFailed, IsInput, IsInputFailed}
+use Rattle.m36_world.specs.Follow.{Follow}
 use Rattle.m36_reading.specs.declared.status.Status.{Status}
 use Rattle.m36_reading.specs.declared.status.Status.TheVariants as status
 use Rattle.m36_program.specs.Program.{May}
 use Rattle.m36_program.specs.Goes.{Ends, AfterRead, AfterWrite}
-use Rattle.m36_program.specs.Trail.{IsUnfailed, Trail, NoneFailed, ReadFailed, WriteFailed, PutFailed, TakeFailed, HasCause, FilesKept, InputKept}
+use Rattle.m36_program.specs.Trail.{IsUnfailed, Trail, NoneFailed, ReadFailed, WriteFailed, PutFailed, TakeFailed, HasCause}
 
 -- ---- counts of faults
 

@@ -1,14 +1,13 @@
 -- Pieces that are gathered in a block before they are put.
-use Rattle.std.proofs.Common.{◌≡◌, ℕ, List, [], ◌∷◌, ◌++◌, map, refl, sym, ap, subst, ◌∙◌}
+use Rattle.std.proofs.Common.{◌≡◌, ℕ, List, [], ◌∷◌, ◌++◌, refl, sym, ap, subst, ◌∙◌}
 use Rattle.std.proofs.lemmas.List.{append-nil, append_assoc}
 use Rattle.m36_outside.specs.declared.sink.Put.{Put}
 use Rattle.m36_outside.specs.declared.sink.Put.TheVariants.{Done, Failed}
-use Rattle.m36_world.specs.declared.event.Event.{Event}
 use Rattle.m36_world.specs.declared.event.Event.TheVariants.{Output}
 use Rattle.m36_world.specs.Seen.{Seen}
 use Rattle.m36_world.specs.Did.{IsOutput, IsOutputFailed}
 use Rattle.m36_world.specs.Follow.{Follow, outputs}
-use Rattle.m36_program.specs.Gathered.{Gathers, Loses, Adds, Puts}
+use Rattle.m36_program.specs.Gathered.{Gathers, Loses, Adds}
 use Rattle.m36_world.proofs.Following.{follow_on, follow_none, follow_one}
 
 outputs_both : (first more : List (List ℕ)) → outputs (first ++ more) ≡ outputs first ++ outputs more

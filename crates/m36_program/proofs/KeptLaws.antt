@@ -1,5 +1,5 @@
 -- A program that may not write keeps all files, and one that may not take input leaves it as it is.
-use Rattle.std.proofs.Common.{◌≡◌, ℕ, Bool, true, false, List, [], ◌∷◌, ◌++◌, Result, Ok, Err, refl, sym, ap, subst, ◌∙◌}
+use Rattle.std.proofs.Common.{◌≡◌, ℕ, Bool, true, false, List, [], ◌∷◌, Result, ap, subst, ◌∙◌}
 use Rattle.m36_outside.specs.declared.folder.ReadAnswer.{ReadAnswer}
 use Rattle.m36_outside.specs.declared.folder.ReadAnswer.TheVariants as read
 use Rattle.m36_outside.specs.declared.folder.WriteAnswer.{WriteAnswer}
@@ -11,7 +11,7 @@ use Rattle.m36_world.specs.Did.{IsFileRead, IsFileWrite, IsOutput, IsOutputFaile
 use Rattle.m36_world.specs.Follow.{Follow}
 use Rattle.m36_reading.specs.declared.status.Status.{Status}
 use Rattle.m36_program.specs.Program.{May}
-use Rattle.m36_program.specs.Goes.{Ends, AfterRead, AfterWrite}
+use Rattle.m36_program.specs.Goes.{AfterRead, AfterWrite}
 use Rattle.m36_program.specs.Trail.{Trail, FilesKept, InputKept}
 
 -- what holds by whatever answer, if it holds after the end and after each step
@@ -71,8 +71,8 @@ trail_files may [] result old new never trail same = files_kept old new same
 trail_files may (FileRead name answer ∷ more) result old new never trail follow =
     files_after old follow.between new (read_keeps_files name answer old follow.between follow.begins)
     (after_read answer (Trail may more result) more result
-      (λ none. files_kept follow.between new (passed_none more follow.between new none follow.goes_on))
-      (λ on. trail_files may more result follow.between new never on follow.goes_on) trail)
+    (λ none. files_kept follow.between new (passed_none more follow.between new none follow.goes_on))
+    (λ on. trail_files may more result follow.between new never on follow.goes_on) trail)
 trail_files may (FileWrite name content answer ∷ more) result old new never trail follow = false_true may.writes never trail.0
 trail_files may (Output piece ∷ more) result old new never trail follow =
     let did : IsOutput piece old follow.between = follow.begins in
@@ -132,8 +132,8 @@ trail_input may (FileRead name answer ∷ more) result old new never trail follo
       faults = ap (λ s. s.input_faults) did.rest;
     })
     (after_read answer (Trail may more result) more result
-      (λ none. input_kept follow.between new (passed_none more follow.between new none follow.goes_on))
-      (λ on. trail_input may more result follow.between new never on follow.goes_on) trail)
+    (λ none. input_kept follow.between new (passed_none more follow.between new none follow.goes_on))
+    (λ on. trail_input may more result follow.between new never on follow.goes_on) trail)
 trail_input may (FileWrite name content answer ∷ more) result old new never trail follow =
     let did : IsFileWrite name content answer old follow.between = follow.begins in
     input_after old follow.between new (record {
@@ -142,8 +142,8 @@ trail_input may (FileWrite name content answer ∷ more) result old new never tr
       faults = ap (λ s. s.input_faults) did.rest;
     })
     (after_write answer (Trail may more result) more result
-      (λ none. input_kept follow.between new (passed_none more follow.between new none follow.goes_on))
-      (λ on. trail_input may more result follow.between new never on follow.goes_on) trail.1)
+    (λ none. input_kept follow.between new (passed_none more follow.between new none follow.goes_on))
+    (λ on. trail_input may more result follow.between new never on follow.goes_on) trail.1)
 trail_input may (Output piece ∷ more) result old new never trail follow =
     let did : IsOutput piece old follow.between = follow.begins in
     input_after old follow.between new (record {

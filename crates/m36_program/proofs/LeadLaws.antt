@@ -1,5 +1,5 @@
 -- Loops that perform a program: what is left of it.
-use Rattle.std.proofs.Common.{◌≡◌, ℕ, List, [], ◌∷◌, ◌++◌, Result, Ok, Err, refl, sym, ap, subst, ◌∙◌}
+use Rattle.std.proofs.Common.{◌≡◌, ℕ, List, [], ◌∷◌, ◌++◌, Result, Ok, Err, sym, ap, subst, ◌∙◌}
 use Rattle.std.proofs.lemmas.List.{append_assoc}
 use Rattle.m36_world.specs.declared.event.Event.{Event}
 use Rattle.m36_world.specs.Seen.{Seen}
@@ -30,8 +30,8 @@ leads_on now next first passed old between new left follow on = record {
   events = left.events ++ passed;
   follow = follow_on left.events passed old between new left.follow follow;
   leads = λ more result goes.
-    subst (λ events. Goes first events result) (sym (append_assoc left.events passed more))
-    (left.leads (passed ++ more) result (on more result goes));
+      subst (λ events. Goes first events result) (sym (append_assoc left.events passed more))
+      (left.leads (passed ++ more) result (on more result goes));
 }
 
 -- a part of what is left gave a value
@@ -113,9 +113,9 @@ pub leads_gathers :
 leads_gathers block block' more rest first old between new left gathers =
     leads_on (puts_all block (puts_all more rest)) (puts_all block' rest) first (outputs gathers.handed) old between new left gathers.follow
     (λ after result goes.
-      subst (λ p. Goes p (outputs gathers.handed ++ after) result)
-      (sym (puts_both gathers.handed block' rest) ∙ ap (λ l. puts_all l rest) (sym gathers.is) ∙ puts_both block more rest)
-      (goes_puts gathers.handed (puts_all block' rest) after result goes))
+    subst (λ p. Goes p (outputs gathers.handed ++ after) result)
+    (sym (puts_both gathers.handed block' rest) ∙ ap (λ l. puts_all l rest) (sym gathers.is) ∙ puts_both block more rest)
+    (goes_puts gathers.handed (puts_all block' rest) after result goes))
 
 -- one piece is
 pub leads_adds :
@@ -168,4 +168,4 @@ pub leads_finished :
 leads_finished block more rest first result old between new left follow goes =
     leads_ends (puts_all block (puts_all more rest)) first result old between new left
     (subst (λ p. Performs p result between new) (puts_both block more rest)
-      (gathers_performs (block ++ more) rest result between new new follow (record { events = []; follow = follow_none new; goes = goes })))
+    (gathers_performs (block ++ more) rest result between new new follow (record { events = []; follow = follow_none new; goes = goes })))

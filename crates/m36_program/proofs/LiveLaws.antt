@@ -1,5 +1,5 @@
 -- A program without a dead end has a call that comes to its end.
-use Rattle.std.proofs.Common.{◌≡◌, ℕ, ◌≤◌, ◌<◌, Bool, true, false, cond, List, [], ◌∷◌, ◌++◌, length, Option, Some, None, Result, Ok, Err, refl, sym, ap, subst, ◌∙◌, inl, inr, arith, ltb}
+use Rattle.std.proofs.Common.{◌≡◌, ℕ, Bool, true, false, List, [], ◌∷◌, ◌++◌, length, Option, Some, None, Result, Ok, Err, refl, sym, ap, inl, arith, ltb}
 use Rattle.std.specs.Prelude.{IfSome}
 use Rattle.std.specs.Io.KnownBytes.{IsAtEnd}
 use Rattle.std.proofs.lemmas.Bool.{ltb-false, ltb-true}
@@ -10,21 +10,18 @@ use Rattle.m36_outside.specs.ReadAnswer.{ReadSays, IsWithinLimit, ReadHasCause, 
 use Rattle.m36_outside.specs.Written.{appended}
 use Rattle.m36_outside.specs.declared.folder.ReadAnswer.{ReadAnswer}
 use Rattle.m36_outside.specs.declared.folder.ReadAnswer.TheVariants as read
-use Rattle.m36_outside.specs.declared.folder.WriteAnswer.{WriteAnswer}
 use Rattle.m36_outside.specs.declared.folder.WriteAnswer.TheVariants as write
 use Rattle.m36_world.specs.Seen.{Seen, noted}
-use Rattle.m36_world.specs.Did.{Did, IsFileRead, IsFileWrite, IsOutput, IsInput}
+use Rattle.m36_world.specs.Did.{Did}
 use Rattle.m36_world.specs.Follow.{Follow}
 use Rattle.m36_world.specs.declared.event.Event.{Event}
 use Rattle.m36_world.specs.declared.event.Event.TheVariants.{FileRead, FileWrite, Output, Input}
 use Rattle.m36_world.proofs.Following.{follow_none}
 use Rattle.m36_reading.specs.declared.status.Status.{Status}
-use Rattle.m36_program.specs.Program.{Found, Content, Absent, TooLarge, May, IsOwn, Program, then_with, puts_all}
+use Rattle.m36_program.specs.Program.{Found, Content, Absent, TooLarge, May, Program, then_with, puts_all}
 use Rattle.m36_program.specs.Program.{done, stops, reads, writes, puts, takes, some, wants}
 use Rattle.m36_program.specs.Goes.{AfterRead, Goes}
-use Rattle.m36_program.specs.Performs.{Performs}
-use Rattle.m36_program.specs.Alike.{IsEnd}
-use Rattle.m36_program.specs.Lives.{HasValue, Lives, AreCounts, Comes}
+use Rattle.m36_program.specs.Lives.{Lives, AreCounts, Comes}
 
 -- ---- parts
 

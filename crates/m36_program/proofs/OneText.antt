@@ -1,9 +1,9 @@
 -- What a call puts is a first part of what another puts that comes to its end, over the same files and input, where their
 -- programs are alike.
-use Rattle.std.proofs.Common.{◌≡◌, ◌⊎◌, ℕ, ◌≤◌, ◌<◌, true, List, [], ◌∷◌, ◌++◌, length, cond, Option, Some, None, Result, Ok, Err, refl, sym, ap, subst, ◌∙◌, inl, inr}
+use Rattle.std.proofs.Common.{◌≡◌, ℕ, ◌≤◌, ◌<◌, List, [], ◌∷◌, ◌++◌, length, cond, Option, Some, Result, Ok, Err, refl, sym, ap, subst, ◌∙◌, inl, inr}
 use Rattle.std.specs.Prelude.{IfSome}
 use Rattle.std.proofs.lemmas.Bool.{le-ltb, lt-ltb}
-use Rattle.std.proofs.lemmas.List.{append-nil, append_assoc}
+use Rattle.std.proofs.lemmas.List.{append-nil}
 use Rattle.m36_outside.specs.Files.{Files, with_file, with_told_file}
 use Rattle.m36_outside.specs.ReadAnswer.{ReadSays, IsWithinLimit, file_limit}
 use Rattle.m36_outside.specs.WriteAnswer.{WriteSays}
@@ -12,15 +12,15 @@ use Rattle.m36_outside.specs.declared.folder.ReadAnswer.TheVariants as read
 use Rattle.m36_outside.specs.declared.folder.WriteAnswer.{WriteAnswer}
 use Rattle.m36_outside.specs.declared.folder.WriteAnswer.TheVariants as write
 use Rattle.m36_world.specs.Seen.{Seen}
-use Rattle.m36_world.specs.Did.{Did, IsFileRead, IsFileWrite, IsOutput, IsInput}
+use Rattle.m36_world.specs.Did.{IsFileRead, IsFileWrite, IsOutput, IsInput}
 use Rattle.m36_world.specs.Follow.{Follow}
 use Rattle.m36_world.specs.declared.event.Event.{Event}
-use Rattle.m36_world.specs.declared.event.Event.TheVariants.{FileRead, FileWrite, Output, OutputFailed, Input, InputFailed}
+use Rattle.m36_world.specs.declared.event.Event.TheVariants.{FileRead, FileWrite, Output, OutputFailed, Input}
 use Rattle.m36_reading.specs.declared.status.Status.{Status}
 use Rattle.m36_reading.specs.declared.status.Status.TheVariants.{ReadFault, WriteFault, NoMemory}
-use Rattle.m36_program.specs.Program.{Found, Content, Absent, TooLarge, May, Program}
+use Rattle.m36_program.specs.Program.{Found, Content, TooLarge, May, Program}
 use Rattle.m36_program.specs.Program.{done, stops, reads, writes, puts, takes, some, wants}
-use Rattle.m36_program.specs.Goes.{Ends, AfterRead, AfterWrite, FailsWith, FailedOutput, Goes}
+use Rattle.m36_program.specs.Goes.{AfterRead, AfterWrite, FailsWith, Goes}
 use Rattle.m36_program.specs.Trail.{pieces_of}
 use Rattle.m36_program.specs.Found.{found_in}
 use Rattle.m36_program.specs.Alike.{EndsAlike, ReadsAlike, WritesAlike, PutsAlike, TakesAlike, Alike, IsEnd, OneText, SameInput, inputs_of}
@@ -141,10 +141,10 @@ text_reads name alike files inputs first result end new ended on (reads other go
     let same_input : SameInput inputs (inputs_of (FileRead other goes.answer ∷ goes.more)) = subst (λ e. SameInput inputs (inputs_of e)) goes.first input in
     subst (λ e. OneText first (pieces_of e) result end) (sym goes.first)
     (found_or_ended goes.answer (files other) _ goes.more end (said goes.answer other old.files files told did.content) did.limit goes.rest
-      (λ rest. on (go (found_in (files other))) goes.more same.between
-        (subst (λ n. alike (found_in (files n)) (go (found_in (files other)))) (sym is.0) (is.1 (found_in (files other))))
-        (ap (λ s. s.files) did.rest ∙ told) same.goes_on same_input rest)
-      (λ none fails. fails _ ended))
+    (λ rest. on (go (found_in (files other))) goes.more same.between
+    (subst (λ n. alike (found_in (files n)) (go (found_in (files other)))) (sym is.0) (is.1 (found_in (files other))))
+    (ap (λ s. s.files) did.rest ∙ told) same.goes_on same_input rest)
+    (λ none fails. fails _ ended))
 text_reads name alike files inputs first result end new ended on (writes allowed other content q) events old is told follow input goes = absurd is
 text_reads name alike files inputs first result end new ended on (puts piece q) events old is told follow input goes = absurd is
 text_reads name alike files inputs first result end new ended on (takes allowed go) events old is told follow input goes = absurd is
@@ -169,12 +169,12 @@ text_writes name content alike files inputs first result end new ended on (write
     let same_input : SameInput inputs (inputs_of (FileWrite other others goes.answer ∷ goes.more)) = subst (λ e. SameInput inputs (inputs_of e)) goes.first input in
     subst (λ e. OneText first (pieces_of e) result end) (sym goes.first)
     (written_or_ended goes.answer _ goes.more end other others old.files same.between.files did.files goes.rest
-      (λ rest wrote. on q goes.more same.between is.2
-        (wrote ∙ ap (with_told_file other (Some others)) told
-          ∙ ap (λ n. Some (with_file n (Some others) files)) (sym is.0)
-          ∙ ap (λ c. Some (with_file name (Some c) files)) (sym is.1))
-        same.goes_on same_input rest)
-      (λ none fails. fails _ ended))
+    (λ rest wrote. on q goes.more same.between is.2
+    (wrote ∙ ap (with_told_file other (Some others)) told
+    ∙ ap (λ n. Some (with_file n (Some others) files)) (sym is.0)
+    ∙ ap (λ c. Some (with_file name (Some c) files)) (sym is.1))
+    same.goes_on same_input rest)
+    (λ none fails. fails _ ended))
 text_writes name content alike files inputs first result end new ended on (puts piece q) events old is told follow input goes = absurd is
 text_writes name content alike files inputs first result end new ended on (takes allowed go) events old is told follow input goes = absurd is
 text_writes name content alike files inputs first result end new ended on (some Is go) events old is told follow input goes =
@@ -199,7 +199,7 @@ text_puts piece alike files inputs first result end new ended on (puts other q) 
     let same_input : SameInput inputs (inputs_of (Output other ∷ goes.more)) = subst (λ e. SameInput inputs (inputs_of e)) goes.first input in
     subst (λ e. OneText (piece ∷ first) (pieces_of e) result end) (sym goes.first)
     (one_more piece other first (pieces_of goes.more) result end is.0
-      (on q goes.more same.between is.1 (ap (λ s. s.files) did.rest ∙ told) same.goes_on same_input goes.rest))
+    (on q goes.more same.between is.1 (ap (λ s. s.files) did.rest ∙ told) same.goes_on same_input goes.rest))
 text_puts piece alike files inputs first result end new ended on (puts other q) events old is told follow input (inr failed) =
     write_fault end (fails_with failed.pieces _ end (λ goes. goes_failed q failed.pieces end goes) failed.rest) ended
 text_puts piece alike files inputs first result end new ended on (takes allowed go) events old is told follow input goes = absurd is
@@ -226,8 +226,8 @@ text_takes piece alike files inputs first result end new ended on (takes allowed
     let same_input : SameInput (piece ∷ inputs) (inputs_of (Input goes.piece ∷ goes.more)) = subst (λ e. SameInput (piece ∷ inputs) (inputs_of e)) goes.first input in
     subst (λ e. OneText first (pieces_of e) result end) (sym goes.first)
     (on (go goes.piece) goes.more same.between
-      (subst (λ p. alike p (go goes.piece)) (sym same_input.0) (is goes.piece))
-      (ap (λ s. s.files) did.rest ∙ told) same.goes_on same_input.1 goes.rest)
+    (subst (λ p. alike p (go goes.piece)) (sym same_input.0) (is goes.piece))
+    (ap (λ s. s.files) did.rest ∙ told) same.goes_on same_input.1 goes.rest)
 text_takes piece alike files inputs first result end new ended on (takes allowed go) events old is told follow input (inr failed) = read_fault end failed.result_is ended
 text_takes piece alike files inputs first result end new ended on (some Is go) events old is told follow input goes =
     text_takes piece alike files inputs first result end new ended on (go goes.value) events old (is goes.value goes.is) told follow input goes.rest
@@ -262,7 +262,7 @@ text_failed (puts piece p) pieces files end new ended (inl goes) = absurd (let e
 text_failed (puts piece p) pieces files end new ended (inr failed) =
     subst (λ l. Continues (PutsAlike piece (λ next. Alike p next)) files [] l (Err WriteFault) end new) (sym (same_pieces pieces (piece ∷ failed.pieces) failed.only))
     (text_puts piece (λ next. Alike p next) files [] failed.pieces (Err WriteFault) end new ended
-      (failed_with p failed.pieces files end new (λ goes. text_failed p failed.pieces files end new ended goes) failed.rest))
+    (failed_with p failed.pieces files end new (λ goes. text_failed p failed.pieces files end new ended goes) failed.rest))
 text_failed (takes allowed go) pieces files end new ended (inl goes) = absurd (let e = goes.first in cc)
 text_failed (takes allowed go) pieces files end new ended (inr failed) = absurd (let e = failed.only in cc)
 text_failed (some Is go) pieces files end new ended goes = λ q events old alike. text_failed (go goes.value) pieces files end new ended goes.rest q events old (alike goes.value goes.is)
@@ -285,7 +285,7 @@ failed_text :
 failed_text p pieces files result end new ended is goes =
     subst (λ l. Continues (Alike p) files [] l result end new) (sym (append-nil pieces))
     (subst (λ r. Continues (Alike p) files [] pieces r end new) (sym is)
-      (text_failed p pieces files end new ended (subst (λ r. Goes p (OutputFailed pieces ∷ []) r) is goes)))
+    (text_failed p pieces files end new ended (subst (λ r. Goes p (OutputFailed pieces ∷ []) r) is goes)))
 
 pub one_text :
     {may : May} {A : Type 0} (p : Program may A) (events : List Event) (result end : Result A Status) (old between new : Seen) (files : Files)
@@ -301,27 +301,27 @@ one_text (reads name go) events result end old between new files ended told foll
     let did : IsFileRead name goes.answer old same.between = same.begins in
     subst (λ e. Continues (ReadsAlike name (λ found next. Alike (go found) next)) files (inputs_of e) (pieces_of e) result end new) (sym goes.first)
     (λ q others old' alike told' follow' input goes'.
-      found_or_ended goes.answer (files name) _ goes.more result (said goes.answer name old.files files told did.content) did.limit goes.rest
-      (λ rest. text_reads name (λ found next. Alike (go found) next) files (inputs_of goes.more) (pieces_of goes.more) result end new ended
-        (one_text (go (found_in (files name))) goes.more result end same.between between new files ended (ap (λ s. s.files) did.rest ∙ told) same.goes_on rest)
-        q others old' alike told' follow' input goes')
-      (λ none fails. none_put goes.more (pieces_of others) result end none fails))
+    found_or_ended goes.answer (files name) _ goes.more result (said goes.answer name old.files files told did.content) did.limit goes.rest
+    (λ rest. text_reads name (λ found next. Alike (go found) next) files (inputs_of goes.more) (pieces_of goes.more) result end new ended
+    (one_text (go (found_in (files name))) goes.more result end same.between between new files ended (ap (λ s. s.files) did.rest ∙ told) same.goes_on rest)
+    q others old' alike told' follow' input goes')
+    (λ none fails. none_put goes.more (pieces_of others) result end none fails))
 one_text (writes allowed name content p) events result end old between new files ended told follow goes =
     let same : (let start : List Event = FileWrite name content goes.answer ∷ goes.more in Follow start old between) = subst (λ e. Follow e old between) goes.first follow in
     let did : IsFileWrite name content goes.answer old same.between = same.begins in
     subst (λ e. Continues (WritesAlike name content (λ next. Alike p next)) files (inputs_of e) (pieces_of e) result end new) (sym goes.first)
     (λ q others old' alike told' follow' input goes'.
-      written_or_ended goes.answer _ goes.more result name content old.files same.between.files did.files goes.rest
-      (λ rest wrote. text_writes name content (λ next. Alike p next) files (inputs_of goes.more) (pieces_of goes.more) result end new ended
-        (one_text p goes.more result end same.between between new (with_file name (Some content) files) ended (wrote ∙ ap (with_told_file name (Some content)) told) same.goes_on rest)
-        q others old' alike told' follow' input goes')
-      (λ none fails. none_put goes.more (pieces_of others) result end none fails))
+    written_or_ended goes.answer _ goes.more result name content old.files same.between.files did.files goes.rest
+    (λ rest wrote. text_writes name content (λ next. Alike p next) files (inputs_of goes.more) (pieces_of goes.more) result end new ended
+    (one_text p goes.more result end same.between between new (with_file name (Some content) files) ended (wrote ∙ ap (with_told_file name (Some content)) told) same.goes_on rest)
+    q others old' alike told' follow' input goes')
+    (λ none fails. none_put goes.more (pieces_of others) result end none fails))
 one_text (puts piece p) events result end old between new files ended told follow (inl goes) =
     let same : (let start : List Event = Output piece ∷ goes.more in Follow start old between) = subst (λ e. Follow e old between) goes.first follow in
     let did : IsOutput piece old same.between = same.begins in
     subst (λ e. Continues (PutsAlike piece (λ next. Alike p next)) files (inputs_of e) (pieces_of e) result end new) (sym goes.first)
     (text_puts piece (λ next. Alike p next) files (inputs_of goes.more) (pieces_of goes.more) result end new ended
-      (one_text p goes.more result end same.between between new files ended (ap (λ s. s.files) did.rest ∙ told) same.goes_on goes.rest))
+    (one_text p goes.more result end same.between between new files ended (ap (λ s. s.files) did.rest ∙ told) same.goes_on goes.rest))
 one_text (puts piece p) events result end old between new files ended told follow (inr failed) =
     let goes : Goes (puts piece p) (OutputFailed (piece ∷ failed.pieces) ∷ []) result = inr (record { pieces = failed.pieces; only = refl; rest = failed.rest }) in
     subst (λ e. Continues (PutsAlike piece (λ next. Alike p next)) files (inputs_of e) (pieces_of e) result end new) (sym failed.only)
@@ -331,7 +331,7 @@ one_text (takes allowed go) events result end old between new files ended told f
     let did : IsInput goes.piece old same.between = same.begins in
     subst (λ e. Continues (TakesAlike (λ piece next. Alike (go piece) next)) files (inputs_of e) (pieces_of e) result end new) (sym goes.first)
     (text_takes goes.piece (λ piece next. Alike (go piece) next) files (inputs_of goes.more) (pieces_of goes.more) result end new ended
-      (one_text (go goes.piece) goes.more result end same.between between new files ended (ap (λ s. s.files) did.rest ∙ told) same.goes_on goes.rest))
+    (one_text (go goes.piece) goes.more result end same.between between new files ended (ap (λ s. s.files) did.rest ∙ told) same.goes_on goes.rest))
 one_text (takes allowed go) events result end old between new files ended told follow (inr failed) =
     λ q others old' alike told' follow' input goes'.
     subst (λ e. OneText (pieces_of e) (pieces_of others) result end) (sym failed.only)

@@ -1,5 +1,5 @@
 -- What holds of every call that performs a program.
-use Rattle.std.proofs.Common.{◌≡◌, ℕ, Bool, true, false, List, [], ◌∷◌, Result, Ok, Err, refl, ap, sym, subst, ◌∙◌, inl, inr}
+use Rattle.std.proofs.Common.{◌≡◌, ℕ, false, List, [], ◌∷◌, Result, Ok, Err, refl, sym, subst, inl, inr}
 use Rattle.m36_outside.specs.Counts.{Rose}
 use Rattle.m36_outside.proofs.Risen.{rose_never}
 use Rattle.m36_outside.specs.Putting.{PutsPieces}
@@ -7,7 +7,6 @@ use Rattle.m36_outside.specs.declared.folder.ReadAnswer.{ReadAnswer}
 use Rattle.m36_outside.specs.declared.folder.ReadAnswer.TheVariants as read
 use Rattle.m36_outside.specs.declared.folder.WriteAnswer.{WriteAnswer}
 use Rattle.m36_outside.specs.declared.folder.WriteAnswer.TheVariants as write
-use Rattle.m36_outside.specs.declared.sink.Put.{Put}
 use Rattle.m36_outside.specs.declared.sink.Put.TheVariants.{Done}
 use Rattle.m36_world.specs.declared.event.Event.{Event}
 use Rattle.m36_world.specs.declared.event.Event.TheVariants.{FileRead, FileWrite, Output, OutputFailed, Input, InputFailed}
@@ -18,7 +17,7 @@ use Rattle.m36_program.specs.Program.{May, Program}
 use Rattle.m36_program.specs.Goes.{Ends, AfterRead, AfterWrite, Goes}
 use Rattle.m36_program.specs.Performs.{Performs}
 use Rattle.m36_program.specs.Early.{IsGiven, early, status_by, MayEnd, ends}
-use Rattle.m36_program.specs.Trail.{IsUnfailed, Trail, NoneFailed, ReadFailed, WriteFailed, PutFailed, TakeFailed, HasCause, FilesKept, InputKept, pieces_of, put_of, output_of}
+use Rattle.m36_program.specs.Trail.{IsUnfailed, Trail, HasCause, FilesKept, InputKept, pieces_of, put_of, output_of}
 use Rattle.m36_program.proofs.TrailLaws.{goes_trail}
 use Rattle.m36_program.proofs.CauseLaws.{trail_cause}
 use Rattle.m36_program.proofs.KeptLaws.{trail_files, trail_input}

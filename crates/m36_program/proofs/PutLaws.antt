@@ -1,10 +1,10 @@
 -- Programs that put pieces.
-use Rattle.std.proofs.Common.{◌≡◌, ℕ, List, [], ◌∷◌, ◌++◌, map, Result, Ok, Err, refl, sym, ap, subst, ◌∙◌, inl, inr}
+use Rattle.std.proofs.Common.{◌≡◌, ℕ, List, [], ◌∷◌, ◌++◌, Result, Err, refl, sym, ap, subst, ◌∙◌, inl, inr}
 use Rattle.m36_world.specs.declared.event.Event.{Event}
 use Rattle.m36_world.specs.declared.event.Event.TheVariants.{OutputFailed}
 use Rattle.m36_world.specs.Seen.{Seen}
 use Rattle.m36_world.specs.Did.{IsOutputFailed}
-use Rattle.m36_world.specs.Follow.{Follow, outputs}
+use Rattle.m36_world.specs.Follow.{outputs}
 use Rattle.m36_reading.specs.declared.status.Status.{Status}
 use Rattle.m36_reading.specs.declared.status.Status.TheVariants.{WriteFault}
 use Rattle.m36_program.specs.Program.{May, Program, puts, puts_all}
@@ -71,11 +71,11 @@ pub loses_performs :
 loses_performs pieces rest old new lost = record {
   events = outputs lost.handed ++ OutputFailed lost.failed ∷ [];
   follow = follow_on (outputs lost.handed) (OutputFailed lost.failed ∷ []) old lost.between new lost.follow
-    (follow_one (OutputFailed lost.failed) lost.between new lost.fails);
+      (follow_one (OutputFailed lost.failed) lost.between new lost.fails);
   goes = subst (λ program. Goes program (outputs lost.handed ++ OutputFailed lost.failed ∷ []) (Err WriteFault))
-    (sym (ap (λ l. puts_all l rest) lost.is
+      (sym (ap (λ l. puts_all l rest) lost.is
       ∙ puts_both (lost.handed ++ lost.failed) lost.left rest
       ∙ puts_both lost.handed lost.failed (puts_all lost.left rest)))
-    (goes_puts lost.handed (puts_all lost.failed (puts_all lost.left rest)) (OutputFailed lost.failed ∷ []) (Err WriteFault)
+      (goes_puts lost.handed (puts_all lost.failed (puts_all lost.left rest)) (OutputFailed lost.failed ∷ []) (Err WriteFault)
       (goes_fails lost.failed (puts_all lost.left rest) lost.between new lost.fails));
 }

@@ -2,9 +2,7 @@
 use Rattle.std.proofs.Common.{◌≡◌, ℕ, true, List, [], ◌∷◌, Result, Ok, Err, refl, ap, inl, inr}
 use Rattle.m36_outside.specs.declared.folder.ReadAnswer.{ReadAnswer}
 use Rattle.m36_outside.specs.declared.folder.ReadAnswer.TheVariants as read
-use Rattle.m36_outside.specs.declared.folder.WriteAnswer.{WriteAnswer}
 use Rattle.m36_outside.specs.declared.folder.WriteAnswer.TheVariants as write
-use Rattle.m36_world.specs.declared.event.Event.{Event}
 use Rattle.m36_world.specs.declared.event.Event.TheVariants.{FileRead, FileWrite, Output, OutputFailed}
 use Rattle.m36_world.specs.Seen.{Seen}
 use Rattle.m36_world.specs.Did.{IsFileRead, IsFileWrite, IsOutput, IsOutputFailed}
@@ -14,8 +12,8 @@ use Rattle.m36_reading.specs.declared.status.Status.{Status}
 use Rattle.m36_reading.specs.declared.status.Status.TheVariants.{Done, Usage, ReadFault, WriteFault}
 use Rattle.m36_reading.specs.declared.status.Status.TheVariants.{BadFile, AuditNo, MachineStop}
 use Rattle.m36_reading.specs.declared.status.Status.TheVariants.{Steps, NoMemory}
-use Rattle.m36_program.specs.Program.{Found, May, Program, reads, wants}
-use Rattle.m36_program.specs.Goes.{Ends, AfterRead, AfterWrite, Goes}
+use Rattle.m36_program.specs.Program.{Found, May, Program, reads}
+use Rattle.m36_program.specs.Goes.{AfterRead, Goes}
 use Rattle.m36_program.specs.Performs.{Performs}
 use Rattle.m36_program.specs.Readers.{refused, refuses, IsRefusal, file_bytes, put_one, write_one}
 use Rattle.m36_world.proofs.Following.{follow_one}

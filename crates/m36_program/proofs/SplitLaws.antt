@@ -9,15 +9,15 @@ use Rattle.m36_outside.specs.declared.folder.WriteAnswer.TheVariants as write
 use Rattle.m36_world.specs.Seen.{Seen}
 use Rattle.m36_world.specs.Follow.{Next, Follow, outputs}
 use Rattle.m36_world.specs.declared.event.Event.{Event}
-use Rattle.m36_world.specs.declared.event.Event.TheVariants.{FileRead, FileWrite, Output, OutputFailed, Input, InputFailed}
+use Rattle.m36_world.specs.declared.event.Event.TheVariants.{FileRead, FileWrite, Output, OutputFailed, Input}
 use Rattle.m36_world.proofs.Following.{follow_split}
 use Rattle.m36_reading.specs.declared.status.Status.{Status}
 use Rattle.m36_reading.specs.declared.status.Status.TheVariants.{ReadFault, WriteFault, NoMemory}
 use Rattle.m36_program.specs.Program.{Found, Content, Absent, TooLarge, May, Program, then_with}
 use Rattle.m36_program.specs.Program.{done, stops, reads, writes, puts, takes, some, wants}
-use Rattle.m36_program.specs.Goes.{Ends, AfterRead, AfterWrite, FailsWith, Goes}
+use Rattle.m36_program.specs.Goes.{AfterRead, AfterWrite, FailsWith, Goes}
 use Rattle.m36_program.specs.Performs.{Performs}
-use Rattle.m36_program.specs.Split.{BothGo, FirstEnds, FailsAcross, Split, BothPerform, FirstPerforms}
+use Rattle.m36_program.specs.Split.{Split, BothPerform, FirstPerforms}
 use Rattle.m36_program.proofs.GoesLaws.{goes_failed}
 
 -- ---- a failed output
@@ -214,18 +214,18 @@ goes_split (writes allowed name content p) next events result goes =
 goes_split (puts piece p) next events result (inl goes) =
     subst (λ e. Split (puts piece p) next e result) (sym goes.first)
     (split_map (puts piece p) p next (Output piece ∷ []) goes.more result
-      (λ more r on. inl (record { more = more; first = refl; rest = on })) (goes_split p next goes.more result goes.rest))
+    (λ more r on. inl (record { more = more; first = refl; rest = on })) (goes_split p next goes.more result goes.rest))
 goes_split (puts piece p) next events result (inr failed) =
     subst (λ e. Split (puts piece p) next e result) (sym failed.only)
     (let goes : Goes (then_with (puts piece p) next) (OutputFailed (piece ∷ failed.pieces) ∷ []) result =
-        inr (record { pieces = failed.pieces; only = refl; rest = failed.rest }) in
-      split_fails (puts piece p) next (piece ∷ failed.pieces) result
-      (goes_failed (then_with (puts piece p) next) (piece ∷ failed.pieces) result goes)
-      (split_failed (puts piece p) next (piece ∷ failed.pieces) result goes))
+    inr (record { pieces = failed.pieces; only = refl; rest = failed.rest }) in
+    split_fails (puts piece p) next (piece ∷ failed.pieces) result
+    (goes_failed (then_with (puts piece p) next) (piece ∷ failed.pieces) result goes)
+    (split_failed (puts piece p) next (piece ∷ failed.pieces) result goes))
 goes_split (takes allowed go) next events result (inl goes) =
     subst (λ e. Split (takes allowed go) next e result) (sym goes.first)
     (split_map (takes allowed go) (go goes.piece) next (Input goes.piece ∷ []) goes.more result
-      (λ more r on. inl (record { piece = goes.piece; more = more; first = refl; rest = on })) (goes_split (go goes.piece) next goes.more result goes.rest))
+    (λ more r on. inl (record { piece = goes.piece; more = more; first = refl; rest = on })) (goes_split (go goes.piece) next goes.more result goes.rest))
 goes_split (takes allowed go) next events result (inr failed) =
     split_ends (takes allowed go) next ReadFault events result failed.result_is (inr (record { only = failed.only; result_is = refl }))
 goes_split (some Is go) next events result goes =
@@ -245,19 +245,19 @@ pub performs_split :
     → BothPerform p next result old new ⊎ FirstPerforms p result old new
 performs_split p next result old new whole performs =
     elim (goes_split p next performs.events result performs.goes) [
-      inl both ↦ inl (
-        let parts : Next (Follow both.first) (Follow both.more) old new =
-            follow_split both.first both.more old new (subst (λ events. Follow events old new) both.is performs.follow) in
-        record {
-          value = both.value;
-          between = parts.between;
-          begins = record { events = both.first; follow = parts.begins; goes = both.begins };
-          goes_on = record { events = both.more; follow = parts.goes_on; goes = both.goes_on };
-        })
-    | inr (inl ends) ↦ inr (record {
+      | inl both ↦ inl (
+          let parts : Next (Follow both.first) (Follow both.more) old new =
+          follow_split both.first both.more old new (subst (λ events. Follow events old new) both.is performs.follow) in
+          record {
+            value = both.value;
+            between = parts.between;
+            begins = record { events = both.first; follow = parts.begins; goes = both.begins };
+            goes_on = record { events = both.more; follow = parts.goes_on; goes = both.goes_on };
+          })
+      | inr (inl ends) ↦ inr (record {
         status = ends.status;
         result_is = ends.result_is;
         performs = record { events = performs.events; follow = performs.follow; goes = ends.goes };
       })
-    | inr (inr across) ↦ absurd (whole (goes_failed (next across.value) across.rest result across.goes_on))
+      | inr (inr across) ↦ absurd (whole (goes_failed (next across.value) across.rest result across.goes_on))
     ]

@@ -1,17 +1,12 @@
 -- What is written grows by the pieces that a program puts.
-use Rattle.std.proofs.Common.{◌≡◌, ℕ, List, [], ◌∷◌, ◌++◌, Option, Result, Ok, Err, refl, sym, ap, subst, ◌∙◌}
-use Rattle.std.proofs.lemmas.List.{append-nil, append_assoc}
+use Rattle.std.proofs.Common.{◌≡◌, ℕ, List, [], ◌∷◌, ◌++◌, Result, Err, refl, sym, ap, subst, ◌∙◌}
+use Rattle.std.proofs.lemmas.List.{append-nil}
 use Rattle.m36_outside.specs.Passing.{joined}
-use Rattle.m36_outside.specs.Put.{PutSays, PutHasCause}
-use Rattle.m36_outside.specs.Putting.{PutsText, PutsPieces}
+use Rattle.m36_outside.specs.Putting.{PutsPieces}
 use Rattle.m36_outside.specs.SinkState.{SinkState}
-use Rattle.m36_outside.specs.Written.{appended, GrewWithin}
+use Rattle.m36_outside.specs.Written.{appended}
 use Rattle.m36_outside.specs.declared.sink.Put.{Put}
 use Rattle.m36_outside.specs.declared.sink.Put.TheVariants.{Done, Failed}
-use Rattle.m36_outside.specs.declared.folder.ReadAnswer.{ReadAnswer}
-use Rattle.m36_outside.specs.declared.folder.ReadAnswer.TheVariants as read
-use Rattle.m36_outside.specs.declared.folder.WriteAnswer.{WriteAnswer}
-use Rattle.m36_outside.specs.declared.folder.WriteAnswer.TheVariants as write
 use Rattle.m36_outside.proofs.Grown.{grew_by_nothing, grew_on, grew_more}
 use Rattle.m36_outside.proofs.LinesTaken.{takes_no_lines, takes_lines_on, takes_lines_more}
 use Rattle.m36_outside.specs.Counts.{Rose}
@@ -23,8 +18,7 @@ use Rattle.m36_world.specs.Follow.{Follow}
 use Rattle.m36_reading.specs.declared.status.Status.{Status}
 use Rattle.m36_reading.specs.declared.status.Status.TheVariants as status
 use Rattle.m36_program.specs.Program.{May}
-use Rattle.m36_program.specs.Goes.{Ends, AfterRead, AfterWrite}
-use Rattle.m36_program.specs.Trail.{IsUnfailed, Trail, pieces_of, put_of, output_of}
+use Rattle.m36_program.specs.Trail.{Trail, pieces_of, put_of, output_of}
 use Rattle.m36_program.proofs.KeptLaws.{after_read, after_write, passed_none}
 
 -- nothing is put
@@ -76,7 +70,7 @@ text_failed pieces more old between new did none follow =
     let same : output_of new ≡ output_of between = ap output_of (passed_none more between new none follow) in
     subst (λ l. PutsPieces Failed l (output_of old) (output_of new)) (sym all)
     (subst (λ s. PutsPieces Failed pieces (output_of old) s) (sym same)
-      (record { text = did.grew; pieces = did.took; faults = did.cause }))
+    (record { text = did.grew; pieces = did.took; faults = did.cause }))
 
 pub follow_text :
     {A : Type 0} (may : May) (events : List Event) (result : Result A Status) (old new : Seen)

@@ -1,7 +1,6 @@
 -- What a call reads where the files are known.
-use Rattle.std.proofs.Common.{◌≡◌, ◌⊎◌, ℕ, List, [], ◌∷◌, Option, Some, Result, Ok, Err, refl, ap, subst, ◌∙◌, inl, inr}
+use Rattle.std.proofs.Common.{◌≡◌, ℕ, List, ◌∷◌, Some, Result, Ok, Err, ap, subst, ◌∙◌, inl, inr}
 use Rattle.m36_outside.specs.Files.{Files}
-use Rattle.m36_outside.specs.declared.folder.ReadAnswer.{ReadAnswer}
 use Rattle.m36_world.specs.Seen.{Seen}
 use Rattle.m36_world.specs.Did.{IsFileRead}
 use Rattle.m36_world.specs.Follow.{Follow}
@@ -9,13 +8,13 @@ use Rattle.m36_world.specs.declared.event.Event.{Event}
 use Rattle.m36_world.specs.declared.event.Event.TheVariants.{FileRead}
 use Rattle.m36_reading.specs.declared.status.Bad.{Bad}
 use Rattle.m36_reading.specs.declared.status.Status.{Status}
-use Rattle.m36_reading.specs.declared.status.Status.TheVariants.{BadFile, ReadFault, NoMemory}
+use Rattle.m36_reading.specs.declared.status.Status.TheVariants.{BadFile}
 use Rattle.m36_program.specs.Program.{Found, Content, Absent, TooLarge, May, Program, reads}
 use Rattle.m36_program.specs.Goes.{Goes}
 use Rattle.m36_program.specs.Performs.{Performs}
 use Rattle.m36_program.specs.Found.{found_in}
 use Rattle.m36_program.specs.Alike.{IsEnd}
-use Rattle.m36_program.specs.Readers.{refused, refuses, bytes_found, file_bytes}
+use Rattle.m36_program.specs.Readers.{refuses, bytes_found, file_bytes}
 use Rattle.m36_program.proofs.OneText.{found_or_ended, said}
 
 -- A call that reads a file goes on by what the files have.

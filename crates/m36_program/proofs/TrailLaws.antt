@@ -1,22 +1,15 @@
 -- The trail that each program leaves, and what follows from it.
-use Rattle.std.proofs.Common.{◌≡◌, ℕ, Bool, true, false, List, [], ◌∷◌, ◌++◌, Result, Ok, Err, refl, sym, ap, subst, ◌∙◌, inl, inr}
-use Rattle.std.proofs.lemmas.List.{append-nil}
-use Rattle.m36_outside.specs.Passing.{joined}
-use Rattle.m36_outside.specs.Put.{PutSays}
-use Rattle.m36_outside.specs.Putting.{PutsText}
+use Rattle.std.proofs.Common.{List, Result, Ok, Err, refl, sym, subst, inl, inr}
 use Rattle.m36_outside.specs.declared.folder.ReadAnswer.{ReadAnswer}
 use Rattle.m36_outside.specs.declared.folder.ReadAnswer.TheVariants as read
 use Rattle.m36_outside.specs.declared.folder.WriteAnswer.{WriteAnswer}
 use Rattle.m36_outside.specs.declared.folder.WriteAnswer.TheVariants as write
-use Rattle.m36_outside.specs.declared.sink.Put.{Put}
-use Rattle.m36_outside.specs.declared.sink.Put.TheVariants.{Done, Failed}
 use Rattle.m36_world.specs.declared.event.Event.{Event}
-use Rattle.m36_world.specs.declared.event.Event.TheVariants.{FileRead, FileWrite, Output, OutputFailed, Input, InputFailed}
 use Rattle.m36_reading.specs.declared.status.Status.{Status}
 use Rattle.m36_reading.specs.declared.status.Status.TheVariants as status
 use Rattle.m36_program.specs.Program.{Found, Content, Absent, TooLarge, May, IsOwn, Program}
 use Rattle.m36_program.specs.Program.{done, stops, reads, writes, puts, takes, some, wants}
-use Rattle.m36_program.specs.Goes.{Ends, AfterRead, AfterWrite, FailsWith, FailedOutput, FailedInput, Goes}
+use Rattle.m36_program.specs.Goes.{Ends, AfterRead, AfterWrite, Goes}
 use Rattle.m36_program.specs.Trail.{IsUnfailed, Trail}
 use Rattle.m36_program.proofs.GoesLaws.{goes_failed, fails_with}
 

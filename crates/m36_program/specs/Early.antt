@@ -2,7 +2,7 @@
 use Rattle.std.specs.Prelude.{⊤, Result, Ok, Err}
 use Rattle.m36_reading.specs.declared.status.Status.{Status}
 use Rattle.m36_reading.specs.declared.status.Status.TheVariants as status
-use Rattle.m36_program.specs.Program.{May, IsOwn, Program, done, stops}
+use Rattle.m36_program.specs.Program.{May, Program, done, stops}
 
 -- the result by the status: Done is the value
 abbrev pub early : Status → Result (Unit {0}) Status

@@ -1,5 +1,5 @@
 -- What a call says that performs a program, and what a loop says of the program that is left.
-use Rattle.std.specs.Prelude.{◌≡◌, List, ◌++◌, Result}
+use Rattle.std.specs.Prelude.{List, ◌++◌, Result}
 use Rattle.m36_world.specs.declared.event.Event.{Event}
 use Rattle.m36_world.specs.Seen.{Seen}
 use Rattle.m36_world.specs.Follow.{Follow}
