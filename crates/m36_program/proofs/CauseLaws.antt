@@ -6,7 +6,8 @@ use Rattle.m36_outside.specs.declared.folder.ReadAnswer.TheVariants as read
 use Rattle.m36_outside.specs.declared.folder.WriteAnswer.{WriteAnswer}
 use Rattle.m36_outside.specs.declared.folder.WriteAnswer.TheVariants as write
 use Rattle.m36_world.specs.declared.event.Event.{Event}
-use Rattle.m36_world.specs.declared.event.Event.TheVariants.{FileRead, FileWrite, Output, OutputFailed, Input, InputFailed}
+use Rattle.m36_world.specs.declared.event.Event.TheVariants.{FileRead, FileWrite, Output, OutputFailed, Input}
+use Rattle.m36_world.specs.declared.event.Event.TheVariants.{InputFailed}
 use Rattle.m36_world.specs.Seen.{Seen}
 use Rattle.m36_world.specs.Did.{IsFileRead, IsFileWrite, IsOutput, IsOutputFailed, IsInput, IsInputFailed}
 use Rattle.m36_world.specs.Follow.{Follow}
@@ -14,7 +15,8 @@ use Rattle.m36_reading.specs.declared.status.Status.{Status}
 use Rattle.m36_reading.specs.declared.status.Status.TheVariants as status
 use Rattle.m36_program.specs.Program.{May}
 use Rattle.m36_program.specs.Goes.{Ends, AfterRead, AfterWrite}
-use Rattle.m36_program.specs.Trail.{IsUnfailed, Trail, NoneFailed, ReadFailed, WriteFailed, PutFailed, TakeFailed, HasCause}
+use Rattle.m36_program.specs.Trail.{IsUnfailed, Trail, NoneFailed, ReadFailed, WriteFailed, PutFailed, TakeFailed}
+use Rattle.m36_program.specs.Trail.{HasCause}
 
 -- ---- counts of faults
 
@@ -27,17 +29,12 @@ none_failed old new same = record {
 }
 
 -- where no call failed
-unfailed_cause : {A : Type 0} (result : Result A Status) (old new : Seen) → IsUnfailed result → NoneFailed old new → HasCause result old new
-unfailed_cause (Ok a) old new is none = none
-unfailed_cause (Err status.Done) old new is none = absurd is
-unfailed_cause (Err status.Usage) old new is none = absurd is
+unfailed_cause :
+    {A : Type 0} (result : Result A Status) (old new : Seen) → IsUnfailed result → NoneFailed old new
+    → HasCause result old new
 unfailed_cause (Err status.ReadFault) old new is none = absurd is
 unfailed_cause (Err status.WriteFault) old new is none = absurd is
-unfailed_cause (Err (status.BadFile bad)) old new is none = none
-unfailed_cause (Err status.AuditNo) old new is none = none
-unfailed_cause (Err (status.MachineStop end)) old new is none = none
-unfailed_cause (Err status.Steps) old new is none = none
-unfailed_cause (Err status.NoMemory) old new is none = none
+unfailed_cause _ old new is none = none
 
 none_after : (old between new : Seen) → NoneFailed old between → NoneFailed between new → NoneFailed old new
 none_after old between new first rest = record {
@@ -81,19 +78,13 @@ take_after old between new first rest = record {
 
 -- a call that did not fail, and then others
 cause_after :
-    {A : Type 0} (result : Result A Status) (old between new : Seen) → NoneFailed old between → HasCause result between new → HasCause result old new
-cause_after (Ok a) old between new first rest = none_after old between new first rest
-cause_after (Err status.Done) old between new first rest = none_after old between new first rest
-cause_after (Err status.Usage) old between new first rest = none_after old between new first rest
+    {A : Type 0} (result : Result A Status) (old between new : Seen) → NoneFailed old between
+    → HasCause result between new → HasCause result old new
 cause_after (Err status.ReadFault) old between new first (inl rest) = inl (read_after old between new first rest)
 cause_after (Err status.ReadFault) old between new first (inr rest) = inr (take_after old between new first rest)
 cause_after (Err status.WriteFault) old between new first (inl rest) = inl (write_after old between new first rest)
 cause_after (Err status.WriteFault) old between new first (inr rest) = inr (put_after old between new first rest)
-cause_after (Err (status.BadFile bad)) old between new first rest = none_after old between new first rest
-cause_after (Err status.AuditNo) old between new first rest = none_after old between new first rest
-cause_after (Err (status.MachineStop end)) old between new first rest = none_after old between new first rest
-cause_after (Err status.Steps) old between new first rest = none_after old between new first rest
-cause_after (Err status.NoMemory) old between new first rest = none_after old between new first rest
+cause_after _ old between new first rest = none_after old between new first rest
 
 -- the last call failed
 last_cause :
@@ -102,9 +93,12 @@ last_cause :
 unfolding Follow
 last_cause value more result old between new ends follow cause =
     let same : Follow [] between new = subst (λ events. Follow events between new) ends.none follow in
-    subst (λ (r : Result _ Status). HasCause r old new) (sym ends.result_is) (subst (λ s. HasCause value old s) (sym same) cause)
+    subst (λ (r : Result _ Status). HasCause r old new) (sym ends.result_is)
+        (subst (λ s. HasCause value old s) (sym same) cause)
 
-file_read : (name : List ℕ) (answer : ReadAnswer) (old new : Seen) → IsFileRead name answer old new → new.read_faults ≡ old.read_faults → NoneFailed old new
+file_read :
+    (name : List ℕ) (answer : ReadAnswer) (old new : Seen) → IsFileRead name answer old new
+    → new.read_faults ≡ old.read_faults → NoneFailed old new
 file_read name answer old new did same = record {
   reads = same;
   writes = ap (λ s. s.write_faults) did.rest;
@@ -112,7 +106,9 @@ file_read name answer old new did same = record {
   inputs = ap (λ s. s.input_faults) did.rest;
 }
 
-file_written : (name content : List ℕ) (answer : WriteAnswer) (old new : Seen) → IsFileWrite name content answer old new → new.write_faults ≡ old.write_faults → NoneFailed old new
+file_written :
+    (name content : List ℕ) (answer : WriteAnswer) (old new : Seen) → IsFileWrite name content answer old new
+    → new.write_faults ≡ old.write_faults → NoneFailed old new
 file_written name content answer old new did same = record {
   reads = ap (λ s. s.read_faults) did.rest;
   writes = same;
@@ -121,7 +117,8 @@ file_written name content answer old new did same = record {
 }
 
 read_cause :
-    {A : Type 0} (may : May) (name : List ℕ) (answer : ReadAnswer) (more : List Event) (result : Result A Status) (old between new : Seen)
+    {A : Type 0} (may : May) (name : List ℕ) (answer : ReadAnswer) (more : List Event) (result : Result A Status)
+        (old between new : Seen)
     → IsFileRead name answer old between → Follow more between new
     → (Trail may more result → HasCause result between new)
     → AfterRead answer (λ found events. Trail may more result) more result → HasCause result old new
@@ -139,10 +136,12 @@ read_cause {A = A} may name read.Failed more result old between new did follow r
       inputs = ap (λ s. s.input_faults) did.rest;
     }))
 read_cause {A = A} may name read.NoMemory more result old between new did follow rest after =
-    last_cause {A = A} (Err status.NoMemory) more result old between new after follow (file_read name read.NoMemory old between did did.cause)
+    last_cause {A = A} (Err status.NoMemory) more result old between new after follow
+        (file_read name read.NoMemory old between did did.cause)
 
 write_cause :
-    {A : Type 0} (may : May) (name content : List ℕ) (answer : WriteAnswer) (more : List Event) (result : Result A Status) (old between new : Seen)
+    {A : Type 0} (may : May) (name content : List ℕ) (answer : WriteAnswer) (more : List Event)
+        (result : Result A Status) (old between new : Seen)
     → IsFileWrite name content answer old between → Follow more between new
     → (Trail may more result → HasCause result between new)
     → AfterWrite answer (λ events. Trail may more result) more result → HasCause result old new
@@ -156,7 +155,8 @@ write_cause {A = A} may name content write.Failed more result old between new di
       inputs = ap (λ s. s.input_faults) did.rest;
     }))
 write_cause {A = A} may name content write.NoMemory more result old between new did follow rest after =
-    last_cause {A = A} (Err status.NoMemory) more result old between new after follow (file_written name content write.NoMemory old between did did.cause)
+    last_cause {A = A} (Err status.NoMemory) more result old between new after follow
+        (file_written name content write.NoMemory old between did did.cause)
 
 -- each result has its cause
 pub trail_cause :

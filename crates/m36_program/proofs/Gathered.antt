@@ -19,7 +19,8 @@ pub follow_pieces :
     (first more : List (List ℕ)) (old between new : Seen)
     → Follow (outputs first) old between → Follow (outputs more) between new → Follow (outputs (first ++ more)) old new
 follow_pieces first more old between new one two =
-    subst (λ events. Follow events old new) (sym (outputs_both first more)) (follow_on (outputs first) (outputs more) old between new one two)
+    subst (λ events. Follow events old new) (sym (outputs_both first more))
+        (follow_on (outputs first) (outputs more) old between new one two)
 
 -- ---- pieces are added
 
@@ -30,7 +31,8 @@ gathers_here old new more seen is = record { handed = []; is = sym is; follow = 
 -- the pieces of the block were put, and then others added to it
 pub gathers_after :
     (old now new more : List (List ℕ)) (before between after : Seen)
-    → Follow (outputs old) before between → now ≡ [] → Gathers now new more between after → Gathers old new more before after
+    → Follow (outputs old) before between → now ≡ [] → Gathers now new more between after
+    → Gathers old new more before after
 gathers_after old now new more before between after put none next = record {
   handed = old ++ next.handed;
   is = ap (λ l. old ++ l) (sym (ap (λ l. l ++ more) none) ∙ next.is) ∙ sym (append_assoc old next.handed new);
@@ -39,7 +41,8 @@ gathers_after old now new more before between after put none next = record {
 
 pub loses_after :
     (old now more : List (List ℕ)) (before between after : Seen)
-    → Follow (outputs old) before between → now ≡ [] → Loses (now ++ more) between after → Loses (old ++ more) before after
+    → Follow (outputs old) before between → now ≡ [] → Loses (now ++ more) between after
+    → Loses (old ++ more) before after
 loses_after old now more before between after put none next = record {
   handed = old ++ next.handed;
   failed = next.failed;
@@ -54,14 +57,18 @@ loses_after old now more before between after put none next = record {
 
 pub adds_after :
     (answer : Put) (start old now new more : List (List ℕ)) (before between after : Seen)
-    → old ≡ start → Follow (outputs old) before between → now ≡ [] → Adds answer now new more between after → Adds answer start new more before after
+    → old ≡ start → Follow (outputs old) before between → now ≡ [] → Adds answer now new more between after
+    → Adds answer start new more before after
 adds_after Done start old now new more before between after same put none next =
-    subst (λ l. Gathers l new more before after) same (gathers_after old now new more before between after put none next)
+    subst (λ l. Gathers l new more before after) same
+        (gathers_after old now new more before between after put none next)
 adds_after Failed start old now new more before between after same put none next =
     subst (λ l. Loses (l ++ more) before after) same (loses_after old now more before between after put none next)
 
 -- the pieces of the block could not be put
-pub loses_here : (old more : List (List ℕ)) (before after : Seen) → IsOutputFailed old before after → Loses (old ++ more) before after
+pub loses_here :
+    (old more : List (List ℕ)) (before after : Seen) → IsOutputFailed old before after
+    → Loses (old ++ more) before after
 loses_here old more before after fails = record {
   handed = [];
   failed = old;
@@ -103,9 +110,11 @@ pub ruleset gathering = (gathers_here, gathers_after, loses_after, loses_here, g
 
 pub puts_finished :
     (old mid more : List (List ℕ)) (before between after : Seen)
-    → Gathers old mid more before between → Follow (outputs mid) between after → Follow (outputs (old ++ more)) before after
+    → Gathers old mid more before between → Follow (outputs mid) between after
+    → Follow (outputs (old ++ more)) before after
 puts_finished old mid more before between after added put =
-    subst (λ l. Follow (outputs l) before after) (sym added.is) (follow_pieces added.handed mid before between after added.follow put)
+    subst (λ l. Follow (outputs l) before after) (sym added.is)
+        (follow_pieces added.handed mid before between after added.follow put)
 
 pub puts_lost :
     (old mid more : List (List ℕ)) (before between after : Seen)

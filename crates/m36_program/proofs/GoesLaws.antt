@@ -21,7 +21,8 @@ same_status : {A : Type 0} (s t : Status) → (let r : Result A Status = Err s i
 same_status s t is = cc
 
 same_end :
-    {A B : Type 0} (s t : Status) (events : List Event) → Ends {A = A} (Err t) events (Err s) → Ends {A = B} (Err t) events (Err s)
+    {A B : Type 0} (s t : Status) (events : List Event) → Ends {A = A} (Err t) events (Err s)
+    → Ends {A = B} (Err t) events (Err s)
 same_end {A} s t events ends = record {
   none = ends.none;
   result_is = ap (λ (u : Status). Err u) (same_status {A = A} s t ends.result_is);
@@ -30,7 +31,8 @@ same_end {A} s t events ends = record {
 -- ---- after the value of the first
 
 read_then :
-    {A B : Type 0} (answer : ReadAnswer) (goes goes' : Found → List Event → Type 0) (first more : List Event) (a : A) (result : Result B Status)
+    {A B : Type 0} (answer : ReadAnswer) (goes goes' : Found → List Event → Type 0) (first more : List Event) (a : A)
+    (result : Result B Status)
     → ((found : Found) → goes found first → goes' found (first ++ more))
     → AfterRead {A = A} answer goes first (Ok a) → AfterRead answer goes' (first ++ more) result
 read_then (read.Read bytes) goes goes' first more a result on rest = on (Content bytes) rest
@@ -40,7 +42,8 @@ read_then read.Failed goes goes' first more a result on rest = no_end a ReadFaul
 read_then read.NoMemory goes goes' first more a result on rest = no_end a NoMemory first rest
 
 write_then :
-    {A B : Type 0} (answer : WriteAnswer) (goes goes' : List Event → Type 0) (first more : List Event) (a : A) (result : Result B Status)
+    {A B : Type 0} (answer : WriteAnswer) (goes goes' : List Event → Type 0) (first more : List Event) (a : A)
+    (result : Result B Status)
     → (goes first → goes' (first ++ more))
     → AfterWrite {A = A} answer goes first (Ok a) → AfterWrite answer goes' (first ++ more) result
 write_then write.Written goes goes' first more a result on rest = on rest
@@ -53,7 +56,8 @@ no_failed_input a events failed = absurd (let e = failed.result_is in cc)
 -- A failed output ends the program with WriteFault, in whatever part of it the last of its pieces is put.
 pub fails_with :
     {A : Type 0} (pieces : List (List ℕ)) (goes : List Event → Type 0) (result : Result A Status)
-    → (goes (OutputFailed pieces ∷ []) → result ≡ Err WriteFault) → FailsWith pieces goes result → result ≡ Err WriteFault
+    → (goes (OutputFailed pieces ∷ []) → result ≡ Err WriteFault) → FailsWith pieces goes result
+    → result ≡ Err WriteFault
 fails_with [] goes result on fails = fails
 fails_with (piece ∷ pieces) goes result on fails = on fails
 
@@ -81,25 +85,31 @@ no_failed_output a piece p events failed =
     absurd (let e = fails_with failed.pieces _ (Ok a) (λ on. goes_failed p failed.pieces (Ok a) on) failed.rest in cc)
 
 pub goes_then :
-    {may : May} {A B : Type 0} (p : Program may A) (next : A → Program may B) (first more : List Event) (a : A) (result : Result B Status)
+    {may : May} {A B : Type 0} (p : Program may A) (next : A → Program may B) (first more : List Event) (a : A)
+    (result : Result B Status)
     → Goes p first (Ok a) → Goes (next a) more result → Goes (then_with p next) (first ++ more) result
 unfolding Goes then_with
 goes_then (done x) next first more a result goes rest =
     let none : first ≡ [] = goes.none in
     let is : x ≡ a = let e = goes.result_is in cc in
-    subst (λ events. Goes (next x) (events ++ more) result) (sym none) (subst (λ y. Goes (next y) more result) (sym is) rest)
+    subst (λ events. Goes (next x) (events ++ more) result) (sym none)
+        (subst (λ y. Goes (next y) more result) (sym is) rest)
 goes_then (stops status own) next first more a result goes rest = no_end a status first goes
 goes_then (reads name go) next first more a result goes rest = record {
   answer = goes.answer;
   more = goes.more ++ more;
   first = ap (λ events. events ++ more) goes.first;
-  rest = read_then goes.answer _ _ goes.more more a result (λ found on. goes_then (go found) next goes.more more a result on rest) goes.rest;
+  rest =
+      read_then goes.answer _ _ goes.more more a result
+      (λ found on. goes_then (go found) next goes.more more a result on rest) goes.rest;
 }
 goes_then (writes allowed name content p) next first more a result goes rest = record {
   answer = goes.answer;
   more = goes.more ++ more;
   first = ap (λ events. events ++ more) goes.first;
-  rest = write_then goes.answer _ _ goes.more more a result (λ on. goes_then p next goes.more more a result on rest) goes.rest;
+  rest =
+      write_then goes.answer _ _ goes.more more a result
+      (λ on. goes_then p next goes.more more a result on rest) goes.rest;
 }
 goes_then (puts piece p) next first more a result (inl goes) rest = inl (record {
   more = goes.more ++ more;
@@ -149,7 +159,9 @@ fails_stop :
 fails_stop A B [] goes goes' s on fails = ap (λ (u : Status). Err u) (same_status {A = A} s WriteFault fails)
 fails_stop A B (piece ∷ pieces) goes goes' s on fails = on fails
 
-same_failed_input : {A B : Type 0} (events : List Event) (s : Status) → FailedInput {A = A} events (Err s) → FailedInput {A = B} events (Err s)
+same_failed_input :
+    {A B : Type 0} (events : List Event) (s : Status) → FailedInput {A = A} events (Err s)
+    → FailedInput {A = B} events (Err s)
 same_failed_input {A} events s failed = record {
   only = failed.only;
   result_is = ap (λ (u : Status). Err u) (same_status {A = A} s ReadFault failed.result_is);

@@ -5,7 +5,8 @@ use Rattle.m36_outside.specs.declared.folder.ReadAnswer.TheVariants as read
 use Rattle.m36_outside.specs.declared.folder.WriteAnswer.{WriteAnswer}
 use Rattle.m36_outside.specs.declared.folder.WriteAnswer.TheVariants as write
 use Rattle.m36_world.specs.declared.event.Event.{Event}
-use Rattle.m36_world.specs.declared.event.Event.TheVariants.{FileRead, FileWrite, Output, OutputFailed, Input, InputFailed}
+use Rattle.m36_world.specs.declared.event.Event.TheVariants.{FileRead, FileWrite, Output, OutputFailed, Input}
+use Rattle.m36_world.specs.declared.event.Event.TheVariants.{InputFailed}
 use Rattle.m36_world.specs.Seen.{Seen}
 use Rattle.m36_world.specs.Did.{IsFileRead, IsFileWrite, IsOutput, IsOutputFailed, IsInput, IsInputFailed}
 use Rattle.m36_world.specs.Follow.{Follow}
@@ -56,7 +57,8 @@ files_after old between new first rest = record {
   faults = rest.faults ∙ first.faults;
 }
 
-read_keeps_files : (name : List ℕ) (answer : ReadAnswer) (old new : Seen) → IsFileRead name answer old new → FilesKept old new
+read_keeps_files :
+    (name : List ℕ) (answer : ReadAnswer) (old new : Seen) → IsFileRead name answer old new → FilesKept old new
 read_keeps_files name answer old new did = record {
   files = ap (λ s. s.files) did.rest;
   writes = ap (λ s. s.writes) did.rest;
@@ -73,7 +75,8 @@ trail_files may (FileRead name answer ∷ more) result old new never trail follo
     (after_read answer (Trail may more result) more result
     (λ none. files_kept follow.between new (passed_none more follow.between new none follow.goes_on))
     (λ on. trail_files may more result follow.between new never on follow.goes_on) trail)
-trail_files may (FileWrite name content answer ∷ more) result old new never trail follow = false_true may.writes never trail.0
+trail_files may (FileWrite name content answer ∷ more) result old new never trail follow =
+    false_true may.writes never trail.0
 trail_files may (Output piece ∷ more) result old new never trail follow =
     let did : IsOutput piece old follow.between = follow.begins in
     files_after old follow.between new (record {

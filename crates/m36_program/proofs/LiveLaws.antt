@@ -1,5 +1,6 @@
 -- A program without a dead end has a call that comes to its end.
-use Rattle.std.proofs.Common.{◌≡◌, ℕ, Bool, true, false, List, [], ◌∷◌, ◌++◌, length, Option, Some, None, Result, Ok, Err, refl, sym, ap, inl, arith, ltb}
+use Rattle.std.proofs.Common.{◌≡◌, ℕ, Bool, true, false, List, [], ◌∷◌, ◌++◌, length, Option, Some, None, Result, Ok}
+use Rattle.std.proofs.Common.{Err, refl, sym, ap, inl, arith, ltb}
 use Rattle.std.specs.Prelude.{IfSome}
 use Rattle.std.specs.Io.KnownBytes.{IsAtEnd}
 use Rattle.std.proofs.lemmas.Bool.{ltb-false, ltb-true}
@@ -26,7 +27,8 @@ use Rattle.m36_program.specs.Lives.{Lives, AreCounts, Comes}
 -- ---- parts
 
 pub lives_then :
-    {may : May} {A B : Type 0} (p : Program may A) (next : A → Program may B) → Lives p → ((a : A) → Lives (next a)) → Lives (then_with p next)
+    {may : May} {A B : Type 0} (p : Program may A) (next : A → Program may B) → Lives p → ((a : A) → Lives (next a))
+    → Lives (then_with p next)
 unfolding Lives then_with
 lives_then (done a) next live on = on a
 lives_then (stops s own) next live on = tt
@@ -41,7 +43,8 @@ lives_then (some Is go) next live on = record {
 }
 lives_then (wants p) next live on = lives_then p next live on
 
-pub lives_puts : {may : May} {A : Type 0} (pieces : List (List ℕ)) (p : Program may A) → Lives p → Lives (puts_all pieces p)
+pub lives_puts :
+    {may : May} {A : Type 0} (pieces : List (List ℕ)) (p : Program may A) → Lives p → Lives (puts_all pieces p)
 unfolding Lives puts_all
 lives_puts [] p live = live
 lives_puts (piece ∷ pieces) p live = lives_puts pieces p live
@@ -55,9 +58,11 @@ record Answered (name : List ℕ) (files : Option Files) : Type 1 where
   content : IfSome files (λ f. ReadSays answer (f name))
   limit : IsWithinLimit answer
   cause : (n : ℕ) → ReadHasCause answer n n
-  after : {A : Type 0} (goes : Found → List Event → Type 0) (more : List Event) (result : Result A Status) → goes found more → AfterRead answer goes more result
+  after : {A : Type 0} (goes : Found → List Event → Type 0) (more : List Event) (result : Result A Status)
+      → goes found more → AfterRead answer goes more result
 
-absent : (name : List ℕ) (files : Option Files) → IfSome files (λ f. ReadSays read.Absent (f name)) → Answered name files
+absent :
+    (name : List ℕ) (files : Option Files) → IfSome files (λ f. ReadSays read.Absent (f name)) → Answered name files
 absent name files content = record {
   answer = read.Absent;
   found = Absent;
@@ -67,7 +72,9 @@ absent name files content = record {
   after = λ goes more result on. on;
 }
 
-answered_bytes : (name bytes : List ℕ) (files : Files) (over : Bool) → files name ≡ Some bytes → ltb file_limit (length bytes) ≡ over → Answered name (Some files)
+answered_bytes :
+    (name bytes : List ℕ) (files : Files) (over : Bool) → files name ≡ Some bytes → ltb file_limit (length bytes) ≡ over
+    → Answered name (Some files)
 answered_bytes name bytes files true is over = record {
   answer = read.TooLarge;
   found = TooLarge;
@@ -85,7 +92,8 @@ answered_bytes name bytes files false is over = record {
   after = λ goes more result on. on;
 }
 
-answered_file : (name : List ℕ) (files : Files) (file : Option (List ℕ)) → files name ≡ file → Answered name (Some files)
+answered_file :
+    (name : List ℕ) (files : Files) (file : Option (List ℕ)) → files name ≡ file → Answered name (Some files)
 answered_file name files None is = absent name (Some files) is
 answered_file name files (Some bytes) is = answered_bytes name bytes files (ltb file_limit (length bytes)) is refl
 
@@ -113,7 +121,8 @@ taken (Some (x ∷ xs)) = record {
 -- a step, and then a call of the rest
 step :
     {may : May} {A : Type 0} (p q : Program may A) (e : Event) (old between : Seen)
-    → Did e old between → ((events : List Event) (result : Result A Status) → Goes q events result → Goes p (e ∷ events) result)
+    → Did e old between
+    → ((events : List Event) (result : Result A Status) → Goes q events result → Goes p (e ∷ events) result)
     → Comes q between → Comes p old
 unfolding Follow
 step p q e old between did on rest = record {
@@ -172,8 +181,11 @@ lives_comes (reads name go) old counts live =
       bound = counts.reads;
       rest = refl;
     })
-    (λ events result goes. record { answer = reply.answer; more = events; first = refl; rest = reply.after _ events result goes })
-    (lives_comes (go reply.found) between (record { reads = counts.reads; writes = counts.writes; outputs = counts.outputs; inputs = counts.inputs }) (live reply.found))
+    (λ events result goes. record { answer = reply.answer; more = events; first = refl; rest =
+        reply.after _ events result goes })
+    (lives_comes (go reply.found) between (record
+        { reads = counts.reads; writes = counts.writes; outputs = counts.outputs; inputs = counts.inputs })
+        (live reply.found))
 lives_comes (writes allowed name content p) old counts live =
     let between : Seen = record (noted (FileWrite name content write.Written) old) {
       writes = old.writes ++ (name, content, write.Written) ∷ [];
@@ -188,7 +200,8 @@ lives_comes (writes allowed name content p) old counts live =
       rest = refl;
     })
     (λ events result goes. record { answer = write.Written; more = events; first = refl; rest = goes })
-    (lives_comes p between (record { reads = counts.reads; writes = counts.writes; outputs = counts.outputs; inputs = counts.inputs }) live)
+    (lives_comes p between (record { reads = counts.reads; writes = counts.writes; outputs = counts.outputs; inputs =
+        counts.inputs }) live)
 lives_comes (puts piece p) old counts live =
     let between : Seen = record (noted (Output piece) old) {
       outputs = old.outputs ++ piece ∷ [];
@@ -196,7 +209,8 @@ lives_comes (puts piece p) old counts live =
     } in
     step (puts piece p) p (Output piece) old between (record { bound = counts.outputs; rest = refl })
     (λ events result goes. inl (record { more = events; first = refl; rest = goes }))
-    (lives_comes p between (record { reads = counts.reads; writes = counts.writes; outputs = counts.outputs; inputs = counts.inputs }) live)
+    (lives_comes p between (record { reads = counts.reads; writes = counts.writes; outputs = counts.outputs; inputs =
+        counts.inputs }) live)
 lives_comes (takes allowed go) old counts live =
     let input : Taken old.left = taken old.left in
     let between : Seen = record (noted (Input input.piece) old) {
@@ -206,8 +220,12 @@ lives_comes (takes allowed go) old counts live =
     step (takes allowed go) (go input.piece) (Input input.piece) old between
     (record { left = input.is; end = input.end; bound = counts.inputs; rest = refl })
     (λ events result goes. inl (record { piece = input.piece; more = events; first = refl; rest = goes }))
-    (lives_comes (go input.piece) between (record { reads = counts.reads; writes = counts.writes; outputs = counts.outputs; inputs = counts.inputs }) (live input.piece))
+    (lives_comes (go input.piece) between (record
+        { reads = counts.reads; writes = counts.writes; outputs = counts.outputs; inputs = counts.inputs })
+        (live input.piece))
 lives_comes (some Is go) old counts live =
-    same (some Is go) (go live.value) old (λ events result goes. record { value = live.value; is = live.is; rest = goes })
+    same (some Is go) (go live.value) old (λ events result goes. record
+        { value = live.value; is = live.is; rest = goes })
     (lives_comes (go live.value) old counts (live.each live.value live.is))
-lives_comes (wants p) old counts live = same (wants p) p old (λ events result goes. inl goes) (lives_comes p old counts live)
+lives_comes (wants p) old counts live =
+    same (wants p) p old (λ events result goes. inl goes) (lives_comes p old counts live)

@@ -15,7 +15,8 @@ use Rattle.m36_world.proofs.Following.{follow_on, follow_one}
 
 -- pieces, and then the rest
 pub goes_puts :
-    {may : May} {A : Type 0} (pieces : List (List ℕ)) (rest : Program may A) (more : List Event) (result : Result A Status)
+    {may : May} {A : Type 0} (pieces : List (List ℕ)) (rest : Program may A) (more : List Event)
+        (result : Result A Status)
     → Goes rest more result → Goes (puts_all pieces rest) (outputs pieces ++ more) result
 unfolding Goes puts_all
 goes_puts [] rest more result goes = goes
@@ -33,7 +34,8 @@ unfolding puts_all
 puts_both [] more rest = refl
 puts_both (piece ∷ first) more rest = ap (puts piece) (puts_both first more rest)
 
-pub puts_one : {may : May} {A : Type 0} (piece : List ℕ) (rest : Program may A) → puts_all (piece ∷ []) rest ≡ puts piece rest
+pub puts_one :
+    {may : May} {A : Type 0} (piece : List ℕ) (rest : Program may A) → puts_all (piece ∷ []) rest ≡ puts piece rest
 unfolding puts_all
 puts_one piece rest = refl
 
@@ -54,7 +56,8 @@ goes_lost piece (next ∷ pieces) rest = inr (record {
 })
 
 -- A call that failed had a piece to put.
-no_pieces : (lines left : List (List ℕ)) (line : List ℕ) → let none : List (List ℕ) = [] in none ≡ lines ++ line ∷ left → ⊥
+no_pieces :
+    (lines left : List (List ℕ)) (line : List ℕ) → let none : List (List ℕ) = [] in none ≡ lines ++ line ∷ left → ⊥
 no_pieces [] left line is = cc
 no_pieces (first ∷ lines) left line is = cc
 
@@ -76,6 +79,7 @@ loses_performs pieces rest old new lost = record {
       (sym (ap (λ l. puts_all l rest) lost.is
       ∙ puts_both (lost.handed ++ lost.failed) lost.left rest
       ∙ puts_both lost.handed lost.failed (puts_all lost.left rest)))
-      (goes_puts lost.handed (puts_all lost.failed (puts_all lost.left rest)) (OutputFailed lost.failed ∷ []) (Err WriteFault)
+      (goes_puts lost.handed (puts_all lost.failed (puts_all lost.left rest)) (OutputFailed lost.failed ∷ [])
+          (Err WriteFault)
       (goes_fails lost.failed (puts_all lost.left rest) lost.between new lost.fails));
 }

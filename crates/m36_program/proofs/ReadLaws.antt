@@ -20,22 +20,20 @@ use Rattle.m36_world.proofs.Following.{follow_one}
 
 -- ---- a refusal
 
-pub goes_refused : (may : May) (A : Type 0) (status : Status) (bad : Bad) → IsRefusal status bad → Goes {may = may} {A = A} (refuses bad) [] (Err status)
+pub goes_refused :
+    (may : May) (A : Type 0) (status : Status) (bad : Bad) → IsRefusal status bad
+    → Goes {may = may} {A = A} (refuses bad) [] (Err status)
 unfolding Goes refuses
-goes_refused may A Done bad is = absurd is
-goes_refused may A Usage bad is = absurd is
-goes_refused may A ReadFault bad is = absurd is
-goes_refused may A WriteFault bad is = absurd is
-goes_refused may A (BadFile given) bad is = inl (record { none = refl; result_is = ap (λ (b : Bad). Err (BadFile b)) is })
-goes_refused may A AuditNo bad is = absurd is
-goes_refused may A (MachineStop end) bad is = absurd is
-goes_refused may A Steps bad is = absurd is
+goes_refused may A (BadFile given) bad is =
+    inl (record { none = refl; result_is = ap (λ (b : Bad). Err (BadFile b)) is })
 goes_refused may A NoMemory bad is = inr (record { none = refl; result_is = refl })
+goes_refused may A _ bad is = absurd is
 
 -- ---- a file is read
 
 pub performs_read :
-    {may : May} {A : Type 0} (name : List ℕ) (go : Found → Program may A) (answer : ReadAnswer) (result : Result A Status) (old new : Seen)
+    {may : May} {A : Type 0} (name : List ℕ) (go : Found → Program may A) (answer : ReadAnswer)
+    (result : Result A Status) (old new : Seen)
     → IsFileRead name answer old new → AfterRead answer (λ found more. Goes (go found) more result) [] result
     → Performs (reads name go) result old new
 unfolding Goes
@@ -45,36 +43,53 @@ performs_read name go answer result old new did after = record {
   goes = record { answer = answer; more = []; first = refl; rest = after };
 }
 
-pub bytes_read : (may : May) (name bytes : List ℕ) (old new : Seen) → IsFileRead name (read.Read bytes) old new → Performs {may = may} (file_bytes name) (Ok bytes) old new
+pub bytes_read :
+    (may : May) (name bytes : List ℕ) (old new : Seen) → IsFileRead name (read.Read bytes) old new
+    → Performs {may = may} (file_bytes name) (Ok bytes) old new
 unfolding Goes file_bytes
-bytes_read may name bytes old new did = performs_read name _ (read.Read bytes) (Ok bytes) old new did (record { none = refl; result_is = refl })
+bytes_read may name bytes old new did =
+    performs_read name _ (read.Read bytes) (Ok bytes) old new did (record { none = refl; result_is = refl })
 
 pub bytes_absent :
     (may : May) (name : List ℕ) (status : Status) (old new : Seen)
-    → IsFileRead name read.Absent old new → IsRefusal status (refused name code.F1 0) → Performs {may = may} (file_bytes name) (Err status) old new
+    → IsFileRead name read.Absent old new → IsRefusal status (refused name code.F1 0)
+    → Performs {may = may} (file_bytes name) (Err status) old new
 unfolding file_bytes
-bytes_absent may name status old new did is = performs_read name _ read.Absent (Err status) old new did (goes_refused may (List ℕ) status (refused name code.F1 0) is)
+bytes_absent may name status old new did is =
+    performs_read name _ read.Absent (Err status) old new did
+    (goes_refused may (List ℕ) status (refused name code.F1 0) is)
 
 pub bytes_large :
     (may : May) (name : List ℕ) (status : Status) (old new : Seen)
-    → IsFileRead name read.TooLarge old new → IsRefusal status (refused name code.F2 0) → Performs {may = may} (file_bytes name) (Err status) old new
+    → IsFileRead name read.TooLarge old new → IsRefusal status (refused name code.F2 0)
+    → Performs {may = may} (file_bytes name) (Err status) old new
 unfolding file_bytes
-bytes_large may name status old new did is = performs_read name _ read.TooLarge (Err status) old new did (goes_refused may (List ℕ) status (refused name code.F2 0) is)
+bytes_large may name status old new did is =
+    performs_read name _ read.TooLarge (Err status) old new did
+    (goes_refused may (List ℕ) status (refused name code.F2 0) is)
 
-pub bytes_failed : (may : May) (name : List ℕ) (old new : Seen) → IsFileRead name read.Failed old new → Performs {may = may} (file_bytes name) (Err ReadFault) old new
+pub bytes_failed :
+    (may : May) (name : List ℕ) (old new : Seen) → IsFileRead name read.Failed old new
+    → Performs {may = may} (file_bytes name) (Err ReadFault) old new
 unfolding file_bytes
-bytes_failed may name old new did = performs_read name _ read.Failed (Err ReadFault) old new did (record { none = refl; result_is = refl })
+bytes_failed may name old new did =
+    performs_read name _ read.Failed (Err ReadFault) old new did (record { none = refl; result_is = refl })
 
-pub bytes_no_memory : (may : May) (name : List ℕ) (old new : Seen) → IsFileRead name read.NoMemory old new → Performs {may = may} (file_bytes name) (Err NoMemory) old new
+pub bytes_no_memory :
+    (may : May) (name : List ℕ) (old new : Seen) → IsFileRead name read.NoMemory old new
+    → Performs {may = may} (file_bytes name) (Err NoMemory) old new
 unfolding file_bytes
-bytes_no_memory may name old new did = performs_read name _ read.NoMemory (Err NoMemory) old new did (record { none = refl; result_is = refl })
+bytes_no_memory may name old new did =
+    performs_read name _ read.NoMemory (Err NoMemory) old new did (record { none = refl; result_is = refl })
 
 -- what a function that reads the bytes of a file takes by `using`
 pub ruleset reading = (bytes_read, bytes_absent, bytes_large, bytes_failed, bytes_no_memory)
 
 -- ---- a piece is put
 
-pub one_put : (may : May) (piece : List ℕ) (old new : Seen) → IsOutput piece old new → Performs {may = may} (put_one piece) (Ok tt) old new
+pub one_put :
+    (may : May) (piece : List ℕ) (old new : Seen) → IsOutput piece old new
+    → Performs {may = may} (put_one piece) (Ok tt) old new
 unfolding Goes put_one
 one_put may piece old new did = record {
   events = Output piece ∷ [];
@@ -82,7 +97,9 @@ one_put may piece old new did = record {
   goes = inl (record { more = []; first = refl; rest = record { none = refl; result_is = refl } });
 }
 
-pub one_failed : (may : May) (piece : List ℕ) (old new : Seen) → IsOutputFailed (piece ∷ []) old new → Performs {may = may} (put_one piece) (Err WriteFault) old new
+pub one_failed :
+    (may : May) (piece : List ℕ) (old new : Seen) → IsOutputFailed (piece ∷ []) old new
+    → Performs {may = may} (put_one piece) (Err WriteFault) old new
 unfolding Goes put_one
 one_failed may piece old new did = record {
   events = OutputFailed (piece ∷ []) ∷ [];
@@ -96,7 +113,8 @@ pub ruleset putting = (one_put, one_failed)
 
 pub one_written :
     (may : May) (allowed : may.writes ≡ true) (name content : List ℕ) (old new : Seen)
-    → IsFileWrite name content write.Written old new → Performs {may = may} (write_one allowed name content) (Ok tt) old new
+    → IsFileWrite name content write.Written old new
+    → Performs {may = may} (write_one allowed name content) (Ok tt) old new
 unfolding Goes write_one
 one_written may allowed name content old new did = record {
   events = FileWrite name content write.Written ∷ [];
@@ -106,7 +124,8 @@ one_written may allowed name content old new did = record {
 
 pub one_unwritten :
     (may : May) (allowed : may.writes ≡ true) (name content : List ℕ) (old new : Seen)
-    → IsFileWrite name content write.Failed old new → Performs {may = may} (write_one allowed name content) (Err WriteFault) old new
+    → IsFileWrite name content write.Failed old new
+    → Performs {may = may} (write_one allowed name content) (Err WriteFault) old new
 unfolding Goes write_one
 one_unwritten may allowed name content old new did = record {
   events = FileWrite name content write.Failed ∷ [];
@@ -116,7 +135,8 @@ one_unwritten may allowed name content old new did = record {
 
 pub one_no_memory :
     (may : May) (allowed : may.writes ≡ true) (name content : List ℕ) (old new : Seen)
-    → IsFileWrite name content write.NoMemory old new → Performs {may = may} (write_one allowed name content) (Err NoMemory) old new
+    → IsFileWrite name content write.NoMemory old new
+    → Performs {may = may} (write_one allowed name content) (Err NoMemory) old new
 unfolding Goes write_one
 one_no_memory may allowed name content old new did = record {
   events = FileWrite name content write.NoMemory ∷ [];

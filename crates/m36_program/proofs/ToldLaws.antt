@@ -18,20 +18,25 @@ use Rattle.m36_program.specs.Readers.{refuses, bytes_found, file_bytes}
 use Rattle.m36_program.proofs.OneText.{found_or_ended, said}
 
 -- A call that reads a file goes on by what the files have.
-pub record GoesOn {may : May} {A : Type 0} (p : Program may A) (files : Files) (result : Result A Status) (new : Seen) : Type 0 where
+pub record GoesOn {may : May} {A : Type 0} (p : Program may A) (files : Files) (result : Result A Status)
+    (new : Seen) : Type 0 where
   pub between : Seen
   pub told : between.files ≡ Some files
   pub performs : Performs p result between new
 
 pub reads_told :
-    {may : May} {A : Type 0} (name : List ℕ) (go : Found → Program may A) (files : Files) (result : Result A Status) (old new : Seen)
-    → old.files ≡ Some files → IsEnd result → Performs (reads name go) result old new → GoesOn (go (found_in (files name))) files result new
+    {may : May} {A : Type 0} (name : List ℕ) (go : Found → Program may A) (files : Files) (result : Result A Status)
+    (old new : Seen)
+    → old.files ≡ Some files → IsEnd result → Performs (reads name go) result old new
+    → GoesOn (go (found_in (files name))) files result new
 unfolding Goes Follow
 reads_told name go files result old new told ended performs =
     let goes = performs.goes in
-    let same : (let start : List Event = FileRead name goes.answer ∷ goes.more in Follow start old new) = subst (λ e. Follow e old new) goes.first performs.follow in
+    let same : (let start : List Event = FileRead name goes.answer ∷ goes.more in Follow start old new) =
+        subst (λ e. Follow e old new) goes.first performs.follow in
     let did : IsFileRead name goes.answer old same.between = same.begins in
-    found_or_ended goes.answer (files name) _ goes.more result (said goes.answer name old.files files told did.content) did.limit goes.rest
+    found_or_ended goes.answer (files name) _ goes.more result
+        (said goes.answer name old.files files told did.content) did.limit goes.rest
     (λ rest. record {
       between = same.between;
       told = ap (λ s. s.files) did.rest ∙ told;
@@ -41,7 +46,8 @@ reads_told name go files result old new told ended performs =
 
 -- The bytes of a file are those that the files have under the name.
 bytes_are :
-    (may : May) (name bytes : List ℕ) (found : Found) (events : List Event) → Goes {may = may} (bytes_found name found) events (Ok bytes) → found ≡ Content bytes
+    (may : May) (name bytes : List ℕ) (found : Found) (events : List Event)
+    → Goes {may = may} (bytes_found name found) events (Ok bytes) → found ≡ Content bytes
 unfolding Goes refuses
 bytes_are may name bytes (Content given) events goes = let is = goes.result_is in cc
 bytes_are may name bytes Absent events (inl goes) = absurd (let is = goes.result_is in cc)
@@ -51,7 +57,8 @@ bytes_are may name bytes TooLarge events (inr ends) = absurd (let is = ends.resu
 
 pub bytes_told :
     {may : May} (name bytes : List ℕ) (files : Files) (old new : Seen)
-    → old.files ≡ Some files → Performs {may = may} (file_bytes name) (Ok bytes) old new → found_in (files name) ≡ Content bytes
+    → old.files ≡ Some files → Performs {may = may} (file_bytes name) (Ok bytes) old new
+    → found_in (files name) ≡ Content bytes
 unfolding file_bytes
 bytes_told {may} name bytes files old new told performs =
     let on = reads_told name (bytes_found name) files (Ok bytes) old new told tt performs in
@@ -68,7 +75,8 @@ no_refusal may name bytes bad TooLarge events is goes = cc
 
 pub bytes_accepted :
     {may : May} (name bytes : List ℕ) (bad : Bad) (files : Files) (old new : Seen)
-    → old.files ≡ Some files → found_in (files name) ≡ Content bytes → Performs {may = may} (file_bytes name) (Err (BadFile bad)) old new → ⊥
+    → old.files ≡ Some files → found_in (files name) ≡ Content bytes
+    → Performs {may = may} (file_bytes name) (Err (BadFile bad)) old new → ⊥
 unfolding file_bytes
 bytes_accepted {may} name bytes bad files old new told is performs =
     let on = reads_told name (bytes_found name) files (Err (BadFile bad)) old new told tt performs in

@@ -14,8 +14,8 @@ use Rattle.m36_program.specs.Program.{Found, Content, Absent, TooLarge, May, Pro
 use Rattle.m36_program.specs.Program.{done, stops, reads, writes, puts, takes, some, wants}
 
 -- Nothing more passes, and the result is this.
-pub record Ends {A : Type 0} (value : Result A Status) (events : List Event) (result : Result A Status)
-    : Type 0 where
+pub record Ends {A : Type 0} (value : Result A Status) (events : List Event)
+    (result : Result A Status) : Type 0 where
   pub none : events ≡ []
   pub result_is : result ≡ value
 
@@ -23,7 +23,8 @@ pub record Ends {A : Type 0} (value : Result A Status) (events : List Event) (re
 
 -- A program goes on by what was found. A failed read ends it, and so does want of memory.
 abbrev pub AfterRead :
-    {A : Type 0} → ReadAnswer → (Found → List Event → Type 0) → List Event → Result A Status → Type 0
+    {A : Type 0} → ReadAnswer → (Found → List Event → Type 0) → List Event → Result A Status
+    → Type 0
 AfterRead (read.Read bytes) goes more result = goes (Content bytes) more
 AfterRead read.Absent goes more result = goes Absent more
 AfterRead read.TooLarge goes more result = goes TooLarge more

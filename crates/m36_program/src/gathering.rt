@@ -19,8 +19,8 @@ pub fn hand_over<W: World>(block: &mut Block, world: &mut W) -> Put
     answer
 }
 
-/// Adds a piece to a block, and where there is no room for it hands over first what is in the block. Where the output
-/// failed the block is empty.
+/// Adds a piece to a block. Where there is no room for it, what is in the block is handed over
+/// first. Where the output failed, the block is empty.
 #[tactic(auto, using(crate::proofs::Gathered::gathering))]
 pub fn add_piece<W: World>(block: &mut Block, piece: &[u8], world: &mut W) -> Put
     ensures adds { Adds result block.old block.new (piece.now ∷ [])
@@ -78,7 +78,8 @@ fn add_first<W: World>(block: &mut Block, piece: &[u8], world: &mut W) -> Put
     }
 }
 
-/// Adds the last piece, and hands over the block. The block is empty then, also where the output failed.
+/// Adds the last piece, and hands over the block. The block is empty then, also where the output
+/// failed.
 #[tactic(auto, using(crate::proofs::Gathered::finishing))]
 pub fn finish<W: World>(block: &mut Block, piece: &[u8], world: &mut W) -> Put
     ensures puts { Puts result (block.old ++ piece.now ∷ []) (W.seen world.old) (W.seen world.new) }

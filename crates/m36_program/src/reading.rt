@@ -11,7 +11,8 @@ use m36_reading::{Bad, Code, Status};
 use m36_world::World;
 use std::alloc::Global;
 
-/// Refuses a file, at a place and a column of it. Out of memory for its name, the status is NoMemory.
+/// Refuses a file, at a place and a column of it. Where memory runs out for its name, the status is
+/// NoMemory.
 pub fn refuse_at(alloc: Global, name: &[u8], code: Code, at: u32, column: u32) -> Status
     ensures { IsRefusal result (refused_at name.now code at column) }
 {
