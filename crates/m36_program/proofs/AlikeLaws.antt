@@ -122,10 +122,10 @@ alike_then (reads name go) q next next' alike on =
     (λ found r is. alike_then (go found) r next next' is on) alike
 alike_then (writes allowed name content p) q next next' alike on =
     writes_then name content (λ r. Alike p r) (λ r. Alike (then_with p next) r) q next'
-        (λ r is. alike_then p r next next' is on) alike
+    (λ r is. alike_then p r next next' is on) alike
 alike_then (puts piece p) q next next' alike on =
     puts_then piece (λ r. Alike p r) (λ r. Alike (then_with p next) r) q next'
-        (λ r is. alike_then p r next next' is on) alike
+    (λ r is. alike_then p r next next' is on) alike
 alike_then (takes allowed go) q next next' alike on =
     takes_then (λ piece r. Alike (go piece) r) (λ piece r. Alike (then_with (go piece) next) r) q next'
     (λ piece r is. alike_then (go piece) r next next' is on) alike
@@ -156,10 +156,10 @@ no_inputs :
 no_inputs may [] result never trail = refl
 no_inputs may (FileRead name answer ∷ more) result never trail =
     after_read answer (Trail may more result) more result (ap inputs_of)
-        (λ on. no_inputs may more result never on) trail
+    (λ on. no_inputs may more result never on) trail
 no_inputs may (FileWrite name content answer ∷ more) result never trail =
     after_write answer (Trail may more result) more result (ap inputs_of)
-        (λ on. no_inputs may more result never on) trail.1
+    (λ on. no_inputs may more result never on) trail.1
 no_inputs may (Output piece ∷ more) result never trail = no_inputs may more result never trail
 no_inputs may (OutputFailed pieces ∷ more) result never trail = ap inputs_of trail.none
 no_inputs may (Input piece ∷ more) result never trail = false_true may.takes never trail.0
@@ -168,23 +168,23 @@ no_inputs may (InputFailed ∷ more) result never trail = false_true may.takes n
 -- Over the same files and input, what one call puts is a first part of what another puts that comes to its end.
 pub performs_one_text :
     {may : May} {A : Type 0} (p : Program may A) (files : Files) (result end : Result A Status)
-        (old new old' new' : Seen)
+    (old new old' new' : Seen)
     → Alike p p → IsEnd end → old.files ≡ Some files → old'.files ≡ Some files
     → (one : Performs p result old new) (other : Performs p end old' new')
     → SameInput (inputs_of one.events) (inputs_of other.events)
     → OneText (pieces_of one.events) (pieces_of other.events) result end
 performs_one_text p files result end old new old' new' alike ended told told' one other input =
     one_text p one.events result end old new new' files ended told one.follow one.goes p other.events old' alike told'
-        other.follow input other.goes
+    other.follow input other.goes
 
 -- The same of a program that takes no input.
 pub performs_quiet_text :
     {may : May} {A : Type 0} (p : Program may A) (files : Files) (result end : Result A Status)
-        (old new old' new' : Seen)
+    (old new old' new' : Seen)
     → may.takes ≡ false → Alike p p → IsEnd end → old.files ≡ Some files → old'.files ≡ Some files
     → (one : Performs p result old new) (other : Performs p end old' new')
     → OneText (pieces_of one.events) (pieces_of other.events) result end
 performs_quiet_text {may = may} p files result end old new old' new' never alike ended told told' one other =
     performs_one_text p files result end old new old' new' alike ended told told' one other
     (subst (λ l. SameInput l (inputs_of other.events))
-        (sym (no_inputs may one.events result never (goes_trail p one.events result one.goes))) tt)
+    (sym (no_inputs may one.events result never (goes_trail p one.events result one.goes))) tt)

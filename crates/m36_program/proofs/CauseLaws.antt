@@ -94,7 +94,7 @@ unfolding Follow
 last_cause value more result old between new ends follow cause =
     let same : Follow [] between new = subst (λ events. Follow events between new) ends.none follow in
     subst (λ (r : Result _ Status). HasCause r old new) (sym ends.result_is)
-        (subst (λ s. HasCause value old s) (sym same) cause)
+    (subst (λ s. HasCause value old s) (sym same) cause)
 
 file_read :
     (name : List ℕ) (answer : ReadAnswer) (old new : Seen) → IsFileRead name answer old new
@@ -118,7 +118,7 @@ file_written name content answer old new did same = record {
 
 read_cause :
     {A : Type 0} (may : May) (name : List ℕ) (answer : ReadAnswer) (more : List Event) (result : Result A Status)
-        (old between new : Seen)
+    (old between new : Seen)
     → IsFileRead name answer old between → Follow more between new
     → (Trail may more result → HasCause result between new)
     → AfterRead answer (λ found events. Trail may more result) more result → HasCause result old new
@@ -137,11 +137,11 @@ read_cause {A = A} may name read.Failed more result old between new did follow r
     }))
 read_cause {A = A} may name read.NoMemory more result old between new did follow rest after =
     last_cause {A = A} (Err status.NoMemory) more result old between new after follow
-        (file_read name read.NoMemory old between did did.cause)
+    (file_read name read.NoMemory old between did did.cause)
 
 write_cause :
     {A : Type 0} (may : May) (name content : List ℕ) (answer : WriteAnswer) (more : List Event)
-        (result : Result A Status) (old between new : Seen)
+    (result : Result A Status) (old between new : Seen)
     → IsFileWrite name content answer old between → Follow more between new
     → (Trail may more result → HasCause result between new)
     → AfterWrite answer (λ events. Trail may more result) more result → HasCause result old new
@@ -156,7 +156,7 @@ write_cause {A = A} may name content write.Failed more result old between new di
     }))
 write_cause {A = A} may name content write.NoMemory more result old between new did follow rest after =
     last_cause {A = A} (Err status.NoMemory) more result old between new after follow
-        (file_written name content write.NoMemory old between did did.cause)
+    (file_written name content write.NoMemory old between did did.cause)
 
 -- each result has its cause
 pub trail_cause :

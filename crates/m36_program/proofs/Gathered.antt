@@ -20,7 +20,7 @@ pub follow_pieces :
     → Follow (outputs first) old between → Follow (outputs more) between new → Follow (outputs (first ++ more)) old new
 follow_pieces first more old between new one two =
     subst (λ events. Follow events old new) (sym (outputs_both first more))
-        (follow_on (outputs first) (outputs more) old between new one two)
+    (follow_on (outputs first) (outputs more) old between new one two)
 
 -- ---- pieces are added
 
@@ -61,7 +61,7 @@ pub adds_after :
     → Adds answer start new more before after
 adds_after Done start old now new more before between after same put none next =
     subst (λ l. Gathers l new more before after) same
-        (gathers_after old now new more before between after put none next)
+    (gathers_after old now new more before between after put none next)
 adds_after Failed start old now new more before between after same put none next =
     subst (λ l. Loses (l ++ more) before after) same (loses_after old now more before between after put none next)
 
@@ -114,7 +114,7 @@ pub puts_finished :
     → Follow (outputs (old ++ more)) before after
 puts_finished old mid more before between after added put =
     subst (λ l. Follow (outputs l) before after) (sym added.is)
-        (follow_pieces added.handed mid before between after added.follow put)
+    (follow_pieces added.handed mid before between after added.follow put)
 
 pub puts_lost :
     (old mid more : List (List ℕ)) (before between after : Seen)

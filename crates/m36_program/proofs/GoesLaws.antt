@@ -93,7 +93,7 @@ goes_then (done x) next first more a result goes rest =
     let none : first ≡ [] = goes.none in
     let is : x ≡ a = let e = goes.result_is in cc in
     subst (λ events. Goes (next x) (events ++ more) result) (sym none)
-        (subst (λ y. Goes (next y) more result) (sym is) rest)
+    (subst (λ y. Goes (next y) more result) (sym is) rest)
 goes_then (stops status own) next first more a result goes rest = no_end a status first goes
 goes_then (reads name go) next first more a result goes rest = record {
   answer = goes.answer;

@@ -119,17 +119,17 @@ pub leads_gathers :
     → Leads (puts_all block' rest) first old new
 leads_gathers block block' more rest first old between new left gathers =
     leads_on (puts_all block (puts_all more rest)) (puts_all block' rest) first
-        (outputs gathers.handed) old between new left gathers.follow
+    (outputs gathers.handed) old between new left gathers.follow
     (λ after result goes.
     subst (λ p. Goes p (outputs gathers.handed ++ after) result)
     (sym (puts_both gathers.handed block' rest) ∙ ap (λ l. puts_all l rest) (sym gathers.is)
-        ∙ puts_both block more rest)
+    ∙ puts_both block more rest)
     (goes_puts gathers.handed (puts_all block' rest) after result goes))
 
 -- one piece is
 pub leads_adds :
     {may : May} {A : Type 0} (block block' : List (List ℕ)) (piece : List ℕ) (rest first : Program may A)
-        (old between new : Seen)
+    (old between new : Seen)
     → Leads (puts_all block (puts piece rest)) first old between → Gathers block block' (piece ∷ []) between new
     → Leads (puts_all block' rest) first old new
 leads_adds block block' piece rest first old between new left gathers =
@@ -146,7 +146,7 @@ leads_empty block rest first old new none left =
 -- all pieces were put, and the rest performs what is left
 pub gathers_performs :
     {may : May} {A : Type 0} (pieces : List (List ℕ)) (rest : Program may A) (result : Result A Status)
-        (old between new : Seen)
+    (old between new : Seen)
     → Follow (outputs pieces) old between → Performs rest result between new
     → Performs (puts_all pieces rest) result old new
 gathers_performs pieces rest result old between new follow performs = record {
@@ -163,11 +163,11 @@ pub leads_lost :
 leads_lost block more rest first old between new left lost =
     leads_ends (puts_all block (puts_all more rest)) first (Err WriteFault) old between new left
     (subst (λ p. Performs p (Err WriteFault) between new) (puts_both block more rest)
-        (loses_performs (block ++ more) rest between new lost))
+    (loses_performs (block ++ more) rest between new lost))
 
 pub leads_lost_one :
     {may : May} {A : Type 0} (block : List (List ℕ)) (piece : List ℕ) (rest first : Program may A)
-        (old between new : Seen)
+    (old between new : Seen)
     → Leads (puts_all block (puts piece rest)) first old between → Loses (block ++ piece ∷ []) between new
     → Performs first (Err WriteFault) old new
 leads_lost_one block piece rest first old between new left lost =
@@ -177,11 +177,11 @@ leads_lost_one block piece rest first old between new left lost =
 -- the last pieces were put, and nothing is left after them
 pub leads_finished :
     {may : May} {A : Type 0} (block more : List (List ℕ)) (rest first : Program may A) (result : Result A Status)
-        (old between new : Seen)
+    (old between new : Seen)
     → Leads (puts_all block (puts_all more rest)) first old between → Follow (outputs (block ++ more)) between new
     → Goes rest [] result → Performs first result old new
 leads_finished block more rest first result old between new left follow goes =
     leads_ends (puts_all block (puts_all more rest)) first result old between new left
     (subst (λ p. Performs p result between new) (puts_both block more rest)
     (gathers_performs (block ++ more) rest result between new new follow
-        (record { events = []; follow = follow_none new; goes = goes })))
+    (record { events = []; follow = follow_none new; goes = goes })))

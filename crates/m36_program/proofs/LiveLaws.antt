@@ -181,11 +181,16 @@ lives_comes (reads name go) old counts live =
       bound = counts.reads;
       rest = refl;
     })
-    (λ events result goes. record { answer = reply.answer; more = events; first = refl; rest =
-        reply.after _ events result goes })
+    (λ events result goes. record {
+      answer = reply.answer;
+      more = events;
+      first = refl;
+      rest =
+          reply.after _ events result goes;
+    })
     (lives_comes (go reply.found) between (record
-        { reads = counts.reads; writes = counts.writes; outputs = counts.outputs; inputs = counts.inputs })
-        (live reply.found))
+    { reads = counts.reads; writes = counts.writes; outputs = counts.outputs; inputs = counts.inputs })
+    (live reply.found))
 lives_comes (writes allowed name content p) old counts live =
     let between : Seen = record (noted (FileWrite name content write.Written) old) {
       writes = old.writes ++ (name, content, write.Written) ∷ [];
@@ -200,8 +205,13 @@ lives_comes (writes allowed name content p) old counts live =
       rest = refl;
     })
     (λ events result goes. record { answer = write.Written; more = events; first = refl; rest = goes })
-    (lives_comes p between (record { reads = counts.reads; writes = counts.writes; outputs = counts.outputs; inputs =
-        counts.inputs }) live)
+    (lives_comes p between (record {
+      reads = counts.reads;
+      writes = counts.writes;
+      outputs = counts.outputs;
+      inputs =
+          counts.inputs;
+    }) live)
 lives_comes (puts piece p) old counts live =
     let between : Seen = record (noted (Output piece) old) {
       outputs = old.outputs ++ piece ∷ [];
@@ -209,8 +219,13 @@ lives_comes (puts piece p) old counts live =
     } in
     step (puts piece p) p (Output piece) old between (record { bound = counts.outputs; rest = refl })
     (λ events result goes. inl (record { more = events; first = refl; rest = goes }))
-    (lives_comes p between (record { reads = counts.reads; writes = counts.writes; outputs = counts.outputs; inputs =
-        counts.inputs }) live)
+    (lives_comes p between (record {
+      reads = counts.reads;
+      writes = counts.writes;
+      outputs = counts.outputs;
+      inputs =
+          counts.inputs;
+    }) live)
 lives_comes (takes allowed go) old counts live =
     let input : Taken old.left = taken old.left in
     let between : Seen = record (noted (Input input.piece) old) {
@@ -221,11 +236,11 @@ lives_comes (takes allowed go) old counts live =
     (record { left = input.is; end = input.end; bound = counts.inputs; rest = refl })
     (λ events result goes. inl (record { piece = input.piece; more = events; first = refl; rest = goes }))
     (lives_comes (go input.piece) between (record
-        { reads = counts.reads; writes = counts.writes; outputs = counts.outputs; inputs = counts.inputs })
-        (live input.piece))
+    { reads = counts.reads; writes = counts.writes; outputs = counts.outputs; inputs = counts.inputs })
+    (live input.piece))
 lives_comes (some Is go) old counts live =
     same (some Is go) (go live.value) old (λ events result goes. record
-        { value = live.value; is = live.is; rest = goes })
+    { value = live.value; is = live.is; rest = goes })
     (lives_comes (go live.value) old counts (live.each live.value live.is))
 lives_comes (wants p) old counts live =
     same (wants p) p old (λ events result goes. inl goes) (lives_comes p old counts live)

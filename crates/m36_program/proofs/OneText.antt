@@ -101,7 +101,7 @@ pub said :
     → IfSome told (λ f. ReadSays answer (f name)) → ReadSays answer (files name)
 said answer name told files is says =
     let at : IfSome (Some files) (λ f. ReadSays answer (f name)) =
-        subst (λ t. IfSome t (λ f. ReadSays answer (f name))) is says in at
+    subst (λ t. IfSome t (λ f. ReadSays answer (f name))) is says in at
 
 -- ---- the other call, which comes to its end
 
@@ -129,7 +129,7 @@ ends_alike value _ events end alike ended goes = absurd alike
 
 text_ends :
     {may : May} {A : Type 0} (value : Result A Status) (q : Program may A) (first events : List Event)
-        (result end : Result A Status)
+    (result end : Result A Status)
     → EndsAlike value q → IsEnd end → Goes q events end → first ≡ [] → result ≡ value
     → OneText (pieces_of first) (pieces_of events) result end
 text_ends value q first events result end alike ended goes none is =
@@ -149,20 +149,20 @@ text_reads :
 unfolding Goes Follow
 text_reads name alike files inputs first result end new ended on (reads other go) events old is told follow input goes =
     let same : (let start : List Event = FileRead other goes.answer ∷ goes.more in Follow start old new) =
-        subst (λ e. Follow e old new) goes.first follow in
+    subst (λ e. Follow e old new) goes.first follow in
     let did : IsFileRead other goes.answer old same.between = same.begins in
     let same_input : SameInput inputs (inputs_of (FileRead other goes.answer ∷ goes.more)) =
-        subst (λ e. SameInput inputs (inputs_of e)) goes.first input in
+    subst (λ e. SameInput inputs (inputs_of e)) goes.first input in
     subst (λ e. OneText first (pieces_of e) result end) (sym goes.first)
     (found_or_ended goes.answer (files other) _ goes.more end
-        (said goes.answer other old.files files told did.content) did.limit goes.rest
+    (said goes.answer other old.files files told did.content) did.limit goes.rest
     (λ rest. on (go (found_in (files other))) goes.more same.between
     (subst (λ n. alike (found_in (files n)) (go (found_in (files other)))) (sym is.0) (is.1 (found_in (files other))))
     (ap (λ s. s.files) did.rest ∙ told) same.goes_on same_input rest)
     (λ none fails. fails _ ended))
 text_reads name alike files inputs first result end new ended on (some Is go) events old is told follow input goes =
     text_reads name alike files inputs first result end new ended on (go goes.value) events old
-        (is goes.value goes.is) told follow input goes.rest
+    (is goes.value goes.is) told follow input goes.rest
 text_reads name alike files inputs first result end new ended on (wants q) events old is told follow input (inl goes) =
     text_reads name alike files inputs first result end new ended on q events old is told follow input goes
 text_reads name alike files inputs first result end new ended on (wants q) events old is told follow input (inr ends) =
@@ -179,10 +179,10 @@ unfolding Goes Follow
 text_writes name content alike files inputs first result end new ended on
     (writes allowed other others q) events old is told follow input goes =
     let same : (let start : List Event = FileWrite other others goes.answer ∷ goes.more in Follow start old new) =
-        subst (λ e. Follow e old new) goes.first follow in
+    subst (λ e. Follow e old new) goes.first follow in
     let did : IsFileWrite other others goes.answer old same.between = same.begins in
     let same_input : SameInput inputs (inputs_of (FileWrite other others goes.answer ∷ goes.more)) =
-        subst (λ e. SameInput inputs (inputs_of e)) goes.first input in
+    subst (λ e. SameInput inputs (inputs_of e)) goes.first input in
     subst (λ e. OneText first (pieces_of e) result end) (sym goes.first)
     (written_or_ended goes.answer _ goes.more end other others old.files same.between.files did.files goes.rest
     (λ rest wrote. on q goes.more same.between is.2
@@ -194,7 +194,7 @@ text_writes name content alike files inputs first result end new ended on
 text_writes name content alike files inputs first result end new ended on
     (some Is go) events old is told follow input goes =
     text_writes name content alike files inputs first result end new ended on (go goes.value) events old
-        (is goes.value goes.is) told follow input goes.rest
+    (is goes.value goes.is) told follow input goes.rest
 text_writes name content alike files inputs first result end new ended on (wants q) events old is told follow input
     (inl goes) =
     text_writes name content alike files inputs first result end new ended on q events old is told follow input goes
@@ -213,10 +213,10 @@ unfolding Goes Follow
 text_puts piece alike files inputs first result end new ended on (puts other q) events old is told follow input
     (inl goes) =
     let same : (let start : List Event = Output other ∷ goes.more in Follow start old new) =
-        subst (λ e. Follow e old new) goes.first follow in
+    subst (λ e. Follow e old new) goes.first follow in
     let did : IsOutput other old same.between = same.begins in
     let same_input : SameInput inputs (inputs_of (Output other ∷ goes.more)) =
-        subst (λ e. SameInput inputs (inputs_of e)) goes.first input in
+    subst (λ e. SameInput inputs (inputs_of e)) goes.first input in
     subst (λ e. OneText (piece ∷ first) (pieces_of e) result end) (sym goes.first)
     (one_more piece other first (pieces_of goes.more) result end is.0
     (on q goes.more same.between is.1 (ap (λ s. s.files) did.rest ∙ told) same.goes_on same_input goes.rest))
@@ -225,7 +225,7 @@ text_puts piece alike files inputs first result end new ended on (puts other q) 
     write_fault end (fails_with failed.pieces _ end (λ goes. goes_failed q failed.pieces end goes) failed.rest) ended
 text_puts piece alike files inputs first result end new ended on (some Is go) events old is told follow input goes =
     text_puts piece alike files inputs first result end new ended on (go goes.value) events old
-        (is goes.value goes.is) told follow input goes.rest
+    (is goes.value goes.is) told follow input goes.rest
 text_puts piece alike files inputs first result end new ended on (wants q) events old is told follow input (inl goes) =
     text_puts piece alike files inputs first result end new ended on q events old is told follow input goes
 text_puts piece alike files inputs first result end new ended on (wants q) events old is told follow input (inr ends) =
@@ -242,10 +242,10 @@ unfolding Goes Follow
 text_takes piece alike files inputs first result end new ended on (takes allowed go) events old is told follow input
     (inl goes) =
     let same : (let start : List Event = Input goes.piece ∷ goes.more in Follow start old new) =
-        subst (λ e. Follow e old new) goes.first follow in
+    subst (λ e. Follow e old new) goes.first follow in
     let did : IsInput goes.piece old same.between = same.begins in
     let same_input : SameInput (piece ∷ inputs) (inputs_of (Input goes.piece ∷ goes.more)) =
-        subst (λ e. SameInput (piece ∷ inputs) (inputs_of e)) goes.first input in
+    subst (λ e. SameInput (piece ∷ inputs) (inputs_of e)) goes.first input in
     subst (λ e. OneText first (pieces_of e) result end) (sym goes.first)
     (on (go goes.piece) goes.more same.between
     (subst (λ p. alike p (go goes.piece)) (sym same_input.0) (is goes.piece))
@@ -254,7 +254,7 @@ text_takes piece alike files inputs first result end new ended on (takes allowed
     (inr failed) = read_fault end failed.result_is ended
 text_takes piece alike files inputs first result end new ended on (some Is go) events old is told follow input goes =
     text_takes piece alike files inputs first result end new ended on (go goes.value) events old
-        (is goes.value goes.is) told follow input goes.rest
+    (is goes.value goes.is) told follow input goes.rest
 text_takes piece alike files inputs first result end new ended on (wants q) events old is told follow input (inl goes) =
     text_takes piece alike files inputs first result end new ended on q events old is told follow input goes
 text_takes piece alike files inputs first result end new ended on (wants q) events old is told follow input (inr ends) =
@@ -266,14 +266,14 @@ text_takes piece alike files inputs first result end new ended on _ events old i
 -- the pieces of the failed call are first ones of the other's, in whatever part of the program the last of them is put
 failed_with :
     {may : May} {A : Type 0} (p : Program may A) (pieces : List (List ℕ)) (files : Files) (end : Result A Status)
-        (new : Seen)
+    (new : Seen)
     → (Goes p (OutputFailed pieces ∷ []) (Err WriteFault)
-        → Continues (Alike p) files [] pieces (Err WriteFault) end new)
+    → Continues (Alike p) files [] pieces (Err WriteFault) end new)
     → FailsWith {A = A} pieces (λ more. Goes p more (Err WriteFault)) (Err WriteFault)
     → Continues (Alike p) files [] pieces (Err WriteFault) end new
 failed_with p [] files end new on fails =
     λ q events old alike told follow input goes. nothing_put (pieces_of events) (Err WriteFault) end
-        (λ P ended. absurd ended)
+    (λ P ended. absurd ended)
 failed_with p (piece ∷ pieces) files end new on fails = on fails
 
 same_pieces : (first more : List (List ℕ)) → OutputFailed first ∷ [] ≡ OutputFailed more ∷ [] → first ≡ more
@@ -281,7 +281,7 @@ same_pieces first more is = cc
 
 text_failed :
     {may : May} {A : Type 0} (p : Program may A) (pieces : List (List ℕ)) (files : Files) (end : Result A Status)
-        (new : Seen)
+    (new : Seen)
     → IsEnd end → Goes p (OutputFailed pieces ∷ []) (Err WriteFault)
     → Continues (Alike p) files [] pieces (Err WriteFault) end new
 unfolding Goes Alike
@@ -292,10 +292,10 @@ text_failed (writes allowed name content p) pieces files end new ended goes = ab
 text_failed (puts piece p) pieces files end new ended (inl goes) = absurd (let e = goes.first in cc)
 text_failed (puts piece p) pieces files end new ended (inr failed) =
     subst (λ l. Continues (PutsAlike piece (λ next. Alike p next)) files [] l (Err WriteFault) end new)
-        (sym (same_pieces pieces (piece ∷ failed.pieces) failed.only))
+    (sym (same_pieces pieces (piece ∷ failed.pieces) failed.only))
     (text_puts piece (λ next. Alike p next) files [] failed.pieces (Err WriteFault) end new ended
     (failed_with p failed.pieces files end new
-        (λ goes. text_failed p failed.pieces files end new ended goes) failed.rest))
+    (λ goes. text_failed p failed.pieces files end new ended goes) failed.rest))
 text_failed (takes allowed go) pieces files end new ended (inl goes) = absurd (let e = goes.first in cc)
 text_failed (takes allowed go) pieces files end new ended (inr failed) = absurd (let e = failed.only in cc)
 text_failed (some Is go) pieces files end new ended goes =
@@ -315,7 +315,7 @@ none_put first all result end none fails =
 
 failed_text :
     {may : May} {A : Type 0} (p : Program may A) (pieces : List (List ℕ)) (files : Files) (result end : Result A Status)
-        (new : Seen)
+    (new : Seen)
     → IsEnd end → result ≡ Err WriteFault → Goes p (OutputFailed pieces ∷ []) result
     → Continues (Alike p) files [] (pieces ++ []) result end new
 failed_text p pieces files result end new ended is goes =
@@ -325,80 +325,80 @@ failed_text p pieces files result end new ended is goes =
 
 pub one_text :
     {may : May} {A : Type 0} (p : Program may A) (events : List Event) (result end : Result A Status)
-        (old between new : Seen) (files : Files)
+    (old between new : Seen) (files : Files)
     → IsEnd end → old.files ≡ Some files → Follow events old between → Goes p events result
     → Continues (Alike p) files (inputs_of events) (pieces_of events) result end new
 unfolding Goes Follow Alike
 one_text (done x) events result end old between new files ended told follow goes =
     λ q others old' alike told' follow' input goes'. text_ends
-        (Ok x) q events others result end alike ended goes' goes.none goes.result_is
+    (Ok x) q events others result end alike ended goes' goes.none goes.result_is
 one_text (stops s own) events result end old between new files ended told follow goes =
     λ q others old' alike told' follow' input goes'. text_ends
-        (Err s) q events others result end alike ended goes' goes.none goes.result_is
+    (Err s) q events others result end alike ended goes' goes.none goes.result_is
 one_text (reads name go) events result end old between new files ended told follow goes =
     let same : (let start : List Event = FileRead name goes.answer ∷ goes.more in Follow start old between) =
-        subst (λ e. Follow e old between) goes.first follow in
+    subst (λ e. Follow e old between) goes.first follow in
     let did : IsFileRead name goes.answer old same.between = same.begins in
     subst (λ e. Continues (ReadsAlike name (λ found next. Alike (go found) next)) files (inputs_of e)
-        (pieces_of e) result end new) (sym goes.first)
+    (pieces_of e) result end new) (sym goes.first)
     (λ q others old' alike told' follow' input goes'.
     found_or_ended goes.answer (files name) _ goes.more result
-        (said goes.answer name old.files files told did.content) did.limit goes.rest
+    (said goes.answer name old.files files told did.content) did.limit goes.rest
     (λ rest. text_reads name (λ found next. Alike (go found) next) files (inputs_of goes.more)
-        (pieces_of goes.more) result end new ended
+    (pieces_of goes.more) result end new ended
     (one_text (go (found_in (files name))) goes.more result end same.between between new files ended
-        (ap (λ s. s.files) did.rest ∙ told) same.goes_on rest)
+    (ap (λ s. s.files) did.rest ∙ told) same.goes_on rest)
     q others old' alike told' follow' input goes')
     (λ none fails. none_put goes.more (pieces_of others) result end none fails))
 one_text (writes allowed name content p) events result end old between new files ended told follow goes =
     let same : (let start : List Event = FileWrite name content goes.answer ∷ goes.more in Follow start old between) =
-        subst (λ e. Follow e old between) goes.first follow in
+    subst (λ e. Follow e old between) goes.first follow in
     let did : IsFileWrite name content goes.answer old same.between = same.begins in
     subst (λ e. Continues (WritesAlike name content (λ next. Alike p next)) files (inputs_of e)
-        (pieces_of e) result end new) (sym goes.first)
+    (pieces_of e) result end new) (sym goes.first)
     (λ q others old' alike told' follow' input goes'.
     written_or_ended goes.answer _ goes.more result name content old.files same.between.files did.files goes.rest
     (λ rest wrote. text_writes name content (λ next. Alike p next) files (inputs_of goes.more)
-        (pieces_of goes.more) result end new ended
+    (pieces_of goes.more) result end new ended
     (one_text p goes.more result end same.between between new (with_file name (Some content) files) ended
-        (wrote ∙ ap (with_told_file name (Some content)) told) same.goes_on rest)
+    (wrote ∙ ap (with_told_file name (Some content)) told) same.goes_on rest)
     q others old' alike told' follow' input goes')
     (λ none fails. none_put goes.more (pieces_of others) result end none fails))
 one_text (puts piece p) events result end old between new files ended told follow (inl goes) =
     let same : (let start : List Event = Output piece ∷ goes.more in Follow start old between) =
-        subst (λ e. Follow e old between) goes.first follow in
+    subst (λ e. Follow e old between) goes.first follow in
     let did : IsOutput piece old same.between = same.begins in
     subst (λ e. Continues (PutsAlike piece (λ next. Alike p next)) files (inputs_of e) (pieces_of e) result end new)
-        (sym goes.first)
+    (sym goes.first)
     (text_puts piece (λ next. Alike p next) files (inputs_of goes.more) (pieces_of goes.more) result end new ended
     (one_text p goes.more result end same.between between new files ended
-        (ap (λ s. s.files) did.rest ∙ told) same.goes_on goes.rest))
+    (ap (λ s. s.files) did.rest ∙ told) same.goes_on goes.rest))
 one_text (puts piece p) events result end old between new files ended told follow (inr failed) =
     let goes : Goes (puts piece p) (OutputFailed (piece ∷ failed.pieces) ∷ []) result =
-        inr (record { pieces = failed.pieces; only = refl; rest = failed.rest }) in
+    inr (record { pieces = failed.pieces; only = refl; rest = failed.rest }) in
     subst (λ e. Continues (PutsAlike piece (λ next. Alike p next)) files (inputs_of e) (pieces_of e) result end new)
-        (sym failed.only)
+    (sym failed.only)
     (failed_text (puts piece p) (piece ∷ failed.pieces) files result end new ended
-        (goes_failed (puts piece p) (piece ∷ failed.pieces) result goes) goes)
+    (goes_failed (puts piece p) (piece ∷ failed.pieces) result goes) goes)
 one_text (takes allowed go) events result end old between new files ended told follow (inl goes) =
     let same : (let start : List Event = Input goes.piece ∷ goes.more in Follow start old between) =
-        subst (λ e. Follow e old between) goes.first follow in
+    subst (λ e. Follow e old between) goes.first follow in
     let did : IsInput goes.piece old same.between = same.begins in
     subst (λ e. Continues (TakesAlike (λ piece next. Alike (go piece) next)) files (inputs_of e)
-        (pieces_of e) result end new) (sym goes.first)
+    (pieces_of e) result end new) (sym goes.first)
     (text_takes goes.piece (λ piece next. Alike (go piece) next) files (inputs_of goes.more)
-        (pieces_of goes.more) result end new ended
+    (pieces_of goes.more) result end new ended
     (one_text (go goes.piece) goes.more result end same.between between new files ended
-        (ap (λ s. s.files) did.rest ∙ told) same.goes_on goes.rest))
+    (ap (λ s. s.files) did.rest ∙ told) same.goes_on goes.rest))
 one_text (takes allowed go) events result end old between new files ended told follow (inr failed) =
     λ q others old' alike told' follow' input goes'.
     subst (λ e. OneText (pieces_of e) (pieces_of others) result end) (sym failed.only)
     (nothing_put (pieces_of others) result end (λ P is. read_fault result failed.result_is is))
 one_text (some Is go) events result end old between new files ended told follow goes =
     λ q others old' alike. one_text (go goes.value) events result end old between new files ended told follow goes.rest
-        q others old' (alike goes.value goes.is)
+    q others old' (alike goes.value goes.is)
 one_text (wants p) events result end old between new files ended told follow (inl goes) =
     one_text p events result end old between new files ended told follow goes
 one_text (wants p) events result end old between new files ended told follow (inr ends) =
     λ q others old' alike told' follow' input goes'. none_put events (pieces_of others) result end ends.none
-        (λ P is. no_memory result ends.result_is is)
+    (λ P is. no_memory result ends.result_is is)

@@ -109,7 +109,7 @@ pub performs_put :
     → Performs (puts piece rest) result old new
 performs_put piece rest result old between new put performs =
     subst (λ p. Performs p result old new) (puts_then piece rest)
-        (performs_then (put_one piece) (λ u. rest) tt result old between new put performs)
+    (performs_then (put_one piece) (λ u. rest) tt result old between new put performs)
 
 -- the output failed
 pub performs_unput :
@@ -117,7 +117,7 @@ pub performs_unput :
     → Performs {may = may} (put_one piece) (Err s) old new → Performs (puts piece rest) (Err s) old new
 performs_unput piece rest s old new put =
     subst (λ p. Performs p (Err s) old new) (puts_then piece rest)
-        (performs_stop (put_one piece) (λ u. rest) s old new put)
+    (performs_stop (put_one piece) (λ u. rest) s old new put)
 
 -- what a function that performs one program after another takes by `using`
 pub ruleset performing = (performs_then, performs_stop)

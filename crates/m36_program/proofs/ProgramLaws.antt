@@ -35,25 +35,25 @@ pub performs_files :
     → may.writes ≡ false → Performs p result old new → FilesKept old new
 performs_files {may = may} p result old new never performs =
     trail_files may performs.events result old new never
-        (goes_trail p performs.events result performs.goes) performs.follow
+    (goes_trail p performs.events result performs.goes) performs.follow
 
 pub performs_input :
     {may : May} {A : Type 0} (p : Program may A) (result : Result A Status) (old new : Seen)
     → may.takes ≡ false → Performs p result old new → InputKept old new
 performs_input {may = may} p result old new never performs =
     trail_input may performs.events result old new never
-        (goes_trail p performs.events result performs.goes) performs.follow
+    (goes_trail p performs.events result performs.goes) performs.follow
 
 pub performs_text :
     {may : May} {A : Type 0} (p : Program may A) (result : Result A Status) (old new : Seen)
-        (performs : Performs p result old new)
+    (performs : Performs p result old new)
     → PutsPieces (put_of performs.events) (pieces_of performs.events) (output_of old) (output_of new)
 performs_text {may = may} p result old new performs =
     follow_text may performs.events result old new (goes_trail p performs.events result performs.goes) performs.follow
 
 pub performs_whole :
     {may : May} {A : Type 0} (p : Program may A) (result : Result A Status) (old new : Seen)
-        (performs : Performs p result old new)
+    (performs : Performs p result old new)
     → (result ≡ Err status.WriteFault → ⊥) → put_of performs.events ≡ Done
 performs_whole {may = may} p result old new performs whole =
     trail_put may performs.events result whole (goes_trail p performs.events result performs.goes)
@@ -140,7 +140,7 @@ pub performs_never :
     → NeverFailed old → NeverFailed new → Performs p result old new → IsUnfailed result
 performs_never p result old new was is performs =
     cause_never result old new (performs_given p result old new performs) was is
-        (performs_cause p result old new performs)
+    (performs_cause p result old new performs)
 
 -- ---- statuses and results
 

@@ -16,7 +16,7 @@ use Rattle.m36_world.proofs.Following.{follow_on, follow_one}
 -- pieces, and then the rest
 pub goes_puts :
     {may : May} {A : Type 0} (pieces : List (List ℕ)) (rest : Program may A) (more : List Event)
-        (result : Result A Status)
+    (result : Result A Status)
     → Goes rest more result → Goes (puts_all pieces rest) (outputs pieces ++ more) result
 unfolding Goes puts_all
 goes_puts [] rest more result goes = goes
@@ -80,6 +80,6 @@ loses_performs pieces rest old new lost = record {
       ∙ puts_both (lost.handed ++ lost.failed) lost.left rest
       ∙ puts_both lost.handed lost.failed (puts_all lost.left rest)))
       (goes_puts lost.handed (puts_all lost.failed (puts_all lost.left rest)) (OutputFailed lost.failed ∷ [])
-          (Err WriteFault)
+      (Err WriteFault)
       (goes_fails lost.failed (puts_all lost.left rest) lost.between new lost.fails));
 }

@@ -57,7 +57,7 @@ fail_more :
     {may : May} {A B : Type 0} (piece : List ℕ) (p : Program may A) (next : A → Program may B) (pieces : List (List ℕ))
     (result : Result B Status)
     → (Goes p (OutputFailed pieces ∷ []) (Err WriteFault)
-        → FailsWith pieces (λ more. Goes p more (Err WriteFault)) (let r : Result A Status = Err WriteFault in r))
+    → FailsWith pieces (λ more. Goes p more (Err WriteFault)) (let r : Result A Status = Err WriteFault in r))
     → FailSplit p next pieces result → FailSplit (puts piece p) next (piece ∷ pieces) result
 unfolding Goes
 fail_more piece p next pieces result on (inl goes) = inl (inr (record { pieces = pieces; only = refl; rest = on goes }))
@@ -165,7 +165,7 @@ unfolding Goes
 split_read name go next (read.Read bytes) more result on after =
     split_map (reads name go) (go (Content bytes)) next (FileRead name (read.Read bytes) ∷ []) more result
     (λ events r goes. record { answer = read.Read bytes; more = events; first = refl; rest = goes })
-        (on (Content bytes) after)
+    (on (Content bytes) after)
 split_read name go next read.Absent more result on after =
     split_map (reads name go) (go Absent) next (FileRead name read.Absent ∷ []) more result
     (λ events r goes. record { answer = read.Absent; more = events; first = refl; rest = goes }) (on Absent after)
@@ -177,8 +177,13 @@ split_read name go next read.Failed more result on after =
     (record { answer = read.Failed; more = more; first = refl; rest = record { none = after.none; result_is = refl } })
 split_read name go next read.NoMemory more result on after =
     split_ends (reads name go) next NoMemory (FileRead name read.NoMemory ∷ more) result after.result_is
-    (record { answer = read.NoMemory; more = more; first = refl; rest =
-        record { none = after.none; result_is = refl } })
+    (record {
+      answer = read.NoMemory;
+      more = more;
+      first = refl;
+      rest =
+          record { none = after.none; result_is = refl };
+    })
 
 split_write :
     {may : May} {A B : Type 0} (allowed : may.writes ≡ true) (name content : List ℕ) (p : Program may A)
@@ -192,13 +197,18 @@ split_write allowed name content p next write.Written more result on after =
     (λ events r goes. record { answer = write.Written; more = events; first = refl; rest = goes }) (on after)
 split_write allowed name content p next write.Failed more result on after =
     split_ends (writes allowed name content p) next WriteFault
-        (FileWrite name content write.Failed ∷ more) result after.result_is
+    (FileWrite name content write.Failed ∷ more) result after.result_is
     (record { answer = write.Failed; more = more; first = refl; rest = record { none = after.none; result_is = refl } })
 split_write allowed name content p next write.NoMemory more result on after =
     split_ends (writes allowed name content p) next NoMemory
-        (FileWrite name content write.NoMemory ∷ more) result after.result_is
-    (record { answer = write.NoMemory; more = more; first = refl; rest =
-        record { none = after.none; result_is = refl } })
+    (FileWrite name content write.NoMemory ∷ more) result after.result_is
+    (record {
+      answer = write.NoMemory;
+      more = more;
+      first = refl;
+      rest =
+          record { none = after.none; result_is = refl };
+    })
 
 split_fails :
     {may : May} {A B : Type 0} (p : Program may A) (next : A → Program may B) (pieces : List (List ℕ))
@@ -233,11 +243,11 @@ goes_split (stops s own) next events result ends =
 goes_split (reads name go) next events result goes =
     subst (λ e. Split (reads name go) next e result) (sym goes.first)
     (split_read name go next goes.answer goes.more result
-        (λ found on. goes_split (go found) next goes.more result on) goes.rest)
+    (λ found on. goes_split (go found) next goes.more result on) goes.rest)
 goes_split (writes allowed name content p) next events result goes =
     subst (λ e. Split (writes allowed name content p) next e result) (sym goes.first)
     (split_write allowed name content p next goes.answer goes.more result
-        (λ on. goes_split p next goes.more result on) goes.rest)
+    (λ on. goes_split p next goes.more result on) goes.rest)
 goes_split (puts piece p) next events result (inl goes) =
     subst (λ e. Split (puts piece p) next e result) (sym goes.first)
     (split_map (puts piece p) p next (Output piece ∷ []) goes.more result
@@ -253,19 +263,19 @@ goes_split (takes allowed go) next events result (inl goes) =
     subst (λ e. Split (takes allowed go) next e result) (sym goes.first)
     (split_map (takes allowed go) (go goes.piece) next (Input goes.piece ∷ []) goes.more result
     (λ more r on. inl (record { piece = goes.piece; more = more; first = refl; rest = on }))
-        (goes_split (go goes.piece) next goes.more result goes.rest))
+    (goes_split (go goes.piece) next goes.more result goes.rest))
 goes_split (takes allowed go) next events result (inr failed) =
     split_ends (takes allowed go) next ReadFault events result failed.result_is
-        (inr (record { only = failed.only; result_is = refl }))
+    (inr (record { only = failed.only; result_is = refl }))
 goes_split (some Is go) next events result goes =
     split_map (some Is go) (go goes.value) next [] events result
     (λ more r on. record { value = goes.value; is = goes.is; rest = on })
-        (goes_split (go goes.value) next events result goes.rest)
+    (goes_split (go goes.value) next events result goes.rest)
 goes_split (wants p) next events result (inl goes) =
     split_map (wants p) p next [] events result (λ more r on. inl on) (goes_split p next events result goes)
 goes_split (wants p) next events result (inr ends) =
     split_ends (wants p) next NoMemory events result ends.result_is
-        (inr (record { none = ends.none; result_is = refl }))
+    (inr (record { none = ends.none; result_is = refl }))
 
 -- ---- calls
 

@@ -91,13 +91,13 @@ follow_text may (FileRead name answer ∷ more) result old new trail follow =
     after_read answer (Trail may more result) more result
     (λ none. text_ends more old follow.between new none follow.goes_on (ap output_of did.rest))
     (λ on. text_after more old follow.between new (ap output_of did.rest)
-        (follow_text may more result follow.between new on follow.goes_on)) trail
+    (follow_text may more result follow.between new on follow.goes_on)) trail
 follow_text may (FileWrite name content answer ∷ more) result old new trail follow =
     let did : IsFileWrite name content answer old follow.between = follow.begins in
     after_write answer (Trail may more result) more result
     (λ none. text_ends more old follow.between new none follow.goes_on (ap output_of did.rest))
     (λ on. text_after more old follow.between new (ap output_of did.rest)
-        (follow_text may more result follow.between new on follow.goes_on)) trail.1
+    (follow_text may more result follow.between new on follow.goes_on)) trail.1
 follow_text may (Output piece ∷ more) result old new trail follow =
     let did : IsOutput piece old follow.between = follow.begins in
     puts_piece (put_of more) piece (pieces_of more) (output_of old) (output_of follow.between) (output_of new)
@@ -111,7 +111,7 @@ follow_text may (OutputFailed pieces ∷ more) result old new trail follow =
 follow_text may (Input piece ∷ more) result old new trail follow =
     let did : IsInput piece old follow.between = follow.begins in
     text_after more old follow.between new (ap output_of did.rest)
-        (follow_text may more result follow.between new trail.1 follow.goes_on)
+    (follow_text may more result follow.between new trail.1 follow.goes_on)
 follow_text may (InputFailed ∷ more) result old new trail follow =
     let did : IsInputFailed old follow.between = follow.begins in
     text_ends more old follow.between new trail.1.none follow.goes_on (ap output_of did.rest)
@@ -127,7 +127,7 @@ trail_put may (FileRead name answer ∷ more) result whole trail =
     after_read answer (Trail may more result) more result (ap put_of) (λ on. trail_put may more result whole on) trail
 trail_put may (FileWrite name content answer ∷ more) result whole trail =
     after_write answer (Trail may more result) more result (ap put_of)
-        (λ on. trail_put may more result whole on) trail.1
+    (λ on. trail_put may more result whole on) trail.1
 trail_put may (Output piece ∷ more) result whole trail = trail_put may more result whole trail
 trail_put may (OutputFailed pieces ∷ more) result whole trail = absurd (whole trail.result_is)
 trail_put may (Input piece ∷ more) result whole trail = trail_put may more result whole trail.1

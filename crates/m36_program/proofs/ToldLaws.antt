@@ -33,10 +33,10 @@ unfolding Goes Follow
 reads_told name go files result old new told ended performs =
     let goes = performs.goes in
     let same : (let start : List Event = FileRead name goes.answer ∷ goes.more in Follow start old new) =
-        subst (λ e. Follow e old new) goes.first performs.follow in
+    subst (λ e. Follow e old new) goes.first performs.follow in
     let did : IsFileRead name goes.answer old same.between = same.begins in
     found_or_ended goes.answer (files name) _ goes.more result
-        (said goes.answer name old.files files told did.content) did.limit goes.rest
+    (said goes.answer name old.files files told did.content) did.limit goes.rest
     (λ rest. record {
       between = same.between;
       told = ap (λ s. s.files) did.rest ∙ told;

@@ -61,11 +61,13 @@ goes_trail {may = may} {A = A} (stops s own) events result goes =
 goes_trail {may = may} (reads name go) events result goes =
     subst (λ e. Trail may e result) (sym goes.first)
     (read_map goes.answer _ (λ found more. Trail may goes.more result) goes.more result
-        (λ found on. goes_trail (go found) goes.more result on) goes.rest)
+    (λ found on. goes_trail (go found) goes.more result on) goes.rest)
 goes_trail {may = may} (writes allowed name content p) events result goes =
-    subst (λ e. Trail may e result) (sym goes.first)
-    (allowed, write_map goes.answer _ (λ more. Trail may goes.more result) goes.more result
-        (λ on. goes_trail p goes.more result on) goes.rest)
+    subst (λ e. Trail may e result) (sym goes.first) (
+      allowed,
+      write_map goes.answer _ (λ more. Trail may goes.more result) goes.more result
+          (λ on. goes_trail p goes.more result on) goes.rest,
+    )
 goes_trail {may = may} (puts piece p) events result (inl goes) =
     subst (λ e. Trail may e result) (sym goes.first) (goes_trail p goes.more result goes.rest)
 goes_trail {may = may} (puts piece p) events result (inr failed) =
