@@ -55,8 +55,8 @@
 //! | `reads_told` | over known files a program goes on by what they have under the name |
 //! | `lives_comes` | a program without a dead end has a call that comes to its end |
 //!
-//! [`read_bytes`], [`put_piece`] and [`write_file`] perform programs of one step over any world,
-//! within any program that may take the step. [`add_piece`], [`add_line`], [`finish`] and
+//! [`read_bytes`], [`write_file`], [`put_piece`] and [`take_piece`] perform programs of one step
+//! over any world, within any program that may take the step. [`add_piece`], [`add_line`], [`finish`] and
 //! [`hand_over`] gather pieces in a block.
 #![tactic(auto)]
 
@@ -64,8 +64,10 @@ pub mod ending;
 pub mod gathering;
 pub mod putting;
 pub mod reading;
+pub mod taking;
 
 pub use ending::{early, status_by};
 pub use gathering::{add_line, add_piece, finish, hand_over};
 pub use putting::{put_piece, write_file};
 pub use reading::{read_bytes, refuse, refuse_at};
+pub use taking::take_piece;
