@@ -9,9 +9,9 @@ use Rattle.m36_world.specs.Did.{IsFileRead, IsFileWrite, IsOutput, IsOutputFaile
 use Rattle.m36_reading.specs.declared.status.Bad.{Bad}
 use Rattle.m36_reading.specs.declared.status.Code.TheVariants as code
 use Rattle.m36_reading.specs.declared.status.Status.{Status}
-use Rattle.m36_reading.specs.declared.status.Status.TheVariants.{Done, Usage, ReadFault, WriteFault}
-use Rattle.m36_reading.specs.declared.status.Status.TheVariants.{BadFile, AuditNo, MachineStop}
-use Rattle.m36_reading.specs.declared.status.Status.TheVariants.{Steps, NoMemory}
+use Rattle.m36_reading.specs.declared.status.Status.TheVariants.{ReadFault, WriteFault}
+use Rattle.m36_reading.specs.declared.status.Status.TheVariants.{BadFile}
+use Rattle.m36_reading.specs.declared.status.Status.TheVariants.{NoMemory}
 use Rattle.m36_program.specs.Program.{Found, May, Program, reads}
 use Rattle.m36_program.specs.Goes.{AfterRead, Goes}
 use Rattle.m36_program.specs.Performs.{Performs}
