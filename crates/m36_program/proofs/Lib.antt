@@ -1,0 +1,16 @@
+pub mod AlikeLaws
+pub mod CauseLaws
+pub mod Gathered
+pub mod GoesLaws
+pub mod KeptLaws
+pub mod LeadLaws
+pub mod LiveLaws
+pub mod OneText
+pub mod Performing
+pub mod ProgramLaws
+pub mod PutLaws
+pub mod ReadLaws
+pub mod SplitLaws
+pub mod TextLaws
+pub mod ToldLaws
+pub mod TrailLaws

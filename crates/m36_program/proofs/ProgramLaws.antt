@@ -1,0 +1,165 @@
+-- What holds of every call that performs a program.
+use Rattle.std.proofs.Common.{◌≡◌, ℕ, false, List, [], ◌∷◌, Result, Err, refl, sym, subst, inl, inr}
+use Rattle.m36_outside.specs.Counts.{Rose}
+use Rattle.m36_outside.proofs.Risen.{rose_never}
+use Rattle.m36_outside.specs.Putting.{PutsPieces}
+use Rattle.m36_outside.specs.declared.folder.ReadAnswer.{ReadAnswer}
+use Rattle.m36_outside.specs.declared.folder.ReadAnswer.TheVariants as read
+use Rattle.m36_outside.specs.declared.folder.WriteAnswer.{WriteAnswer}
+use Rattle.m36_outside.specs.declared.folder.WriteAnswer.TheVariants as write
+use Rattle.m36_outside.specs.declared.sink.Put.TheVariants.{Done}
+use Rattle.m36_world.specs.declared.event.Event.{Event}
+use Rattle.m36_world.specs.declared.event.Event.TheVariants.{FileRead, FileWrite, Output, OutputFailed, Input}
+use Rattle.m36_world.specs.declared.event.Event.TheVariants.{InputFailed}
+use Rattle.m36_world.specs.Seen.{Seen}
+use Rattle.m36_reading.specs.declared.status.Status.{Status}
+use Rattle.m36_reading.specs.declared.status.Status.TheVariants as status
+use Rattle.m36_program.specs.Program.{May, Program}
+use Rattle.m36_program.specs.Goes.{Ends, AfterRead, AfterWrite, Goes}
+use Rattle.m36_program.specs.Performs.{Performs}
+use Rattle.m36_program.specs.Early.{IsGiven, early, status_by, MayEnd, ends}
+use Rattle.m36_program.specs.Trail.{IsUnfailed, Trail, HasCause, FilesKept, InputKept, pieces_of, put_of, output_of}
+use Rattle.m36_program.proofs.TrailLaws.{goes_trail}
+use Rattle.m36_program.proofs.CauseLaws.{trail_cause}
+use Rattle.m36_program.proofs.KeptLaws.{trail_files, trail_input}
+use Rattle.m36_program.proofs.TextLaws.{follow_text, trail_put}
+
+pub performs_cause :
+    {may : May} {A : Type 0} (p : Program may A) (result : Result A Status) (old new : Seen) → Performs p result old new
+    → HasCause result old new
+performs_cause {may = may} p result old new performs =
+    trail_cause may performs.events result old new (goes_trail p performs.events result performs.goes) performs.follow
+
+pub performs_files :
+    {may : May} {A : Type 0} (p : Program may A) (result : Result A Status) (old new : Seen)
+    → may.writes ≡ false → Performs p result old new → FilesKept old new
+performs_files {may = may} p result old new never performs =
+    trail_files may performs.events result old new never
+    (goes_trail p performs.events result performs.goes) performs.follow
+
+pub performs_input :
+    {may : May} {A : Type 0} (p : Program may A) (result : Result A Status) (old new : Seen)
+    → may.takes ≡ false → Performs p result old new → InputKept old new
+performs_input {may = may} p result old new never performs =
+    trail_input may performs.events result old new never
+    (goes_trail p performs.events result performs.goes) performs.follow
+
+pub performs_text :
+    {may : May} {A : Type 0} (p : Program may A) (result : Result A Status) (old new : Seen)
+    (performs : Performs p result old new)
+    → PutsPieces (put_of performs.events) (pieces_of performs.events) (output_of old) (output_of new)
+performs_text {may = may} p result old new performs =
+    follow_text may performs.events result old new (goes_trail p performs.events result performs.goes) performs.follow
+
+pub performs_whole :
+    {may : May} {A : Type 0} (p : Program may A) (result : Result A Status) (old new : Seen)
+    (performs : Performs p result old new)
+    → (result ≡ Err status.WriteFault → ⊥) → put_of performs.events ≡ Done
+performs_whole {may = may} p result old new performs whole =
+    trail_put may performs.events result whole (goes_trail p performs.events result performs.goes)
+
+-- ---- statuses that never come
+
+-- no count of faults ever rises, as over objects that never fail
+pub record NeverFailed (seen : Seen) : Type 0 where
+  pub reads : seen.read_faults ≡ 0
+  pub writes : seen.write_faults ≡ 0
+  pub outputs : seen.output_faults ≡ 0
+  pub inputs : seen.input_faults ≡ 0
+
+rose_at : {P : Type 0} (old new : ℕ) → old ≡ 0 → new ≡ 0 → Rose old new → P
+rose_at old new was is rose = rose_never (subst (λ n. Rose n 0) was (subst (λ n. Rose old n) is rose))
+
+cause_never :
+    {A : Type 0} (result : Result A Status) (old new : Seen)
+    → IsGiven result → NeverFailed old → NeverFailed new → HasCause result old new → IsUnfailed result
+cause_never (Err status.Done) old new given was is cause = absurd given
+cause_never (Err status.Usage) old new given was is cause = absurd given
+cause_never (Err status.ReadFault) old new given was is (inl cause) =
+    rose_at old.read_faults new.read_faults was.reads is.reads cause.reads
+cause_never (Err status.ReadFault) old new given was is (inr cause) =
+    rose_at old.input_faults new.input_faults was.inputs is.inputs cause.inputs
+cause_never (Err status.WriteFault) old new given was is (inl cause) =
+    rose_at old.write_faults new.write_faults was.writes is.writes cause.writes
+cause_never (Err status.WriteFault) old new given was is (inr cause) =
+    rose_at old.output_faults new.output_faults was.outputs is.outputs cause.outputs
+cause_never _ old new given was is cause = tt
+
+unfailed_given : {A : Type 0} (result : Result A Status) → IsUnfailed result → IsGiven result
+unfailed_given (Err status.Done) is = absurd is
+unfailed_given (Err status.Usage) is = absurd is
+unfailed_given _ is = tt
+
+ended_given :
+    {A : Type 0} (value : Result A Status) (more : List Event) (result : Result A Status) → IsGiven value
+    → Ends value more result → IsGiven result
+ended_given {A} value more result given ends = subst (IsGiven {A = A}) (sym ends.result_is) given
+
+read_given :
+    {A : Type 0} (answer : ReadAnswer) (goes : Type 0) (more : List Event) (result : Result A Status)
+    → (goes → IsGiven result) → AfterRead answer (λ found events. goes) more result → IsGiven result
+read_given (read.Read bytes) goes more result on after = on after
+read_given read.Absent goes more result on after = on after
+read_given read.TooLarge goes more result on after = on after
+read_given {A} read.Failed goes more result on after = ended_given {A = A} (Err status.ReadFault) more result tt after
+read_given {A} read.NoMemory goes more result on after = ended_given {A = A} (Err status.NoMemory) more result tt after
+
+write_given :
+    {A : Type 0} (answer : WriteAnswer) (goes : Type 0) (more : List Event) (result : Result A Status)
+    → (goes → IsGiven result) → AfterWrite answer (λ events. goes) more result → IsGiven result
+write_given write.Written goes more result on after = on after
+write_given {A} write.Failed goes more result on after =
+    ended_given {A = A} (Err status.WriteFault) more result tt after
+write_given {A} write.NoMemory goes more result on after =
+    ended_given {A = A} (Err status.NoMemory) more result tt after
+
+trail_given :
+    {A : Type 0} (may : May) (events : List Event) (result : Result A Status) → Trail may events result → IsGiven result
+trail_given may [] result trail = unfailed_given result trail
+trail_given may (FileRead name answer ∷ more) result trail =
+    read_given answer (Trail may more result) more result (λ on. trail_given may more result on) trail
+trail_given may (FileWrite name content answer ∷ more) result trail =
+    write_given answer (Trail may more result) more result (λ on. trail_given may more result on) trail.1
+trail_given may (Output piece ∷ more) result trail = trail_given may more result trail
+trail_given {A} may (OutputFailed pieces ∷ more) result trail =
+    ended_given {A = A} (Err status.WriteFault) more result tt trail
+trail_given may (Input piece ∷ more) result trail = trail_given may more result trail.1
+trail_given {A} may (InputFailed ∷ more) result trail =
+    ended_given {A = A} (Err status.ReadFault) more result tt trail.1
+
+-- A call gives the value for Done, and never says that the words are no command.
+pub performs_given :
+    {may : May} {A : Type 0} (p : Program may A) (result : Result A Status) (old new : Seen) → Performs p result old new
+    → IsGiven result
+performs_given {may = may} p result old new performs =
+    trail_given may performs.events result (goes_trail p performs.events result performs.goes)
+
+-- Over objects that never fail no fault comes.
+pub performs_never :
+    {may : May} {A : Type 0} (p : Program may A) (result : Result A Status) (old new : Seen)
+    → NeverFailed old → NeverFailed new → Performs p result old new → IsUnfailed result
+performs_never p result old new was is performs =
+    cause_never result old new (performs_given p result old new performs) was is
+    (performs_cause p result old new performs)
+
+-- ---- statuses and results
+
+pub early_given : (result : Result (Unit {0}) Status) → IsGiven result → early (status_by result) ≡ result
+early_given (Err status.Done) given = absurd given
+early_given _ given = refl
+
+-- a call of a whole command, by the status that is answered for it
+pub performs_early :
+    {may : May} (p : Program may (Unit {0})) (result : Result (Unit {0}) Status) (old new : Seen)
+    → Performs p result old new → Performs p (early (status_by result)) old new
+performs_early p result old new performs =
+    subst (λ r. Performs p r old new) (sym (early_given result (performs_given p result old new performs))) performs
+
+-- the end of a program by a status
+pub goes_ends : (may : May) (s : Status) (own : MayEnd s) → Goes {may = may} (ends s own) [] (early s)
+unfolding Goes ends
+goes_ends may status.Usage own = absurd own
+goes_ends may status.ReadFault own = absurd own
+goes_ends may status.WriteFault own = absurd own
+goes_ends may status.NoMemory own = absurd own
+goes_ends may _ own = record { none = refl; result_is = refl }

@@ -1,0 +1,11 @@
+pub mod Alike
+pub mod Early
+pub mod Found
+pub mod Gathered
+pub mod Goes
+pub mod Lives
+pub mod Performs
+pub mod Program
+pub mod Readers
+pub mod Split
+pub mod Trail

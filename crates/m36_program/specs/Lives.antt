@@ -1,0 +1,38 @@
+-- Programs without a dead end: wherever one chooses there is a value to go on by.
+use Rattle.std.specs.Prelude.{ℕ, ◌<◌, ◌^◌, ⊤, List, Result}
+use Rattle.m36_world.specs.Seen.{Seen}
+use Rattle.m36_reading.specs.declared.status.Status.{Status}
+use Rattle.m36_program.specs.Program.{Found, May, Program}
+use Rattle.m36_program.specs.Program.{done, stops, reads, writes, puts, takes, some, wants}
+use Rattle.m36_program.specs.Performs.{Performs}
+use Rattle.m36_program.specs.Alike.{IsEnd}
+
+-- There is a value with the property, and this holds of each.
+pub record HasValue {B : Type 0} (Is holds : B → Type 0) : Type 0 where
+  pub value : B
+  pub is : Is value
+  pub each : (b : B) → Is b → holds b
+
+unfoldable pub Lives : {may : May} {A : Type 0} → Program may A → Type 0
+Lives (done a) = ⊤
+Lives (stops status own) = ⊤
+Lives (reads name go) = (found : Found) → Lives (go found)
+Lives (writes allowed name content rest) = Lives rest
+Lives (puts piece rest) = Lives rest
+Lives (takes allowed go) = (piece : List ℕ) → Lives (go piece)
+Lives (some Is go) = HasValue Is (λ b. Lives (go b))
+Lives (wants rest) = Lives rest
+
+-- the counts of faults, as in every world
+pub record AreCounts (seen : Seen) : Type 0 where
+  pub reads : seen.read_faults < 2 ^ 64
+  pub writes : seen.write_faults < 2 ^ 64
+  pub outputs : seen.output_faults < 2 ^ 64
+  pub inputs : seen.input_faults < 2 ^ 64
+
+-- From here on some call performs the program and comes to its end.
+pub record Comes {may : May} {A : Type 0} (p : Program may A) (old : Seen) : Type 0 where
+  pub result : Result A Status
+  pub new : Seen
+  pub performs : Performs p result old new
+  pub is_end : IsEnd result

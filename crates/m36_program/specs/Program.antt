@@ -1,0 +1,72 @@
+-- Programs over the events of the outside.
+use Rattle.std.specs.Prelude.{ℕ, ◌≡◌, Bool, true, false, ⊤, List, [], ◌∷◌}
+use Rattle.m36_reading.specs.declared.status.Status.{Status}
+use Rattle.m36_reading.specs.declared.status.Status.TheVariants as status
+
+-- what a program may do besides reading files and putting text
+pub record May : Type 0 where
+  -- write files
+  pub writes : Bool
+  -- take input
+  pub takes : Bool
+
+-- neither
+abbrev pub quiet : May
+quiet = record { writes = false; takes = false }
+
+-- what a folder has under a name
+pub data Found : Type 0 where
+  Content : List ℕ → Found
+  Absent : Found
+  TooLarge : Found
+
+-- A status that a program itself stops with. With Done it gives its value, a
+-- failed call and a failed allocation have statuses of their own, and words that are no command
+-- have no program.
+abbrev pub IsOwn : Status → Type 0
+IsOwn status.Done = ⊥
+IsOwn status.Usage = ⊥
+IsOwn status.ReadFault = ⊥
+IsOwn status.WriteFault = ⊥
+IsOwn (status.BadFile bad) = ⊤
+IsOwn status.AuditNo = ⊤
+IsOwn (status.MachineStop end) = ⊤
+IsOwn status.Steps = ⊤
+IsOwn status.NoMemory = ⊥
+
+-- What is done, step by step, until a value is there or a status ends it.
+pub data Program (may : May) (A : Type 0) : Type 1 where
+  -- the value
+  done : A → Program may A
+  -- the end, with a status
+  stops : (status : Status) → IsOwn status → Program may A
+  -- reads the file of a name, and goes on by what is found
+  reads : List ℕ → (Found → Program may A) → Program may A
+  -- writes a file of a name with a content
+  writes : may.writes ≡ true → List ℕ → List ℕ → Program may A → Program may A
+  -- puts a piece of output
+  puts : List ℕ → Program may A → Program may A
+  -- takes a piece of input, and goes on by it; an empty piece is the end of the input
+  takes : may.takes ≡ true → (List ℕ → Program may A) → Program may A
+  -- goes on by some value with a property
+  some : {B : Type 0} → (B → Type 0) → (B → Program may A) → Program may A
+  -- memory may run out here
+  wants : Program may A → Program may A
+
+-- one program after another, by the value of the first
+unfoldable pub then_with : {may : May} {A B : Type 0} → Program may A → (A → Program may B)
+    → Program may B
+then_with (done a) next = next a
+then_with (stops status own) next = stops status own
+then_with (reads name go) next = reads name (λ found. then_with (go found) next)
+then_with (writes allowed name content rest) next =
+    writes allowed name content (then_with rest next)
+then_with (puts piece rest) next = puts piece (then_with rest next)
+then_with (takes allowed go) next = takes allowed (λ piece. then_with (go piece) next)
+then_with (some Is go) next = some Is (λ b. then_with (go b) next)
+then_with (wants rest) next = wants (then_with rest next)
+
+-- puts pieces, one after another
+unfoldable pub puts_all : {may : May} {A : Type 0} → List (List ℕ) → Program may A → Program may A
+puts_all [] rest = rest
+puts_all (piece ∷ pieces) rest = puts piece (puts_all pieces rest)

@@ -1,0 +1,60 @@
+-- How two programs that follow one another have gone.
+use Rattle.std.specs.Prelude.{ℕ, ◌≡◌, ◌⊎◌, List, [], ◌∷◌, ◌++◌, Result, Ok, Err}
+use Rattle.m36_world.specs.Seen.{Seen}
+use Rattle.m36_world.specs.Follow.{outputs}
+use Rattle.m36_world.specs.declared.event.Event.{Event}
+use Rattle.m36_world.specs.declared.event.Event.TheVariants.{OutputFailed}
+use Rattle.m36_reading.specs.declared.status.Status.{Status}
+use Rattle.m36_program.specs.Program.{May, Program}
+use Rattle.m36_program.specs.Goes.{Goes}
+use Rattle.m36_program.specs.Performs.{Performs}
+
+-- The first gave a value, and the second went on by it.
+pub record BothGo {may : May} {A B : Type 0} (p : Program may A) (next : A → Program may B)
+    (events : List Event) (result : Result B Status) : Type 0 where
+  pub first : List Event
+  pub more : List Event
+  pub is : events ≡ first ++ more
+  pub value : A
+  pub begins : Goes p first (Ok value)
+  pub goes_on : Goes (next value) more result
+
+-- The first ended.
+pub record FirstEnds {may : May} {A B : Type 0} (p : Program may A) (events : List Event)
+    (result : Result B Status) : Type 0 where
+  pub status : Status
+  pub result_is : result ≡ Err status
+  pub goes : Goes p events (Err status)
+
+-- The output failed in a call for the last pieces of the first and for pieces of the second. Had
+-- those of the first been put, it would have given a value.
+pub record FailsAcross {may : May} {A B : Type 0} (p : Program may A) (next : A → Program may B)
+    (events : List Event) (result : Result B Status) : Type 0 where
+  pub passed : List Event
+  pub last : List (List ℕ)
+  pub rest : List (List ℕ)
+  pub is : events ≡ passed ++ OutputFailed (last ++ rest) ∷ []
+  pub value : A
+  pub begins : Goes p (passed ++ outputs last) (Ok value)
+  pub goes_on : Goes (next value) (OutputFailed rest ∷ []) result
+
+abbrev pub Split :
+    {may : May} {A B : Type 0} → Program may A → (A → Program may B) → List Event → Result B Status
+    → Type 0
+Split p next events result =
+    BothGo p next events result ⊎ FirstEnds p events result ⊎ FailsAcross p next events result
+
+-- ---- calls
+
+pub record BothPerform {may : May} {A B : Type 0} (p : Program may A) (next : A → Program may B)
+    (result : Result B Status) (old new : Seen) : Type 0 where
+  pub value : A
+  pub between : Seen
+  pub begins : Performs p (Ok value) old between
+  pub goes_on : Performs (next value) result between new
+
+pub record FirstPerforms {may : May} {A B : Type 0} (p : Program may A) (result : Result B Status)
+    (old new : Seen) : Type 0 where
+  pub status : Status
+  pub result_is : result ≡ Err status
+  pub performs : Performs p (Err status) old new

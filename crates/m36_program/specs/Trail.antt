@@ -1,0 +1,130 @@
+-- The trail that a program leaves, whatever the program: nothing passes after a failed call or one
+-- that ran out of memory, and the result is that failure; files are written and input is taken only
+-- where the program may.
+use Rattle.std.specs.Prelude.{ℕ, ◌≡◌, ◌⊎◌, true, ⊤, List, [], ◌∷◌, ◌++◌, Result, Ok, Err}
+use Rattle.m36_outside.specs.Counts.{Rose}
+use Rattle.m36_outside.specs.SinkState.{SinkState}
+use Rattle.m36_outside.specs.declared.sink.Put.{Put}
+use Rattle.m36_outside.specs.declared.sink.Put.TheVariants.{Done, Failed}
+use Rattle.m36_world.specs.Seen.{Seen}
+use Rattle.m36_world.specs.declared.event.Event.{Event}
+use Rattle.m36_world.specs.declared.event.Event.TheVariants.{FileRead, FileWrite, Output}
+use Rattle.m36_world.specs.declared.event.Event.TheVariants.{OutputFailed, Input, InputFailed}
+use Rattle.m36_reading.specs.declared.status.Status.{Status}
+use Rattle.m36_reading.specs.declared.status.Status.TheVariants as status
+use Rattle.m36_program.specs.Program.{May}
+use Rattle.m36_program.specs.Goes.{Ends, AfterRead, AfterWrite}
+
+-- No failed call gave the result.
+abbrev pub IsUnfailed : {A : Type 0} → Result A Status → Type 0
+IsUnfailed (Ok a) = ⊤
+IsUnfailed (Err status.Done) = ⊥
+IsUnfailed (Err status.Usage) = ⊥
+IsUnfailed (Err status.ReadFault) = ⊥
+IsUnfailed (Err status.WriteFault) = ⊥
+IsUnfailed (Err (status.BadFile bad)) = ⊤
+IsUnfailed (Err status.AuditNo) = ⊤
+IsUnfailed (Err (status.MachineStop end)) = ⊤
+IsUnfailed (Err status.Steps) = ⊤
+IsUnfailed (Err status.NoMemory) = ⊤
+
+abbrev pub Trail : {A : Type 0} → May → List Event → Result A Status → Type 0
+Trail may [] result = IsUnfailed result
+Trail may (FileRead name answer ∷ more) result =
+    AfterRead answer (λ found events. Trail may more result) more result
+Trail may (FileWrite name content answer ∷ more) result =
+    (may.writes ≡ true) × AfterWrite answer (λ events. Trail may more result) more result
+Trail may (Output piece ∷ more) result = Trail may more result
+Trail may (OutputFailed pieces ∷ more) result = Ends (Err status.WriteFault) more result
+Trail may (Input piece ∷ more) result = (may.takes ≡ true) × Trail may more result
+Trail may (InputFailed ∷ more) result =
+    (may.takes ≡ true) × Ends (Err status.ReadFault) more result
+
+-- ---- counts of faults
+
+-- no count of faults differs
+pub record NoneFailed (old new : Seen) : Type 0 where
+  pub reads : new.read_faults ≡ old.read_faults
+  pub writes : new.write_faults ≡ old.write_faults
+  pub outputs : new.output_faults ≡ old.output_faults
+  pub inputs : new.input_faults ≡ old.input_faults
+
+-- one count rose, and no other differs
+pub record ReadFailed (old new : Seen) : Type 0 where
+  pub reads : Rose old.read_faults new.read_faults
+  pub writes : new.write_faults ≡ old.write_faults
+  pub outputs : new.output_faults ≡ old.output_faults
+  pub inputs : new.input_faults ≡ old.input_faults
+
+pub record WriteFailed (old new : Seen) : Type 0 where
+  pub reads : new.read_faults ≡ old.read_faults
+  pub writes : Rose old.write_faults new.write_faults
+  pub outputs : new.output_faults ≡ old.output_faults
+  pub inputs : new.input_faults ≡ old.input_faults
+
+pub record PutFailed (old new : Seen) : Type 0 where
+  pub reads : new.read_faults ≡ old.read_faults
+  pub writes : new.write_faults ≡ old.write_faults
+  pub outputs : Rose old.output_faults new.output_faults
+  pub inputs : new.input_faults ≡ old.input_faults
+
+pub record TakeFailed (old new : Seen) : Type 0 where
+  pub reads : new.read_faults ≡ old.read_faults
+  pub writes : new.write_faults ≡ old.write_faults
+  pub outputs : new.output_faults ≡ old.output_faults
+  pub inputs : Rose old.input_faults new.input_faults
+
+-- The result has its cause in the counts of faults: ReadFault and WriteFault in one that rose, and
+-- with every other result none differs.
+abbrev pub HasCause : {A : Type 0} → Result A Status → Seen → Seen → Type 0
+HasCause (Ok a) old new = NoneFailed old new
+HasCause (Err status.Done) old new = NoneFailed old new
+HasCause (Err status.Usage) old new = NoneFailed old new
+HasCause (Err status.ReadFault) old new = ReadFailed old new ⊎ TakeFailed old new
+HasCause (Err status.WriteFault) old new = WriteFailed old new ⊎ PutFailed old new
+HasCause (Err (status.BadFile bad)) old new = NoneFailed old new
+HasCause (Err status.AuditNo) old new = NoneFailed old new
+HasCause (Err (status.MachineStop end)) old new = NoneFailed old new
+HasCause (Err status.Steps) old new = NoneFailed old new
+HasCause (Err status.NoMemory) old new = NoneFailed old new
+
+-- ---- files and input
+
+-- No file differs, and none was to be written.
+pub record FilesKept (old new : Seen) : Type 0 where
+  pub files : new.files ≡ old.files
+  pub writes : new.writes ≡ old.writes
+  pub faults : new.write_faults ≡ old.write_faults
+
+-- No input was asked for.
+pub record InputKept (old new : Seen) : Type 0 where
+  pub left : new.left ≡ old.left
+  pub inputs : new.inputs ≡ old.inputs
+  pub faults : new.input_faults ≡ old.input_faults
+
+-- ---- output
+
+-- the pieces that were to be put, in order
+abbrev pub pieces_of : List Event → List (List ℕ)
+pieces_of [] = []
+pieces_of (FileRead name answer ∷ events) = pieces_of events
+pieces_of (FileWrite name content answer ∷ events) = pieces_of events
+pieces_of (Output piece ∷ events) = piece ∷ pieces_of events
+pieces_of (OutputFailed pieces ∷ events) = pieces ++ pieces_of events
+pieces_of (Input piece ∷ events) = pieces_of events
+pieces_of (InputFailed ∷ events) = pieces_of events
+
+-- whether all of them were
+abbrev pub put_of : List Event → Put
+put_of [] = Done
+put_of (FileRead name answer ∷ events) = put_of events
+put_of (FileWrite name content answer ∷ events) = put_of events
+put_of (Output piece ∷ events) = put_of events
+put_of (OutputFailed pieces ∷ events) = Failed
+put_of (Input piece ∷ events) = put_of events
+put_of (InputFailed ∷ events) = put_of events
+
+-- the output, as a sink tells it
+abbrev pub output_of : Seen → SinkState
+output_of seen =
+    record { written = seen.written; taken = seen.outputs; faults = seen.output_faults }

@@ -1,0 +1,26 @@
+//! The status of a whole command, and the result of the call that performs it.
+
+ghost use Rattle.std.specs.Prelude.{◌≡◌};
+ghost use Rattle.m36_program.specs.Early.{early, status_by};
+
+use m36_reading::Status;
+
+/// The result by the status: Ok for Done, and every other status as an error.
+pub fn early(status: Status) -> Result<(), Status>
+    ensures { result ≡ early status }
+{
+    match status {
+        Status::Done => Ok(()),
+        other => Err(other),
+    }
+}
+
+/// The status by the result.
+pub fn status_by(outcome: Result<(), Status>) -> Status
+    ensures { result ≡ status_by outcome }
+{
+    match outcome {
+        Ok(()) => Status::Done,
+        Err(status) => status,
+    }
+}
