@@ -1,9 +1,9 @@
 """Inputs whose names meet in a hash table, for each kind of table, and as many ordinary names.
 
 A kind of key is what a table hashes: a name, a name as an object spells it, a link, a name in a
-ring, a segment of a directory. The start of a table's hashes is the SHA-256 digest of the input
-that its keys come from. So names that meet cannot be searched for one by one, as each name changes
-the start. What can be done is to try one input after another (`search_inputs`).
+ring, a segment of a directory, a descriptor. The start of a table's hashes is the SHA-256 digest of
+the input that its keys come from. So names that meet cannot be searched for one by one, as each
+name changes the start. What can be done is to try one input after another (`search_inputs`).
 
 Before, all tables had the same start. Names that met then are still tried (`met_before`)."""
 
@@ -21,8 +21,8 @@ from corners.objects import object_of, packed, section_with_names
 
 HERE = pathlib.Path(__file__).resolve().parent
 GROUP_LOAD = 9  # entries that a group of slots holds on average before the table grows
-KEYS = ("name", "spelled", "link", "ring", "place")
 NAMES_OF_SEGMENT = 8
+PROCESSES = 8
 DIGITS = "0123456789abcdefghijklmnopqrstuvwxyz"
 
 
@@ -61,6 +61,12 @@ def ordinary_names(count, salt=0):
     return (*(f"aa{number:05}" for number in range(count - 1)), f"zz{salted(salt)}")
 
 
+def ordinary_descriptors(count, salt=0):
+    """Pairs of words, each pair as one number in hexadecimal; the last one has the salt."""
+    spread = lambda number: number * 0xA5_9E3779B97F4A7C15 % (1 << 72)
+    return (*(f"{spread(number):018x}" for number in range(1, count)), f"{salt:018x}")
+
+
 def salted(salt):
     """A number in five digits."""
     digits = ""
@@ -84,7 +90,7 @@ class Cost(NamedTuple):
 
 def search_inputs(kind, seconds):
     """Tries inputs for so many seconds, and gives the costs of all of them in order of the salt."""
-    names = ordinary_names(kind.count)
+    names = kind.names(kind.count)
     costs = []
     end = time.monotonic() + seconds
     with tempfile.TemporaryDirectory() as folder:
@@ -95,7 +101,7 @@ def search_inputs(kind, seconds):
             child.stdin.write("\n".join([str(len(names) - 1), *names[:-1], ""]))
             while not costs or time.monotonic() < end:
                 salt = len(costs)
-                start = kind.start(kind.files(ordinary_names(kind.count, salt)))
+                start = kind.start(kind.files(kind.names(kind.count, salt)))
                 child.stdin.write(f"{start.hex()}\n")
                 child.stdin.flush()
                 groups, keys = map(int, child.stdout.readline().split())
@@ -158,6 +164,23 @@ def initiated_names(names):
     }
 
 
+def processes(descriptors):
+    """Eight processes, each with an eighth of these descriptors, and the bytes of all of them."""
+    numbers = [int(descriptor, 16) for descriptor in descriptors]
+    each = len(numbers) // PROCESSES
+    bound = 2 * each // 16 - 1
+    lines = ["core 16384"]
+    for process in range(PROCESSES):
+        base = 2 * each * process << 12
+        lines.append(f"process {base:012o} {bound << 21 | 1 << 16:012o} 00001 4 000000")
+    for first in range(0, len(numbers), 4):
+        four = numbers[first : first + 4]
+        words = (f"{number >> 36:012o} {number % (1 << 36):012o}" for number in four)
+        lines.append(f"at {2 * first:08o} " + " ".join(words))
+    keys = b"".join(number.to_bytes(16, "little") for number in numbers)
+    return {"processes": "\n".join([*lines, "turns 1 0", ""]).encode(), "keys": keys}
+
+
 # ---- the starts of the tables of these files
 
 def start_of_source(files):
@@ -185,6 +208,10 @@ def start_of_boot(files):
     return digest(files["boot"])
 
 
+def start_of_keys(files):
+    return digest(files["keys"])
+
+
 class Kind(NamedTuple):
     """A kind of table: the command that fills it, its kind of key, how many keys, its files by
     the names, its start by the files, and the salt of which the most names met in ten minutes."""
@@ -197,15 +224,16 @@ class Kind(NamedTuple):
     files: Callable
     start: Callable
     salt: int = 0
+    names: Callable = ordinary_names
 
     def meeting(self):
         return self.files(met_before(self.key, self.count))
 
     def drawn(self):
-        return self.files(ordinary_names(self.count, self.salt))
+        return self.files(self.names(self.count, self.salt))
 
     def ordinary(self):
-        return self.files(ordinary_names(self.count))
+        return self.files(self.names(self.count))
 
 
 KINDS = (
@@ -223,4 +251,7 @@ KINDS = (
          "run", "ring", 4_000, initiated_names, start_of_boot),
     Kind("access", "`access` with 25,000 segments in the access lists",
          "access A.B.c", "place", 25_000, access_list, start_of_access),
+    Kind("descriptors", "`procs` of 262,144 descriptors of 8 processes",
+         "procs processes", "descriptor", 262_144, processes, start_of_keys,
+         names=ordinary_descriptors),
 )

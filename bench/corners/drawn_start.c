@@ -85,8 +85,20 @@ static void add_spelled(struct key *key, const char *name) {
     add_number(key, word_of(name, length, length / 4 * 4, length % 4 + 1), 8);
 }
 
+/* Two words of 36 bits as one number of 16 bytes. The name is that number in hexadecimal. */
+static void add_descriptor(struct key *key, const char *name) {
+    u64 high = 0, low = 0;
+    sscanf(name, "%2llx%16llx", (unsigned long long *)&high, (unsigned long long *)&low);
+    add_number(key, low, 8);
+    add_number(key, high, 8);
+}
+
 static void add_key(struct key *key, const char *kind, const char *name) {
     key->length = 0;
+    if (strcmp(kind, "descriptor") == 0) {
+        add_descriptor(key, name);
+        return;
+    }
     if (strcmp(kind, "spelled") == 0) {
         add_spelled(key, name);
         return;

@@ -3,7 +3,10 @@
 
    Words: KIND COUNT GROUPS. Names go to standard output, a line each. Two names meet where they
    begin at the same group of slots and have the same tag of 8 bits. GROUPS is the count of groups
-   of the table when it has all COUNT names, a power of two. */
+   of the table when it has all COUNT names, a power of two.
+
+   Descriptors are numbers of 72 bits, in hexadecimal. They meet where they begin at the same group:
+   there are so many of them that the groups alone make a chain long enough. */
 
 #include <stdint.h>
 #include <stdio.h>
@@ -106,11 +109,23 @@ static void search_spelled(int at) {
     }
 }
 
+/* Two words of 36 bits as one number: 16 bytes, which are written at once. */
+static void search_descriptors(void) {
+    for (u64 i = 1; left; i++) {
+        u64 low = i * 0xd1342543de82ef95, high = i >> 20 & 255;
+        u64 hash = joined(low ^ (START + 16), high ^ MULTIPLIER);
+        if (((uint32_t)(hash ^ hash >> 32) & (groups - 1)) != 0) continue;
+        printf("%02llx%016llx\n", (unsigned long long)high, (unsigned long long)low);
+        left--;
+    }
+}
+
 int main(int count, char **words) {
     if (count != 4) return fprintf(stderr, "words: KIND COUNT GROUPS\n"), 2;
     left = atol(words[2]);
     groups = strtoull(words[3], 0, 10);
     if (strcmp(words[1], "spelled") == 0) return search_spelled(0), left > 0;
+    if (strcmp(words[1], "descriptor") == 0) return search_descriptors(), left > 0;
     for (size_t i = 0; i < sizeof KINDS / sizeof *KINDS; i++)
         if (strcmp(words[1], KINDS[i].name) == 0) {
             search(&KINDS[i], KINDS[i].before(START), 0);

@@ -9,6 +9,7 @@ use crate::run::zeros;
 use m36_core::Core;
 use m36_desc::Dbr;
 use m36_tables::{SEGMENTS, descriptor_place, segment_count, wrapped};
+use m36_text::HashSeed;
 use m36_word::NoMemory;
 use std::alloc::Global;
 use std::collections::HashMap;
@@ -37,9 +38,35 @@ fn key(core: &Core, dbr: Dbr, seg: u16) -> Option<u128>
     Some(even as u128 * (1 << 36) + odd as u128)
 }
 
+/// Adds the bytes of a key where there is one.
+fn push_key(bytes: &mut Vec<u8>, key: Option<u128>) -> Result<(), NoMemory> {
+    if let Some(key) = key {
+        bytes.extend_from_slice(&key.to_le_bytes())?;
+    }
+    Ok(())
+}
+
+/// Adds the bytes of the keys of one process.
+fn push_keys(bytes: &mut Vec<u8>, core: &Core, dbr: Dbr) -> Result<(), NoMemory> {
+    for seg in 0..segment_count(dbr) {
+        push_key(bytes, key(core, dbr, seg))?;
+    }
+    Ok(())
+}
+
+/// The seed of a table of all these keys: that of their bytes. So descriptors that collide under one
+/// seed do not under another.
+fn seed_of(alloc: Global, core: &Core, dbrs: &[Dbr]) -> Result<HashSeed, NoMemory> {
+    let mut bytes = Vec::new(alloc);
+    for dbr in dbrs {
+        push_keys(&mut bytes, core, *dbr)?;
+    }
+    Ok(HashSeed::of(&bytes))
+}
+
 /// Notes the number of one descriptor, where its words stand in core.
 fn note(
-    places: &mut HashMap<u128, u32>,
+    places: &mut HashMap<u128, u32, HashSeed>,
     firsts: &mut Vec<u32>,
     key: Option<u128>,
     number: u32,
@@ -62,7 +89,7 @@ fn note(
 
 /// Notes the descriptors of process k.
 fn note_process(
-    places: &mut HashMap<u128, u32>,
+    places: &mut HashMap<u128, u32, HashSeed>,
     firsts: &mut Vec<u32>,
     core: &Core,
     dbrs: &[Dbr],
@@ -87,7 +114,7 @@ pub(crate) fn classes(alloc: Global, core: &Core, dbrs: &[Dbr]) -> Result<Vec<u3
     ensures { IfOk result (λ firsts. AreClasses core.now dbrs.now (descriptors_of_process * length dbrs.now) firsts.items) }
 {
     let mut firsts = zeros(alloc, dbrs.len() as u32 * SEGMENTS as u32)?;
-    let mut places = HashMap::new(alloc);
+    let mut places = HashMap::with_hasher(alloc, seed_of(alloc, core, dbrs)?);
     for k in 0..dbrs.len() {
         note_process(&mut places, &mut firsts, core, dbrs, k)?;
     }

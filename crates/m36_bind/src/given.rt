@@ -39,7 +39,11 @@ fn place_in(places: &IndexMap<Name, u64, HashSeed>, name: &Name) -> Option<u64>
 
 // Keeps the place of a name that has none yet.
 #[tactic(auto, unfolding(crate::specs::Given::with_place))]
-fn note_place(places: &mut IndexMap<Name, u64, HashSeed>, name: &Name, place: u64) -> Result<(), NoMemory>
+fn note_place(
+    places: &mut IndexMap<Name, u64, HashSeed>,
+    name: &Name,
+    place: u64,
+) -> Result<(), NoMemory>
     ensures { OnOk result (places.new.entries ≡ with_place places.old.entries name.now place) }
 {
     if place_in(places, name).is_some() {

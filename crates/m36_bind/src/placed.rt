@@ -146,7 +146,8 @@ fn parts_of(object: &Object) -> &Parts
 pub(crate) fn seed_of(all: &[Placed<'_>]) -> HashSeed {
     let mut seed = HashSeed::of(b"");
     for p in all {
-        seed = seed.joined(&p.parts.definitions.seed());
+        let parts = p.parts;
+        seed = seed.joined(&parts.definitions.seed());
     }
     seed
 }
