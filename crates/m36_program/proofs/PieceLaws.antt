@@ -149,8 +149,8 @@ ended_failed may piece (next ∷ failed) pieces s rest result on fails =
       }
     ]
 
--- All pieces were put, and the result is that of the status; or the output failed, and those that were to be put are first
--- ones of them.
+-- All pieces were put, and the result is that of the status; or the output failed, and those that were to be put are
+-- first ones of them.
 pub puts_ended :
     (may : May) (pieces : List (List ℕ)) (s : Status) (own : MayEnd s) (events : List Event)
     (result : Result (Unit {0}) Status)
