@@ -10,8 +10,7 @@ use Rattle.alm_parse.specs.declared.line.Line36.{Line36}
 use Rattle.alm_lines.specs.Spots.{start}
 use Rattle.alm_lines.specs.Layout.{layout_refusal}
 use Rattle.alm_lines.specs.Refusals.{fault_of, sooner}
-use Rattle.alm_asm.specs.Links.{links_from}
-use Rattle.alm_asm.specs.LineRefusals.{lines_refusal, with_links}
+use Rattle.alm_asm.specs.LineRefusals.{lines_refusal}
 use Rattle.alm_asm.specs.Growth.{at_first, growth_refusal}
 use Rattle.alm_asm.specs.declared.tables.Tables.{Tables}
 use Rattle.alm_asm.specs.Assembly.{tables_of, refusal_in, refusal_of, unless_refused, parts_with, last_line, made, assembled_by, assembled}
@@ -32,37 +31,31 @@ refuses NoMemory definition e = tt
 -- ---- tables
 
 refusal_found : (text : List ℕ) (lines : List Line36) (tables : Tables) (found refused : Option Refusal)
-    → tables ≡ with_links (tables_of text lines) [] → found ≡ layout_refusal text None [] start lines
-    → refused ≡ sooner (sooner found (lines_refusal text (with_links tables (links_from text tables.symbols tables.links start lines)) [] start lines)) (growth_refusal text tables.symbols at_first start lines)
+    → tables ≡ tables_of text lines → found ≡ layout_refusal text None [] start lines
+    → refused ≡ sooner (sooner found (lines_refusal text tables [] start lines)) (growth_refusal text tables.symbols at_first start lines)
     → refused ≡ refusal_in text lines
-unfolding tables_of
 refusal_found text lines tables found refused t f r =
-    r ∙ (λ i. sooner (sooner (f i) (lines_refusal text (with_links (t i) (links_from text (t i).symbols (t i).links start lines)) [] start lines)) (growth_refusal text (t i).symbols at_first start lines))
+    r ∙ (λ i. sooner (sooner (f i) (lines_refusal text (t i) [] start lines)) (growth_refusal text (t i).symbols at_first start lines))
 
--- the links complete the tables
-tables_found : (text : List ℕ) (lines : List Line36) (tables later : Tables)
-    → tables ≡ with_links (tables_of text lines) [] → later ≡ with_links tables (links_from text tables.symbols tables.links start lines)
-    → later ≡ tables_of text lines
-unfolding tables_of
-tables_found text lines tables later t l = l ∙ (λ i. with_links (t i) (links_from text (t i).symbols (t i).links start lines))
-
-pub tells_tables : (text : List ℕ) (lines : List Line36) (tables later : Tables) (found refused : Option Refusal)
-    → tables ≡ with_links (tables_of text lines) [] → found ≡ layout_refusal text None [] start lines
-    → refused ≡ sooner (sooner found (lines_refusal text (with_links tables (links_from text tables.symbols tables.links start lines)) [] start lines)) (growth_refusal text tables.symbols at_first start lines)
-    → refused ≡ None → later ≡ with_links tables (links_from text tables.symbols tables.links start lines)
-    → unless_refused text lines (refusal_in text lines) ≡ Ok later
-tells_tables text lines tables later found refused t f r none l =
+pub tells_tables : (text : List ℕ) (lines : List Line36) (tables : Tables) (found refused : Option Refusal)
+    → tables ≡ tables_of text lines → found ≡ layout_refusal text None [] start lines
+    → refused ≡ sooner (sooner found (lines_refusal text tables [] start lines)) (growth_refusal text tables.symbols at_first start lines)
+    → refused ≡ None
+    → unless_refused text lines (refusal_in text lines) ≡ Ok tables
+tells_tables text lines tables found refused t f r none =
     ap (unless_refused text lines) (sym (refusal_found text lines tables found refused t f r) ∙ none)
-    ∙ ap (λ (whole : Tables). Ok whole) (sym (tables_found text lines tables later t l))
+    ∙ ap (λ (whole : Tables). Ok whole) (sym t)
 
 pub tells_refusal : (text : List ℕ) (lines : List Line36) (tables : Tables) (found refused : Option Refusal) (refusal : Refusal) (fault : AlmFault)
-    → tables ≡ with_links (tables_of text lines) [] → found ≡ layout_refusal text None [] start lines
-    → refused ≡ sooner (sooner found (lines_refusal text (with_links tables (links_from text tables.symbols tables.links start lines)) [] start lines)) (growth_refusal text tables.symbols at_first start lines)
+    → tables ≡ tables_of text lines → found ≡ layout_refusal text None [] start lines
+    → refused ≡ sooner (sooner found (lines_refusal text tables [] start lines)) (growth_refusal text tables.symbols at_first start lines)
     → refused ≡ Some refusal → fault ≡ fault_of refusal
     → Refuses fault (unless_refused text lines (refusal_in text lines))
 tells_refusal text lines tables found refused refusal fault t f r some is =
     refuses fault (unless_refused text lines (refusal_in text lines))
     (ap (unless_refused text lines) (sym (refusal_found text lines tables found refused t f r) ∙ some) ∙ ap (λ (why : AlmFault). Err why) (sym is))
+
+pub ruleset telling = (tells_tables, tells_refusal)
 
 -- ---- the object of tables
 

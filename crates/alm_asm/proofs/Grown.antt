@@ -125,7 +125,7 @@ args_follow text symbols line is_entry g (given ∷ arguments) =
     let after = with_arg text symbols line is_entry g given in
     onward g after (with_args text symbols line is_entry after arguments) (arg_follows text symbols line is_entry g given) (args_follow text symbols line is_entry after arguments)
 
-definitions_follow : (text : List ℕ) (symbols : List (List ℕ × Sum)) (line : Line36) (g : Growth) (gives : Option Bool) → Follows g (with_definitions text symbols line g gives)
+pub definitions_follow : (text : List ℕ) (symbols : List (List ℕ × Sum)) (line : Line36) (g : Growth) (gives : Option Bool) → Follows g (with_definitions text symbols line g gives)
 definitions_follow text symbols line g None = stays g
 definitions_follow text symbols line g (Some is_entry) = args_follow text symbols line is_entry g line.args
 

@@ -28,3 +28,5 @@ pub mod SectionsFit
 pub mod NamesCounted
 pub mod DefinitionsCounted
 pub mod CountsFit
+pub mod SeenLaws
+pub mod LinkPlaces

@@ -10,6 +10,7 @@ pub use Rattle.alm_lines.specs.Expressions
 pub use Rattle.alm_lines.specs.Refusals
 pub use Rattle.alm_lines.specs.Layout
 pub mod Links
+pub mod Seen
 pub mod Words
 pub mod Marks
 pub mod Definitions

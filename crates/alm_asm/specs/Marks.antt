@@ -39,9 +39,12 @@ operand_part pr (Some segment) = offset_part
 operand_part (Some pr) None = offset_part
 operand_part None None = left_part
 
+abbrev pub kind_given : Option Span → Kind → Kind
+kind_given (Some segment) kind = Moved Linkage
+kind_given None kind = kind
+
 abbrev pub operand_kind : Option Span → Sum → Kind
-operand_kind (Some segment) sum = Moved Linkage
-operand_kind None sum = kind_of sum
+operand_kind segment sum = kind_given segment (kind_of sum)
 
 abbrev pub operand_mark : List ℕ → List (List ℕ × Sum) → Spot → Option Arg → List RelocFields
 operand_mark text symbols spot (Some (arg.Symbol span)) = []

@@ -4,10 +4,11 @@ ghost use Rattle.std.specs.Prelude.{ℕ, [], ◌≡◌, ◌^◌, ◌<◌, length
 ghost use Rattle.std.specs.Prelude.{Option, None, Ok, IfOk, true};
 ghost use Rattle.alm_parse.specs.Sources.{ParseSays};
 ghost use Rattle.alm_lines.specs.Spots.{start, HasRoom};
+ghost use Rattle.alm_asm.specs.Seen.{seen_from};
 ghost use Rattle.obj36_parts.specs.ObjectSegment.{is_well_formed};
 ghost use Rattle.alm_lines.specs.Layout.{layout_refusal};
 ghost use Rattle.alm_lines.specs.Refusals.{sooner};
-ghost use Rattle.alm_asm.specs.LineRefusals.{lines_refusal, with_links};
+ghost use Rattle.alm_asm.specs.LineRefusals.{lines_refusal};
 ghost use Rattle.alm_asm.specs.Links.{links_from};
 ghost use Rattle.alm_asm.specs.Growth.{at_first, growth_refusal};
 ghost use Rattle.alm_asm.specs.Assembles.{Assembles};
@@ -17,11 +18,13 @@ ghost use Rattle.alm_asm.specs.Assembly.{refusal_in, unless_refused, assembled};
 use crate::growth::growth_refusal;
 use crate::line_refusal::lines_refusal;
 use crate::parts::parts_with;
+use crate::seen::{Seen, SeenLines, see_lines};
 use crate::tables::Tables;
 use alm_lines::count::Count;
 use alm_lines::layout::layout_of;
 use alm_lines::refusal::{Refusal, fault_of, sooner};
 use alm_lines::spot::{Spot, end_of};
+use alm_lines::symbols::Symbols;
 use alm_parse::{AlmFault, Line36, Lines36};
 use m36_word::NoMemory;
 use obj36::{Links, Object, Parts};
@@ -38,76 +41,122 @@ fn first_link(ending: Spot) -> Count
     Count::of(HEAD_WORDS as u128 + (ending.inner + ending.inner % 2))
 }
 
-/// The tables of lines, with no links yet; and the first refusal of a symbol's definition or of a section's length.
+/// The tables of lines, what is seen of the lines, and the first refusal of a symbol's definition or of a section's
+/// length.
 #[derive(Drop)]
 struct Found {
     tables: Tables,
+    seen: SeenLines,
     refused: Option<Refusal>,
+}
+
+// The links of lines, and what is seen of the lines.
+#[derive(Drop)]
+struct Linked {
+    links: Links,
+    seen: SeenLines,
+}
+
+fn linked_in(
+    alloc: Global,
+    text: &[u8],
+    symbols: &Symbols,
+    lines: &[Line36],
+) -> Result<Linked, NoMemory>
+    requires { length lines.now < 2 ^ 32 }
+    ensures links { IfOk result (λ linked.
+        linked.links ≡ links_from text.now symbols.now [] start lines.now) }
+    ensures seen { IfOk result (λ linked.
+        linked.seen ≡ seen_from text.now symbols.now linked.links start lines.now) }
+{
+    let mut links = Links::new(alloc, symbols.seed());
+    match see_lines(alloc, text, symbols, &mut links, lines) {
+        Ok(seen) => Ok(Linked { links, seen }),
+        Err(fault) => {
+            // Dropped by a call: so the drop is proved once for its type.
+            drop(links);
+            Err(fault)
+        }
+    }
 }
 
 #[tactic(auto, unfolding(crate::specs::Assembly::tables_of))]
 fn found_in(alloc: Global, text: &[u8], lines: &[Line36]) -> Result<Found, NoMemory>
     requires { length lines.now < 2 ^ 32 }
-    ensures tables { IfOk result (λ found.
-        found.tables ≡ with_links (tables_of text.now lines.now) []) }
+    ensures tables { IfOk result (λ found. found.tables ≡ tables_of text.now lines.now) }
+    ensures seen { IfOk result (λ found.
+        found.seen
+        ≡ seen_from text.now found.tables.symbols found.tables.links start lines.now) }
+    ensures links { IfOk result (λ found.
+        found.tables.links ≡ links_from text.now found.tables.symbols [] start lines.now) }
     ensures refused { IfOk result (λ found.
         found.refused ≡ layout_refusal text.now None [] start lines.now) }
 {
     let ending = end_of(alloc, text, lines)?;
     let layout = layout_of(alloc, text, lines)?;
-    let seed = layout.symbols.seed();
-    let tables = Tables {
-        symbols: layout.symbols,
-        links: Links::new(alloc, seed),
-        first_link: first_link(ending),
-        uses_outer: ending.uses_outer,
-    };
-    Ok(Found {
-        tables,
-        refused: layout.refused,
-    })
+    match linked_in(alloc, text, &layout.symbols, lines) {
+        Ok(linked) => Ok(Found {
+            tables: Tables {
+                symbols: layout.symbols,
+                links: linked.links,
+                first_link: first_link(ending),
+                uses_outer: ending.uses_outer,
+            },
+            seen: linked.seen,
+            refused: layout.refused,
+        }),
+        Err(fault) => {
+            // Dropped by a call: so the drop is proved once for its type.
+            drop(layout);
+            Err(fault)
+        }
+    }
 }
 
-// The first refusal, behind that of the layout; and the links of the lines where there is none.
+// The first refusal, behind that of the layout.
 fn first_refusal(
     alloc: Global,
     text: &[u8],
     found: Option<Refusal>,
-    tables: &mut Tables,
+    tables: &Tables,
     lines: &[Line36],
+    seen: &[Seen],
 ) -> Result<Option<Refusal>, NoMemory>
-    requires { length lines.now < 2 ^ 32 }
-    ensures refused { IfOk result (λ r.
+    requires count { length lines.now < 2 ^ 32 }
+    requires seen { seen.now ≡ seen_from text.now tables.now.symbols tables.now.links start lines.now }
+    requires links { tables.now.links ≡ links_from text.now tables.now.symbols [] start lines.now }
+    ensures { IfOk result (λ r.
         r
         ≡ sooner
-        (sooner found
-        (lines_refusal text.now
-        (with_links tables.old
-        (links_from text.now tables.old.symbols tables.old.links start lines.now))
-        [] start lines.now))
-        (growth_refusal text.now tables.old.symbols at_first start lines.now)) }
-    ensures links { IfOk result (λ r.
-        r ≡ None
-        → tables.new
-        ≡ with_links tables.old
-        (links_from text.now tables.old.symbols tables.old.links start lines.now)) }
+        (sooner found (lines_refusal text.now tables.now [] start lines.now))
+        (growth_refusal text.now tables.now.symbols at_first start lines.now)) }
 {
-    let refused = lines_refusal(alloc, text, tables, lines)?;
-    let grown = growth_refusal(alloc, text, &tables.symbols, lines)?;
+    let refused = lines_refusal(alloc, text, tables, lines, seen)?;
+    let grown = growth_refusal(alloc, text, tables, lines, seen)?;
     Ok(sooner(sooner(found, refused), grown))
 }
 
-// The tables of lines, or the first refusal.
-fn tables_in(alloc: Global, text: &[u8], lines: &[Line36]) -> Result<Tables, AlmFault>
+// The tables of lines, or the first refusal; and what is seen of the lines.
+#[tactic(auto, using(crate::proofs::AssemblyLaws::telling))]
+fn tables_in(
+    alloc: Global,
+    text: &[u8],
+    lines: &[Line36],
+    seen: &mut SeenLines,
+) -> Result<Tables, AlmFault>
     requires { length lines.now < 2 ^ 32 }
-    ensures { ParseSays result
+    ensures seen { IfOk result (λ tables.
+        seen.new ≡ seen_from text.now tables.symbols tables.links start lines.now) }
+    ensures says { ParseSays result
         (unless_refused text.now lines.now (refusal_in text.now lines.now)) }
 {
     let Found {
-        mut tables,
+        tables,
+        seen: lines_seen,
         refused,
     } = found_in(alloc, text, lines)?;
-    match first_refusal(alloc, text, refused, &mut tables, lines) {
+    *seen = lines_seen;
+    match first_refusal(alloc, text, refused, &tables, lines, seen.items()) {
         Ok(None) => Ok(tables),
         Ok(Some(refusal)) => {
             // Dropped by a call: so the drop is proved once for its type.
@@ -161,26 +210,39 @@ fn object_with(
     text: &[u8],
     tables: Tables,
     lines: &[Line36],
+    seen: &[Seen],
 ) -> Result<Object, AlmFault>
-    requires { length lines.now < 2 ^ 32 }
+    requires count { length lines.now < 2 ^ 32 }
+    requires seen { seen.now ≡ seen_from text.now tables.symbols tables.links start lines.now }
     ensures { ParseSays result
         (made (parts_with text.now tables lines.now) (last_line 1 lines.now)
         (is_well_formed (parts_with text.now tables lines.now))) }
 {
-    let parts = parts_with(alloc, text, tables, lines)?;
+    let parts = parts_with(alloc, text, tables, lines, seen)?;
     object_of(alloc, parts, last_line(lines))
+}
+
+// What lines mean, and what is seen of them.
+fn meaning_seen(alloc: Global, lines: &Lines36, seen: &mut SeenLines) -> Result<Object, AlmFault>
+    ensures { ParseSays result (assembled lines.now) }
+{
+    let text = lines.text();
+    let rows = lines.lines();
+    match tables_in(alloc, text, rows, seen) {
+        Ok(tables) => object_with(alloc, text, tables, rows, seen.items()),
+        Err(fault) => Err(fault),
+    }
 }
 
 // What lines mean: the parts of an object, or the first refusal.
 fn meaning(alloc: Global, lines: &Lines36) -> Result<Object, AlmFault>
     ensures { ParseSays result (assembled lines.now) }
 {
-    let text = lines.text();
-    let rows = lines.lines();
-    match tables_in(alloc, text, rows) {
-        Ok(tables) => object_with(alloc, text, tables, rows),
-        Err(fault) => Err(fault),
-    }
+    let mut seen = SeenLines::new(alloc);
+    let object = meaning_seen(alloc, lines, &mut seen);
+    // Dropped by a call: so the drop is proved once for its type.
+    drop(seen);
+    object
 }
 
 /// The object of lines. It is refused exactly where a line is, with the first of the codes E5 to E8 in the order of the

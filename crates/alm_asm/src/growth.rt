@@ -3,9 +3,11 @@
 ghost use Rattle.std.specs.Prelude.{ℕ, false, [], ◌∷◌, ◌≡◌, ◌+◌, ◌*◌, ◌^◌, ◌<◌};
 ghost use Rattle.std.specs.Prelude.{◌≤◌, length, if◌then◌else◌, Option, OnOk, IfOk};
 ghost use Rattle.obj36_parts.specs.ObjectSegment.{section_limit};
-ghost use Rattle.alm_lines.specs.Arguments.{first_arg};
-ghost use Rattle.alm_lines.specs.Spots.{start};
-ghost use Rattle.alm_asm.specs.Links.{operand_args, link_by, link_in};
+ghost use Rattle.alm_lines.specs.Arguments.{first_arg, terms_in};
+ghost use Rattle.alm_lines.specs.Values.{evaluated};
+ghost use Rattle.alm_asm.specs.Seen.{place_in, is_below, seen_from, AreFirst};
+ghost use Rattle.alm_lines.specs.Spots.{start, below};
+ghost use Rattle.alm_asm.specs.Links.{operand_args, link_by, link_in, links_from};
 ghost use Rattle.alm_asm.specs.Definitions.{gives_entries};
 ghost use Rattle.alm_asm.specs.Growth.{IsLarger, at_first, with_name, with_names, with_definition};
 ghost use Rattle.alm_asm.specs.Growth.{with_arg, with_args, with_definitions};
@@ -15,14 +17,16 @@ ghost use Rattle.alm_asm.specs.Growth.{marks_count, with_marks, grown_by, is_ove
 
 use crate::definitions::{gives_entries, sum_refusal};
 use crate::line_refusal::own_room;
-use crate::links::{link_of, operand_args};
-use crate::marks::operand_kind;
+use crate::links::link_of;
+use crate::marks::kind_given;
+use crate::seen::{Seen, next_seen};
+use crate::tables::Tables;
 use alm_lines::arguments::{first_terms, name_at, second_terms};
-use alm_lines::expression::sum_of;
-use alm_lines::refusal::{Code, Refusal, Room, has_value, is_over_limit, refusal_at};
+use alm_lines::refusal::{Code, Refusal, Room, is_over_limit, refusal_at};
 use alm_lines::spot::{Spot, below};
 use alm_lines::sum::{Kind, absolute};
 use alm_lines::symbols::Symbols;
+use alm_lines::value::{Value, evaluate, is_valued, kind_valued};
 use alm_parse::{Arg, Deed, Line36, Span, Term};
 use m36_text::{HashSeed, Name};
 use m36_word::NoMemory;
@@ -199,46 +203,73 @@ fn take_definitions(
     }
 }
 
+// Whether the link at a place is one of the first so many.
+fn is_noted(place: Option<u64>, count: usize) -> bool
+    ensures { result ≡ is_below place count }
+{
+    match place {
+        Some(place) => place < count as u64,
+        None => false,
+    }
+}
+
+#[tactic(auto, using(crate::proofs::SeenLaws::noted_is), unfolding(crate::specs::Growth::with_link_once))]
 fn take_external(
     text: &[u8],
     symbols: &Symbols,
+    _links: &Links,
     spot: Spot,
     growth: &mut Growth,
     segment: Span,
     entry: Option<Span>,
     terms: &[Term],
     tag: u8,
+    value: Value,
+    place: Option<u64>,
 ) -> Result<(), NoMemory>
     requires room { growth.old.definition ≤ 2 ^ 79 }
-    requires terms { length terms.now ≤ 2 ^ 32 }
+    requires value { value ≡ evaluated text.now symbols.now spot terms.now }
+    requires place { place
+        ≡ place_in _links.now
+        (link_by text.now symbols.now spot (Option.Some segment) entry terms.now tag) }
+    requires first { AreFirst growth.old.links _links.now }
     ensures symbol { OnOk result (growth.new.symbol ≡ growth.old.symbol) }
     ensures value { OnOk result
         (growth.new
         ≡ with_link_given growth.old
         (link_by text.now symbols.now spot (Option.Some segment) entry terms.now tag)) }
 {
-    if !has_value(text, symbols, spot, terms, Room::Half, false) {
+    if !is_valued(text, symbols, spot, terms, Room::Half, false, value) {
         return Ok(());
     }
-    let link = link_of(text, symbols, spot, segment, entry, terms, tag);
+    if is_noted(place, growth.links.items().len()) {
+        return Ok(());
+    }
+    let link = link_of(text, symbols, spot, segment, entry, terms, tag, value);
     growth.add_link(link)
 }
 
-fn take_link(
+fn take_operand(
     text: &[u8],
     symbols: &Symbols,
+    _links: &Links,
     spot: Spot,
-    line: &Line36,
+    args: &[Arg],
+    value: Value,
+    place: Option<u64>,
     growth: &mut Growth,
 ) -> Result<(), NoMemory>
-    requires { growth.old.definition ≤ 2 ^ 79 }
+    requires room { growth.old.definition ≤ 2 ^ 79 }
+    requires value { value ≡ evaluated text.now symbols.now spot (terms_in (first_arg args.now)) }
+    requires place { place
+        ≡ place_in _links.now (link_in text.now symbols.now spot (first_arg args.now)) }
+    requires first { AreFirst growth.old.links _links.now }
     ensures symbol { OnOk result (growth.new.symbol ≡ growth.old.symbol) }
     ensures value { OnOk result
         (growth.new
-        ≡ with_link_given growth.old
-        (link_in text.now symbols.now spot (first_arg (operand_args line.now.deed line.now.args)))) }
+        ≡ with_link_given growth.old (link_in text.now symbols.now spot (first_arg args.now))) }
 {
-    match operand_args(line.deed, line.args.items()) {
+    match args {
         [
             Arg::Operand {
                 pr: _,
@@ -250,9 +281,52 @@ fn take_link(
             ..
         ] => {
             let terms = expr.items();
-            take_external(text, symbols, spot, growth, *segment, *entry, terms, *tag)
+            take_external(
+                text, symbols, _links, spot, growth, *segment, *entry, terms, *tag, value, place,
+            )
         }
         _ => Ok(()),
+    }
+}
+
+fn take_link(
+    text: &[u8],
+    symbols: &Symbols,
+    _links: &Links,
+    spot: Spot,
+    line: &Line36,
+    value: Value,
+    place: Option<u64>,
+    growth: &mut Growth,
+) -> Result<(), NoMemory>
+    requires room { growth.old.definition ≤ 2 ^ 79 }
+    requires value { value
+        ≡ evaluated text.now symbols.now spot (terms_in (first_arg line.now.args)) }
+    requires place { place
+        ≡ place_in _links.now
+        (link_in text.now symbols.now spot (first_arg (operand_args line.now.deed line.now.args))) }
+    requires first { AreFirst growth.old.links _links.now }
+    ensures symbol { OnOk result (growth.new.symbol ≡ growth.old.symbol) }
+    ensures value { OnOk result
+        (growth.new
+        ≡ with_link_given growth.old
+        (link_in text.now symbols.now spot (first_arg (operand_args line.now.deed line.now.args)))) }
+{
+    match line.deed {
+        Deed::Instruction(_, _) => {
+            let args = line.args.items();
+            take_operand(text, symbols, _links, spot, args, value, place, growth)
+        }
+        Deed::Nothing
+        | Deed::Entry
+        | Deed::Segdef
+        | Deed::Equ
+        | Deed::Use
+        | Deed::Words
+        | Deed::Zero
+        | Deed::Block
+        | Deed::Even
+        | Deed::Bound => Ok(()),
     }
 }
 
@@ -284,7 +358,8 @@ fn is_own(segment: Option<Span>) -> bool
     }
 }
 
-fn operand_count(text: &[u8], symbols: &Symbols, spot: Spot, args: &[Arg]) -> u64
+fn operand_count(text: &[u8], symbols: &Symbols, spot: Spot, args: &[Arg], value: Value) -> u64
+    requires { value ≡ evaluated text.now symbols.now spot (terms_in (first_arg args.now)) }
     ensures value { result ≡ operand_count text.now symbols.now spot (first_arg args.now) }
     ensures bound { result ≤ 1 }
 {
@@ -301,34 +376,36 @@ fn operand_count(text: &[u8], symbols: &Symbols, spot: Spot, args: &[Arg]) -> u6
         ] => {
             let terms = expr.items();
             let room = operand_room(*pr, *seg);
-            let is_valued = has_value(text, symbols, spot, terms, room, is_own(*seg));
-            let sum = sum_of(text, symbols, spot, terms);
-            mark_count(is_valued, operand_kind(*seg, sum))
+            let has_value = is_valued(text, symbols, spot, terms, room, is_own(*seg), value);
+            let kind = kind_valued(text, symbols, spot, terms, value);
+            mark_count(has_value, kind_given(*seg, kind))
         }
         _ => 0,
     }
 }
 
-fn half_count(text: &[u8], symbols: &Symbols, spot: Spot, terms: &[Term]) -> u64
-    requires { length terms.now ≤ 2 ^ 32 }
+fn half_count(text: &[u8], symbols: &Symbols, spot: Spot, terms: &[Term], value: Value) -> u64
+    requires { value ≡ evaluated text.now symbols.now spot terms.now }
     ensures value { result ≡ half_count text.now symbols.now spot terms.now }
     ensures bound { result ≤ 1 }
 {
-    let is_valued = has_value(text, symbols, spot, terms, Room::Half, true);
-    let sum = sum_of(text, symbols, spot, terms);
-    mark_count(is_valued, sum.kind())
+    let has_value = is_valued(text, symbols, spot, terms, Room::Half, true, value);
+    mark_count(has_value, kind_valued(text, symbols, spot, terms, value))
 }
 
-fn marks_count(text: &[u8], symbols: &Symbols, spot: Spot, line: &Line36) -> u64
+fn marks_count(text: &[u8], symbols: &Symbols, spot: Spot, line: &Line36, value: Value) -> u64
+    requires { value ≡ evaluated text.now symbols.now spot (terms_in (first_arg line.now.args)) }
     ensures value { result ≡ marks_count text.now symbols.now spot line.now.args line.now.deed }
     ensures bound { result ≤ 2 }
 {
     let args = line.args.items();
     match line.deed {
-        Deed::Instruction(_, _) => operand_count(text, symbols, spot, args),
+        Deed::Instruction(_, _) => operand_count(text, symbols, spot, args, value),
         Deed::Zero => {
-            let left = half_count(text, symbols, spot, first_terms(args));
-            let right = half_count(text, symbols, spot, second_terms(args));
+            let second = second_terms(args);
+            let other = evaluate(text, symbols, spot, second);
+            let left = half_count(text, symbols, spot, first_terms(args), value);
+            let right = half_count(text, symbols, spot, second, other);
             left + right
         }
         Deed::Nothing
@@ -344,28 +421,53 @@ fn marks_count(text: &[u8], symbols: &Symbols, spot: Spot, line: &Line36) -> u64
 }
 
 #[tactic(auto, unfolding(crate::specs::Growth::with_marks))]
-fn take_marks(text: &[u8], symbols: &Symbols, spot: Spot, line: &Line36, growth: &mut Growth)
-    requires { growth.old.symbol ≤ 2 ^ 18 }
+fn take_marks(
+    text: &[u8],
+    symbols: &Symbols,
+    spot: Spot,
+    line: &Line36,
+    value: Value,
+    growth: &mut Growth,
+)
+    requires room { growth.old.symbol ≤ 2 ^ 18 }
+    requires value { value
+        ≡ evaluated text.now symbols.now spot (terms_in (first_arg line.now.args)) }
     ensures { growth.new ≡ with_marks text.now symbols.now spot line.now growth.old }
 {
-    growth.symbol += marks_count(text, symbols, spot, line) as u128;
+    growth.symbol += marks_count(text, symbols, spot, line, value) as u128;
 }
 
 #[tactic(auto, unfolding(crate::specs::Growth::grown_by))]
 fn take_line(
     text: &[u8],
     symbols: &Symbols,
+    links: &Links,
     spot: Spot,
     line: &Line36,
+    _more: &[Line36],
+    seen: &Seen,
     growth: &mut Growth,
 ) -> Result<(), NoMemory>
+    requires value { seen.now.value
+        ≡ evaluated text.now symbols.now spot (terms_in (first_arg line.now.args)) }
+    requires place { seen.now.place
+        ≡ place_in links.now
+        (link_in text.now symbols.now spot (first_arg (operand_args line.now.deed line.now.args))) }
+    requires links { links_from text.now symbols.now growth.old.links spot (line.now ∷ _more.now)
+        ≡ links.now }
     requires definition { growth.old.definition ≤ 2 ^ 18 }
     requires symbol { growth.old.symbol ≤ 2 ^ 18 }
-    ensures { OnOk result (growth.new ≡ grown_by text.now symbols.now spot growth.old line.now) }
+    ensures value { OnOk result
+        (growth.new ≡ grown_by text.now symbols.now spot growth.old line.now) }
+    ensures links { OnOk result
+        (links_from text.now symbols.now growth.new.links (below text.now spot line.now) _more.now
+        ≡ links.now) }
 {
     take_definitions(text, symbols, line, growth)?;
-    take_link(text, symbols, spot, line, growth)?;
-    take_marks(text, symbols, spot, line, growth);
+    take_link(
+        text, symbols, links, spot, line, seen.value, seen.place, growth,
+    )?;
+    take_marks(text, symbols, spot, line, seen.value, growth);
     Ok(())
 }
 
@@ -374,25 +476,42 @@ fn take_line(
 fn take_lines(
     alloc: Global,
     text: &[u8],
-    symbols: &Symbols,
+    tables: &Tables,
     lines: &[Line36],
+    seen: &[Seen],
     growth: &mut Growth,
 ) -> Result<Option<Refusal>, NoMemory>
     requires count { length lines.now < 2 ^ 32 }
+    requires seen { seen.now
+        ≡ seen_from text.now tables.now.symbols tables.now.links start lines.now }
+    requires links { links_from text.now tables.now.symbols growth.old.links start lines.now
+        ≡ tables.now.links }
     requires definition { growth.old.definition ≤ section_limit }
     requires symbol { growth.old.symbol ≤ section_limit }
     ensures { IfOk result (λ r.
-        r ≡ growth_refusal text.now symbols.now growth.old start lines.now) }
+        r ≡ growth_refusal text.now tables.now.symbols growth.old start lines.now) }
 {
     let mut spot = Spot::start();
     let mut rest = lines;
+    let mut left = seen;
     while let [line, more @ ..] = rest {
-        take_line(text, symbols, spot, line, growth)?;
+        let (seen, later) = next_seen(text, &tables.symbols, &tables.links, spot, line, more, left);
+        take_line(
+            text,
+            &tables.symbols,
+            &tables.links,
+            spot,
+            line,
+            more,
+            &seen,
+            growth,
+        )?;
         spot = below(alloc, text, spot, line)?;
         if growth.is_over(spot) {
             return Ok(Some(refusal_at(line, line.start as u64, Code::E8)));
         }
         rest = more;
+        left = later;
     }
     Ok(None)
 }
@@ -402,14 +521,20 @@ fn take_lines(
 pub fn growth_refusal(
     alloc: Global,
     text: &[u8],
-    symbols: &Symbols,
+    tables: &Tables,
     lines: &[Line36],
+    seen: &[Seen],
 ) -> Result<Option<Refusal>, NoMemory>
-    requires { length lines.now < 2 ^ 32 }
-    ensures { IfOk result (λ r. r ≡ growth_refusal text.now symbols.now at_first start lines.now) }
+    requires count { length lines.now < 2 ^ 32 }
+    requires seen { seen.now
+        ≡ seen_from text.now tables.now.symbols tables.now.links start lines.now }
+    requires links { tables.now.links
+        ≡ links_from text.now tables.now.symbols [] start lines.now }
+    ensures { IfOk result (λ r.
+        r ≡ growth_refusal text.now tables.now.symbols at_first start lines.now) }
 {
-    let mut growth = Growth::start(alloc, symbols.seed());
-    let refused = take_lines(alloc, text, symbols, lines, &mut growth);
+    let mut growth = Growth::start(alloc, tables.symbols.seed());
+    let refused = take_lines(alloc, text, tables, lines, seen, &mut growth);
     // Dropped by a call: so the drop is proved once for its type.
     drop(growth);
     refused

@@ -22,6 +22,7 @@ pub mod line_refusal;
 pub mod links;
 pub mod marks;
 mod parts;
+pub mod seen;
 pub mod tables;
 pub mod words;
 

@@ -1,29 +1,33 @@
 //! What is refused of lines whose symbols are known.
 
 ghost use Rattle.std.specs.Prelude.{ℕ, [], ◌≡◌, ◌+◌, ◌^◌, ◌<◌, ◌≤◌, length};
-ghost use Rattle.std.specs.Prelude.{Option, None, OnOk, IfOk};
-ghost use Rattle.alm_lines.specs.Arguments.{first_arg};
+ghost use Rattle.std.specs.Prelude.{Option, OnOk, IfOk, nat_lt, unwrap_or};
+ghost use Rattle.alm_lines.specs.Arguments.{first_arg, terms_in};
+ghost use Rattle.alm_lines.specs.Values.{evaluated};
+ghost use Rattle.alm_asm.specs.Seen.{place_in, seen_from};
+ghost use Rattle.obj36_parts.specs.ObjectSegment.{word_of_link};
+ghost use Rattle.m36_word.specs.Field.{offset_limit};
 ghost use Rattle.alm_lines.specs.Spots.{start};
 ghost use Rattle.alm_asm.specs.Definitions.{definitions_after};
 ghost use Rattle.alm_asm.specs.LineRefusals.{unless, op_place, external_place, needs_static};
-ghost use Rattle.alm_asm.specs.LineRefusals.{may_name, is_in_reach, own_room, link_expression};
+ghost use Rattle.alm_asm.specs.LineRefusals.{may_name, own_room, link_expression};
 ghost use Rattle.alm_asm.specs.LineRefusals.{reaches, external_refusal, own_operand};
 ghost use Rattle.alm_asm.specs.LineRefusals.{operand_refusal, may_enter};
 ghost use Rattle.alm_asm.specs.LineRefusals.{instruction_refusal, use_refusal, halves_refusal};
 ghost use Rattle.alm_asm.specs.LineRefusals.{refusal_of_deed, line_refusal, lines_refusal};
-ghost use Rattle.alm_asm.specs.LineRefusals.{with_links};
-ghost use Rattle.alm_asm.specs.Links.{links_after, links_from};
+ghost use Rattle.alm_asm.specs.Links.{operand_args, link_by, link_in};
 
 use crate::definitions::push_definitions;
-use crate::links::{link_of, link_place, note_link};
+use crate::links::offset_of_link;
+use crate::seen::{Seen, next_seen};
 use crate::tables::Tables;
 use alm_lines::arguments::{first_symbol, first_terms, second_terms, section_in};
+use alm_lines::count::Count;
 use alm_lines::expression::expression_place;
-use alm_lines::refusal::{
-    Code, Refusal, Room, Wanted, expression_refusal, has_value, refusal_at, sooner,
-};
+use alm_lines::refusal::{Code, Refusal, Room, Wanted, refusal_at, sooner};
 use alm_lines::spot::{Spot, below};
 use alm_lines::symbols::Symbols;
+use alm_lines::value::{Value, evaluate, is_valued, value_refused};
 use alm_parse::{Arg, Deed, Line36, Span, Term, own_section};
 use m36_word::NoMemory;
 use obj36::{Defs, Section};
@@ -70,23 +74,6 @@ fn may_name(tables: &Tables, own: Option<Section>) -> bool
     tables.uses_outer || !needs_static(own)
 }
 
-#[tactic(auto, unfolding(crate::specs::LineRefusals::is_in_reach))]
-fn is_in_reach(
-    text: &[u8],
-    tables: &Tables,
-    spot: Spot,
-    segment: Span,
-    entry: Option<Span>,
-    terms: &[Term],
-    tag: u8,
-) -> bool
-    requires { length terms.now ≤ 2 ^ 32 }
-    ensures { result ≡ is_in_reach text.now tables.now spot segment entry terms.now tag }
-{
-    let link = link_of(text, &tables.symbols, spot, segment, entry, terms, tag);
-    link_place(&tables.links, tables.first_link, &link) < OFFSET_LIMIT as u128
-}
-
 /// What the expression of an operand has to fit in.
 pub fn own_room(pr: Option<u8>) -> Room
     ensures { result ≡ own_room pr }
@@ -105,35 +92,50 @@ fn link_expression_refusal(
     segment: Span,
     entry: Option<Span>,
     terms: &[Term],
+    value: Value,
 ) -> Option<Refusal>
-    requires { length terms.now ≤ 2 ^ 32 }
-    ensures { result ≡ link_expression text.now symbols.now spot line.now segment entry terms.now }
+    requires { value ≡ evaluated text.now symbols.now spot terms.now }
+    ensures { result
+        ≡ link_expression text.now symbols.now spot line.now segment entry terms.now }
 {
     let wanted = Wanted {
         place: external_place(segment, entry),
         room: Room::Half,
         may_move: false,
     };
-    expression_refusal(text, symbols, spot, line, terms, wanted)
+    value_refused(text, symbols, spot, line, terms, wanted, value)
 }
 
-#[tactic(auto, unfolding(crate::specs::LineRefusals::reaches))]
+// Whether the link that so many links precede is in the reach of `pr4|`.
+fn is_in_reach(first: Count, place: Option<u64>) -> bool
+    ensures { result ≡ nat_lt (word_of_link first (unwrap_or place 0)) offset_limit }
+{
+    offset_of_link(first, place) < OFFSET_LIMIT as u128
+}
+
+#[tactic(auto, using(crate::proofs::SeenLaws::by_place), unfolding(crate::specs::LineRefusals::reaches, crate::specs::LineRefusals::is_in_reach))]
 fn reaches(
     text: &[u8],
     tables: &Tables,
     spot: Spot,
-    segment: Span,
-    entry: Option<Span>,
+    _segment: Span,
+    _entry: Option<Span>,
     terms: &[Term],
-    tag: u8,
+    _tag: u8,
+    value: Value,
+    place: Option<u64>,
 ) -> bool
-    requires { length terms.now ≤ 2 ^ 32 }
-    ensures { result ≡ reaches text.now tables.now spot segment entry terms.now tag }
+    requires value { value ≡ evaluated text.now tables.now.symbols spot terms.now }
+    requires place { place
+        ≡ place_in tables.now.links
+        (link_by text.now tables.now.symbols spot (Option.Some _segment) _entry terms.now _tag) }
+    ensures { result ≡ reaches text.now tables.now spot _segment _entry terms.now _tag }
 {
-    if !has_value(text, &tables.symbols, spot, terms, Room::Half, false) {
+    let symbols = &tables.symbols;
+    if !is_valued(text, symbols, spot, terms, Room::Half, false, value) {
         return true;
     }
-    is_in_reach(text, tables, spot, segment, entry, terms, tag)
+    is_in_reach(tables.first_link, place)
 }
 
 fn external_refusal(
@@ -145,8 +147,13 @@ fn external_refusal(
     entry: Option<Span>,
     terms: &[Term],
     tag: u8,
+    value: Value,
+    place: Option<u64>,
 ) -> Option<Refusal>
-    requires { length terms.now ≤ 2 ^ 32 }
+    requires value { value ≡ evaluated text.now tables.now.symbols spot terms.now }
+    requires place { place
+        ≡ place_in tables.now.links
+        (link_by text.now tables.now.symbols spot (Option.Some segment) entry terms.now tag) }
     ensures { result
         ≡ external_refusal text.now tables.now spot line.now segment entry terms.now tag }
 {
@@ -159,8 +166,9 @@ fn external_refusal(
         segment,
         entry,
         terms,
+        value,
     );
-    let reached = reaches(text, tables, spot, segment, entry, terms, tag);
+    let reached = reaches(text, tables, spot, segment, entry, terms, tag, value, place);
     let named = may_name(tables, own_section(text, segment));
     sooner(sooner(expression, unless(reached, at)), unless(named, at))
 }
@@ -172,8 +180,9 @@ fn own_operand_refusal(
     line: &Line36,
     room: Room,
     terms: &[Term],
+    value: Value,
 ) -> Option<Refusal>
-    requires { length terms.now ≤ 2 ^ 32 }
+    requires { value ≡ evaluated text.now tables.now.symbols spot terms.now }
     ensures { result ≡ own_operand text.now tables.now spot line.now room terms.now }
 {
     let wanted = Wanted {
@@ -181,10 +190,22 @@ fn own_operand_refusal(
         room,
         may_move: true,
     };
-    expression_refusal(text, &tables.symbols, spot, line, terms, wanted)
+    value_refused(text, &tables.symbols, spot, line, terms, wanted, value)
 }
 
-fn operand_refusal(text: &[u8], tables: &Tables, spot: Spot, line: &Line36) -> Option<Refusal>
+fn operand_refusal(
+    text: &[u8],
+    tables: &Tables,
+    spot: Spot,
+    line: &Line36,
+    value: Value,
+    place: Option<u64>,
+) -> Option<Refusal>
+    requires value { value
+        ≡ evaluated text.now tables.now.symbols spot (terms_in (first_arg line.now.args)) }
+    requires place { place
+        ≡ place_in tables.now.links
+        (link_in text.now tables.now.symbols spot (first_arg line.now.args)) }
     ensures { result
         ≡ operand_refusal text.now tables.now spot line.now (first_arg line.now.args) }
 {
@@ -198,13 +219,15 @@ fn operand_refusal(text: &[u8], tables: &Tables, spot: Spot, line: &Line36) -> O
                 tag,
             },
             ..
-        ] => match seg {
-            Some(segment) => {
-                let terms = expr.items();
-                external_refusal(text, tables, spot, line, *segment, *entry, terms, *tag)
+        ] => {
+            let terms = expr.items();
+            match seg {
+                Some(segment) => external_refusal(
+                    text, tables, spot, line, *segment, *entry, terms, *tag, value, place,
+                ),
+                None => own_operand_refusal(text, tables, spot, line, own_room(*pr), terms, value),
             }
-            None => own_operand_refusal(text, tables, spot, line, own_room(*pr), expr.items()),
-        },
+        }
         _ => None,
     }
 }
@@ -219,10 +242,22 @@ fn may_enter(spot: Spot, section: Section) -> bool
     }
 }
 
-fn instruction_refusal(text: &[u8], tables: &Tables, spot: Spot, line: &Line36) -> Option<Refusal>
+fn instruction_refusal(
+    text: &[u8],
+    tables: &Tables,
+    spot: Spot,
+    line: &Line36,
+    value: Value,
+    place: Option<u64>,
+) -> Option<Refusal>
+    requires value { value
+        ≡ evaluated text.now tables.now.symbols spot (terms_in (first_arg line.now.args)) }
+    requires place { place
+        ≡ place_in tables.now.links
+        (link_in text.now tables.now.symbols spot (first_arg line.now.args)) }
     ensures { result ≡ instruction_refusal text.now tables.now spot line.now }
 {
-    let operand = operand_refusal(text, tables, spot, line);
+    let operand = operand_refusal(text, tables, spot, line, value, place);
     let at = refusal_at(line, op_place(line.op), Code::E7);
     sooner(unless(is_text_section(spot.section), at), operand)
 }
@@ -235,12 +270,23 @@ fn use_refusal(text: &[u8], spot: Spot, line: &Line36) -> Option<Refusal>
     unless(may_enter(spot, section), at)
 }
 
-fn halves_refusal(text: &[u8], tables: &Tables, spot: Spot, line: &Line36) -> Option<Refusal>
+fn halves_refusal(
+    text: &[u8],
+    tables: &Tables,
+    spot: Spot,
+    line: &Line36,
+    value: Value,
+) -> Option<Refusal>
+    requires { value
+        ≡ evaluated text.now tables.now.symbols spot (terms_in (first_arg line.now.args)) }
     ensures { result ≡ halves_refusal text.now tables.now spot line.now }
 {
     let args = line.args.items();
-    let left = own_operand_refusal(text, tables, spot, line, Room::Half, first_terms(args));
-    let right = own_operand_refusal(text, tables, spot, line, Room::Half, second_terms(args));
+    let first = first_terms(args);
+    let second = second_terms(args);
+    let other = evaluate(text, &tables.symbols, spot, second);
+    let left = own_operand_refusal(text, tables, spot, line, Room::Half, first, value);
+    let right = own_operand_refusal(text, tables, spot, line, Room::Half, second, other);
     sooner(left, right)
 }
 
@@ -250,13 +296,20 @@ fn refusal_of_deed(
     spot: Spot,
     line: &Line36,
     deed: Deed,
+    value: Value,
+    place: Option<u64>,
 ) -> Option<Refusal>
+    requires value { value
+        ≡ evaluated text.now tables.now.symbols spot (terms_in (first_arg line.now.args)) }
+    requires place { place
+        ≡ place_in tables.now.links
+        (link_in text.now tables.now.symbols spot (first_arg (operand_args deed line.now.args))) }
     ensures { result ≡ refusal_of_deed text.now tables.now spot line.now deed }
 {
     match deed {
-        Deed::Instruction(_, _) => instruction_refusal(text, tables, spot, line),
+        Deed::Instruction(_, _) => instruction_refusal(text, tables, spot, line, value, place),
         Deed::Use => use_refusal(text, spot, line),
-        Deed::Zero => halves_refusal(text, tables, spot, line),
+        Deed::Zero => halves_refusal(text, tables, spot, line, value),
         Deed::Nothing
         | Deed::Entry
         | Deed::Segdef
@@ -268,89 +321,79 @@ fn refusal_of_deed(
     }
 }
 
-// What is refused of a line, whose link stands among the links then, if it has one.
+// What is refused of a line, which is seen so.
 #[tactic(auto, unfolding(crate::specs::LineRefusals::line_refusal))]
 fn take_line(
     text: &[u8],
-    tables: &mut Tables,
+    tables: &Tables,
     spot: Spot,
     line: &Line36,
+    seen: &Seen,
     done: &mut Defs,
 ) -> Result<Option<Refusal>, NoMemory>
+    requires value { seen.now.value
+        ≡ evaluated text.now tables.now.symbols spot (terms_in (first_arg line.now.args)) }
+    requires place { seen.now.place
+        ≡ place_in tables.now.links
+        (link_in text.now tables.now.symbols spot
+        (first_arg (operand_args line.now.deed line.now.args))) }
     ensures definitions { OnOk result
-        (done.new ≡ definitions_after text.now tables.old.symbols done.old line.now) }
-    ensures links { OnOk result
-        (tables.new
-        ≡ with_links tables.old
-        (links_after text.now tables.old.symbols tables.old.links spot line.now)) }
+        (done.new ≡ definitions_after text.now tables.now.symbols done.old line.now) }
     ensures refused { IfOk result (λ r.
-        r ≡ line_refusal text.now tables.new done.old spot line.now) }
+        r ≡ line_refusal text.now tables.now done.old spot line.now) }
 {
-    note_link(text, &tables.symbols, &mut tables.links, spot, line)?;
     let names = push_definitions(text, &tables.symbols, line, None, done)?;
-    let own = refusal_of_deed(text, tables, spot, line, line.deed);
+    let own = refusal_of_deed(text, tables, spot, line, line.deed, seen.value, seen.place);
     Ok(sooner(names, own))
 }
 
-// The refusal of the first of the lines that is refused, behind these definitions, and the links of the lines where none is.
-#[tactic(auto, using(alm_lines::proofs::Rooms::rooms, crate::proofs::LinksSoFar::later_same), unfolding(crate::specs::LineRefusals::lines_refusal, crate::specs::Links::links_from))]
+// The refusal of the first of the lines that is refused, after these definitions.
+#[tactic(auto, using(alm_lines::proofs::Rooms::rooms), unfolding(crate::specs::LineRefusals::lines_refusal))]
 fn take_lines(
     alloc: Global,
     text: &[u8],
-    tables: &mut Tables,
+    tables: &Tables,
     lines: &[Line36],
+    seen: &[Seen],
     done: &mut Defs,
 ) -> Result<Option<Refusal>, NoMemory>
-    requires { length lines.now < 2 ^ 32 }
-    ensures symbols { IfOk result (λ r. tables.new.symbols ≡ tables.old.symbols) }
-    ensures refused { IfOk result (λ r.
-        r
-        ≡ lines_refusal text.now
-        (with_links tables.old
-        (links_from text.now tables.old.symbols tables.old.links start lines.now))
-        done.old start lines.now) }
-    ensures links { IfOk result (λ r.
-        r ≡ None
-        → tables.new
-        ≡ with_links tables.old
-        (links_from text.now tables.old.symbols tables.old.links start lines.now)) }
+    requires count { length lines.now < 2 ^ 32 }
+    requires seen { seen.now
+        ≡ seen_from text.now tables.now.symbols tables.now.links start lines.now }
+    ensures { IfOk result (λ r.
+        r ≡ lines_refusal text.now tables.now done.old start lines.now) }
 {
     let mut spot = Spot::start();
     let mut rest = lines;
+    let mut left = seen;
     while let [line, more @ ..] = rest {
-        if let Some(refusal) = take_line(text, tables, spot, line, done)? {
+        let (seen, later) = next_seen(text, &tables.symbols, &tables.links, spot, line, more, left);
+        if let Some(refusal) = take_line(text, tables, spot, line, &seen, done)? {
             return Ok(Some(refusal));
         }
         spot = below(alloc, text, spot, line)?;
         rest = more;
+        left = later;
     }
     Ok(None)
 }
 
-/// The refusal of the first of the lines that is refused, and the links of the lines where none is. The error is want of
-/// memory alone.
+/// The refusal of the first of the lines that is refused. The error is want of memory alone.
 pub fn lines_refusal(
     alloc: Global,
     text: &[u8],
-    tables: &mut Tables,
+    tables: &Tables,
     lines: &[Line36],
+    seen: &[Seen],
 ) -> Result<Option<Refusal>, NoMemory>
-    requires { length lines.now < 2 ^ 32 }
-    ensures symbols { IfOk result (λ r. tables.new.symbols ≡ tables.old.symbols) }
-    ensures refused { IfOk result (λ r.
-        r
-        ≡ lines_refusal text.now
-        (with_links tables.old
-        (links_from text.now tables.old.symbols tables.old.links start lines.now))
-        [] start lines.now) }
-    ensures links { IfOk result (λ r.
-        r ≡ None
-        → tables.new
-        ≡ with_links tables.old
-        (links_from text.now tables.old.symbols tables.old.links start lines.now)) }
+    requires count { length lines.now < 2 ^ 32 }
+    requires seen { seen.now
+        ≡ seen_from text.now tables.now.symbols tables.now.links start lines.now }
+    ensures { IfOk result (λ r.
+        r ≡ lines_refusal text.now tables.now [] start lines.now) }
 {
     let mut done = Defs::new(alloc, tables.symbols.seed());
-    let refused = take_lines(alloc, text, tables, lines, &mut done);
+    let refused = take_lines(alloc, text, tables, lines, seen, &mut done);
     // Dropped by a call: so the drop is proved once for its type.
     drop(done);
     refused

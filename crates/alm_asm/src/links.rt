@@ -1,9 +1,12 @@
 //! Links: the external operands of instructions, each once, in the order of their first use.
 
 ghost use Rattle.std.specs.Prelude.{ℕ, [], ◌≡◌, ◌^◌, ◌<◌, ◌≤◌, length, Option};
-ghost use Rattle.std.specs.Prelude.{OnOk};
-ghost use Rattle.alm_lines.specs.Arguments.{first_arg};
-ghost use Rattle.alm_lines.specs.Arguments.{name_at};
+ghost use Rattle.std.specs.Prelude.{OnOk, IfOk, position, unwrap_or};
+ghost use Rattle.obj36_parts.specs.ObjectSegment.{word_of_link};
+ghost use Rattle.obj36_parts.specs.Indexes.{same_link};
+ghost use Rattle.alm_asm.specs.Seen.{place_in};
+ghost use Rattle.alm_lines.specs.Arguments.{name_at, first_arg, terms_in};
+ghost use Rattle.alm_lines.specs.Values.{evaluated};
 ghost use Rattle.obj36_parts.specs.Sections.{same_section};
 ghost use Rattle.alm_asm.specs.Links.{link_kind, link_section, link_name, entry_name};
 ghost use Rattle.alm_asm.specs.Links.{link_of, operand_args, link_by, link_in, with_link};
@@ -11,10 +14,10 @@ ghost use Rattle.alm_asm.specs.Links.{links_after, link_place};
 
 use alm_lines::arguments::name_at;
 use alm_lines::count::Count;
-use alm_lines::expression::sum_of;
-use alm_lines::refusal::{Room, has_value};
+use alm_lines::refusal::Room;
 use alm_lines::spot::Spot;
 use alm_lines::symbols::Symbols;
+use alm_lines::value::{Value, is_valued};
 use alm_parse::{Arg, Deed, Line36, Span, Term, own_section};
 use m36_text::Name;
 use m36_word::NoMemory;
@@ -59,48 +62,29 @@ fn entry_name(text: &[u8], entry: Option<Span>) -> Name
     }
 }
 
-/// The link of an external operand.
-#[tactic(auto, unfolding(crate::specs::Links::link_of))]
+/// The link of an external operand, whose expression has this value.
+#[tactic(auto, unfolding(crate::specs::Links::link_of, alm_lines::specs::Values::evaluated))]
 pub fn link_of(
     text: &[u8],
-    symbols: &Symbols,
-    spot: Spot,
+    _symbols: &Symbols,
+    _spot: Spot,
     segment: Span,
     entry: Option<Span>,
-    terms: &[Term],
+    _terms: &[Term],
     tag: u8,
+    value: Value,
 ) -> Link
-    requires { length terms.now ≤ 2 ^ 32 }
-    ensures { result ≡ link_of text.now symbols.now spot segment entry terms.now tag }
+    requires { value ≡ evaluated text.now _symbols.now _spot _terms.now }
+    ensures { result ≡ link_of text.now _symbols.now _spot segment entry _terms.now tag }
 {
     let own = own_section(text, segment);
-    let sum = sum_of(text, symbols, spot, terms);
     Link {
         name: link_name(own, text, segment),
         entry: entry_name(text, entry),
-        expr: sum.value.half() as u32,
+        expr: value.half,
         kind: link_kind(own, entry),
         section: link_section(own),
         modifier: tag % (1 << 6),
-    }
-}
-
-/// The operand of an instruction; other operations have none.
-pub fn operand_args(deed: Deed, args: &[Arg]) -> &[Arg]
-    ensures { result.now ≡ operand_args deed args.now }
-{
-    match deed {
-        Deed::Instruction(_, _) => args,
-        Deed::Nothing
-        | Deed::Entry
-        | Deed::Segdef
-        | Deed::Equ
-        | Deed::Use
-        | Deed::Words
-        | Deed::Zero
-        | Deed::Block
-        | Deed::Even
-        | Deed::Bound => &[],
     }
 }
 
@@ -113,18 +97,20 @@ fn external_link(
     entry: Option<Span>,
     terms: &[Term],
     tag: u8,
+    value: Value,
 ) -> Option<Link>
-    requires { length terms.now ≤ 2 ^ 32 }
+    requires { value ≡ evaluated text.now symbols.now spot terms.now }
     ensures { result
         ≡ link_by text.now symbols.now spot (Option.Some segment) entry terms.now tag }
 {
-    if !has_value(text, symbols, spot, terms, Room::Half, false) {
+    if !is_valued(text, symbols, spot, terms, Room::Half, false, value) {
         return None;
     }
-    Some(link_of(text, symbols, spot, segment, entry, terms, tag))
+    Some(link_of(text, symbols, spot, segment, entry, terms, tag, value))
 }
 
-fn link_in(text: &[u8], symbols: &Symbols, spot: Spot, args: &[Arg]) -> Option<Link>
+fn link_in(text: &[u8], symbols: &Symbols, spot: Spot, args: &[Arg], value: Value) -> Option<Link>
+    requires { value ≡ evaluated text.now symbols.now spot (terms_in (first_arg args.now)) }
     ensures { result ≡ link_in text.now symbols.now spot (first_arg args.now) }
 {
     match args {
@@ -139,7 +125,7 @@ fn link_in(text: &[u8], symbols: &Symbols, spot: Spot, args: &[Arg]) -> Option<L
             ..
         ] => {
             let terms = expr.items();
-            external_link(text, symbols, spot, *segment, *entry, terms, *tag)
+            external_link(text, symbols, spot, *segment, *entry, terms, *tag, value)
         }
         _ => None,
     }
@@ -152,21 +138,35 @@ pub fn same_section(a: Section, b: Section) -> bool
     number(a) == number(b)
 }
 
-fn add_link(links: &mut Links, link: Option<Link>) -> Result<(), NoMemory>
-    ensures { OnOk result (links.new ≡ with_link links.old link) }
+// Adds a link unless it is among the links, and returns how many links precede it.
+fn add_link(links: &mut Links, link: Link) -> Result<u64, NoMemory>
+    ensures links { OnOk result (links.new ≡ with_link links.old (Option.Some link)) }
+    ensures place { IfOk result (λ place. position (same_link link) links.new ≡ Option.Some place) }
+{
+    if let Some(place) = links.place(&link) {
+        return Ok(place);
+    }
+    let place = links.items().len() as u64;
+    links.push(link)?;
+    Ok(place)
+}
+
+// Notes the link that an operand gives, if it gives one.
+fn note_given(links: &mut Links, link: Option<Link>) -> Result<Option<u64>, NoMemory>
+    ensures links { OnOk result (links.new ≡ with_link links.old link) }
+    ensures place { IfOk result (λ place. place ≡ place_in links.new link) }
 {
     match link {
-        None => Ok(()),
+        None => Ok(None),
         Some(link) => {
-            if links.has(&link) {
-                return Ok(());
-            }
-            links.push(link)
+            let place = add_link(links, link)?;
+            Ok(Some(place))
         }
     }
 }
 
-/// Notes the link of a line behind those of the lines above. The error is want of memory alone.
+/// Notes the link of a line behind those of the lines above, where its first argument has this
+/// value, and returns how many links precede it. The error is want of memory alone.
 #[tactic(auto, unfolding(crate::specs::Links::links_after))]
 pub fn note_link(
     text: &[u8],
@@ -174,12 +174,40 @@ pub fn note_link(
     links: &mut Links,
     spot: Spot,
     line: &Line36,
-) -> Result<(), NoMemory>
-    ensures { OnOk result (links.new ≡ links_after text.now symbols.now links.old spot line.now) }
+    value: Value,
+) -> Result<Option<u64>, NoMemory>
+    requires { value ≡ evaluated text.now symbols.now spot (terms_in (first_arg line.now.args)) }
+    ensures links { OnOk result
+        (links.new ≡ links_after text.now symbols.now links.old spot line.now) }
+    ensures place { IfOk result (λ place.
+        place
+        ≡ place_in links.new
+        (link_in text.now symbols.now spot (first_arg (operand_args line.now.deed line.now.args)))) }
 {
-    let deed = line.deed;
-    let link = link_in(text, symbols, spot, operand_args(deed, line.args.items()));
-    add_link(links, link)
+    match line.deed {
+        Deed::Instruction(_, _) => {
+            let link = link_in(text, symbols, spot, line.args.items(), value);
+            note_given(links, link)
+        }
+        Deed::Nothing
+        | Deed::Entry
+        | Deed::Segdef
+        | Deed::Equ
+        | Deed::Use
+        | Deed::Words
+        | Deed::Zero
+        | Deed::Block
+        | Deed::Even
+        | Deed::Bound => Ok(None),
+    }
+}
+
+/// The offset in the linkage section of the link that so many links precede, where the first has an
+/// offset.
+pub fn offset_of_link(first: Count, place: Option<u64>) -> u128
+    ensures { result ≡ word_of_link first (unwrap_or place 0) }
+{
+    first.value() + 2 * (place.unwrap_or(0) as u128)
 }
 
 /// The offset of a link in the linkage section, whose links begin at a place.

@@ -2,18 +2,22 @@
 
 ghost use Rattle.std.specs.Prelude.{ℕ, List, [], ◌∷◌, ◌++◌, ◌≡◌, ◌%◌, ◌^◌, ◌<◌, length, Option};
 ghost use Rattle.std.specs.Prelude.{OnOk, IfOk};
-ghost use Rattle.alm_lines.specs.Arguments.{first_arg};
+ghost use Rattle.alm_lines.specs.Arguments.{first_arg, terms_in};
+ghost use Rattle.alm_lines.specs.Values.{evaluated};
+ghost use Rattle.alm_asm.specs.Seen.{seen_from};
 ghost use Rattle.alm_lines.specs.Spots.{start};
 ghost use Rattle.alm_parse.specs.declared.deed.Deed.TheVariants as deed;
-ghost use Rattle.alm_asm.specs.Marks.{mark, operand_part, operand_kind, operand_mark, marks_by};
+ghost use Rattle.alm_asm.specs.Marks.{mark, operand_part, kind_given, operand_mark, marks_by};
 ghost use Rattle.alm_asm.specs.Marks.{marks_after, marks_from};
 
 use crate::links::same_section;
+use crate::seen::{Seen, next_seen};
+use crate::tables::Tables;
 use alm_lines::arguments::{first_terms, second_terms};
-use alm_lines::expression::sum_of;
 use alm_lines::spot::{Spot, below};
-use alm_lines::sum::{Kind, Sum};
+use alm_lines::sum::Kind;
 use alm_lines::symbols::Symbols;
+use alm_lines::value::{Value, evaluate, kind_valued};
 use alm_parse::{Arg, Deed, Line36, Span};
 use m36_word::NoMemory;
 use obj36::{Reloc, Relocs, Section};
@@ -45,13 +49,13 @@ fn operand_part(pr: Option<u8>, segment: Option<Span>) -> u8
     }
 }
 
-/// What an operand is in its word: the place of a link, or what its expression comes to.
-pub fn operand_kind(segment: Option<Span>, sum: Sum) -> Kind
-    ensures { result ≡ operand_kind segment sum }
+/// What an operand is in its word: the place of a link, or of the kind of its expression.
+pub fn kind_given(segment: Option<Span>, kind: Kind) -> Kind
+    ensures { result ≡ kind_given segment kind }
 {
     match segment {
         Some(_) => Kind::Moved(Section::Linkage),
-        None => sum.kind(),
+        None => kind,
     }
 }
 
@@ -60,8 +64,10 @@ fn push_operand(
     symbols: &Symbols,
     spot: Spot,
     args: &[Arg],
+    value: Value,
     marks: &mut Relocs,
 ) -> Result<(), NoMemory>
+    requires { value ≡ evaluated text.now symbols.now spot (terms_in (first_arg args.now)) }
     ensures { OnOk result
         (marks.new ≡ marks.old ++ operand_mark text.now symbols.now spot (first_arg args.now)) }
 {
@@ -76,9 +82,8 @@ fn push_operand(
             },
             ..
         ] => {
-            let sum = sum_of(text, symbols, spot, expr.items());
-            let kind = operand_kind(*seg, sum);
-            push_mark(marks, spot, operand_part(*pr, *seg), kind)
+            let kind = kind_valued(text, symbols, spot, expr.items(), value);
+            push_mark(marks, spot, operand_part(*pr, *seg), kind_given(*seg, kind))
         }
         _ => Ok(()),
     }
@@ -89,15 +94,19 @@ fn push_halves(
     symbols: &Symbols,
     spot: Spot,
     args: &[Arg],
+    value: Value,
     marks: &mut Relocs,
 ) -> Result<(), NoMemory>
+    requires { value ≡ evaluated text.now symbols.now spot (terms_in (first_arg args.now)) }
     ensures { OnOk result
         (marks.new ≡ marks_by text.now symbols.now spot marks.old args.now deed.Zero) }
 {
-    let left = sum_of(text, symbols, spot, first_terms(args));
-    let right = sum_of(text, symbols, spot, second_terms(args));
-    push_mark(marks, spot, 0, left.kind())?;
-    push_mark(marks, spot, 1, right.kind())
+    let second = second_terms(args);
+    let other = evaluate(text, symbols, spot, second);
+    let left = kind_valued(text, symbols, spot, first_terms(args), value);
+    let right = kind_valued(text, symbols, spot, second, other);
+    push_mark(marks, spot, 0, left)?;
+    push_mark(marks, spot, 1, right)
 }
 
 fn push_marks(
@@ -105,14 +114,16 @@ fn push_marks(
     symbols: &Symbols,
     spot: Spot,
     args: &[Arg],
+    value: Value,
     deed: Deed,
     marks: &mut Relocs,
 ) -> Result<(), NoMemory>
+    requires { value ≡ evaluated text.now symbols.now spot (terms_in (first_arg args.now)) }
     ensures { OnOk result (marks.new ≡ marks_by text.now symbols.now spot marks.old args.now deed) }
 {
     match deed {
-        Deed::Instruction(_, _) => push_operand(text, symbols, spot, args, marks),
-        Deed::Zero => push_halves(text, symbols, spot, args, marks),
+        Deed::Instruction(_, _) => push_operand(text, symbols, spot, args, value, marks),
+        Deed::Zero => push_halves(text, symbols, spot, args, value, marks),
         Deed::Nothing
         | Deed::Entry
         | Deed::Segdef
@@ -132,8 +143,10 @@ fn take_line(
     section: Section,
     spot: Spot,
     line: &Line36,
+    value: Value,
     marks: &mut Relocs,
 ) -> Result<(), NoMemory>
+    requires { value ≡ evaluated text.now symbols.now spot (terms_in (first_arg line.now.args)) }
     ensures { OnOk result
         (marks.new ≡ marks_after text.now symbols.now section marks.old spot line.now) }
 {
@@ -141,7 +154,7 @@ fn take_line(
         return Ok(());
     }
     let deed = line.deed;
-    push_marks(text, symbols, spot, line.args.items(), deed, marks)
+    push_marks(text, symbols, spot, line.args.items(), value, deed, marks)
 }
 
 /// Adds the relocations of lines in a section. The error is want of memory alone.
@@ -149,21 +162,35 @@ fn take_line(
 pub fn push_marks_in(
     alloc: Global,
     text: &[u8],
-    symbols: &Symbols,
+    tables: &Tables,
     section: Section,
     lines: &[Line36],
+    seen: &[Seen],
     marks: &mut Relocs,
 ) -> Result<(), NoMemory>
-    requires { length lines.now < 2 ^ 32 }
+    requires count { length lines.now < 2 ^ 32 }
+    requires seen { seen.now
+        ≡ seen_from text.now tables.now.symbols tables.now.links start lines.now }
     ensures { OnOk result
-        (marks.new ≡ marks_from text.now symbols.now section marks.old start lines.now) }
+        (marks.new ≡ marks_from text.now tables.now.symbols section marks.old start lines.now) }
 {
     let mut spot = Spot::start();
     let mut rest = lines;
+    let mut left = seen;
     while let [line, more @ ..] = rest {
-        take_line(text, symbols, section, spot, line, marks)?;
+        let (seen, later) = next_seen(text, &tables.symbols, &tables.links, spot, line, more, left);
+        take_line(
+            text,
+            &tables.symbols,
+            section,
+            spot,
+            line,
+            seen.value,
+            marks,
+        )?;
         spot = below(alloc, text, spot, line)?;
         rest = more;
+        left = later;
     }
     Ok(())
 }

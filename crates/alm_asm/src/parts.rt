@@ -2,6 +2,7 @@
 
 ghost use Rattle.std.specs.Prelude.{[], ◌≡◌, ◌^◌, ◌<◌, length, OnOk, IfOk};
 ghost use Rattle.alm_lines.specs.Spots.{start};
+ghost use Rattle.alm_asm.specs.Seen.{seen_from};
 ghost use Rattle.obj36_parts.specs.declared.section.Section.TheVariants.{Text};
 ghost use Rattle.alm_asm.specs.Words.{words_from};
 ghost use Rattle.alm_asm.specs.Definitions.{definitions_from};
@@ -10,6 +11,7 @@ ghost use Rattle.alm_asm.specs.Assembly.{bound_by, bound_from, static_section, r
 
 use crate::definitions::definitions_of;
 use crate::marks::push_marks_in;
+use crate::seen::Seen;
 use crate::tables::Tables;
 use crate::words::words_in;
 use alm_lines::spot::{Spot, below};
@@ -80,8 +82,10 @@ fn statics_of(
     text: &[u8],
     tables: &Tables,
     lines: &[Line36],
+    seen: &[Seen],
 ) -> Result<Words, NoMemory>
-    requires { length lines.now < 2 ^ 32 }
+    requires count { length lines.now < 2 ^ 32 }
+    requires seen { seen.now ≡ seen_from text.now tables.now.symbols tables.now.links start lines.now }
     ensures { IfOk result (λ words.
         words
         ≡ evened tables.now.uses_outer
@@ -89,7 +93,7 @@ fn statics_of(
         lines.now)) }
 {
     let section = static_section(tables.uses_outer);
-    let mut words = words_in(alloc, text, tables, section, lines)?;
+    let mut words = words_in(alloc, text, tables, section, lines, seen)?;
     even_out(tables.uses_outer, &mut words)?;
     Ok(words)
 }
@@ -99,21 +103,16 @@ fn relocations_of(
     text: &[u8],
     tables: &Tables,
     lines: &[Line36],
+    seen: &[Seen],
 ) -> Result<Relocs, NoMemory>
-    requires { length lines.now < 2 ^ 32 }
+    requires count { length lines.now < 2 ^ 32 }
+    requires seen { seen.now ≡ seen_from text.now tables.now.symbols tables.now.links start lines.now }
     ensures { IfOk result (λ marks. marks ≡ relocations_of text.now tables.now lines.now) }
 {
     let mut marks = Relocs::new(alloc);
     let section = static_section(tables.uses_outer);
-    push_marks_in(
-        alloc,
-        text,
-        &tables.symbols,
-        Section::Text,
-        lines,
-        &mut marks,
-    )?;
-    push_marks_in(alloc, text, &tables.symbols, section, lines, &mut marks)?;
+    push_marks_in(alloc, text, tables, Section::Text, lines, seen, &mut marks)?;
+    push_marks_in(alloc, text, tables, section, lines, seen, &mut marks)?;
     Ok(marks)
 }
 
@@ -129,8 +128,10 @@ fn placed_in(
     text: &[u8],
     tables: &Tables,
     lines: &[Line36],
+    seen: &[Seen],
 ) -> Result<Placed, NoMemory>
-    requires { length lines.now < 2 ^ 32 }
+    requires count { length lines.now < 2 ^ 32 }
+    requires seen { seen.now ≡ seen_from text.now tables.now.symbols tables.now.links start lines.now }
     ensures text { IfOk result (λ placed.
         placed.text ≡ words_from text.now tables.now Text [] start lines.now) }
     ensures statics { IfOk result (λ placed.
@@ -139,8 +140,8 @@ fn placed_in(
         (words_from text.now tables.now (static_section tables.now.uses_outer) [] start
         lines.now)) }
 {
-    let words = words_in(alloc, text, tables, Section::Text, lines)?;
-    let statics = statics_of(alloc, text, tables, lines)?;
+    let words = words_in(alloc, text, tables, Section::Text, lines, seen)?;
+    let statics = statics_of(alloc, text, tables, lines, seen)?;
     Ok(Placed {
         text: words,
         statics,
@@ -159,15 +160,17 @@ fn noted_in(
     text: &[u8],
     tables: &Tables,
     lines: &[Line36],
+    seen: &[Seen],
 ) -> Result<Noted, NoMemory>
-    requires { length lines.now < 2 ^ 32 }
+    requires count { length lines.now < 2 ^ 32 }
+    requires seen { seen.now ≡ seen_from text.now tables.now.symbols tables.now.links start lines.now }
     ensures definitions { IfOk result (λ noted.
         noted.definitions ≡ definitions_from text.now tables.now.symbols [] lines.now) }
     ensures relocations { IfOk result (λ noted.
         noted.relocations ≡ relocations_of text.now tables.now lines.now) }
 {
     let definitions = definitions_of(alloc, text, &tables.symbols, lines)?;
-    let relocations = relocations_of(alloc, text, tables, lines)?;
+    let relocations = relocations_of(alloc, text, tables, lines, seen)?;
     Ok(Noted {
         definitions,
         relocations,
@@ -204,16 +207,18 @@ fn contents_of(
     text: &[u8],
     tables: &Tables,
     lines: &[Line36],
+    seen: &[Seen],
 ) -> Result<Contents, NoMemory>
-    requires { length lines.now < 2 ^ 32 }
+    requires count { length lines.now < 2 ^ 32 }
+    requires seen { seen.now ≡ seen_from text.now tables.now.symbols tables.now.links start lines.now }
     ensures bound { IfOk result (λ contents. contents.entry_bound < 2 ^ 18) }
     ensures parts { IfOk result (λ contents.
         parts_by tables.now contents.placed contents.noted contents.entry_bound
         ≡ parts_with text.now tables.now lines.now) }
 {
     let entry_bound = bound_of(alloc, text, lines)?;
-    let placed = placed_in(alloc, text, tables, lines)?;
-    let noted = noted_in(alloc, text, tables, lines)?;
+    let placed = placed_in(alloc, text, tables, lines, seen)?;
+    let noted = noted_in(alloc, text, tables, lines, seen)?;
     Ok(Contents {
         placed,
         noted,
@@ -227,11 +232,13 @@ pub(crate) fn parts_with(
     text: &[u8],
     tables: Tables,
     lines: &[Line36],
+    seen: &[Seen],
 ) -> Result<Parts, NoMemory>
-    requires { length lines.now < 2 ^ 32 }
+    requires count { length lines.now < 2 ^ 32 }
+    requires seen { seen.now ≡ seen_from text.now tables.symbols tables.links start lines.now }
     ensures { IfOk result (λ parts. parts ≡ parts_with text.now tables lines.now) }
 {
-    match contents_of(alloc, text, &tables, lines) {
+    match contents_of(alloc, text, &tables, lines, seen) {
         Ok(contents) => Ok(parts_of(tables, contents)),
         Err(fault) => {
             // Dropped by a call: so the drop is proved once for its type.

@@ -2,20 +2,22 @@
 
 ghost use Rattle.std.specs.Prelude.{ℕ, [], ◌++◌, ◌≡◌, ◌+◌, ◌*◌, ◌%◌, ◌^◌, ◌<◌};
 ghost use Rattle.std.specs.Prelude.{◌≤◌, length, Option, Some, None, OnOk, IfOk};
-ghost use Rattle.alm_lines.specs.Arguments.{first_arg};
+ghost use Rattle.alm_lines.specs.Arguments.{first_arg, terms_in};
+ghost use Rattle.alm_lines.specs.Values.{evaluated};
+ghost use Rattle.alm_asm.specs.Seen.{place_in, seen_from};
 ghost use Rattle.alm_lines.specs.Spots.{start};
-ghost use Rattle.alm_lines.specs.Sums.{half_of, offset_of};
-ghost use Rattle.alm_asm.specs.Links.{link_of, link_place};
+ghost use Rattle.alm_asm.specs.Links.{link_of, link_by, link_in, link_place, operand_args};
 ghost use Rattle.alm_asm.specs.Words.{plain_inst, pointed_inst, own_inst, inst_in};
 ghost use Rattle.alm_asm.specs.Words.{instruction_word, halves_word, words_by, words_of_line};
 ghost use Rattle.alm_asm.specs.Words.{words_from, inst_by};
 
-use crate::links::{link_of, link_place, same_section};
+use crate::links::{link_of, link_place, offset_of_link, same_section};
+use crate::seen::{Seen, next_seen};
 use crate::tables::Tables;
-use alm_lines::arguments::{first_terms, second_number, second_terms, words_of_args};
-use alm_lines::expression::sum_of;
+use alm_lines::arguments::{second_number, second_terms, words_of_args};
+use alm_lines::refusal::Room;
 use alm_lines::spot::{Spot, below};
-use alm_lines::sum::{Balance, Sum};
+use alm_lines::value::{Value, evaluate, is_valued};
 use alm_parse::{Arg, Deed, Line36, Span, Term};
 use m36_inst::Inst;
 use m36_word::{NoMemory, Word, Words};
@@ -59,14 +61,42 @@ fn pointed_inst(operation: Operation, pr: u8, offset: u64, tag: u8) -> Inst
     }
 }
 
-fn own_inst(operation: Operation, pr: Option<u8>, sum: Sum, tag: u8) -> Inst
+fn own_inst(operation: Operation, pr: Option<u8>, value: Value, tag: u8) -> Inst
     ensures { result
-        ≡ own_inst operation.code operation.bit27 pr (half_of sum.value) (offset_of sum.value) tag }
+        ≡ own_inst operation.code operation.bit27 pr value.half value.offset tag }
 {
     match pr {
-        Some(pr) => pointed_inst(operation, pr, sum.value.offset(), tag),
-        None => plain_inst(operation, sum.value.half(), tag),
+        Some(pr) => pointed_inst(operation, pr, value.offset as u64, tag),
+        None => plain_inst(operation, value.half as u64, tag),
     }
+}
+
+#[tactic(auto, using(crate::proofs::SeenLaws::by_place))]
+fn external_offset(
+    text: &[u8],
+    tables: &Tables,
+    spot: Spot,
+    segment: Span,
+    entry: Option<Span>,
+    terms: &[Term],
+    tag: u8,
+    value: Value,
+    place: Option<u64>,
+) -> u128
+    requires value { value ≡ evaluated text.now tables.now.symbols spot terms.now }
+    requires place { place
+        ≡ place_in tables.now.links
+        (link_by text.now tables.now.symbols spot (Option.Some segment) entry terms.now tag) }
+    ensures { result
+        ≡ link_place tables.now.links tables.now.first_link
+        (link_of text.now tables.now.symbols spot segment entry terms.now tag) }
+{
+    let symbols = &tables.symbols;
+    if is_valued(text, symbols, spot, terms, Room::Half, false, value) {
+        return offset_of_link(tables.first_link, place);
+    }
+    let link = link_of(text, symbols, spot, segment, entry, terms, tag, value);
+    link_place(&tables.links, tables.first_link, &link)
 }
 
 fn external_inst(
@@ -78,18 +108,54 @@ fn external_inst(
     entry: Option<Span>,
     terms: &[Term],
     tag: u8,
+    value: Value,
+    place: Option<u64>,
 ) -> Inst
-    requires { length terms.now ≤ 2 ^ 32 }
+    requires value { value ≡ evaluated text.now tables.now.symbols spot terms.now }
+    requires place { place
+        ≡ place_in tables.now.links
+        (link_by text.now tables.now.symbols spot (Option.Some segment) entry terms.now tag) }
     ensures { result
         ≡ inst_by text.now tables.now spot operation.code operation.bit27 None (Some segment) entry
         terms.now tag }
 {
-    let link = link_of(text, &tables.symbols, spot, segment, entry, terms, tag);
-    let place = link_place(&tables.links, tables.first_link, &link);
-    pointed_inst(operation, 4, (place % (1 << 15)) as u64, 16)
+    let offset = external_offset(text, tables, spot, segment, entry, terms, tag, value, place);
+    pointed_inst(operation, 4, (offset % (1 << 15)) as u64, 16)
 }
 
-fn inst_in(text: &[u8], tables: &Tables, spot: Spot, operation: Operation, args: &[Arg]) -> Inst
+#[tactic(auto, unfolding(alm_lines::specs::Values::evaluated))]
+fn own_operand(
+    _text: &[u8],
+    _tables: &Tables,
+    _spot: Spot,
+    operation: Operation,
+    pr: Option<u8>,
+    _terms: &[Term],
+    tag: u8,
+    value: Value,
+) -> Inst
+    requires { value ≡ evaluated _text.now _tables.now.symbols _spot _terms.now }
+    ensures { result
+        ≡ inst_by _text.now _tables.now _spot operation.code operation.bit27 pr None None
+        _terms.now tag }
+{
+    own_inst(operation, pr, value, tag)
+}
+
+fn inst_in(
+    text: &[u8],
+    tables: &Tables,
+    spot: Spot,
+    operation: Operation,
+    args: &[Arg],
+    value: Value,
+    place: Option<u64>,
+) -> Inst
+    requires value { value
+        ≡ evaluated text.now tables.now.symbols spot (terms_in (first_arg args.now)) }
+    requires place { place
+        ≡ place_in tables.now.links
+        (link_in text.now tables.now.symbols spot (first_arg args.now)) }
     ensures { result
         ≡ inst_in text.now tables.now spot operation.code operation.bit27 (first_arg args.now) }
 {
@@ -103,22 +169,15 @@ fn inst_in(text: &[u8], tables: &Tables, spot: Spot, operation: Operation, args:
                 tag,
             },
             ..
-        ] => match seg {
-            Some(segment) => external_inst(
-                text,
-                tables,
-                spot,
-                operation,
-                *segment,
-                *entry,
-                expr.items(),
-                *tag,
-            ),
-            None => {
-                let sum = sum_of(text, &tables.symbols, spot, expr.items());
-                own_inst(operation, *pr, sum, *tag)
+        ] => {
+            let terms = expr.items();
+            match seg {
+                Some(segment) => external_inst(
+                    text, tables, spot, operation, *segment, *entry, terms, *tag, value, place,
+                ),
+                None => own_operand(text, tables, spot, operation, *pr, terms, *tag, value),
             }
-        },
+        }
         _ => plain_inst(operation, 0, 0),
     }
 }
@@ -130,27 +189,37 @@ fn instruction_word(
     spot: Spot,
     operation: Operation,
     args: &[Arg],
+    value: Value,
+    place: Option<u64>,
 ) -> Word
+    requires value { value
+        ≡ evaluated text.now tables.now.symbols spot (terms_in (first_arg args.now)) }
+    requires place { place
+        ≡ place_in tables.now.links
+        (link_in text.now tables.now.symbols spot (first_arg args.now)) }
     ensures { result
         ≡ instruction_word text.now tables.now spot operation.code operation.bit27 args.now }
 {
-    inst_in(text, tables, spot, operation, args).to_word()
+    inst_in(text, tables, spot, operation, args, value, place).to_word()
 }
 
 // The word of two halves.
-fn word_of(left: Balance, right: Balance) -> Word
-    ensures { result ≡ half_of left * 2 ^ 18 + half_of right }
+fn word_of(left: Value, right: Value) -> Word
+    ensures { result ≡ left.half * 2 ^ 18 + right.half }
 {
-    Word::low(left.half() * (1 << 18) + right.half())
+    Word::low(left.half as u64 * (1 << 18) + right.half as u64)
 }
 
-#[tactic(auto, unfolding(crate::specs::Words::halves_word))]
-fn halves_word(text: &[u8], tables: &Tables, spot: Spot, args: &[Arg]) -> Word
+#[tactic(auto, unfolding(crate::specs::Words::halves_word, alm_lines::specs::Values::evaluated))]
+fn halves_word(text: &[u8], tables: &Tables, spot: Spot, args: &[Arg], value: Value) -> Word
+    requires { value
+        ≡ evaluated text.now tables.now.symbols spot (terms_in (first_arg args.now)) }
     ensures { result ≡ halves_word text.now tables.now spot args.now }
 {
-    let left = sum_of(text, &tables.symbols, spot, first_terms(args));
-    let right = sum_of(text, &tables.symbols, spot, second_terms(args));
-    word_of(left.value, right.value)
+    word_of(
+        value,
+        evaluate(text, &tables.symbols, spot, second_terms(args)),
+    )
 }
 
 fn push_words(
@@ -159,19 +228,27 @@ fn push_words(
     tables: &Tables,
     spot: Spot,
     args: &[Arg],
+    value: Value,
+    place: Option<u64>,
     deed: Deed,
     words: &mut Words,
 ) -> Result<(), NoMemory>
+    requires value { value
+        ≡ evaluated text.now tables.now.symbols spot (terms_in (first_arg args.now)) }
+    requires place { place
+        ≡ place_in tables.now.links
+        (link_in text.now tables.now.symbols spot (first_arg (operand_args deed args.now))) }
     ensures { OnOk result
         (words.new ≡ words.old ++ words_by text.now tables.now spot args.now deed) }
 {
     match deed {
         Deed::Instruction(code, bit27) => {
             let operation = Operation { code, bit27 };
-            words.push(instruction_word(text, tables, spot, operation, args))
+            let word = instruction_word(text, tables, spot, operation, args, value, place);
+            words.push(word)
         }
         Deed::Words => push_all(words, words_of_args(alloc, args)?.slice()),
-        Deed::Zero => words.push(halves_word(text, tables, spot, args)),
+        Deed::Zero => words.push(halves_word(text, tables, spot, args, value)),
         Deed::Block => push_zeros(words, second_number(args)),
         Deed::Even => push_zeros(words, (spot.place() % 2) as u64),
         Deed::Nothing | Deed::Entry | Deed::Segdef | Deed::Equ | Deed::Use | Deed::Bound => Ok(()),
@@ -186,8 +263,15 @@ fn take_line(
     section: Section,
     spot: Spot,
     line: &Line36,
+    seen: &Seen,
     words: &mut Words,
 ) -> Result<(), NoMemory>
+    requires value { seen.now.value
+        ≡ evaluated text.now tables.now.symbols spot (terms_in (first_arg line.now.args)) }
+    requires place { seen.now.place
+        ≡ place_in tables.now.links
+        (link_in text.now tables.now.symbols spot
+        (first_arg (operand_args line.now.deed line.now.args))) }
     ensures { OnOk result
         (words.new ≡ words.old ++ words_of_line text.now tables.now section spot line.now) }
 {
@@ -195,7 +279,10 @@ fn take_line(
         return Ok(());
     }
     let deed = line.deed;
-    push_words(alloc, text, tables, spot, line.args.items(), deed, words)
+    let args = line.args.items();
+    push_words(
+        alloc, text, tables, spot, args, seen.value, seen.place, deed, words,
+    )
 }
 
 /// The words of lines in a section. The error is want of memory alone.
@@ -206,18 +293,24 @@ pub fn words_in(
     tables: &Tables,
     section: Section,
     lines: &[Line36],
+    seen: &[Seen],
 ) -> Result<Words, NoMemory>
-    requires { length lines.now < 2 ^ 32 }
+    requires count { length lines.now < 2 ^ 32 }
+    requires seen { seen.now
+        ≡ seen_from text.now tables.now.symbols tables.now.links start lines.now }
     ensures { IfOk result (λ words.
         words ≡ words_from text.now tables.now section [] start lines.now) }
 {
     let mut words = Words::new(alloc);
     let mut spot = Spot::start();
     let mut rest = lines;
+    let mut left = seen;
     while let [line, more @ ..] = rest {
-        take_line(alloc, text, tables, section, spot, line, &mut words)?;
+        let (seen, later) = next_seen(text, &tables.symbols, &tables.links, spot, line, more, left);
+        take_line(alloc, text, tables, section, spot, line, &seen, &mut words)?;
         spot = below(alloc, text, spot, line)?;
         rest = more;
+        left = later;
     }
     Ok(words)
 }

@@ -1,3 +1,4 @@
 pub mod Rooms
 pub mod SumLaws
 pub mod SymbolLaws
+pub mod ValueLaws

@@ -20,3 +20,4 @@ pub mod refusal;
 pub mod spot;
 pub mod sum;
 pub mod symbols;
+pub mod value;

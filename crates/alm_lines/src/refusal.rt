@@ -123,7 +123,7 @@ pub fn has_room(room: Room, value: Balance) -> bool
     }
 }
 
-fn may_stand(may_move: bool, kind: Kind) -> bool
+pub(crate) fn may_stand(may_move: bool, kind: Kind) -> bool
     ensures { result ≡ may_stand may_move kind }
 {
     match kind {
@@ -141,7 +141,12 @@ pub fn is_said(room: Room, may_move: bool, sum: Sum) -> bool
     has_room(room, sum.value) && may_stand(may_move, sum.kind())
 }
 
-fn refusal_by(line: &Line36, undefined: Option<u32>, place: u64, said: bool) -> Option<Refusal>
+pub(crate) fn refusal_by(
+    line: &Line36,
+    undefined: Option<u32>,
+    place: u64,
+    said: bool,
+) -> Option<Refusal>
     ensures { result ≡ refusal_by line.now undefined place said }
 {
     match undefined {

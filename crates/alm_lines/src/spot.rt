@@ -141,6 +141,7 @@ impl Spot {
     }
 
     /// With so many more words.
+    #[inline(always)]
     pub fn grown(self, n: u64) -> Spot
         requires { HasRoom 1 self }
         ensures value { result ≡ grown self n }
@@ -212,11 +213,12 @@ fn grown_by(alloc: Global, spot: Spot, deed: Deed, args: &[Arg]) -> Result<Spot,
     Ok(spot.grown(size))
 }
 
-/// Where the line below is. The error is want of memory alone.
-#[tactic(auto, unfolding(crate::specs::Spots::below))]
-pub fn below(alloc: Global, text: &[u8], spot: Spot, line: &Line36) -> Result<Spot, NoMemory>
+// Where the line below one is that enters another section, or whose words are to be counted.
+#[inline(never)]
+fn below_other(alloc: Global, text: &[u8], spot: Spot, line: &Line36) -> Result<Spot, NoMemory>
     requires { HasRoom 1 spot }
-    ensures value { IfOk result (λ after. after ≡ below text.now spot line.now) }
+    ensures value { IfOk result (λ after.
+        after ≡ moved_by text.now line.now.deed line.now.args spot) }
     ensures near { IfOk result (IsNear spot) }
 {
     let deed = line.deed;
@@ -226,6 +228,29 @@ pub fn below(alloc: Global, text: &[u8], spot: Spot, line: &Line36) -> Result<Sp
         Deed::Nothing | Deed::Entry | Deed::Segdef | Deed::Equ | Deed::Bound => Ok(spot),
         Deed::Instruction(_, _) | Deed::Zero => Ok(spot.grown(1)),
         Deed::Words | Deed::Block | Deed::Even => grown_by(alloc, spot, deed, args),
+    }
+}
+
+/// Where the line below is. The error is want of memory alone.
+#[inline(always)]
+#[tactic(auto, unfolding(crate::specs::Spots::below))]
+pub fn below(alloc: Global, text: &[u8], spot: Spot, line: &Line36) -> Result<Spot, NoMemory>
+    requires { HasRoom 1 spot }
+    ensures value { IfOk result (λ after. after ≡ below text.now spot line.now) }
+    ensures near { IfOk result (IsNear spot) }
+{
+    match line.deed {
+        Deed::Instruction(_, _) => Ok(spot.grown(1)),
+        Deed::Nothing
+        | Deed::Entry
+        | Deed::Segdef
+        | Deed::Equ
+        | Deed::Use
+        | Deed::Words
+        | Deed::Zero
+        | Deed::Block
+        | Deed::Even
+        | Deed::Bound => below_other(alloc, text, spot, line),
     }
 }
 

@@ -1,3 +1,4 @@
+pub mod OwnSections
 pub mod Inside
 pub mod Packed
 pub mod SourceLaws

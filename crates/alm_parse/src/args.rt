@@ -55,6 +55,15 @@ impl Args {
         }
     }
 
+    // An empty list with room for so many, so that it takes no more memory than these need.
+    fn with_room(alloc: Global, count: usize) -> Result<Args, NoMemory>
+        ensures { IfOk result (λ args. args ≡ []) }
+    {
+        Ok(Args {
+            items: Vec::with_capacity(alloc, count)?,
+        })
+    }
+
     /// Adds an argument at the end. Where no memory is found, nothing changes.
     pub fn push(&mut self, x: Arg) -> Result<(), NoMemory>
         ensures ok { OnOk result (self.new ≡ self.old ++ x ∷ []) }
@@ -86,18 +95,31 @@ fn with(mut args: Args, arg: Arg) -> Result<Args, NoMemory>
     }
 }
 
+// A list of one argument, with room for so many.
+fn begun(alloc: Global, room: usize, arg: Arg) -> Result<Args, NoMemory>
+    ensures { IfOk result (λ args. args ≡ arg ∷ []) }
+{
+    match Args::with_room(alloc, room) {
+        Ok(args) => with(args, arg),
+        Err(fault) => {
+            drop(arg);
+            Err(fault)
+        }
+    }
+}
+
 /// A list of one argument.
 pub fn one(alloc: Global, arg: Arg) -> Result<Args, NoMemory>
     ensures { IfOk result (λ args. args ≡ arg ∷ []) }
 {
-    with(Args::new(alloc), arg)
+    begun(alloc, 1, arg)
 }
 
 /// A list of two arguments.
 pub fn two(alloc: Global, first: Arg, second: Arg) -> Result<Args, NoMemory>
     ensures { IfOk result (λ args. args ≡ first ∷ second ∷ []) }
 {
-    match one(alloc, first) {
+    match begun(alloc, 2, first) {
         Ok(args) => with(args, second),
         Err(fault) => {
             drop(second);

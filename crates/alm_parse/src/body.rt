@@ -109,10 +109,13 @@ pub fn body_of(text: &[u8], whole: Span) -> Body
     }
 }
 
-#[tactic(auto, unfolding(crate::specs::Bodies::own_section))]
+#[tactic(auto, using(crate::proofs::OwnSections::no_star), unfolding(crate::specs::Bodies::own_section))]
 fn section_named(bytes: &[u8]) -> Option<Section>
     ensures { result ≡ own_section bytes.now }
 {
+    if first_byte(bytes) != b'*' {
+        return None;
+    }
     if is_text(b"*text", bytes) {
         return Some(Section::Text);
     }

@@ -1,14 +1,12 @@
 //! What names of operations mean: how their operands are read, and what they do.
 
-ghost use Rattle.std.specs.Prelude.{◌≡◌, Option};
-ghost use Rattle.m36_inst.specs.Lookup.{code_named};
+ghost use Rattle.std.specs.Prelude.{◌≡◌, Option, option_map, IfSome};
 ghost use Rattle.alm_tokens.specs.Tokens.{is_text};
 ghost use Rattle.alm_parse.specs.Operations.{directive, operation_of};
-ghost use Rattle.alm_parse.specs.Deeds.{instruction_of, deed_named, deed_of};
+ghost use Rattle.alm_parse.specs.Deeds.{deed_named};
 
 use crate::deed::Deed;
 use crate::operation::Operation;
-use alm_tokens::span::{Span, bytes_of};
 use m36_inst::by_name;
 
 // Whether a name is this one.
@@ -62,45 +60,37 @@ fn directive(bytes: &[u8]) -> Option<(Operation, Deed)>
     None
 }
 
+/// What there is to know of the name of an operation: how its operand is read, and what it does.
+#[derive(Clone, Copy)]
+pub struct Meaning {
+    pub operation: Operation,
+    pub deed: Deed,
+}
+
 /// The operation of this name; none where there is none.
-#[tactic(auto, unfolding(crate::specs::Operations::operation_of))]
-pub fn operation_of(bytes: &[u8]) -> Option<Operation>
-    ensures { result ≡ operation_of bytes.now }
+#[tactic(auto, unfolding(crate::specs::Operations::operation_of, crate::specs::Deeds::deed_named))]
+pub fn meaning_of(bytes: &[u8]) -> Option<Meaning>
+    ensures operation { option_map (λ meaning. meaning.operation) result ≡ operation_of bytes.now }
+    ensures deed { IfSome result (λ meaning. meaning.deed ≡ deed_named bytes.now) }
 {
-    if let Some((operation, _)) = directive(bytes) {
-        return Some(operation);
+    if let Some((operation, deed)) = directive(bytes) {
+        return Some(Meaning { operation, deed });
     }
     match by_name(bytes) {
-        Some(_) => Some(Operation::Instruction),
+        Some((code, bit27)) => Some(Meaning {
+            operation: Operation::Instruction,
+            deed: Deed::Instruction(code, bit27),
+        }),
         None => None,
     }
 }
 
-fn instruction(bytes: &[u8]) -> Deed
-    ensures { result ≡ instruction_of (code_named bytes.now) }
+/// How the operand of an operation of this name is read; none where there is none.
+pub fn operation_of(bytes: &[u8]) -> Option<Operation>
+    ensures { result ≡ operation_of bytes.now }
 {
-    match by_name(bytes) {
-        Some((code, bit27)) => Deed::Instruction(code, bit27),
-        None => Deed::Nothing,
-    }
-}
-
-#[tactic(auto, unfolding(crate::specs::Deeds::deed_named))]
-fn deed_named(bytes: &[u8]) -> Deed
-    ensures { result ≡ deed_named bytes.now }
-{
-    if let Some((_, deed)) = directive(bytes) {
-        return deed;
-    }
-    instruction(bytes)
-}
-
-/// What a line's operation does.
-pub fn deed_of(text: &[u8], op: Option<Span>) -> Deed
-    ensures { result ≡ deed_of text.now op }
-{
-    match op {
-        Some(op) => deed_named(bytes_of(text, op)),
-        None => Deed::Nothing,
+    match meaning_of(bytes) {
+        Some(meaning) => Some(meaning.operation),
+        None => None,
     }
 }

@@ -5,11 +5,13 @@ ghost use Rattle.m36_text.specs.Results.{and_then};
 ghost use Rattle.std.specs.List.{All};
 ghost use Rattle.alm_tokens.specs.Heads.{IsMark, IsToken};
 ghost use Rattle.alm_parse.specs.Lines.{missing, args_with, operand_for, args_of, is_no_symbol, label_refusal, line_of, line_headed, line_given};
+ghost use Rattle.alm_parse.specs.Deeds.{deed_of};
 ghost use Rattle.alm_parse.specs.Refusals.{Reads, IsInside, HaltsInside};
 
 use crate::args::Args;
 use crate::characters::characters_args;
-use crate::directives::{deed_of, operation_of};
+use crate::deed::Deed;
+use crate::directives::{Meaning, meaning_of};
 use crate::line::Line36;
 use crate::members::{numbers_args, symbols_args};
 use crate::operand::operand_args;
@@ -118,11 +120,12 @@ fn label_refusal(text: &[u8], labels: &[Span]) -> Option<Refusal>
     }
 }
 
-fn line_of(text: &[u8], row: Row, head: Head, args: Args) -> Line36
-    ensures { result ≡ line_of text.now row head args }
+fn line_of(text: &[u8], row: Row, head: Head, given: Given) -> Line36
+    requires { given.deed ≡ deed_of text.now head.op }
+    ensures { result ≡ line_of text.now row head given.args }
 {
     let Head { labels, op } = head;
-    let deed = deed_of(text, op);
+    let Given { args, deed } = given;
     Line36 {
         labels,
         args,
@@ -133,22 +136,33 @@ fn line_of(text: &[u8], row: Row, head: Head, args: Args) -> Line36
     }
 }
 
-// The arguments of a line with this head, unless it is refused.
-fn args_given(alloc: Global, text: &[u8], row: Row, head: &Head) -> Result<Args, Halt>
+/// What the operation of a line does, and its arguments.
+#[derive(Drop)]
+struct Given {
+    args: Args,
+    deed: Deed,
+}
+
+// The arguments and the deed of a line with this head, unless it is refused.
+fn given_by(alloc: Global, text: &[u8], row: Row, head: &Head) -> Result<Given, Halt>
     requires text { length text.now < 2 ^ 32 }
     requires marks { All (IsMark (length text.now)) head.now.labels }
     requires op { IfSome head.now.op (IsToken (length text.now)) }
-    ensures value { Reads (and_then result (λ args. Ok (line_of text.now row head.now args)))
+    ensures value { Reads (and_then result (λ given. Ok (line_of text.now row head.now given.args)))
         (line_headed text.now row head.now) }
+    ensures deed { IfOk result (λ given. given.deed ≡ deed_of text.now head.now.op) }
     ensures inside { IfErr result (HaltsInside (length text.now)) }
 {
     if let Some(refusal) = label_refusal(text, head.labels.items()) {
         return Err(Halt::Refused(refusal));
     }
     let Some(op) = head.op else {
-        return Ok(Args::new(alloc));
+        return Ok(Given {
+            args: Args::new(alloc),
+            deed: Deed::Nothing,
+        });
     };
-    let Some(operation) = operation_of(bytes_of(text, op)) else {
+    let Some(Meaning { operation, deed }) = meaning_of(bytes_of(text, op)) else {
         return Err(Halt::Refused(told(text, op.from, Code::E3)));
     };
     let rest = Span {
@@ -156,7 +170,7 @@ fn args_given(alloc: Global, text: &[u8], row: Row, head: &Head) -> Result<Args,
         to: row.span.to,
     };
     match args_of(alloc, operation, text, op.from, rest) {
-        Ok(args) => Ok(args),
+        Ok(args) => Ok(Given { args, deed }),
         Err(Halt::Refused(refusal)) => Err(Halt::Refused(refusal)),
         Err(Halt::NoMemory) => Err(Halt::NoMemory),
     }
@@ -170,8 +184,8 @@ pub fn read_line(alloc: Global, text: &[u8], row: Row) -> Result<Line36, Halt>
     ensures inside { IfErr result (HaltsInside (length text.now)) }
 {
     let head = head_of(alloc, text, row.span)?;
-    match args_given(alloc, text, row, &head) {
-        Ok(args) => Ok(line_of(text, row, head, args)),
+    match given_by(alloc, text, row, &head) {
+        Ok(given) => Ok(line_of(text, row, head, given)),
         Err(Halt::Refused(refusal)) => {
             // Dropped by a call: so the drop is proved once for its type. So below.
             drop(head);

@@ -57,6 +57,15 @@ impl Expr {
         }
     }
 
+    // An empty list with room for so many terms, so that it takes no more memory than these need.
+    fn with_room(alloc: Global, count: usize) -> Result<Expr, NoMemory>
+        ensures { IfOk result (λ e. e ≡ []) }
+    {
+        Ok(Expr {
+            items: Vec::with_capacity(alloc, count)?,
+        })
+    }
+
     /// Adds a term at the end. Where no memory is found, nothing changes.
     pub fn push(&mut self, x: Term) -> Result<(), NoMemory>
         requires { length self.old < 2 ^ 32 }
@@ -163,7 +172,7 @@ pub fn expr_of(alloc: Global, text: &[u8], pieces: &[Piece]) -> Result<Expr, NoM
     requires { length pieces.now ≤ 2 ^ 32 }
     ensures { IfOk result (λ e. e ≡ map (term_of text.now) pieces.now) }
 {
-    let mut expr = Expr::new(alloc);
+    let mut expr = Expr::with_room(alloc, pieces.len())?;
     for piece in pieces {
         expr.push(term_of(text, piece))?;
     }

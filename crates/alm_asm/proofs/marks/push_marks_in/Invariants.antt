@@ -1,5 +1,6 @@
 use Rattle.std.proofs.Common.{◌≡◌, length}
 use Rattle.alm_lines.specs.Spots.{start, HasRoom}
+use Rattle.alm_asm.specs.Seen.{seen_from}
 use Rattle.alm_asm.specs.Marks.{marks_from}
 use Rattle.alm_asm.proofs.marks.push_marks_in.Given as goal
 
@@ -7,7 +8,8 @@ use Rattle.alm_asm.proofs.marks.push_marks_in.Given as goal
 abbrev pub invariant-loop-rest : goal.invariant-loop-rest
 invariant-loop-rest l = record {
   room : HasRoom (length l.rest) l.spot;
-  whole : marks_from l.text l.symbols l.section l.marks l.spot l.rest ≡ marks_from l.text l.symbols l.section l.initial.marks start l.lines;
+  seen : l.left ≡ seen_from l.text l.tables.symbols l.tables.links l.spot l.rest;
+  whole : marks_from l.text l.tables.symbols l.section l.marks l.spot l.rest ≡ marks_from l.text l.tables.symbols l.section l.initial.marks start l.lines;
 }
 
 abbrev pub decreases-loop-rest : goal.decreases-loop-rest

@@ -1,0 +1,227 @@
+//! What is worked out once of each line, and kept beside the lines.
+
+ghost use Rattle.std.specs.Prelude.{ℕ, List, [], ◌∷◌, ◌++◌, ◌≡◌, ◌^◌, ◌<◌, length, OnOk, OnErr, IfOk};
+ghost use Rattle.alm_lines.specs.Arguments.{first_arg, terms_in};
+ghost use Rattle.alm_lines.specs.Spots.{start, below};
+ghost use Rattle.alm_lines.specs.Values.{evaluated};
+ghost use Rattle.alm_asm.specs.Links.{operand_args, link_in, links_after, links_from};
+ghost use Rattle.alm_asm.specs.Seen.{place_in, with_seen, seen_from};
+
+use crate::links::note_link;
+use alm_lines::arguments::first_terms;
+use alm_lines::spot::{Spot, below};
+use alm_lines::symbols::Symbols;
+use alm_lines::value::{Value, evaluate, no_value};
+use alm_parse::{Arg, Line36};
+use m36_word::NoMemory;
+use obj36::Links;
+use std::alloc::Global;
+use std::marker::Model;
+
+/// What is seen of a line with arguments: the value of the first of them, and how many links precede the link of its operand, if it
+/// has one.
+#[derive(Clone, Copy)]
+pub struct Seen {
+    pub value: Value,
+    pub place: Option<u64>,
+}
+
+/// A list that grows at its end.
+#[derive(Drop)]
+pub struct SeenLines {
+    items: Vec<Seen>,
+}
+
+impl Model for SeenLines {
+    ghost use Rattle.std.specs.Prelude.{List};
+    ghost use Rattle.alm_asm.specs.declared.seen.Seen.{Seen};
+
+    ghost Value = { List Seen };
+
+    ghost view = { λ s. s.items.items };
+}
+
+impl SeenLines {
+    /// An empty list.
+    pub fn new(alloc: Global) -> SeenLines
+        ensures { result ≡ [] }
+    {
+        SeenLines {
+            items: Vec::new(alloc),
+        }
+    }
+
+    // An empty list with room for so many.
+    fn with_room(alloc: Global, count: usize) -> Result<SeenLines, NoMemory>
+        ensures { IfOk result (λ seen. seen ≡ []) }
+    {
+        Ok(SeenLines {
+            items: Vec::with_capacity(alloc, count)?,
+        })
+    }
+
+    fn push(&mut self, x: Seen) -> Result<(), NoMemory>
+        ensures ok { OnOk result (self.new ≡ self.old ++ x ∷ []) }
+        ensures err { OnErr result (self.new ≡ self.old) }
+    {
+        self.items.push(x)?;
+        Ok(())
+    }
+
+    /// What there is, in order.
+    pub fn items(&self) -> &[Seen]
+        ensures { result.now ≡ self.now }
+    {
+        self.items.as_slice()
+    }
+}
+
+// What is seen of a line, whose link is noted.
+#[tactic(auto, unfolding(crate::specs::Links::links_after))]
+fn see_line(
+    text: &[u8],
+    symbols: &Symbols,
+    links: &mut Links,
+    spot: Spot,
+    line: &Line36,
+) -> Result<Seen, NoMemory>
+    ensures links { OnOk result
+        (links.new ≡ links_after text.now symbols.now links.old spot line.now) }
+    ensures value { IfOk result (λ seen.
+        seen.value ≡ evaluated text.now symbols.now spot (terms_in (first_arg line.now.args))) }
+    ensures place { IfOk result (λ seen.
+        seen.place
+        ≡ place_in links.new
+        (link_in text.now symbols.now spot (first_arg (operand_args line.now.deed line.now.args)))) }
+{
+    let value = evaluate(text, symbols, spot, first_terms(line.args.items()));
+    let place = note_link(text, symbols, links, spot, line, value)?;
+    Ok(Seen { value, place })
+}
+
+// Keeps what is seen of a line with these arguments, if it has some.
+#[tactic(auto, unfolding(crate::specs::Seen::with_seen))]
+fn keep(all: &mut SeenLines, args: &[Arg], seen: Seen) -> Result<(), NoMemory>
+    ensures { OnOk result (all.new ≡ with_seen all.old args.now seen) }
+{
+    match args {
+        [] => Ok(()),
+        [_, ..] => all.push(seen),
+    }
+}
+
+/// What is seen of lines, whose links are noted. The error is want of memory alone.
+#[tactic(auto, using(alm_lines::proofs::Rooms::rooms), unfolding(crate::specs::Links::links_from))]
+pub fn see_lines(
+    alloc: Global,
+    text: &[u8],
+    symbols: &Symbols,
+    links: &mut Links,
+    lines: &[Line36],
+) -> Result<SeenLines, NoMemory>
+    requires { length lines.now < 2 ^ 32 }
+    ensures links { OnOk result
+        (links.new ≡ links_from text.now symbols.now links.old start lines.now) }
+    ensures seen { IfOk result (λ seen.
+        seen
+        ≡ seen_from text.now symbols.now
+        (links_from text.now symbols.now links.old start lines.now) start lines.now) }
+{
+    let mut all = SeenLines::with_room(alloc, lines.len())?;
+    let mut spot = Spot::start();
+    let mut rest = lines;
+    while let [line, more @ ..] = rest {
+        let seen = see_line(text, symbols, links, spot, line)?;
+        keep(&mut all, line.args.items(), seen)?;
+        spot = below(alloc, text, spot, line)?;
+        rest = more;
+    }
+    Ok(all)
+}
+
+// What is seen of a line without arguments.
+#[tactic(auto, using(crate::proofs::SeenLaws::none_next), unfolding(crate::specs::Seen::seen_from))]
+fn next_of_none<'a>(
+    _text: &[u8],
+    _symbols: &Symbols,
+    _links: &Links,
+    _spot: Spot,
+    _line: &Line36,
+    _more: &[Line36],
+    left: &'a [Seen],
+) -> (Seen, &'a [Seen])
+    requires none { _line.now.args ≡ [] }
+    requires left { left.now
+        ≡ seen_from _text.now _symbols.now _links.now _spot (_line.now ∷ _more.now) }
+    ensures value { result.0.value
+        ≡ evaluated _text.now _symbols.now _spot (terms_in (first_arg _line.now.args)) }
+    ensures place { result.0.place
+        ≡ place_in _links.now
+        (link_in _text.now _symbols.now _spot
+        (first_arg (operand_args _line.now.deed _line.now.args))) }
+    ensures later { result.1.now
+        ≡ seen_from _text.now _symbols.now _links.now (below _text.now _spot _line.now) _more.now }
+{
+    let nothing = Seen {
+        value: no_value(),
+        place: None,
+    };
+    (nothing, left)
+}
+
+// What is seen of a line with arguments.
+#[tactic(auto, using(crate::proofs::SeenLaws::some_with), unfolding(crate::specs::Seen::seen_from, crate::specs::Seen::seen_of))]
+fn next_of_some<'a>(
+    _text: &[u8],
+    _symbols: &Symbols,
+    _links: &Links,
+    _spot: Spot,
+    _line: &Line36,
+    _more: &[Line36],
+    left: &'a [Seen],
+) -> (Seen, &'a [Seen])
+    requires some { 0 < length _line.now.args }
+    requires left { left.now
+        ≡ seen_from _text.now _symbols.now _links.now _spot (_line.now ∷ _more.now) }
+    ensures value { result.0.value
+        ≡ evaluated _text.now _symbols.now _spot (terms_in (first_arg _line.now.args)) }
+    ensures place { result.0.place
+        ≡ place_in _links.now
+        (link_in _text.now _symbols.now _spot
+        (first_arg (operand_args _line.now.deed _line.now.args))) }
+    ensures later { result.1.now
+        ≡ seen_from _text.now _symbols.now _links.now (below _text.now _spot _line.now) _more.now }
+{
+    match left {
+        [seen, later @ ..] => (*seen, later),
+        [] => unreachable!(),
+    }
+}
+
+/// What is seen of a line, and what is left to be seen of the lines below it.
+pub fn next_seen<'a>(
+    text: &[u8],
+    symbols: &Symbols,
+    links: &Links,
+    spot: Spot,
+    line: &Line36,
+    more: &[Line36],
+    left: &'a [Seen],
+) -> (Seen, &'a [Seen])
+    requires { left.now
+        ≡ seen_from text.now symbols.now links.now spot (line.now ∷ more.now) }
+    ensures value { result.0.value
+        ≡ evaluated text.now symbols.now spot (terms_in (first_arg line.now.args)) }
+    ensures place { result.0.place
+        ≡ place_in links.now
+        (link_in text.now symbols.now spot
+        (first_arg (operand_args line.now.deed line.now.args))) }
+    ensures later { result.1.now
+        ≡ seen_from text.now symbols.now links.now (below text.now spot line.now) more.now }
+{
+    if line.args.items().is_empty() {
+        next_of_none(text, symbols, links, spot, line, more, left)
+    } else {
+        next_of_some(text, symbols, links, spot, line, more, left)
+    }
+}

@@ -1,0 +1,48 @@
+-- The values of expressions.
+use Rattle.std.specs.Prelude.{ℕ, Bool, not, ◌&&◌, ◌||◌, is_some, List, Option}
+use Rattle.alm_tokens.specs.declared.expression.Term.{Term}
+use Rattle.alm_parse.specs.declared.line.Line36.{Line36}
+use Rattle.alm_lines.specs.Sums.{half_of, offset_of, kind_of}
+use Rattle.alm_lines.specs.Expressions.{sum_of, place_undefined}
+use Rattle.alm_lines.specs.Refusals.{has_room, may_stand, refusal_by}
+use Rattle.alm_lines.specs.declared.sum.Sum.{Sum}
+use Rattle.alm_lines.specs.declared.refusal.Room.{Room}
+use Rattle.alm_lines.specs.declared.refusal.Room.TheVariants.{Half, Offset}
+use Rattle.alm_lines.specs.declared.refusal.Refusal.{Refusal}
+use Rattle.alm_lines.specs.SpotFields.{Spot}
+use Rattle.alm_lines.specs.ValueFields.{ValueFields}
+
+-- the value of a sum, and the place of the first symbol that is not defined
+abbrev pub value_by : Sum → Option ℕ → ValueFields
+value_by sum undefined =
+    record {
+      half = half_of sum.value;
+      undefined = undefined;
+      offset = offset_of sum.value;
+      kind = kind_of sum;
+      fits_half = has_room Half sum.value;
+      fits_offset = has_room Offset sum.value;
+      unknown = sum.unknown;
+    }
+
+unfoldable pub evaluated : List ℕ → List (List ℕ × Sum) → Spot → List Term → ValueFields
+evaluated text symbols spot terms =
+    value_by (sum_of text symbols spot terms) (place_undefined text symbols terms)
+
+-- whether a value fits, and whether an object can say it
+abbrev pub fits : Room → ValueFields → Bool
+fits Half value = value.fits_half
+fits Offset value = value.fits_offset
+
+abbrev pub value_is_said : Room → Bool → ValueFields → Bool
+value_is_said room may_move value = fits room value && may_stand may_move value.kind
+
+-- whether nothing is refused of an expression with this value, nor of an `equ` that it uses
+abbrev pub is_value : Room → Bool → ValueFields → Bool
+is_value room may_move value =
+    not (is_some value.undefined) && not value.unknown && value_is_said room may_move value
+
+-- what is refused of an expression with this value
+abbrev pub value_refused : Line36 → ValueFields → ℕ → Room → Bool → Option Refusal
+value_refused line value place room may_move =
+    refusal_by line value.undefined place (value.unknown || value_is_said room may_move value)

@@ -1,0 +1,260 @@
+//! The values of expressions.
+
+ghost use Rattle.std.specs.Prelude.{ℕ, [], ◌∷◌, ◌≡◌, ◌^◌, ◌<◌, ◌≤◌, length, Some, None};
+ghost use Rattle.std.specs.Prelude.{if◌then◌else◌};
+ghost use Rattle.alm_lines.specs.Sums.{kind_of, no_sum, IsTerm};
+ghost use Rattle.alm_lines.specs.Refusals.{has_value, expression_refusal};
+ghost use Rattle.alm_lines.specs.Expressions.{symbol_sum, atom_sum, sum_of};
+ghost use Rattle.alm_lines.specs.Expressions.{is_defined, place_undefined};
+ghost use Rattle.alm_lines.specs.Values.{value_by, evaluated, fits, value_is_said, is_value};
+ghost use Rattle.alm_lines.specs.Values.{value_refused};
+
+use crate::arguments::name_at;
+use crate::expression::{place_undefined, sum_of};
+use crate::refusal::{Refusal, Room, Wanted, has_room, may_stand, refusal_by};
+use crate::spot::Spot;
+use crate::sum::{Kind, Sum, absolute};
+use crate::symbols::Symbols;
+use alm_parse::{Atom, Line36, Span, Term};
+use std::marker::Model;
+
+/// The value of an expression, as far as a word, a relocation or a refusal needs it.
+#[derive(Clone, Copy, PartialEq, Eq)]
+pub struct Value {
+    /// Its number modulo 2^18.
+    pub half: u32,
+    /// The place of its first symbol that is not defined.
+    pub undefined: Option<u32>,
+    /// Its number modulo 2^15.
+    pub offset: u16,
+    pub kind: Kind,
+    pub fits_half: bool,
+    pub fits_offset: bool,
+    /// It uses the symbol of an `equ` that is refused.
+    pub unknown: bool,
+}
+
+impl Model for Value {
+    ghost use Rattle.std.specs.Prelude.{◌<◌, ◌^◌};
+    ghost use Rattle.alm_lines.specs.ValueFields.{ValueFields};
+
+    ghost Value = { ValueFields };
+
+    ghost view = { λ v. record {
+      half = v.half;
+      undefined = v.undefined;
+      offset = v.offset;
+      kind = v.kind;
+      fits_half = v.fits_half;
+      fits_offset = v.fits_offset;
+      unknown = v.unknown;
+    } };
+
+    ghost invariant = { λ v. (v.half < 2 ^ 18) × (v.offset < 2 ^ 15) };
+
+    ghost inverse = { λ v. record {
+      half = v.half;
+      undefined = v.undefined;
+      offset = v.offset;
+      kind = v.kind;
+      fits_half = v.fits_half;
+      fits_offset = v.fits_offset;
+      unknown = v.unknown;
+    } };
+}
+
+fn value_by(sum: Sum, undefined: Option<u32>) -> Value
+    ensures { result ≡ value_by sum undefined }
+{
+    Value {
+        half: sum.value.half() as u32,
+        undefined,
+        offset: sum.value.offset() as u16,
+        kind: sum.kind(),
+        fits_half: has_room(Room::Half, sum.value),
+        fits_offset: has_room(Room::Offset, sum.value),
+        unknown: sum.unknown,
+    }
+}
+
+/// A sum, and the place of the first symbol that is not defined, which counts as 0 in it.
+#[derive(Clone, Copy)]
+pub struct Sought {
+    pub sum: Sum,
+    pub undefined: Option<u32>,
+}
+
+// A symbol is looked up once.
+#[tactic(auto, unfolding(crate::specs::Expressions::symbol_sum, crate::specs::Expressions::is_defined))]
+fn seek_symbol(text: &[u8], symbols: &Symbols, span: Span) -> Sought
+    ensures sum { result.sum ≡ symbol_sum text.now symbols.now span }
+    ensures small { IsTerm result.sum }
+    ensures undefined { result.undefined
+        ≡ (if is_defined text.now symbols.now span then None else Some span.from) }
+{
+    match symbols.find(&name_at(text, span)) {
+        Some(sum) => Sought {
+            sum,
+            undefined: None,
+        },
+        None => Sought {
+            sum: absolute(0),
+            undefined: Some(span.from),
+        },
+    }
+}
+
+#[tactic(auto, using(crate::proofs::ValueLaws::undefined_alone))]
+fn seek_atom(text: &[u8], symbols: &Symbols, spot: Spot, term: Term) -> Sought
+    ensures sum { result.sum ≡ atom_sum text.now symbols.now spot term.span term.what }
+    ensures small { IsTerm result.sum }
+    ensures undefined { result.undefined ≡ place_undefined text.now symbols.now (term ∷ []) }
+{
+    match term.what {
+        Atom::Symbol => seek_symbol(text, symbols, term.span),
+        Atom::Number(n) => Sought {
+            sum: absolute(n as u64),
+            undefined: None,
+        },
+        Atom::Here => Sought {
+            sum: spot.here(),
+            undefined: None,
+        },
+    }
+}
+
+#[tactic(auto, using(crate::proofs::ValueLaws::sum_alone), unfolding(crate::specs::Expressions::term_sum))]
+fn seek_term(text: &[u8], symbols: &Symbols, spot: Spot, term: Term) -> Sought
+    ensures sum { result.sum ≡ sum_of text.now symbols.now spot (term ∷ []) }
+    ensures undefined { result.undefined ≡ place_undefined text.now symbols.now (term ∷ []) }
+{
+    let atom = seek_atom(text, symbols, spot, term);
+    Sought {
+        sum: if term.minus {
+            atom.sum.turned()
+        } else {
+            atom.sum
+        },
+        undefined: atom.undefined,
+    }
+}
+
+// In an expression of one term, as most are, a symbol is looked up once.
+fn seek(text: &[u8], symbols: &Symbols, spot: Spot, terms: &[Term]) -> Sought
+    requires { length terms.now ≤ 2 ^ 32 }
+    ensures sum { result.sum ≡ sum_of text.now symbols.now spot terms.now }
+    ensures undefined { result.undefined ≡ place_undefined text.now symbols.now terms.now }
+{
+    match terms {
+        [term] => seek_term(text, symbols, spot, *term),
+        _ => Sought {
+            sum: sum_of(text, symbols, spot, terms),
+            undefined: place_undefined(text, symbols, terms),
+        },
+    }
+}
+
+/// The value of an expression.
+#[tactic(auto, unfolding(crate::specs::Values::evaluated))]
+pub fn evaluate(text: &[u8], symbols: &Symbols, spot: Spot, terms: &[Term]) -> Value
+    requires { length terms.now ≤ 2 ^ 32 }
+    ensures { result ≡ evaluated text.now symbols.now spot terms.now }
+{
+    let sought = seek(text, symbols, spot, terms);
+    value_by(sought.sum, sought.undefined)
+}
+
+/// The value of no terms.
+#[tactic(auto, using(crate::proofs::ValueLaws::no_value_is))]
+pub fn no_value() -> Value
+    ensures { result ≡ value_by no_sum None }
+{
+    Value {
+        half: 0,
+        undefined: None,
+        offset: 0,
+        kind: Kind::Absolute,
+        fits_half: true,
+        fits_offset: true,
+        unknown: false,
+    }
+}
+
+fn fits(room: Room, value: Value) -> bool
+    ensures { result ≡ fits room value }
+{
+    match room {
+        Room::Half => value.fits_half,
+        Room::Offset => value.fits_offset,
+    }
+}
+
+fn value_is_said(room: Room, may_move: bool, value: Value) -> bool
+    ensures { result ≡ value_is_said room may_move value }
+{
+    fits(room, value) && may_stand(may_move, value.kind)
+}
+
+fn is_value(room: Room, may_move: bool, value: Value) -> bool
+    ensures { result ≡ is_value room may_move value }
+{
+    value.undefined.is_none() && !value.unknown && value_is_said(room, may_move, value)
+}
+
+/// Nothing is refused of an expression, whose value this is, nor of an `equ` that it uses.
+#[tactic(auto, using(crate::proofs::ValueLaws::value_given))]
+pub fn is_valued(
+    _text: &[u8],
+    _symbols: &Symbols,
+    _spot: Spot,
+    _terms: &[Term],
+    room: Room,
+    may_move: bool,
+    value: Value,
+) -> bool
+    requires { value ≡ evaluated _text.now _symbols.now _spot _terms.now }
+    ensures { result ≡ has_value _text.now _symbols.now _spot _terms.now room may_move }
+{
+    is_value(room, may_move, value)
+}
+
+fn refused_by(line: &Line36, value: Value, wanted: Wanted) -> Option<Refusal>
+    ensures { result ≡ value_refused line.now value wanted.place wanted.room wanted.may_move }
+{
+    let said = value.unknown || value_is_said(wanted.room, wanted.may_move, value);
+    refusal_by(line, value.undefined, wanted.place, said)
+}
+
+/// What is refused of an expression, whose value this is.
+#[tactic(auto, using(crate::proofs::ValueLaws::refused_given))]
+pub fn value_refused(
+    _text: &[u8],
+    _symbols: &Symbols,
+    _spot: Spot,
+    line: &Line36,
+    _terms: &[Term],
+    wanted: Wanted,
+    value: Value,
+) -> Option<Refusal>
+    requires { value ≡ evaluated _text.now _symbols.now _spot _terms.now }
+    ensures { result
+        ≡ expression_refusal _text.now _symbols.now _spot line.now _terms.now wanted.place
+        wanted.room wanted.may_move }
+{
+    refused_by(line, value, wanted)
+}
+
+/// What the sum of an expression is, whose value this is.
+#[tactic(auto, using(crate::proofs::ValueLaws::kind_given))]
+pub fn kind_valued(
+    _text: &[u8],
+    _symbols: &Symbols,
+    _spot: Spot,
+    _terms: &[Term],
+    value: Value,
+) -> Kind
+    requires { value ≡ evaluated _text.now _symbols.now _spot _terms.now }
+    ensures { result ≡ kind_of (sum_of _text.now _symbols.now _spot _terms.now) }
+{
+    value.kind
+}
