@@ -189,6 +189,7 @@ def start_of_source(files):
 
 
 def start_of_object(files):
+    """That of its words after the text, of which it has none."""
     return digest(files["object"])
 
 
