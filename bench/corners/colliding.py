@@ -1,9 +1,10 @@
 """Inputs whose names meet in a hash table, for each kind of table, and as many ordinary names.
 
 A kind of key is what a table hashes: a name, a name as an object spells it, a link, a name in a
-ring, a segment of a directory, a descriptor. The start of a table's hashes is the SHA-256 digest of
-the input that its keys come from. So names that meet cannot be searched for one by one, as each
-name changes the start. What can be done is to try one input after another (`search_inputs`).
+ring, a segment of a directory, a descriptor. The start of a table's hashes is the digest of the
+input that its keys come from, by SHA-512/256. So names that meet cannot be searched for one by one,
+as each name changes the start. What can be done is to try one input after another
+(`search_inputs`).
 
 Before, all tables had the same start. Names that met then are still tried (`met_before`)."""
 
@@ -77,7 +78,7 @@ def salted(salt):
 
 
 def digest(*pieces):
-    return hashlib.sha256(b"".join(pieces)).digest()
+    return hashlib.new("sha512_256", b"".join(pieces)).digest()
 
 
 class Cost(NamedTuple):
@@ -188,6 +189,7 @@ def start_of_source(files):
 
 
 def start_of_object(files):
+    """That of its words after the text, of which it has none."""
     return digest(files["object"])
 
 

@@ -64,9 +64,13 @@ static void add(struct key *key, const void *bytes, size_t length) {
 
 static void add_number(struct key *key, u64 number, size_t size) { add(key, &number, size); }
 
+/* The whole words of eight bytes, then a word of the length and the bytes after them. */
 static void add_name(struct key *key, const char *name) {
-    add(key, name, strlen(name));
-    add_number(key, strlen(name), 1);
+    size_t length = strlen(name), whole = length / 8 * 8;
+    u64 last = length;
+    add(key, name, whole);
+    for (size_t i = whole; i < length; i++) last = last << 8 | (unsigned char)name[i];
+    add_number(key, last, 8);
 }
 
 static u64 word_of(const char *name, size_t length, size_t from, size_t count) {
@@ -104,8 +108,8 @@ static void add_key(struct key *key, const char *kind, const char *name) {
         return;
     }
     if (strcmp(kind, "link") == 0) add_number(key, 3 << 24, 8);
-    if (strcmp(kind, "place") == 0) add_number(key, 2, 8), add(key, ">u", 2);
     add_name(key, name);
+    if (strcmp(kind, "place") == 0) add(key, ">u", 2);
     if (strcmp(kind, "link") == 0) add_name(key, "");
     if (strcmp(kind, "ring") == 0) add_number(key, 4, 1);
 }

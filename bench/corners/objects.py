@@ -1,14 +1,21 @@
 """Object segments with many definitions, as lists of words and as files."""
 
+import functools
+
 
 def joined(left, right):
     """A word of two halves."""
     return left << 18 | right
 
 
+@functools.cache
+def digits_of(word):
+    return f"{word:09x}"
+
+
 def packed(words):
     """Words of 36 bits, from the most significant bit on, with zeros to the end of a byte."""
-    digits = "".join(f"{word:09x}" for word in words)
+    digits = "".join(map(digits_of, words))
     return bytes.fromhex(digits + "0" * (len(digits) % 2))
 
 
@@ -38,6 +45,7 @@ def definition_section(count, place_of_name, names):
     return words + names
 
 
+@functools.cache
 def name_words(name):
     """The words that spell a name: its length and its characters, in parts of nine bits."""
     parts = [len(name), *name.encode()]

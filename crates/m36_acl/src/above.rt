@@ -6,6 +6,9 @@ ghost use Rattle.m36_dir.specs.BootOrder.{entry};
 ghost use Rattle.m36_acl.specs.AccessLists.{places_of, has_segment, with_term};
 ghost use Rattle.m36_text.specs.Lines.{last_of};
 ghost use Rattle.m36_dir.specs.BootLine.{directory_limit};
+ghost use Rattle.m36_text.specs.Seeds.{name_writes};
+ghost use Rattle.std.specs.Cmp.Rules.{hashing};
+ghost use Rattle.std.proofs.Common.{rules};
 
 use crate::segment::{AclSegment, Term};
 use arrayvec::ArrayVec;
@@ -13,10 +16,11 @@ use indexmap::IndexSet;
 use m36_text::{HashSeed, Name};
 use m36_word::NoMemory;
 use std::alloc::Global;
+use std::hash::{Hash, Hasher};
 use std::marker::Model;
 
 /// A segment by its directory and its name. It is seen as these two.
-#[derive(PartialEq, Eq, Hash, Drop)]
+#[derive(PartialEq, Eq, Drop)]
 pub(crate) struct Place {
     dir: ArrayVec<u8, 64>,
     name: Name,
@@ -30,6 +34,17 @@ impl Model for Place {
     ghost view = { λ p. record { dir = p.dir.items; name = p.name } };
 
     ghost inverse = { λ e. record { dir = record { items = e.dir }; name = e.name } };
+}
+
+impl Hash for Place {
+    ghost hash_input = { λ e. name_writes e.name ++ e.dir ∷ [] };
+
+    ghost respects_eq = { Prim.search (hashing, rules) };
+
+    fn hash<H: Hasher>(&self, state: &mut H) {
+        self.name.hash(state);
+        state.write(self.dir.as_slice());
+    }
 }
 
 /// Segments in the order of their lines, each with its terms, and a table of their directories and names. They are seen

@@ -35,6 +35,7 @@
 //! its words, so the page tables of equal descriptors are one table. Runs are counted once more, over all processes, of the
 //! first segments alone. So the work grows with the words of core, of the descriptors and of the page tables, and not with
 //! pairs of them. The numbers of the descriptors are told by a map, with an entry for each different descriptor of the processes.
+//! Its seed is that of all descriptors, so they cannot be chosen so that they collide.
 //! All memory is taken before any finding is made.
 //!
 //! Source: Multics Processor Manual AL39, "Addressing -- segmentation and paging", "Access control"; Schroeder and Saltzer,

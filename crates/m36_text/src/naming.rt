@@ -2,11 +2,12 @@
 
 ghost use Rattle.std.specs.Prelude.{ℕ, List, [], ◌∷◌, ◌++◌, ◌≡◌, ◌≤◌, length, OnOk, OnErr};
 ghost use Rattle.std.specs.Option.{SomeIff};
-ghost use Rattle.std.specs.Hash as fed;
+ghost use Rattle.std.specs.List.{fold};
 ghost use Rattle.std.specs.Cmp.Rules.{hashing};
 ghost use Rattle.std.proofs.Common.{rules};
 ghost use Rattle.m36_text.specs.FileNames.{SourceNames};
 ghost use Rattle.m36_text.specs.Texts.{name_limit};
+ghost use Rattle.m36_text.specs.Seeds.{with_low_byte, name_writes};
 
 use arrayvec::ArrayVec;
 use m36_word::NoMemory;
@@ -31,15 +32,25 @@ impl Model for Name {
 }
 
 impl Hash for Name {
-    ghost hash_input = { λ n. n ∷ fed.u8 (length n) };
+    ghost hash_input = { name_writes };
 
     ghost respects_eq = { Prim.search (hashing, rules) };
 
     fn hash<H: Hasher>(&self, state: &mut H) {
         let bytes = self.items.as_slice();
-        state.write(bytes);
-        state.write_u8(bytes.len() as u8);
+        let whole = bytes.len() / 8 * 8;
+        state.write(&bytes[..whole]);
+        state.write_u64(last_word(bytes.len() as u64, &bytes[whole..]));
     }
+}
+
+// A length, and then these bytes, as one number.
+fn last_word(length: u64, bytes: &[u8]) -> u64
+    ensures { result ≡ fold with_low_byte length bytes.now }
+{
+    bytes
+        .iter()
+        .fold(length, |word, byte| word << 8 | *byte as u64)
 }
 
 impl Name {

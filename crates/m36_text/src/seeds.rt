@@ -1,6 +1,6 @@
 //! The seeds of hash tables.
 //!
-//! A table whose keys come from an input hashes them by SipHash with a seed, which is the SHA-256
+//! A table whose keys come from an input hashes them by SipHash with a seed, which is the SHA-512/256
 //! digest of that whole input. Whoever writes an input knows its seed only once the last byte is
 //! chosen, and each change of a key changes the seed. So no input can be made whose keys collide.
 
@@ -10,7 +10,7 @@ ghost use Rattle.m36_text.specs.Seeds.{seed_with, seed_of};
 
 use crate::packing::pack;
 use m36_word::{NoMemory, Word};
-use sha2::{Digest, Sha256};
+use sha2::{Digest, Sha512_256};
 use std::alloc::Global;
 use std::hash::{BuildHasher, DefaultHasher, Hasher};
 
@@ -26,7 +26,7 @@ impl HashSeed {
     pub fn of(input: &[u8]) -> HashSeed
         ensures { result ≡ seed_of input.now }
     {
-        HashSeed::with(Sha256::digest(input))
+        HashSeed::with(Sha512_256::digest(input))
     }
 
     /// The seed of a list of words, as that of the file that they are packed into.
@@ -43,7 +43,7 @@ impl HashSeed {
     pub fn joined(&self, other: &HashSeed) -> HashSeed
         ensures { result ≡ seed_of (self.now.digest ++ other.now.digest) }
     {
-        let mut both = Sha256::new_with_prefix(&self.digest);
+        let mut both = Sha512_256::new_with_prefix(&self.digest);
         both.update(&other.digest);
         HashSeed::with(both.finalize())
     }

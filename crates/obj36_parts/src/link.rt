@@ -1,8 +1,9 @@
 //! Links: the places outside that an object refers to.
 
-ghost use Rattle.std.specs.Prelude.{ℕ, List, [], ◌∷◌, ◌++◌, ◌≡◌, ◌+◌, ◌<◌, ◌≤◌, length, position, OnOk};
+ghost use Rattle.std.specs.Prelude.{ℕ, List, [], ◌∷◌, ◌++◌, ◌≡◌, ◌+◌, ◌<◌, ◌≤◌, position, OnOk};
 ghost use Rattle.std.specs.Prelude.{OnErr};
 ghost use Rattle.indexmap.specs.IndexSet.{spare};
+ghost use Rattle.m36_text.specs.Seeds.{name_writes};
 ghost use Rattle.obj36_parts.specs.Names.{with_name, with_names};
 ghost use Rattle.obj36_parts.specs.ObjectSegment.{name_used, entry_used, link_names};
 ghost use Rattle.obj36_parts.specs.ObjectSegment.{all_link_names};
@@ -67,8 +68,7 @@ impl Model for Link {
 }
 
 impl Hash for Link {
-    ghost hash_input = { λ l. fed.u64 (link_number l) ++ (l.name ∷ fed.u8 (length l.name))
-        ++ (l.entry ∷ fed.u8 (length l.entry)) };
+    ghost hash_input = { λ l. fed.u64 (link_number l) ++ name_writes l.name ++ name_writes l.entry };
 
     ghost respects_eq = { Prim.search (hashing, rules) };
 

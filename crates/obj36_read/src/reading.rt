@@ -389,7 +389,8 @@ pub fn parts_in(alloc: Global, words: &[Word]) -> Result<Parts, NoMemory>
     requires { length words.now < 2 ^ 32 }
     ensures { IfOk result (λ p. p ≡ parts_of words.now) }
 {
-    let seed = HashSeed::of_words(alloc, words)?;
+    // All names and links are read from these words.
+    let seed = HashSeed::of_words(alloc, definition_on(words))?;
     let mut lists = no_lists(alloc, seed);
     match read_lists(&mut lists, words) {
         Ok(()) => Ok(parts_with(lists, words)),
