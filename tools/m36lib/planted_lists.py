@@ -103,5 +103,6 @@ PLANTED_WORDS = (
     ("docs/BOOT.md", "clause `no_clause`", "no clause no_clause"),
     ("docs/PROOFS.md", "`Nowhere_at_all`", "no Nowhere_at_all"),
     ("docs/PROOFS.md", "`none.rt`", "no none.rt"),
-    ("docs/PROOFS.md", "| `m36_word` | x | `is_read` |", "`m36_word`: no is_read"),
+    ("docs/PROOFS.md", "#### `m36_word`\n\nClauses: `is_read`.", "`m36_word`: no is_read"),
+    ("docs/BOOT.md", "```code crates.txt\nm36_nothing:\n```", "not in crates.txt: m36_nothing:"),
 )
