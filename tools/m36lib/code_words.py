@@ -148,7 +148,7 @@ CODE_GROUPS = (
     group(
         "Objects",
         "OBJECTS.md",
-        '"What a reader says"',
+        '"What a reader refuses"',
         (
             "O1",
             "the file has fewer than seven words, so it is no object",
