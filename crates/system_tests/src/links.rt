@@ -330,13 +330,24 @@ fn entry_of_m() -> Link {
     }
 }
 
-// m is started in ring 4, so its section of 28 words is laid at word 2000 octal.
-fn started(alloc: Global, catalog: &Catalog, files: &[File]) -> Result<Known, LinkFault> {
+// Starts m in ring 4.
+fn start(
+    alloc: Global,
+    known: &mut Known,
+    catalog: &Catalog,
+    files: &[File],
+) -> Result<(), LinkFault> {
     link_laws();
     let link = entry_of_m();
-    let mut known = Known::new(alloc, catalog)?;
     let snap = known.resolve_from(alloc, catalog, files, 4, &link, catalog.work())?;
     known.accept(&snap)?;
+    Ok(())
+}
+
+// m is started in ring 4, so its section of 28 words is laid at word 2000 octal.
+fn started(alloc: Global, catalog: &Catalog, files: &[File]) -> Result<Known, LinkFault> {
+    let mut known = Known::new(alloc, catalog)?;
+    start(alloc, &mut known, catalog, files)?;
     Ok(known)
 }
 
