@@ -141,6 +141,18 @@ shown_adds answer written written' taken taken' old new text n shown after serve
 
 pub ruleset adding = (step_adds, shown_adds)
 
+pub shown_pushes :
+    (done : Bool) (old new : List (List ℕ)) (text : TraceText) (n : ℕ) (shown : Shown) (after : RegsFields)
+    → Serves text n shown.ppr shown.at shown.outcome after
+    → OnTrue done (new ≡ old ++ kept_line text shown.ppr shown.word shown.at after ∷ [])
+    → OnTrue done (new ≡ old ++ as_line (shown_line n shown after) ∷ [])
+unfolding shown_line
+shown_pushes done old new text n shown after serves pushed =
+    subst (λ l. OnTrue done (new ≡ old ++ l ∷ []))
+    (serves_line text n shown.ppr shown.word shown.at shown.outcome after serves) pushed
+
+pub ruleset pushing = (shown_pushes)
+
 -- what is kept serves, where the number is short
 pub set_serves :
     (short : Bool) (text : TraceText) (n : ℕ) (ppr : PprFields) (at : Option FinalFields) (outcome : Outcome) (after : RegsFields)

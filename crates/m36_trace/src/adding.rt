@@ -1,6 +1,7 @@
 //! A trace line that is added to a block of lines.
 
 ghost use Rattle.std.specs.Prelude.{[], ◌∷◌, ◌++◌, ◌≡◌, ◌<◌, length};
+ghost use Rattle.std.specs.Bool.{OnTrue, OnFalse};
 ghost use Rattle.m36_outside.specs.Gathered.{Adds};
 ghost use Rattle.m36_outside.specs.Put.{PutHasCause};
 ghost use Rattle.m36_text.specs.Lines.{as_line};
@@ -53,6 +54,28 @@ pub fn add_shown<S: Sink>(
         block.add_line(&ShownLine { text, shown, after }, out)
     } else {
         add_other_shown(n, shown, after, block, out)
+    }
+}
+
+/// Adds the line of step n with its line feed to a block, as `add_shown` does, where there is room for it and what is kept
+/// of earlier lines serves for it. Otherwise the block is as it was.
+#[inline(always)]
+#[tactic(auto, using(crate::proofs::FieldsPut::pushing))]
+pub fn push_shown(
+    text: &mut TraceText,
+    n: u64,
+    shown: &Shown,
+    after: &Regs,
+    block: &mut Block,
+) -> bool
+    ensures done { OnTrue result
+        (block.new ≡ block.old ++ as_line (shown_line n shown.now after.now) ∷ []) }
+    ensures full { OnFalse result (block.new ≡ block.old) }
+{
+    if text.set(n, &shown.ppr, &shown.at, &shown.outcome, after) {
+        block.push_line(&ShownLine { text, shown, after })
+    } else {
+        false
     }
 }
 
