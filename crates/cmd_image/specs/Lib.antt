@@ -1,0 +1,4 @@
+pub mod ImageProgram
+pub mod Running
+pub use Rattle.m36_trace.specs.EndLine
+pub use Rattle.m36_trace.specs.TraceLine

@@ -1,0 +1,4 @@
+//! `bare FILE` and `audit FILE`.
+#![tactic(auto)]
+
+pub mod running;
