@@ -1,0 +1,3 @@
+pub mod RunLoop
+pub mod AuditPuts
+pub mod ImageSteps

@@ -1,6 +1,6 @@
 -- What `bare FILE` and `audit FILE` do, as programs: the file is read and decoded, the audit's text
 -- is put, and where the machine is run, a line for each step and the end line.
-use Rattle.std.specs.Prelude.{ℕ, zero, suc, ◌≡◌, ◌+◌, ⊤, Bool, true, false, List, [], Result, Ok, Err}
+use Rattle.std.specs.Prelude.{ℕ, zero, suc, ◌≡◌, ◌+◌, Bool, true, false, List, [], Result, Ok, Err}
 use Rattle.std.specs.Prelude.{Option, Some, None}
 use Rattle.m36_text.specs.Lines.{as_line}
 use Rattle.m36_model.specs.Store.{State}
@@ -15,15 +15,16 @@ use Rattle.m36_image.specs.ImageState.{state_given}
 use Rattle.m36_image.specs.declared.refusal.Refusal as refusal
 use Rattle.m36_trace.specs.EndLine.{end_line_of}
 use Rattle.m36_trace.specs.TraceLine.{line_of}
-use Rattle.m36_reading.specs.declared.status.Status.TheVariants.{AuditNo, MachineStop, Steps}
-use Rattle.m36_program.specs.Program.{May, quiet, Program, done, stops, puts, puts_all, some, wants}
+use Rattle.m36_program.specs.Early.{MayEnd, ends}
+use Rattle.m36_program.specs.Program.{May, quiet, Program, done, puts, puts_all, some, wants}
 use Rattle.m36_program.specs.Program.{then_with}
 use Rattle.m36_program.specs.Readers.{refused, refuses, file_bytes}
 use Rattle.m36_ran.specs.declared.command.ImageCommand.{ImageCommand}
 use Rattle.m36_ran.specs.declared.command.ImageCommand.TheVariants.{Bare, Audit}
 use Rattle.m36_ran.specs.AuditText.{audit_pieces}
 use Rattle.m36_ran.specs.Machine.{told, after}
-use Rattle.m36_ran.specs.Ran.{code_of, passes, is_run, IsIsolated}
+use Rattle.m36_ran.specs.Output.{end_status, status_by, status_after}
+use Rattle.m36_ran.specs.Ran.{code_of, passes, is_run, audit_status, IsIsolated}
 
 -- ---- reading
 
@@ -43,23 +44,27 @@ image_state name = then_with (file_bytes name) (decode name)
 
 -- ---- the end of a run
 
--- the end by which a run has ended: DIS is the one without a fault or another stop
-abbrev pub ends_by : End → Program quiet (Unit {0})
-ends_by (end.Fault fault) = stops (MachineStop (end.Fault fault)) tt
-ends_by (end.Stop Dis) = done tt
-ends_by (end.Stop Operation) = stops (MachineStop (end.Stop Operation)) tt
-ends_by (end.Stop Tag) = stops (MachineStop (end.Stop Tag)) tt
-ends_by (end.Link code) = stops (MachineStop (end.Link code)) tt
-ends_by end.Console = stops (MachineStop end.Console) tt
+-- The status of an end is one that a program may end with.
+abbrev pub may_end : (e : End) → MayEnd (end_status e)
+may_end (end.Fault fault) = tt
+may_end (end.Stop Dis) = tt
+may_end (end.Stop Operation) = tt
+may_end (end.Stop Tag) = tt
+may_end (end.Link code) = tt
+may_end end.Console = tt
 
--- a run that has not ended used up its steps
-abbrev pub ends_after : Option End → Program quiet (Unit {0})
-ends_after None = stops Steps tt
-ends_after (Some e) = ends_by e
+-- So is that of a run that has not ended.
+abbrev pub may_end_by : (e : Option End) → MayEnd (status_by e)
+may_end_by None = tt
+may_end_by (Some e) = may_end e
+
+-- the status of a run whose last step had this outcome
+unfoldable pub run_status : Outcome → Program quiet (Unit {0})
+run_status last = ends (status_after last) (may_end_by (ended_by last))
 
 -- the end line after so many steps, the last with this outcome
 unfoldable pub run_ends : ℕ → Outcome → Program quiet (Unit {0})
-run_ends taken last = puts (as_line (end_line_of last taken)) (ends_after (ended_by last))
+run_ends taken last = puts (as_line (end_line_of last taken)) (run_status last)
 
 -- ---- the run
 
@@ -85,13 +90,16 @@ pub record IsFound (state : State (List ℕ)) (findings : List (ℕ × ℕ)) : T
   pub found : AreFindings state.store state.regs.dbr findings
   pub isolated : findings ≡ [] → IsIsolated state.store state.regs.dbr
 
-abbrev pub ends_audit : Bool → Program quiet (Unit {0})
-ends_audit true = done tt
-ends_audit false = stops AuditNo tt
+-- The status of an audit is one that a program may end with.
+abbrev pub audit_may_end : (passed : Bool) → MayEnd (audit_status passed)
+audit_may_end true = tt
+audit_may_end false = tt
 
 -- the audit's text, and no run
 unfoldable pub audit_only : List (ℕ × ℕ) → Program quiet (Unit {0})
-audit_only findings = puts_all (audit_pieces findings) (ends_audit (passes findings))
+audit_only findings =
+    puts_all (audit_pieces findings)
+    (ends (audit_status (passes findings)) (audit_may_end (passes findings)))
 
 -- The audit's text, and the run. All memory is there before the text is put.
 unfoldable pub audit_and_run : ℕ → State (List ℕ) → List (ℕ × ℕ) → Program quiet (Unit {0})

@@ -1,5 +1,5 @@
 -- The line is that of the step that was taken, and the outcome is its outcome.
-use Rattle.std.proofs.Common.{◌≡◌, List, ℕ, [], ◌∷◌, ◌++◌, rules, sym, ap, subst, ◌∙◌}
+use Rattle.std.proofs.Common.{List, ℕ, [], ◌∷◌, ◌++◌, rules, sym, ap, subst, ◌∙◌}
 use Rattle.m36_text.specs.Lines.{as_line}
 use Rattle.m36_model.specs.declared.record.Shown.{Shown}
 use Rattle.m36_trace.proofs.Lines.{shown_is}
