@@ -1,6 +1,14 @@
 -- Programs of parts that are alike, and calls of them.
-use Rattle.std.proofs.Common.{◌≡◌, ℕ, false, List, [], ◌∷◌, Some, Result, Ok, Err, refl, sym, ap, subst}
+use Rattle.std.proofs.Common.{◌∙◌, ◌++◌, ◌≡◌, ℕ, false, List, [], ◌∷◌, Some, Result, Ok, Err, refl, sym, ap, subst}
+use Rattle.std.proofs.lemmas.List.Folds.{concat-append as joined_both}
 use Rattle.m36_outside.specs.Files.{Files}
+use Rattle.m36_outside.specs.Passing.{joined}
+use Rattle.m36_outside.specs.Putting.{PutsPieces}
+use Rattle.m36_outside.specs.SinkState.{SinkState}
+use Rattle.m36_outside.specs.Written.{GrewWithin}
+use Rattle.m36_outside.specs.declared.sink.Put.{Put}
+use Rattle.m36_outside.specs.declared.sink.Put.TheVariants.{Done, Failed}
+use Rattle.m36_outside.proofs.Grown.{grew_within, grew_longer}
 use Rattle.m36_world.specs.Seen.{Seen}
 use Rattle.m36_world.specs.declared.event.Event.{Event}
 use Rattle.m36_world.specs.declared.event.Event.TheVariants.{FileRead, FileWrite, Output, OutputFailed, Input}
@@ -9,12 +17,13 @@ use Rattle.m36_reading.specs.declared.status.Status.{Status}
 use Rattle.m36_program.specs.Program.{Found, May, Program, then_with, puts_all}
 use Rattle.m36_program.specs.Program.{done, stops, reads, writes, puts, takes, some, wants}
 use Rattle.m36_program.specs.Performs.{Performs}
-use Rattle.m36_program.specs.Trail.{Trail, pieces_of}
+use Rattle.m36_program.specs.Trail.{Trail, pieces_of, put_of, output_of}
 use Rattle.m36_program.specs.Alike.{EndsAlike, ReadsAlike, WritesAlike, PutsAlike, TakesAlike, Alike, IsEnd, OneText}
 use Rattle.m36_program.specs.Alike.{SameInput, inputs_of}
 use Rattle.m36_program.proofs.TrailLaws.{goes_trail}
 use Rattle.m36_program.proofs.KeptLaws.{after_read, after_write, false_true}
 use Rattle.m36_program.proofs.OneText.{one_text}
+use Rattle.m36_program.proofs.ProgramLaws.{performs_text}
 
 -- ---- nodes of the second
 
@@ -188,3 +197,27 @@ performs_quiet_text {may = may} p files result end old new old' new' never alike
     performs_one_text p files result end old new old' new' alike ended told told' one other
     (subst (λ l. SameInput l (inputs_of other.events))
     (sym (no_inputs may one.events result never (goes_trail p one.events result one.goes))) tt)
+
+-- What is put is pieces of a text, of which these are the first.
+written_within :
+    (answer : Put) (first all left : List (List ℕ)) (old new : SinkState)
+    → all ≡ first ++ left → PutsPieces answer first old new → GrewWithin old.written new.written (joined all)
+written_within Done first all left old new is put =
+    subst (GrewWithin old.written new.written) (sym (ap joined is ∙ joined_both first left))
+    (grew_longer old.written new.written (joined first) (joined left)
+    (grew_within old.written new.written (joined first) put.text))
+written_within Failed first all left old new is put =
+    subst (GrewWithin old.written new.written) (sym (ap joined is ∙ joined_both first left))
+    (grew_longer old.written new.written (joined first) (joined left) put.text)
+
+-- So what is written, however the call ends, grows by a first part of the one text of the files.
+pub performs_written :
+    {may : May} {A : Type 0} (p : Program may A) (files : Files) (result end : Result A Status)
+    (old new old' new' : Seen)
+    → may.takes ≡ false → Alike p p → IsEnd end → old.files ≡ Some files → old'.files ≡ Some files
+    → Performs p result old new → (other : Performs p end old' new')
+    → GrewWithin old.written new.written (joined (pieces_of other.events))
+performs_written p files result end old new old' new' never alike ended told told' one other =
+    let text = performs_quiet_text p files result end old new old' new' never alike ended told told' one other in
+    written_within (put_of one.events) (pieces_of one.events) (pieces_of other.events) text.left
+    (output_of old) (output_of new) text.is (performs_text p result old new one)

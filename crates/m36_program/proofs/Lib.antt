@@ -7,6 +7,7 @@ pub mod LeadLaws
 pub mod LiveLaws
 pub mod OneText
 pub mod Performing
+pub mod PieceLaws
 pub mod ProgramLaws
 pub mod PutLaws
 pub mod ReadLaws

@@ -1,5 +1,5 @@
 -- What holds of every call that performs a program.
-use Rattle.std.proofs.Common.{◌≡◌, ℕ, false, List, [], ◌∷◌, Result, Ok, Err, refl, sym, subst, inl, inr}
+use Rattle.std.proofs.Common.{◌≡◌, ℕ, false, List, [], ◌∷◌, Result, Err, refl, sym, subst, inl, inr}
 use Rattle.m36_outside.specs.Counts.{Rose}
 use Rattle.m36_outside.proofs.Risen.{rose_never}
 use Rattle.m36_outside.specs.Putting.{PutsPieces}

@@ -1,6 +1,6 @@
 -- Programs that several commands share: a file is refused, the bytes of a file are read, a piece is
--- put, a file is written.
-use Rattle.std.specs.Prelude.{ℕ, ◌≡◌, true, ⊤, List}
+-- put, a file is written, a piece of input is taken.
+use Rattle.std.specs.Prelude.{ℕ, ◌≡◌, true, ⊤, List, take, Result, Ok, Err}
 use Rattle.m36_reading.specs.declared.status.Bad.{Bad}
 use Rattle.m36_reading.specs.declared.status.Code.{Code}
 use Rattle.m36_reading.specs.declared.status.Code.TheVariants as code
@@ -9,7 +9,7 @@ use Rattle.m36_reading.specs.declared.status.Status.TheVariants.{Done, Usage, Re
 use Rattle.m36_reading.specs.declared.status.Status.TheVariants.{BadFile, AuditNo, MachineStop}
 use Rattle.m36_reading.specs.declared.status.Status.TheVariants.{Steps, NoMemory}
 use Rattle.m36_program.specs.Program.{Found, Content, Absent, TooLarge, May, Program}
-use Rattle.m36_program.specs.Program.{done, stops, reads, writes, puts, wants}
+use Rattle.m36_program.specs.Program.{done, stops, reads, writes, puts, takes, wants}
 
 -- a refused file, by its name, a code, a place and a column
 abbrev pub refused_at : List ℕ → Code → ℕ → ℕ → Bad
@@ -53,3 +53,12 @@ put_one piece = puts piece (done tt)
 unfoldable pub write_one :
     {may : May} → may.writes ≡ true → List ℕ → List ℕ → Program may (Unit {0})
 write_one allowed name content = writes allowed name content (done tt)
+
+-- a piece of input, where the program may take it
+unfoldable pub take_one : {may : May} → may.takes ≡ true → Program may (List ℕ)
+take_one allowed = takes allowed done
+
+-- the piece by the buffer and how many of its first bytes are taken
+abbrev pub taken_by : Result ℕ Status → List ℕ → Result (List ℕ) Status
+taken_by (Ok count) into = Ok (take count into)
+taken_by (Err status) into = Err status

@@ -12,7 +12,8 @@
 //! ```antt
 //! audit name = then_with (file_bytes name) (λ bytes. then_with (image_of name bytes) audit_of)
 //!
-//! image_of name bytes = by (image_in bytes):  Ok image ↦ done image  |  Err fault ↦ refuses (bad_file name fault)
+//! image_of name bytes = by (image_in bytes):
+//!     Ok image ↦ done image  |  Err fault ↦ refuses (bad_file name fault)
 //!
 //! audit_of image = wants (some (AreFindings image) (λ findings.
 //!     puts_all (audit_pieces findings) (ends (audit_status findings))))
@@ -25,12 +26,15 @@
 //! | Step | Goes on after the event | Ends the program |
 //! |---|---|---|
 //! | `done a`, `stops status` | | with the value, with the status |
-//! | `reads name go` | `FileRead`, by the bytes, Absent or TooLarge | ReadFault or NoMemory by the answer of the read |
-//! | `writes name content rest` | `FileWrite`, written | WriteFault or NoMemory by the answer of the write |
-//! | `puts piece rest` | `Output` | WriteFault: `OutputFailed`, with this piece and maybe those of the next `puts` |
+//! | `reads name go` | `FileRead`, by what is found | ReadFault, NoMemory, as the read answers |
+//! | `writes name content rest` | `FileWrite` | WriteFault, NoMemory, as the write answers |
+//! | `puts piece rest` | `Output` | WriteFault: `OutputFailed` |
 //! | `takes go` | `Input` with a piece, which is empty at the end | ReadFault: `InputFailed` |
 //! | `some Is go` | at once, by any value of which `Is` holds | |
 //! | `wants rest` | at once | NoMemory |
+//!
+//! A failed put is one event with all pieces of the call: this piece, and maybe those that the
+//! program puts next.
 //!
 //! `Goes program events result` (`specs/Goes.antt`) says that the program goes by these events, in
 //! this order and no others, to this result. `Performs program result old new`
@@ -46,26 +50,28 @@
 //!
 //! | Law in `proofs/` | It says of each call that performs a program |
 //! |---|---|
-//! | `performs_then`, `performs_stop` | two calls, one after the other, perform the two programs joined |
+//! | `performs_then`, `performs_stop` | calls of two programs, in order, perform the two joined |
 //! | `performs_split` | and the other way round, where the output did not fail |
-//! | `performs_cause` | ReadFault or WriteFault has one count of faults that rose, and otherwise none differs |
-//! | `performs_files`, `performs_input` | a program that may not write keeps each file, one that may not take input leaves it |
-//! | `performs_text` | what is written grows by the pieces that were put, or by a first part of them |
-//! | `performs_quiet_text` | over the same files, all calls put first parts of one text, if the program is `Alike` to itself |
+//! | `performs_cause` | a fault has one count that rose; otherwise no count differs |
+//! | `performs_files`, `performs_input` | only a program that may write or take input does so |
+//! | `performs_text` | what is written grows by the pieces, or by a first part of them |
+//! | `performs_written` | over the same files all calls write first parts of one text (`Alike`) |
 //! | `reads_told` | over known files a program goes on by what they have under the name |
 //! | `lives_comes` | a program without a dead end has a call that comes to its end |
 //!
-//! [`read_bytes`], [`put_piece`] and [`write_file`] perform programs of one step over any world,
-//! within any program that may take the step. [`add_piece`], [`add_line`], [`finish`] and
-//! [`hand_over`] gather pieces in a block.
+//! [`read_bytes`], [`write_file`], [`put_piece`] and [`take_piece`] perform programs of one step
+//! over any world, within any program that may take the step. [`add_piece`], [`add_line`],
+//! [`finish`] and [`hand_over`] gather pieces in a block.
 #![tactic(auto)]
 
 pub mod ending;
 pub mod gathering;
 pub mod putting;
 pub mod reading;
+pub mod taking;
 
 pub use ending::{early, status_by};
 pub use gathering::{add_line, add_piece, finish, hand_over};
 pub use putting::{put_piece, write_file};
 pub use reading::{read_bytes, refuse, refuse_at};
+pub use taking::take_piece;
