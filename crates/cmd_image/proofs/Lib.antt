@@ -1,3 +1,4 @@
 pub mod RunLoop
 pub mod AuditPuts
 pub mod ImageSteps
+pub mod TextLaws

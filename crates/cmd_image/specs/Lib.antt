@@ -1,4 +1,5 @@
 pub mod ImageProgram
+pub mod OneText
 pub mod Running
 pub use Rattle.m36_trace.specs.EndLine
 pub use Rattle.m36_trace.specs.TraceLine

@@ -3,7 +3,9 @@
 
 pub mod answering;
 pub mod findings;
+pub mod laws;
 pub mod reading;
 pub mod running;
 
 pub use answering::image_file;
+pub use laws::law_image_text;
