@@ -2,3 +2,5 @@ pub mod RunLoop
 pub mod AuditPuts
 pub mod ImageSteps
 pub mod TextLaws
+pub mod ImageGoes
+pub mod Bridge

@@ -1,5 +1,6 @@
 pub mod ImageProgram
 pub mod OneText
+pub mod Reading
 pub mod Running
 pub use Rattle.m36_trace.specs.EndLine
 pub use Rattle.m36_trace.specs.TraceLine
