@@ -4,3 +4,4 @@ pub mod ImageSteps
 pub mod TextLaws
 pub mod ImageGoes
 pub mod Bridge
+pub mod Objects

@@ -1,4 +1,5 @@
 pub mod ImageProgram
+pub mod Objects
 pub mod OneText
 pub mod Reading
 pub mod Running
