@@ -99,11 +99,11 @@ piece_first :
 unfolding finding_pieces
 piece_first f findings = refl
 
-piece_none : pieces_of_findings [] ≡ []
+pub piece_none : pieces_of_findings [] ≡ []
 unfolding finding_pieces
 piece_none = refl
 
-piece_at :
+pub piece_at :
     (findings : List Finding) (i : ℕ) (d : Finding)
     → i < length findings
     → pieces_of_findings (drop i findings) ≡ as_line (finding_line ((get_or findings i d).condition, (get_or findings i d).place)) ∷ pieces_of_findings (drop (i + 1) findings)

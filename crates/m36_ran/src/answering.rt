@@ -104,9 +104,9 @@ pub fn answer_audit<S: Sink>(findings: &[Finding], out: &mut S) -> Status
     }
 }
 
-// Whether the machine is run.
+/// Whether the machine is run.
 #[tactic(auto, using(crate::proofs::AuditAnswers::passing))]
-fn is_run(findings: &[Finding], bare: BareRun) -> bool
+pub fn is_run(findings: &[Finding], bare: BareRun) -> bool
     ensures { result ≡ is_run (pairs findings.now) bare.unaudited }
 {
     findings.is_empty() || bare.unaudited
@@ -156,8 +156,8 @@ fn audited(alloc: Global, core: &Core, dbr: Dbr) -> Result<Verdict, NoMemory>
     audit(alloc, core, dbr)
 }
 
-// The audit of an image.
-fn findings_in(alloc: Global, image: &Image) -> Result<Verdict, NoMemory>
+/// The audit of an image.
+pub fn findings_in(alloc: Global, image: &Image) -> Result<Verdict, NoMemory>
     ensures found { IfOk result (λ v. AreFindings image.now.store image.now.regs.dbr (pairs v.findings.items)) }
     ensures isolated { IfOk result (λ v. pairs v.findings.items ≡ [] → IsIsolated image.now.store image.now.regs.dbr) }
 {

@@ -36,7 +36,7 @@ pub fn place_text(condition: u8, place: u32) -> ArrayString<22>
 
 /// The line of a finding, without its line feed.
 #[tactic(auto, unfolding(crate::specs::AuditText::finding_line))]
-fn finding_line(finding: &Finding) -> ArrayString<160>
+pub fn finding_line(finding: &Finding) -> ArrayString<160>
     ensures text { result.bytes ≡ finding_line (pair_of finding.now) }
     ensures len { length result.bytes ≤ 39 }
 {

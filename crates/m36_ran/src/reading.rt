@@ -13,8 +13,8 @@ use m36_outside::Folder;
 use m36_reading::{Code, Refusal, read_bytes, refuse};
 use std::alloc::Global;
 
-// The code of a refused image, as it is told.
-fn code_of(code: ImageCode) -> Code
+/// The code of a refused image, as it is told.
+pub fn code_of(code: ImageCode) -> Code
     ensures { result ≡ code_of code }
 {
     match code {

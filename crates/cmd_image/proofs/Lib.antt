@@ -1,0 +1,7 @@
+pub mod RunLoop
+pub mod AuditPuts
+pub mod ImageSteps
+pub mod TextLaws
+pub mod ImageGoes
+pub mod Bridge
+pub mod Objects

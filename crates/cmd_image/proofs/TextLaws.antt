@@ -1,0 +1,124 @@
+-- Programs on a bare image are alike to themselves.
+use Rattle.std.proofs.Common.{◌≡◌, ℕ, zero, suc, ◌+◌, Bool, true, false, List, Result, Ok, Err, refl}
+use Rattle.m36_model.specs.Store.{State}
+use Rattle.m36_model.specs.declared.outcome.Outcome.{Outcome}
+use Rattle.m36_model.specs.declared.outcome.Outcome.TheVariants.{Next, Faulted, Stopped}
+use Rattle.m36_isol.proofs.Findings.{findings_law}
+use Rattle.m36_image.specs.ImageState.{state_given}
+use Rattle.m36_image.specs.declared.refusal.Refusal as refusal
+use Rattle.m36_step.specs.MachineTurn.{ended_by}
+use Rattle.m36_reading.specs.declared.status.Status.{Status}
+use Rattle.m36_reading.specs.declared.status.Status.TheVariants as status
+use Rattle.m36_program.specs.Alike.{Alike}
+use Rattle.m36_program.specs.Early.{MayEnd, ends}
+use Rattle.m36_program.specs.Program.{Found, Content, Absent, TooLarge, quiet, Program, puts_all, some}
+use Rattle.m36_program.specs.Readers.{refused, refuses, bytes_found, file_bytes}
+use Rattle.m36_program.proofs.AlikeLaws.{alike_wants, alike_then, alike_puts, alike_one, performs_quiet_text, performs_written}
+use Rattle.m36_ran.specs.AuditText.{audit_pieces}
+use Rattle.m36_ran.specs.Machine.{told, after}
+use Rattle.m36_ran.specs.Output.{status_after}
+use Rattle.m36_ran.specs.Ran.{code_of, passes, is_run, audit_status}
+use Rattle.m36_ran.specs.declared.command.ImageCommand.{ImageCommand}
+use Rattle.m36_ran.specs.declared.command.ImageCommand.TheVariants.{Bare, Audit}
+use Rattle.cmd_image.specs.ImageProgram.{decoded, decode, image_state, may_end_by, run_status, run_ends, after_step, run_from}
+use Rattle.cmd_image.specs.ImageProgram.{IsFound, audit_may_end, audit_only, audit_and_run, bare_by, by_command, on_image, image_program}
+use Rattle.cmd_image.specs.OneText.{ImageTextLaw}
+
+found_alike : (name : List ℕ) (found : Found) → Alike {may = quiet} (bytes_found name found) (bytes_found name found)
+unfolding Alike refuses
+found_alike name (Content bytes) = refl
+found_alike name Absent = refl
+found_alike name TooLarge = refl
+
+bytes_alike : (name : List ℕ) → Alike {may = quiet} (file_bytes name) (file_bytes name)
+unfolding Alike file_bytes
+bytes_alike name = (refl, λ found. found_alike name found)
+
+decoded_alike :
+    (name : List ℕ) (given : Result (State (List ℕ)) refusal.Refusal)
+    → Alike {may = quiet} (decoded name given) (decoded name given)
+unfolding Alike refuses
+decoded_alike name (Ok state) = refl
+decoded_alike name (Err f) = refl
+
+decode_alike : (name bytes : List ℕ) → Alike {may = quiet} (decode name bytes) (decode name bytes)
+unfolding Alike decode
+decode_alike name bytes =
+    alike_wants (decoded name (state_given bytes)) (decoded name (state_given bytes)) (decoded_alike name (state_given bytes))
+
+state_alike : (name : List ℕ) → Alike {may = quiet} (image_state name) (image_state name)
+unfolding image_state
+state_alike name =
+    alike_then (file_bytes name) (file_bytes name) (decode name) (decode name) (bytes_alike name) (decode_alike name)
+
+ends_alike : (s : Status) (own : MayEnd s) → Alike {may = quiet} (ends s own) (ends s own)
+unfolding Alike ends
+ends_alike status.Done own = refl
+ends_alike _ own = refl
+
+run_ends_alike : (taken : ℕ) (last : Outcome) → Alike (run_ends taken last) (run_ends taken last)
+unfolding Alike run_ends run_status
+run_ends_alike taken last = (refl, ends_alike (status_after last) (may_end_by (ended_by last)))
+
+after_alike :
+    (taken : ℕ) (last : Outcome) (rest : Program quiet (Unit {0})) → Alike rest rest
+    → Alike (after_step taken last rest) (after_step taken last rest)
+after_alike taken Next rest alike = alike
+after_alike taken (Faulted fault) rest alike = run_ends_alike taken (Faulted fault)
+after_alike taken (Stopped stop) rest alike = run_ends_alike taken (Stopped stop)
+
+run_alike : (taken left : ℕ) (state : State (List ℕ)) → Alike (run_from taken left state) (run_from taken left state)
+unfolding Alike run_from
+run_alike taken zero state = run_ends_alike taken Next
+run_alike taken (suc left) state =
+    (refl, after_alike (taken + 1) (told state).outcome (run_from (taken + 1) left (after state)) (run_alike (taken + 1) left (after state)))
+
+audit_alike : (findings : List (ℕ × ℕ)) → Alike (audit_only findings) (audit_only findings)
+unfolding audit_only
+audit_alike findings =
+    let last : Program quiet (Unit {0}) = ends (audit_status (passes findings)) (audit_may_end (passes findings)) in
+    alike_puts (audit_pieces findings) last last (ends_alike (audit_status (passes findings)) (audit_may_end (passes findings)))
+
+both_alike :
+    (steps : ℕ) (state : State (List ℕ)) (findings : List (ℕ × ℕ))
+    → Alike (audit_and_run steps state findings) (audit_and_run steps state findings)
+unfolding Alike audit_and_run
+both_alike steps state findings =
+    let all : Program quiet (Unit {0}) = puts_all (audit_pieces findings) (run_from 0 steps state) in
+    alike_wants all all
+    (alike_puts (audit_pieces findings) (run_from 0 steps state) (run_from 0 steps state) (run_alike 0 steps state))
+
+bare_alike :
+    (run : Bool) (steps : ℕ) (state : State (List ℕ)) (findings : List (ℕ × ℕ))
+    → Alike (bare_by run steps state findings) (bare_by run steps state findings)
+bare_alike true steps state findings = both_alike steps state findings
+bare_alike false steps state findings = audit_alike findings
+
+by_alike :
+    (command : ImageCommand) (state : State (List ℕ)) (findings : List (ℕ × ℕ))
+    → Alike (by_command command state findings) (by_command command state findings)
+by_alike (Bare bare) state findings = bare_alike (is_run findings bare.unaudited) bare.steps state findings
+by_alike Audit state findings = audit_alike findings
+
+image_alike : (command : ImageCommand) (state : State (List ℕ)) → Alike (on_image command state) (on_image command state)
+unfolding Alike on_image
+image_alike command state =
+    let chosen : Program quiet (Unit {0}) = some (IsFound state) (by_command command state) in
+    alike_wants chosen chosen (alike_one (IsFound state) (by_command command state)
+    (λ f g is is'. findings_law.unique state.store state.regs.dbr f g is.found is'.found)
+    (λ f is. by_alike command state f))
+
+pub program_alike :
+    (command : ImageCommand) (name : List ℕ) → Alike (image_program command name) (image_program command name)
+unfolding image_program
+program_alike command name =
+    alike_then (image_state name) (image_state name) (on_image command) (on_image command) (state_alike name) (image_alike command)
+
+pub image_text_law : ImageTextLaw
+image_text_law = record {
+  alike = program_alike;
+  one_text = λ command name files result end old new old' new' ended told told' one other.
+      performs_quiet_text (image_program command name) files result end old new old' new' refl (program_alike command name) ended told told' one other;
+  written = λ command name files result end old new old' new' ended told told' one other.
+      performs_written (image_program command name) files result end old new old' new' refl (program_alike command name) ended told told' one other;
+}

@@ -1,0 +1,128 @@
+-- What `bare FILE` and `audit FILE` do, as programs: the file is read and decoded, the audit's text
+-- is put, and where the machine is run, a line for each step and the end line.
+use Rattle.std.specs.Prelude.{ℕ, zero, suc, ◌≡◌, ◌+◌, Bool, true, false, List, [], Result, Ok, Err}
+use Rattle.std.specs.Prelude.{Option, Some, None}
+use Rattle.m36_text.specs.Lines.{as_line}
+use Rattle.m36_model.specs.Store.{State}
+use Rattle.m36_model.specs.Audit.{AreFindings}
+use Rattle.m36_model.specs.declared.endings.End.{End}
+use Rattle.m36_model.specs.declared.endings.End.TheVariants as end
+use Rattle.m36_model.specs.declared.outcome.Outcome.{Outcome}
+use Rattle.m36_model.specs.declared.outcome.Outcome.TheVariants.{Next, Faulted, Stopped}
+use Rattle.m36_model.specs.declared.outcome.Stop.TheVariants.{Dis, Operation, Tag}
+use Rattle.m36_step.specs.MachineTurn.{ended_by}
+use Rattle.m36_image.specs.ImageState.{state_given}
+use Rattle.m36_image.specs.declared.refusal.Refusal as refusal
+use Rattle.m36_trace.specs.EndLine.{end_line_of}
+use Rattle.m36_trace.specs.TraceLine.{line_of}
+use Rattle.m36_program.specs.Early.{MayEnd, ends}
+use Rattle.m36_program.specs.Program.{May, quiet, Program, done, puts, puts_all, some, wants}
+use Rattle.m36_program.specs.Program.{then_with}
+use Rattle.m36_program.specs.Readers.{refused, refuses, file_bytes}
+use Rattle.m36_ran.specs.declared.command.ImageCommand.{ImageCommand}
+use Rattle.m36_ran.specs.declared.command.ImageCommand.TheVariants.{Bare, Audit}
+use Rattle.m36_ran.specs.AuditText.{audit_pieces}
+use Rattle.m36_ran.specs.Machine.{told, after}
+use Rattle.m36_ran.specs.Output.{end_status, status_by, status_after}
+use Rattle.m36_ran.specs.Ran.{code_of, passes, is_run, audit_status, IsIsolated}
+
+-- ---- reading
+
+-- the machine of an image, or the refusal of its text
+abbrev pub decoded :
+    {may : May} → List ℕ → Result (State (List ℕ)) refusal.Refusal → Program may (State (List ℕ))
+decoded name (Ok state) = done state
+decoded name (Err refusal) = refuses (refused name (code_of refusal.code) refusal.line)
+
+-- the bytes of an image are decoded
+unfoldable pub decode : {may : May} → List ℕ → List ℕ → Program may (State (List ℕ))
+decode name bytes = wants (decoded name (state_given bytes))
+
+-- the machine that a file writes out
+unfoldable pub image_state : {may : May} → List ℕ → Program may (State (List ℕ))
+image_state name = then_with (file_bytes name) (decode name)
+
+-- ---- the end of a run
+
+-- The status of an end is one that a program may end with.
+abbrev pub may_end : (e : End) → MayEnd (end_status e)
+may_end (end.Fault fault) = tt
+may_end (end.Stop Dis) = tt
+may_end (end.Stop Operation) = tt
+may_end (end.Stop Tag) = tt
+may_end (end.Link code) = tt
+may_end end.Console = tt
+
+-- So is that of a run that has not ended.
+abbrev pub may_end_by : (e : Option End) → MayEnd (status_by e)
+may_end_by None = tt
+may_end_by (Some e) = may_end e
+
+-- the status of a run whose last step had this outcome
+unfoldable pub run_status : Outcome → Program quiet (Unit {0})
+run_status last = ends (status_after last) (may_end_by (ended_by last))
+
+-- the end line after so many steps, the last with this outcome
+unfoldable pub run_ends : ℕ → Outcome → Program quiet (Unit {0})
+run_ends taken last = puts (as_line (end_line_of last taken)) (run_status last)
+
+-- ---- the run
+
+-- another step may follow only Next
+abbrev pub after_step :
+    ℕ → Outcome → Program quiet (Unit {0}) → Program quiet (Unit {0})
+after_step taken Next rest = rest
+after_step taken (Faulted fault) rest = run_ends taken (Faulted fault)
+after_step taken (Stopped stop) rest = run_ends taken (Stopped stop)
+
+-- At most so many more steps after those that were taken: a line for each step, and the end line.
+unfoldable pub run_from : ℕ → ℕ → State (List ℕ) → Program quiet (Unit {0})
+run_from taken zero state = run_ends taken Next
+run_from taken (suc left) state =
+    puts (as_line (line_of (taken + 1) (told state)))
+    (after_step (taken + 1) (told state).outcome (run_from (taken + 1) left (after state)))
+
+-- ---- the audit
+
+-- These are the findings of the audit of a machine; where there are none, its tables isolate each
+-- ring.
+pub record IsFound (state : State (List ℕ)) (findings : List (ℕ × ℕ)) : Type 0 where
+  pub found : AreFindings state.store state.regs.dbr findings
+  pub isolated : findings ≡ [] → IsIsolated state.store state.regs.dbr
+
+-- The status of an audit is one that a program may end with.
+abbrev pub audit_may_end : (passed : Bool) → MayEnd (audit_status passed)
+audit_may_end true = tt
+audit_may_end false = tt
+
+-- the audit's text, and no run
+unfoldable pub audit_only : List (ℕ × ℕ) → Program quiet (Unit {0})
+audit_only findings =
+    puts_all (audit_pieces findings)
+    (ends (audit_status (passes findings)) (audit_may_end (passes findings)))
+
+-- The audit's text, and the run. All memory is there before the text is put.
+unfoldable pub audit_and_run : ℕ → State (List ℕ) → List (ℕ × ℕ) → Program quiet (Unit {0})
+audit_and_run steps state findings =
+    wants (puts_all (audit_pieces findings) (run_from 0 steps state))
+
+abbrev pub bare_by : Bool → ℕ → State (List ℕ) → List (ℕ × ℕ) → Program quiet (Unit {0})
+bare_by true steps state findings = audit_and_run steps state findings
+bare_by false steps state findings = audit_only findings
+
+-- what a command does with a machine, by what its audit finds
+abbrev pub by_command :
+    ImageCommand → State (List ℕ) → List (ℕ × ℕ) → Program quiet (Unit {0})
+by_command (Bare bare) state findings =
+    bare_by (is_run findings bare.unaudited) bare.steps state findings
+by_command Audit state findings = audit_only findings
+
+-- ---- a command
+
+-- what a command does with a machine
+unfoldable pub on_image : ImageCommand → State (List ℕ) → Program quiet (Unit {0})
+on_image command state = wants (some (IsFound state) (by_command command state))
+
+-- `bare FILE` and `audit FILE`
+unfoldable pub image_program : ImageCommand → List ℕ → Program quiet (Unit {0})
+image_program command name = then_with (image_state name) (on_image command)

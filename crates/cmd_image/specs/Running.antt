@@ -1,0 +1,33 @@
+-- What a step of a run answers.
+use Rattle.std.specs.Prelude.{ℕ, ◌≡◌, ◌++◌, false, List, [], ◌∷◌}
+use Rattle.m36_text.specs.Lines.{as_line}
+use Rattle.m36_model.specs.Store.{State}
+use Rattle.m36_model.specs.Run.{is_next}
+use Rattle.m36_model.specs.declared.outcome.Outcome.{Outcome}
+use Rattle.m36_model.specs.declared.outcome.Outcome.TheVariants.{Next}
+use Rattle.m36_trace.specs.TraceLine.{line_of}
+use Rattle.m36_world.specs.Seen.{Seen}
+use Rattle.m36_program.specs.Gathered.{Gathers, Loses}
+use Rattle.m36_ran.specs.Machine.{told}
+use Rattle.cmd_image.specs.declared.running.AfterStep.{AfterStep}
+use Rattle.cmd_image.specs.declared.running.AfterStep.TheVariants as step
+
+-- A step with this outcome was taken, and its line was added to the block.
+pub record Stepped (n : ℕ) (outcome : Outcome) (state : State (List ℕ))
+    (block block' : List (List ℕ)) (old new : Seen) : Type 0 where
+  pub outcome_is : (told state).outcome ≡ outcome
+  pub added : Gathers block block' (as_line (line_of n (told state)) ∷ []) old new
+
+-- It ends the run.
+pub record Ending (n : ℕ) (outcome : Outcome) (state : State (List ℕ))
+    (block block' : List (List ℕ)) (old new : Seen) : Type 0 where
+  pub last : is_next outcome ≡ false
+  pub stepped : Stepped n outcome state block block' old new
+
+abbrev pub TurnSays : AfterStep → ℕ → State (List ℕ) → List (List ℕ) → List (List ℕ)
+    → Seen → Seen → Type 0
+TurnSays step.Next n state block block' old new = Stepped n Next state block block' old new
+TurnSays (step.Ended outcome) n state block block' old new =
+    Ending n outcome state block block' old new
+TurnSays step.WriteFailed n state block block' old new =
+    Loses (block ++ as_line (line_of n (told state)) ∷ []) old new

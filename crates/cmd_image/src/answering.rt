@@ -1,0 +1,136 @@
+//! The audit of an image, and its run.
+
+ghost use Rattle.m36_audit.specs.Findings.{pairs};
+ghost use Rattle.m36_program.specs.Performs.{Performs};
+ghost use Rattle.m36_ran.specs.Ran.{is_run};
+ghost use Rattle.cmd_image.specs.ImageProgram.{audit_only, audit_and_run, bare_by, by_command, on_image, image_program};
+
+use crate::findings::put_audit;
+use crate::reading::read_state;
+use crate::running::run;
+use m36_audit::Finding;
+use m36_image::Image;
+use m36_ran::answering::{findings_in, is_run, machine_of};
+use m36_ran::{BareRun, ImageCommand};
+use m36_reading::Status;
+use m36_world::World;
+use std::alloc::Global;
+
+/// Puts the audit's text, and answers whether the audit passes.
+#[tactic(auto, using(crate::proofs::ImageSteps::auditing))]
+fn answer_audit<W: World>(findings: &[Finding], world: &mut W) -> Result<(), Status>
+    ensures { Performs (audit_only (pairs findings.now)) result
+        (W.seen world.old) (W.seen world.new) }
+{
+    match put_audit(findings, world) {
+        Ok(()) => {
+            if findings.is_empty() {
+                Ok(())
+            } else {
+                Err(Status::AuditNo)
+            }
+        }
+        Err(status) => Err(status),
+    }
+}
+
+/// Puts the audit's text, and then runs the machine of an image for at most so many steps. Nothing
+/// is put before memory is found for the machine.
+#[tactic(auto, using(crate::proofs::ImageSteps::audited))]
+fn run_audited<W: World>(
+    alloc: Global,
+    findings: &[Finding],
+    image: Image,
+    steps: u32,
+    world: &mut W,
+) -> Result<(), Status>
+    ensures { Performs (audit_and_run steps image (pairs findings.now)) result
+        (W.seen world.old) (W.seen world.new) }
+{
+    let mut machine = match machine_of(alloc, image) {
+        Ok(machine) => machine,
+        Err(_) => return Err(Status::NoMemory),
+    };
+    match put_audit(findings, world) {
+        Ok(()) => run(&mut machine, steps, world),
+        Err(status) => Err(status),
+    }
+}
+
+// The command `bare FILE` on an image, by what its audit has found.
+fn answer_bare<W: World>(
+    alloc: Global,
+    bare: BareRun,
+    findings: &[Finding],
+    image: Image,
+    world: &mut W,
+) -> Result<(), Status>
+    ensures { Performs
+        (bare_by (is_run (pairs findings.now) bare.unaudited) bare.steps image (pairs findings.now))
+        result (W.seen world.old) (W.seen world.new) }
+{
+    if is_run(findings, bare) {
+        run_audited(alloc, findings, image, bare.steps, world)
+    } else {
+        answer_audit(findings, world)
+    }
+}
+
+// Does what a command says with an image, by what its audit has found.
+fn answer_found<W: World>(
+    alloc: Global,
+    command: ImageCommand,
+    findings: &[Finding],
+    image: Image,
+    world: &mut W,
+) -> Result<(), Status>
+    ensures { Performs (by_command command image (pairs findings.now)) result
+        (W.seen world.old) (W.seen world.new) }
+{
+    match command {
+        ImageCommand::Bare(bare) => answer_bare(alloc, bare, findings, image, world),
+        ImageCommand::Audit => answer_audit(findings, world),
+    }
+}
+
+/// Audits an image, and does what a command says with it.
+#[tactic(auto, using(crate::proofs::ImageSteps::found))]
+fn with_image<W: World>(
+    alloc: Global,
+    command: ImageCommand,
+    image: Image,
+    world: &mut W,
+) -> Result<(), Status>
+    ensures { Performs (on_image command image) result (W.seen world.old) (W.seen world.new) }
+{
+    match findings_in(alloc, &image) {
+        Ok(verdict) => {
+            let findings = verdict.findings.as_slice();
+            let answer = answer_found(alloc, command, findings, image, world);
+            // Dropped by a call: so the drop is proved once for its type.
+            drop(verdict);
+            answer
+        }
+        Err(_) => {
+            drop(image);
+            Err(Status::NoMemory)
+        }
+    }
+}
+
+/// `bare FILE` and `audit FILE`: reads a bare image, and does what a command says with it.
+#[tactic(auto, unfolding(crate::specs::ImageProgram::image_program), using(m36_program::proofs::Performing::performing))]
+pub fn image_file<W: World>(
+    alloc: Global,
+    name: &[u8],
+    command: ImageCommand,
+    world: &mut W,
+) -> Result<(), Status>
+    ensures { Performs (image_program command name.now) result
+        (W.seen world.old) (W.seen world.new) }
+{
+    match read_state(alloc, name, world) {
+        Ok(image) => with_image(alloc, command, image, world),
+        Err(status) => Err(status),
+    }
+}
