@@ -165,11 +165,11 @@ ends_puts :
 ends_puts command name events result old new ran kept cause text (inl whole) =
     let due = state_answer command ran.state ran.findings in
     let came : Comes_by name events (Came (Ok ran.state)) =
-        comes_of name (read.Read ran.bytes) (Came (Ok ran.state)) events
-        (ap reads_of ran.events_are ∙ ap (λ l. (name, read.Read ran.bytes) ∷ l) ran.puts.alone) ran.comes in
+    comes_of name (read.Read ran.bytes) (Came (Ok ran.state)) events
+    (ap reads_of ran.events_are ∙ ap (λ l. (name, read.Read ran.bytes) ∷ l) ran.puts.alone) ran.comes in
     let put : PutsPieces Done due.pieces (output_of old) (output_of new) =
-        whole_put due.pieces ran.more old new whole.events_are
-        (subst (λ e. PutsPieces (put_of e) (pieces_of e) (output_of old) (output_of new)) ran.events_are text) in
+    whole_put due.pieces ran.more old new whole.events_are
+    (subst (λ e. PutsPieces (put_of e) (pieces_of e) (output_of old) (output_of new)) ran.events_are text) in
     let none = none_failed due.status old new ran.puts.own (subst (λ r. HasCause r old new) whole.result_is cause) in
     subst (λ r. EndsWith command name events r old new) (sym whole.result_is)
     (ends_answered command (Comes_by name events) due.status (outside_by old) (outside_by new) ran.puts.own (record {
@@ -186,11 +186,11 @@ ends_puts command name events result old new ran kept cause text (inl whole) =
 ends_puts command name events result old new ran kept cause text (inr part) =
     let due = state_answer command ran.state ran.findings in
     let came : Comes_by name events (Came (Ok ran.state)) =
-        comes_of name (read.Read ran.bytes) (Came (Ok ran.state)) events
-        (ap reads_of ran.events_are ∙ ap (λ l. (name, read.Read ran.bytes) ∷ l) ran.puts.alone) ran.comes in
+    comes_of name (read.Read ran.bytes) (Came (Ok ran.state)) events
+    (ap reads_of ran.events_are ∙ ap (λ l. (name, read.Read ran.bytes) ∷ l) ran.puts.alone) ran.comes in
     let put : PutsPieces Failed due.pieces (output_of old) (output_of new) =
-        part_put due.pieces part.left ran.more old new part.is part.failed
-        (subst (λ e. PutsPieces (put_of e) (pieces_of e) (output_of old) (output_of new)) ran.events_are text) in
+    part_put due.pieces part.left ran.more old new part.is part.failed
+    (subst (λ e. PutsPieces (put_of e) (pieces_of e) (output_of old) (output_of new)) ran.events_are text) in
     subst (λ r. EndsWith command name events r old new) (sym part.result_is) (record {
       given = ran.state;
       came = came;
@@ -227,7 +227,7 @@ ends_how command name events result old new follow kept cause text (Refused answ
     let did = one_read name answer events old new one.events_are follow in
     let none : NoneFailed old new = subst (λ r. HasCause r old new) one.result_is cause in
     let put : PutsPieces Done [] (output_of old) (output_of new) =
-        subst (λ e. PutsPieces (put_of e) (pieces_of e) (output_of old) (output_of new)) one.events_are text in
+    subst (λ e. PutsPieces (put_of e) (pieces_of e) (output_of old) (output_of new)) one.events_are text in
     subst (λ r. EndsWith command name events r old new) (sym one.result_is) (record {
       given = Err (refusal.BadFile bad);
       came = comes_of name answer _ events (ap reads_of one.events_are) one.comes;

@@ -255,7 +255,7 @@ image_how :
 unfolding reads_then
 image_how command name bytes state more events result is first goes =
     let starved : NoneLeft more result → How command name events result = λ left. Starved (read.Read bytes)
-        (alone name (read.Read bytes) Wanting NoMemory more events result (comes_by name (read.Read bytes) Wanting tt) first left) in
+    (alone name (read.Read bytes) Wanting NoMemory more events result (comes_by name (read.Read bytes) Wanting tt) first left) in
     elim (image_goes command state more result goes) [
       | inl chosen ↦ elim (found_puts command state chosen.value more result chosen.rest) [
         | inl text ↦ Answered (record {
@@ -285,10 +285,10 @@ given_how command name bytes (Err f) more events result is first goes =
     let bad = refused name (code_of f.code) f.line in
     elim (refuse_goes bad (on_image command) more result goes) [
       | inl ends ↦ Refused (read.Read bytes) bad
-        (alone name (read.Read bytes) (Came (Err (refusal.BadFile bad))) (BadFile bad) more events result
-        (comes_by name (read.Read bytes) (Came (Err (refusal.BadFile bad))) (ap (state_by name) is)) first ends)
+          (alone name (read.Read bytes) (Came (Err (refusal.BadFile bad))) (BadFile bad) more events result
+          (comes_by name (read.Read bytes) (Came (Err (refusal.BadFile bad))) (ap (state_by name) is)) first ends)
       | inr ends ↦ Starved (read.Read bytes)
-        (alone name (read.Read bytes) Wanting NoMemory more events result (comes_by name (read.Read bytes) Wanting tt) first ends)
+          (alone name (read.Read bytes) Wanting NoMemory more events result (comes_by name (read.Read bytes) Wanting tt) first ends)
     ]
 
 decode_goes :
@@ -307,7 +307,7 @@ decode_how command name bytes more events result first goes =
     elim (decode_goes command name bytes more result goes) [
       | inl goes ↦ given_how command name bytes (state_given bytes) more events result refl first goes
       | inr ends ↦ Starved (read.Read bytes)
-        (alone name (read.Read bytes) Wanting NoMemory more events result (comes_by name (read.Read bytes) Wanting tt) first ends)
+          (alone name (read.Read bytes) Wanting NoMemory more events result (comes_by name (read.Read bytes) Wanting tt) first ends)
     ]
 
 refused_how :
@@ -319,7 +319,7 @@ refused_how :
 refused_how command name answer bad more events result comes wanting first goes =
     elim (refuse_goes bad (on_image command) more result goes) [
       | inl ends ↦ Refused answer bad
-        (alone name answer (Came (Err (refusal.BadFile bad))) (BadFile bad) more events result comes first ends)
+          (alone name answer (Came (Err (refusal.BadFile bad))) (BadFile bad) more events result comes first ends)
       | inr ends ↦ Starved answer (alone name answer Wanting NoMemory more events result wanting first ends)
     ]
 

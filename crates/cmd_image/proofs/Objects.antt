@@ -80,11 +80,11 @@ pub performs_over :
 performs_over command name result status old new old' new' status_is none same_old same_new performs =
     let logs = follow_logs performs.events old new performs.follow in
     let old_is : old ≡ record old' { references = old.references } =
-        same_seen old old' same_old ∙ ap (λ e. record old' { events = e; references = old.references }) none in
+    same_seen old old' same_old ∙ ap (λ e. record old' { events = e; references = old.references }) none in
     let new_is : new ≡ record new' { events = old'.events ++ performs.events; references = old.references } =
-        same_seen new new' same_new
-        ∙ ap (λ e. record new' { events = e; references = new.references }) (logs.all ∙ ap (λ e. e ++ performs.events) none)
-        ∙ ap (λ (l : List ℕ). record new' { events = old'.events ++ performs.events; references = l }) logs.references in
+    same_seen new new' same_new
+    ∙ ap (λ e. record new' { events = e; references = new.references }) (logs.all ∙ ap (λ e. e ++ performs.events) none)
+    ∙ ap (λ (l : List ℕ). record new' { events = old'.events ++ performs.events; references = l }) logs.references in
     record {
       events = performs.events;
       references = old.references;

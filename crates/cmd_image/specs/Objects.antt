@@ -16,20 +16,20 @@ abbrev pub objects :
     → (S → List (List ℕ)) → (S → Option (List ℕ)) → (S → ℕ) → F → L → S → Seen
 objects asked wrote files read_faults write_faults given left input_faults taken written faults
     folder input output = record {
-  events = [];
-  reads = asked folder;
-  writes = wrote folder;
-  outputs = taken output;
-  inputs = given input;
-  files = files folder;
-  written = written output;
-  left = left input;
-  read_faults = read_faults folder;
-  write_faults = write_faults folder;
-  output_faults = faults output;
-  input_faults = input_faults input;
-  references = [];
-}
+      events = [];
+      reads = asked folder;
+      writes = wrote folder;
+      outputs = taken output;
+      inputs = given input;
+      files = files folder;
+      written = written output;
+      left = left input;
+      read_faults = read_faults folder;
+      write_faults = write_faults folder;
+      output_faults = faults output;
+      input_faults = input_faults input;
+      references = [];
+    }
 
 -- Some events happened over the three objects, one after another, which are what each of the
 -- objects recorded in the call; and by them the program goes to the result.
