@@ -1,5 +1,6 @@
 pub mod WordLaws
 pub mod Performing
+pub mod Programs
 pub mod NoSets
 pub mod Inputs
 pub mod YesPasses

@@ -1,6 +1,7 @@
 pub mod Words
 pub mod Dues
 pub mod Commands
+pub mod Programs
 pub mod TopCall
 pub mod Done
 pub mod DueLaw

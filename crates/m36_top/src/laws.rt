@@ -1,6 +1,7 @@
 //! What is due to words and files, by the conditions of the audit.
 
 ghost use Rattle.m36_top.specs.DueLaw.{DueLaw};
+ghost use Rattle.cmd_image.specs.OneText.{ImageTextLaw};
 
 /// One answer at most is due to words and files that boot or make no folder and hold no session, and it can't be that none is.
 /// On a state of which all conditions of the audit hold it is the one without findings, and on every other state one by some
@@ -9,4 +10,9 @@ ghost use Rattle.m36_top.specs.DueLaw.{DueLaw};
 /// of the audit of the system to which it boots.
 pub fn law_due()
     ensures { DueLaw }
+{}
+
+/// Over the same files what a call of `bare FILE` or `audit FILE` puts, however it ends, is a first part of one text.
+pub fn law_one_text()
+    ensures { ImageTextLaw }
 {}

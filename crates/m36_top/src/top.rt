@@ -5,18 +5,21 @@ ghost use Rattle.m36_reading.specs.Ends.{end_of};
 ghost use Rattle.m36_reading.specs.Outside.{outside_of};
 ghost use Rattle.m36_reading.specs.Doing.{Does};
 ghost use Rattle.m36_sessions.specs.Held.{talk_of};
+ghost use Rattle.cmd_image.specs.Objects.{objects};
 ghost use Rattle.m36_top.specs.Words.{command_of};
 ghost use Rattle.m36_top.specs.Dues.{due_kind};
+ghost use Rattle.m36_top.specs.Programs.{CommandPerforms, TopPerforms};
 ghost use Rattle.m36_top.specs.Commands.{reads, takes_input};
 ghost use Rattle.m36_top.specs.Done.{ComesDone, NeverFail, IsNoFault};
 ghost use Rattle.m36_top.specs.TopCall.{Through, TopOutput, InputBy, InputSays, CommandTakes, TopTakes, ReadCause, WriteCause, Completes, KeepsFiles, TopPasses, TopAnswersPass};
 
 use crate::command::Command;
 use crate::words::command_of;
+use cmd_image::image_command;
 use m36_booted::folder_booted;
 use m36_made::make_folder;
 use m36_outside::{Folder, Lines, Sink, Text};
-use m36_ran::{ImageCommand, image_file};
+use m36_ran::ImageCommand;
 use m36_reading::Status;
 use m36_scheduled::procs_file;
 use m36_sessions::{folder_session, image_session};
@@ -44,13 +47,18 @@ pub fn perform<F: Folder, L: Lines, S: Sink>(
     ensures takes { CommandTakes command.now result
         (talk_of L.left L.given L.faults lines.old lines.new)
         (F.asked folder.old) (F.asked folder.new) }
+    ensures performs { CommandPerforms command.now result
+        (objects F.asked F.wrote F.files F.read_faults F.write_faults L.given L.left L.faults
+        S.taken S.written S.faults folder.old lines.old out.old)
+        (objects F.asked F.wrote F.files F.read_faults F.write_faults L.given L.left L.faults
+        S.taken S.written S.faults folder.new lines.new out.new) }
 {
     match command {
         Command::Bare(file, run) => {
-            image_file(alloc, file.bytes(), ImageCommand::Bare(*run), folder, out)
+            image_command(alloc, file.bytes(), ImageCommand::Bare(*run), folder, lines, out)
         }
         Command::Audit(file) => {
-            image_file(alloc, file.bytes(), ImageCommand::Audit, folder, out)
+            image_command(alloc, file.bytes(), ImageCommand::Audit, folder, lines, out)
         }
         Command::Booted(command, user) => folder_booted(alloc, *command, user, folder, out),
         Command::Procs(file, unaudited) => {
@@ -67,7 +75,7 @@ pub fn perform<F: Folder, L: Lines, S: Sink>(
 }
 
 // What the words ask for.
-#[tactic(auto, using(crate::proofs::Performing::asking))]
+#[tactic(auto, using(crate::proofs::Performing::asking, crate::proofs::Programs::asking))]
 fn answer<F: Folder, L: Lines, S: Sink>(
     alloc: Global,
     words: &[Text],
@@ -87,6 +95,11 @@ fn answer<F: Folder, L: Lines, S: Sink>(
     ensures takes { TopTakes (command_of words.now) result
         (talk_of L.left L.given L.faults lines.old lines.new)
         (F.asked folder.old) (F.asked folder.new) }
+    ensures performs { TopPerforms (command_of words.now) result
+        (objects F.asked F.wrote F.files F.read_faults F.write_faults L.given L.left L.faults
+        S.taken S.written S.faults folder.old lines.old out.old)
+        (objects F.asked F.wrote F.files F.read_faults F.write_faults L.given L.left L.faults
+        S.taken S.written S.faults folder.new lines.new out.new) }
     ensures usage { (result ≡ Status.Usage) ↔ (command_of words.now ≡ None) }
     ensures folder_untouched { command_of words.now ≡ None → folder.new ≡ folder.old }
     ensures sink_untouched { command_of words.now ≡ None → out.new ≡ out.old }
@@ -210,6 +223,13 @@ pub fn m36<F: Folder, L: Lines, S: Sink>(
     ensures takes { TopTakes (command_of words.now) result
         (talk_of L.left L.given L.faults lines.old lines.new)
         (F.asked folder.old) (F.asked folder.new) }
+
+    // `bare` and `audit FILE` do what their programs say: all that the three objects record of the call, in one order.
+    ensures performs { TopPerforms (command_of words.now) result
+        (objects F.asked F.wrote F.files F.read_faults F.write_faults L.given L.left L.faults
+        S.taken S.written S.faults folder.old lines.old out.old)
+        (objects F.asked F.wrote F.files F.read_faults F.write_faults L.given L.left L.faults
+        S.taken S.written S.faults folder.new lines.new out.new) }
 
     // Where the words are no command, nothing is touched.
     ensures usage { (result ≡ Status.Usage) ↔ (command_of words.now ≡ None) }

@@ -2,6 +2,7 @@
 use Rattle.m36_reading.specs.Outside.{outside_of}
 use Rattle.m36_sessions.specs.Held.{talk_of}
 use Rattle.m36_top.proofs.Performing.{as_command, performs_bare, performs_audit, performs_booted, performs_procs, performs_access, performs_print, performs_alm, performs_bind, performs_debug_folder, performs_debug_image, takes_debug_folder, takes_debug_image, performs_make}
+use Rattle.m36_top.proofs.Programs.{bare_performs, audit_performs, same_input, bare_input, audit_input, bare_takes, audit_takes}
 use Rattle.m36_top.proofs.top.perform.Goals as goal
 
 pub returns-in-Bare-clause-does : goal.returns-in-Bare-clause-does
@@ -10,13 +11,32 @@ returns-in-Bare-clause-does g c =
     let s = g.S.Sink in
     let i = g.L.Lines in
     let at = outside_of f.files f.wrote f.read_faults f.write_faults s.written s.taken s.faults in
-    let talk = talk_of i.left i.given i.faults c.args.lines.now c.args.lines.now in
+    let talk = talk_of i.left i.given i.faults c.args.lines.now c.image_command.new.lines in
     let old = at c.args.folder.now c.args.out.now in
-    let new = at c.image_file.new.folder c.image_file.new.out in
+    let new = at c.image_command.new.folder c.image_command.new.out in
     let before = f.asked c.args.folder.now in
-    let after = f.asked c.image_file.new.folder in
-    as_command talk c.args.command.now _ c.image_file.result old new before after c.in-Bare.is
-    (performs_bare talk c.in-Bare.file c.bytes.result.now c.in-Bare.run' c.image_file.result old new before after c.bytes.ensures.value c.image_file.ensures)
+    let after = f.asked c.image_command.new.folder in
+    as_command talk c.args.command.now _ c.image_command.result old new before after c.in-Bare.is
+    (performs_bare talk c.in-Bare.file c.bytes.result.now c.in-Bare.run' c.image_command.result old new before after c.bytes.ensures.value c.image_command.ensures.does)
+
+pub returns-in-Bare-clause-performs : goal.returns-in-Bare-clause-performs
+returns-in-Bare-clause-performs g c =
+    bare_performs c.args.command.now c.in-Bare.file c.bytes.result.now c.in-Bare.run' c.image_command.result _ _ c.in-Bare.is c.bytes.ensures.value c.image_command.ensures.performs
+
+pub returns-in-Bare-clause-input : goal.returns-in-Bare-clause-input
+returns-in-Bare-clause-input g c =
+    let i = g.L.Lines in
+    let kept = c.image_command.ensures.untaken in
+    bare_input (talk_of i.left i.given i.faults c.args.lines.now c.image_command.new.lines) c.args.command.now c.in-Bare.file c.in-Bare.run' c.image_command.result c.in-Bare.is
+    (same_input _ _ _ _ _ _ kept.left kept.inputs kept.faults)
+
+pub returns-in-Bare-clause-takes : goal.returns-in-Bare-clause-takes
+returns-in-Bare-clause-takes g c =
+    let f = g.F.Folder in
+    let i = g.L.Lines in
+    let kept = c.image_command.ensures.untaken in
+    bare_takes (talk_of i.left i.given i.faults c.args.lines.now c.image_command.new.lines) c.args.command.now c.in-Bare.file c.in-Bare.run' c.image_command.result (f.asked c.args.folder.now) (f.asked c.image_command.new.folder) c.in-Bare.is
+    (same_input _ _ _ _ _ _ kept.left kept.inputs kept.faults)
 
 pub returns-in-Audit-clause-does : goal.returns-in-Audit-clause-does
 returns-in-Audit-clause-does g c =
@@ -24,13 +44,32 @@ returns-in-Audit-clause-does g c =
     let s = g.S.Sink in
     let i = g.L.Lines in
     let at = outside_of f.files f.wrote f.read_faults f.write_faults s.written s.taken s.faults in
-    let talk = talk_of i.left i.given i.faults c.args.lines.now c.args.lines.now in
+    let talk = talk_of i.left i.given i.faults c.args.lines.now c.image_command-in-Audit.new.lines in
     let old = at c.args.folder.now c.args.out.now in
-    let new = at c.image_file-in-Audit.new.folder c.image_file-in-Audit.new.out in
+    let new = at c.image_command-in-Audit.new.folder c.image_command-in-Audit.new.out in
     let before = f.asked c.args.folder.now in
-    let after = f.asked c.image_file-in-Audit.new.folder in
-    as_command talk c.args.command.now _ c.image_file-in-Audit.result old new before after c.in-Audit.is
-    (performs_audit talk c.in-Audit.file c.bytes-in-Audit.result.now c.image_file-in-Audit.result old new before after c.bytes-in-Audit.ensures.value c.image_file-in-Audit.ensures)
+    let after = f.asked c.image_command-in-Audit.new.folder in
+    as_command talk c.args.command.now _ c.image_command-in-Audit.result old new before after c.in-Audit.is
+    (performs_audit talk c.in-Audit.file c.bytes-in-Audit.result.now c.image_command-in-Audit.result old new before after c.bytes-in-Audit.ensures.value c.image_command-in-Audit.ensures.does)
+
+pub returns-in-Audit-clause-performs : goal.returns-in-Audit-clause-performs
+returns-in-Audit-clause-performs g c =
+    audit_performs c.args.command.now c.in-Audit.file c.bytes-in-Audit.result.now c.image_command-in-Audit.result _ _ c.in-Audit.is c.bytes-in-Audit.ensures.value c.image_command-in-Audit.ensures.performs
+
+pub returns-in-Audit-clause-input : goal.returns-in-Audit-clause-input
+returns-in-Audit-clause-input g c =
+    let i = g.L.Lines in
+    let kept = c.image_command-in-Audit.ensures.untaken in
+    audit_input (talk_of i.left i.given i.faults c.args.lines.now c.image_command-in-Audit.new.lines) c.args.command.now c.in-Audit.file c.image_command-in-Audit.result c.in-Audit.is
+    (same_input _ _ _ _ _ _ kept.left kept.inputs kept.faults)
+
+pub returns-in-Audit-clause-takes : goal.returns-in-Audit-clause-takes
+returns-in-Audit-clause-takes g c =
+    let f = g.F.Folder in
+    let i = g.L.Lines in
+    let kept = c.image_command-in-Audit.ensures.untaken in
+    audit_takes (talk_of i.left i.given i.faults c.args.lines.now c.image_command-in-Audit.new.lines) c.args.command.now c.in-Audit.file c.image_command-in-Audit.result (f.asked c.args.folder.now) (f.asked c.image_command-in-Audit.new.folder) c.in-Audit.is
+    (same_input _ _ _ _ _ _ kept.left kept.inputs kept.faults)
 
 pub returns-in-Booted-clause-does : goal.returns-in-Booted-clause-does
 returns-in-Booted-clause-does g c =

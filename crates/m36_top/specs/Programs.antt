@@ -1,0 +1,32 @@
+-- The programs of commands. A command that has none here is a reading and a kind alone.
+use Rattle.std.specs.Prelude.{⊤, Option, Some, None}
+use Rattle.m36_world.specs.Seen.{Seen}
+use Rattle.m36_reading.specs.declared.status.Status.{Status}
+use Rattle.m36_program.specs.Early.{early}
+use Rattle.m36_ran.specs.declared.command.ImageCommand.TheVariants as image
+use Rattle.cmd_image.specs.ImageProgram.{image_program}
+use Rattle.cmd_image.specs.Objects.{PerformsOver}
+use Rattle.m36_top.specs.declared.command.Command.{Command}
+use Rattle.m36_top.specs.declared.command.Command.TheVariants.{Bare, Audit, Booted, Procs}
+use Rattle.m36_top.specs.declared.command.Command.TheVariants.{Access, Print, Alm, Bind}
+use Rattle.m36_top.specs.declared.command.Command.TheVariants.{DebugFolder, DebugImage, Make}
+
+-- All that is recorded of the call is what the command's program says, in its order.
+abbrev pub CommandPerforms : Command → Status → Seen → Seen → Type 0
+CommandPerforms (Bare file run) result old new =
+    PerformsOver (image_program (image.Bare run) file) (early result) old new
+CommandPerforms (Audit file) result old new =
+    PerformsOver (image_program image.Audit file) (early result) old new
+CommandPerforms (Booted command user) result old new = ⊤
+CommandPerforms (Procs file unaudited) result old new = ⊤
+CommandPerforms (Access user) result old new = ⊤
+CommandPerforms (Print name) result old new = ⊤
+CommandPerforms (Alm files) result old new = ⊤
+CommandPerforms (Bind files) result old new = ⊤
+CommandPerforms DebugFolder result old new = ⊤
+CommandPerforms (DebugImage file) result old new = ⊤
+CommandPerforms (Make seed) result old new = ⊤
+
+abbrev pub TopPerforms : Option Command → Status → Seen → Seen → Type 0
+TopPerforms None result old new = ⊤
+TopPerforms (Some command) result old new = CommandPerforms command result old new
