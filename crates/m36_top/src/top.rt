@@ -55,7 +55,14 @@ pub fn perform<F: Folder, L: Lines, S: Sink>(
 {
     match command {
         Command::Bare(file, run) => {
-            image_command(alloc, file.bytes(), ImageCommand::Bare(*run), folder, lines, out)
+            image_command(
+                alloc,
+                file.bytes(),
+                ImageCommand::Bare(*run),
+                folder,
+                lines,
+                out,
+            )
         }
         Command::Audit(file) => {
             image_command(alloc, file.bytes(), ImageCommand::Audit, folder, lines, out)
