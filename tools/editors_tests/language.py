@@ -117,6 +117,20 @@ def answers_of_the_program(_program):
     return wrong
 
 
+def bind_files_in_a_circle(program):
+    """Bind files that name each other: the file that nothing makes is reported as absent."""
+    with tempfile.TemporaryDirectory() as room:
+        folder = pathlib.Path(room)
+        (folder / "a.bind").write_text("object b\n")
+        (folder / "b.bind").write_text("object a\n")
+        boot = "frames 24\nwork >udd\nsegment >udd main a object re 4 4 4\nstart 4 main$start\n"
+        with start(program) as client:
+            found = opened(client, folder / "boot", boot)
+    places = [(it["code"], it["range"]["start"]) for it in found]
+    column = len("segment >udd main ")
+    return [] if places == [("F1", {"line": 2, "character": column})] else [f"it says {found}"]
+
+
 def without_a_program(_program):
     """Without a program a message says so, and rules are shown nevertheless."""
     with tempfile.TemporaryDirectory() as room:
@@ -231,6 +245,6 @@ def texts_that_are_written(_program):
 
 
 TESTS = (
-    transcript, examples_are_right, answers_of_the_program, without_a_program,
-    ended_while_it_checks, long_and_foreign_texts, texts_that_are_written,
+    transcript, examples_are_right, answers_of_the_program, bind_files_in_a_circle,
+    without_a_program, ended_while_it_checks, long_and_foreign_texts, texts_that_are_written,
 )

@@ -110,6 +110,7 @@ class BootCheck:
         self.text = text
         self.folder = folder
         self.lines = Text(text.data)
+        self.begun = set()
 
     def problems(self):
         """The one refusal; or where the folder boots, a warning for each condition of the audit
@@ -133,7 +134,11 @@ class BootCheck:
                 self.put(room, file)
 
     def put(self, room, file):
-        """Writes the file of a segment: assembled, bound, or as it is in the folder."""
+        """Writes the file of a segment: assembled, bound, or as it is in the folder. Each file is
+        put once, so bind files that name each other come to an end."""
+        if file in self.begun:
+            return
+        self.begun.add(file)
         if self.assemble(room, file):
             return
         bind = self.workspace.text_at(self.folder / f"{file}.bind")
