@@ -20,7 +20,7 @@ from m36lib.rattle_source import (
 
 TYPES = {"NoMemory", "AllocError", "AllocFailed"}
 NAMES = TYPES | {"OutOfMemory", "Starved", "Starves"}
-HANDS_BACK = {("Walk", "new"), ("Past", "new")}
+HANDS_BACK = {("Past", "new")}
 REPORTS_IT = {"write_starved"}
 REQUESTS = {"with_capacity", "reserve", "reserve_exact", "try_reserve", "try_reserve_exact", "vec"}
 ITEMS = {"fn", "impl", "enum", "struct", "type", "use", "match", "let", "const", "static"}

@@ -61,7 +61,6 @@ TURNED = (
            "_ => Progress::Starved,\n        Turn::NoMemory =>"),
     turned("m36_link/src/file.rt", "Err(ObjectFault::NoMemory) =>",
            "Err(ObjectFault::NoMemory | ObjectFault::O1(_)) =>"),
-    turned("m36_walk/src/walk.rt", "Ok(Walk {", "if core.len() > 99 { return Err(core); } Ok(Walk {"),
     turned("m36_back/src/past.rt", "Err(_) => Err(m),", "_ => Err(m),"),
     turned("m36/src/words.rt", "Err(FillError::TooLong) => double(&mut buffer)?,",
            "Err(FillError::TooLong) => return Err(NoMemory),"),

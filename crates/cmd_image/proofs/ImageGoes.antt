@@ -157,32 +157,31 @@ audit_puts findings events result goes =
 both_puts :
     (steps : ℕ) (state : State (List ℕ)) (findings : List (ℕ × ℕ)) (events : List Event) (result : Result (Unit {0}) Status)
     → Goes (audit_and_run steps state findings) events result
-    → Puts (behind findings (run_answer steps state)) events result ⊎ NoneLeft events result
+    → Puts (behind findings (run_answer steps state)) events result
 unfolding Goes audit_and_run run_answer run_pieces
-both_puts steps state findings events result (inl goes) =
+both_puts steps state findings events result goes =
     let last = last_outcome (run steps state) in
-    inl (puts_with (audit_pieces findings ++ pieces_from 0 (run steps state)) (status_after last) (own_after last) events result
+    puts_with (audit_pieces findings ++ pieces_from 0 (run steps state)) (status_after last) (own_after last) events result
     (subst (λ p. Goes p events result)
     (ap (puts_all (audit_pieces findings)) (run_is 0 steps state)
-    ∙ sym (puts_both (audit_pieces findings) (pieces_from 0 (run steps state)) (ends (status_after last) (own_after last)))) goes))
-both_puts steps state findings events result (inr ends) = inr ends
+    ∙ sym (puts_both (audit_pieces findings) (pieces_from 0 (run steps state)) (ends (status_after last) (own_after last)))) goes)
 
 bare_puts :
     (run : Bool) (steps : ℕ) (state : State (List ℕ)) (findings : List (ℕ × ℕ)) (events : List Event)
     (result : Result (Unit {0}) Status)
     → Goes (bare_by run steps state findings) events result
-    → Puts (answer_by run steps state findings) events result ⊎ NoneLeft events result
+    → Puts (answer_by run steps state findings) events result
 bare_puts true steps state findings events result goes = both_puts steps state findings events result goes
-bare_puts false steps state findings events result goes = inl (audit_puts findings events result goes)
+bare_puts false steps state findings events result goes = audit_puts findings events result goes
 
 found_puts :
     (command : ImageCommand) (state : State (List ℕ)) (findings : List (ℕ × ℕ)) (events : List Event)
     (result : Result (Unit {0}) Status)
     → Goes (by_command command state findings) events result
-    → Puts (state_answer command state findings) events result ⊎ NoneLeft events result
+    → Puts (state_answer command state findings) events result
 found_puts (Bare bare) state findings events result goes =
     bare_puts (is_run findings bare.unaudited) bare.steps state findings events result goes
-found_puts Audit state findings events result goes = inl (audit_puts findings events result goes)
+found_puts Audit state findings events result goes = audit_puts findings events result goes
 
 -- ---- what is read
 
@@ -257,19 +256,16 @@ image_how command name bytes state more events result is first goes =
     let starved : NoneLeft more result → How command name events result = λ left. Starved (read.Read bytes)
     (alone name (read.Read bytes) Wanting NoMemory more events result (comes_by name (read.Read bytes) Wanting tt) first left) in
     elim (image_goes command state more result goes) [
-      | inl chosen ↦ elim (found_puts command state chosen.value more result chosen.rest) [
-        | inl text ↦ Answered (record {
-          bytes = bytes;
-          state = state;
-          findings = chosen.value;
-          more = more;
-          comes = comes_by name (read.Read bytes) (Came (Ok state)) (ap (state_by name) is);
-          events_are = first;
-          found = chosen.is;
-          puts = text;
-        })
-        | inr left ↦ starved left
-      ]
+      | inl chosen ↦ Answered (record {
+        bytes = bytes;
+        state = state;
+        findings = chosen.value;
+        more = more;
+        comes = comes_by name (read.Read bytes) (Came (Ok state)) (ap (state_by name) is);
+        events_are = first;
+        found = chosen.is;
+        puts = found_puts command state chosen.value more result chosen.rest;
+      })
       | inr left ↦ starved left
     ]
 

@@ -114,19 +114,13 @@ pub ruleset auditing = (audit_passes, audit_fails, audit_unput)
 
 -- ---- and the run
 
-pub run_starved :
-    (steps : ℕ) (state : State (List ℕ)) (findings : List (ℕ × ℕ)) (seen : Seen)
-    → Performs (audit_and_run steps state findings) (Err NoMemory) seen seen
-unfolding audit_and_run
-run_starved steps state findings seen = performs_no_memory _ seen
-
 pub run_unput :
     (steps : ℕ) (state : State (List ℕ)) (findings : List (ℕ × ℕ)) (s : Status) (old new : Seen)
     → Performs (all_put (audit_pieces findings)) (Err s) old new
     → Performs (audit_and_run steps state findings) (Err s) old new
 unfolding audit_and_run
 run_unput steps state findings s old new put =
-    performs_wants _ (Err s) old new (all_stop (audit_pieces findings) (run_from 0 steps state) s old new put)
+    all_stop (audit_pieces findings) (run_from 0 steps state) s old new put
 
 pub run_audited :
     (steps : ℕ) (state image : State (List ℕ)) (findings : List (ℕ × ℕ)) (result : Result (Unit {0}) Status) (old between new : Seen)
@@ -135,11 +129,10 @@ pub run_audited :
     → Performs (audit_and_run steps image findings) result old new
 unfolding audit_and_run
 run_audited steps state image findings result old between new is put performs =
-    performs_wants _ result old new
-    (all_then (audit_pieces findings) (run_from 0 steps image) result old between new put
-    (subst (λ s. Performs (run_from 0 steps s) result between new) is performs))
+    all_then (audit_pieces findings) (run_from 0 steps image) result old between new put
+    (subst (λ s. Performs (run_from 0 steps s) result between new) is performs)
 
-pub ruleset audited = (run_starved, run_unput, run_audited)
+pub ruleset audited = (run_unput, run_audited)
 
 -- ---- by what the audit has found
 

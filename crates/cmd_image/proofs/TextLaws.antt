@@ -84,9 +84,7 @@ both_alike :
     → Alike (audit_and_run steps state findings) (audit_and_run steps state findings)
 unfolding Alike audit_and_run
 both_alike steps state findings =
-    let all : Program quiet (Unit {0}) = puts_all (audit_pieces findings) (run_from 0 steps state) in
-    alike_wants all all
-    (alike_puts (audit_pieces findings) (run_from 0 steps state) (run_from 0 steps state) (run_alike 0 steps state))
+    alike_puts (audit_pieces findings) (run_from 0 steps state) (run_from 0 steps state) (run_alike 0 steps state)
 
 bare_alike :
     (run : Bool) (steps : ℕ) (state : State (List ℕ)) (findings : List (ℕ × ℕ))

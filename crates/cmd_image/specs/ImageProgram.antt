@@ -101,10 +101,10 @@ audit_only findings =
     puts_all (audit_pieces findings)
     (ends (audit_status (passes findings)) (audit_may_end (passes findings)))
 
--- The audit's text, and the run. All memory is there before the text is put.
+-- the audit's text, and the run
 unfoldable pub audit_and_run : ℕ → State (List ℕ) → List (ℕ × ℕ) → Program quiet (Unit {0})
 audit_and_run steps state findings =
-    wants (puts_all (audit_pieces findings) (run_from 0 steps state))
+    puts_all (audit_pieces findings) (run_from 0 steps state)
 
 abbrev pub bare_by : Bool → ℕ → State (List ℕ) → List (ℕ × ℕ) → Program quiet (Unit {0})
 bare_by true steps state findings = audit_and_run steps state findings

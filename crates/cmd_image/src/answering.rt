@@ -34,11 +34,9 @@ fn answer_audit<W: World>(findings: &[Finding], world: &mut W) -> Result<(), Sta
     }
 }
 
-/// Puts the audit's text, and then runs the machine of an image for at most so many steps. Nothing
-/// is put before memory is found for the machine.
+/// Puts the audit's text, and then runs the machine of an image for at most `steps` steps.
 #[tactic(auto, using(crate::proofs::ImageSteps::audited))]
 fn run_audited<W: World>(
-    alloc: Global,
     findings: &[Finding],
     image: Image,
     steps: u32,
@@ -47,10 +45,7 @@ fn run_audited<W: World>(
     ensures { Performs (audit_and_run steps image (pairs findings.now)) result
         (W.seen world.old) (W.seen world.new) }
 {
-    let mut machine = match machine_of(alloc, image) {
-        Ok(machine) => machine,
-        Err(_) => return Err(Status::NoMemory),
-    };
+    let mut machine = machine_of(image);
     match put_audit(findings, world) {
         Ok(()) => run(&mut machine, steps, world),
         Err(status) => Err(status),
@@ -59,7 +54,6 @@ fn run_audited<W: World>(
 
 // The command `bare FILE` on an image, by what its audit has found.
 fn answer_bare<W: World>(
-    alloc: Global,
     bare: BareRun,
     findings: &[Finding],
     image: Image,
@@ -70,7 +64,7 @@ fn answer_bare<W: World>(
         result (W.seen world.old) (W.seen world.new) }
 {
     if is_run(findings, bare) {
-        run_audited(alloc, findings, image, bare.steps, world)
+        run_audited(findings, image, bare.steps, world)
     } else {
         answer_audit(findings, world)
     }
@@ -78,7 +72,6 @@ fn answer_bare<W: World>(
 
 // Does what a command says with an image, by what its audit has found.
 fn answer_found<W: World>(
-    alloc: Global,
     command: ImageCommand,
     findings: &[Finding],
     image: Image,
@@ -88,7 +81,7 @@ fn answer_found<W: World>(
         (W.seen world.old) (W.seen world.new) }
 {
     match command {
-        ImageCommand::Bare(bare) => answer_bare(alloc, bare, findings, image, world),
+        ImageCommand::Bare(bare) => answer_bare(bare, findings, image, world),
         ImageCommand::Audit => answer_audit(findings, world),
     }
 }
@@ -106,7 +99,7 @@ fn with_image<W: World>(
     match findings_in(alloc, &image) {
         Ok(verdict) => {
             let findings = verdict.findings.as_slice();
-            let answer = answer_found(alloc, command, findings, image, world);
+            let answer = answer_found(command, findings, image, world);
             // Dropped by a call: so the drop is proved once for its type.
             drop(verdict);
             answer

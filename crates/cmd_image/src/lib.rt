@@ -1,11 +1,10 @@
 //! `bare FILE` and `audit FILE` as programs.
 //!
 //! `image_program` (`specs/ImageProgram.antt`) says what the two commands do, event by event: the
-//! file is read and decoded (F1, F2, I1 to I3), memory may run out, and by the findings of the
-//! audit, of which there is one list, the audit's text is put, line by line. `bare FILE` goes on
-//! where nothing was found, or `--unaudited` is given: memory may run out once more, and from there
-//! on no more; a trace line is put for each step, and then the end line. So nothing is put before
-//! all memory is there. [`image_file`] performs this program over any world.
+//! file is read and decoded (F1, F2, I1 to I3). Memory may run out, and from there on it no longer
+//! may. An image has one list of findings, and the audit's text puts a line for each. Where nothing
+//! was found, or `--unaudited` is given, `bare FILE` goes on: it puts a trace line for each step, and
+//! then the end line. [`image_file`] performs this program over any world.
 //!
 //! [`image_command`] performs it over a folder, an input and an output of the caller. What the three
 //! record of the call are some events, in one order, that the program goes by (`PerformsOver`); the

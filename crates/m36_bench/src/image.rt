@@ -143,7 +143,7 @@ fn regs(dbr: Dbr, ic: u32) -> Regs
 
 /// The machine before its first step.
 pub fn machine(alloc: Global, paged: bool, chosen: Loop) -> Result<Machine, NoMemory> {
-    Machine::start(alloc, core(alloc, paged)?, regs(DBR, begin(chosen)))
+    Ok(Machine::start(core(alloc, paged)?, regs(DBR, begin(chosen))))
 }
 
 /// How often the loop has counted.

@@ -18,7 +18,7 @@ use m36_acl::DeniedLines;
 use m36_link::FIRST_SEGMENT;
 use m36_model::{End, Fault, StepRecord};
 use m36_outside::{Block, Put, Sink};
-use m36_ran::running::add_line;
+use m36_ran::line_output::add_line;
 use m36_step::{ConsoleNote, LinkNote};
 use m36_trace::TraceText;
 use m36_turns::{console_line, link_line};

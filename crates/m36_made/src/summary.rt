@@ -25,7 +25,7 @@ use m36_booted::{RunOutput, audited, finish_status};
 use m36_model::Regs;
 use m36_outside::{Put, Sink};
 use m36_ran::findings::put_audit;
-use m36_ran::running::put_line;
+use m36_ran::line_output::put_line;
 use m36_reading::Status;
 use m36_step::Stepper;
 use m36_super::Super;

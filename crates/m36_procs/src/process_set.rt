@@ -55,17 +55,16 @@ fn bring(machine: &mut Machine, regs: &mut Vec<Regs>, inside: &mut usize, i: usi
 impl ProcessSet {
     /// The processes with these registers, one at least, on this core.
     #[tactic(auto, using(crate::proofs::Exchanging::exchanging))]
-    pub(crate) fn new(alloc: Global, core: Core, regs: Vec<Regs>) -> Result<ProcessSet, NoMemory>
+    pub(crate) fn new(core: Core, regs: Vec<Regs>) -> ProcessSet
         requires { 0 < length regs.items }
-        ensures { IfOk result (λ p. p ≡ record { regs = regs.items; store = core }) }
+        ensures { result ≡ record { regs = regs.items; store = core } }
     {
         let first = regs[0];
-        let machine = Machine::start(alloc, core, first)?;
-        Ok(ProcessSet {
-            machine,
+        ProcessSet {
+            machine: Machine::start(core, first),
             regs,
             inside: 0,
-        })
+        }
     }
 
     /// How many there are.

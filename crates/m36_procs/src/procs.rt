@@ -50,7 +50,7 @@ fn finished(alloc: Global, reader: Reader) -> Result<Procs, NoMemory>
         schedule,
         ..
     } = reader;
-    let processes = ProcessSet::new(alloc, core, regs)?;
+    let processes = ProcessSet::new(core, regs);
     Ok(Procs {
         processes,
         schedule,

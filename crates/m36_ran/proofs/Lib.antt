@@ -1,6 +1,5 @@
 pub mod RunLaws
-pub mod RunPieces
-pub mod RunStates
+pub mod LinePieces
 pub mod RunLengths
 pub mod RunTurns
 pub mod PiecesJoined

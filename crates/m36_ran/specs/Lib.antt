@@ -1,7 +1,6 @@
 pub mod Machine
 pub mod Run
 pub mod Output
-pub mod RunSays
 pub mod AuditText
 pub mod Putting
 pub mod Ran

@@ -8,7 +8,7 @@ ghost use Rattle.m36_outside.specs.Put.{PutSays, PutHasCause};
 ghost use Rattle.m36_audit.specs.Findings.{pair_of, pairs};
 ghost use Rattle.m36_ran.specs.AuditText.{is_of_segment, place_digits, finding_line, finding_pieces, yes_line, audit_text, audit_pieces};
 
-use crate::running::put_line;
+use crate::line_output::put_line;
 use arrayvec::ArrayString;
 use m36_audit::Finding;
 use m36_outside::{Put, Sink};

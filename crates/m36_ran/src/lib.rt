@@ -16,9 +16,8 @@ pub mod answering;
 pub mod command;
 pub mod findings;
 pub mod laws;
+pub mod line_output;
 pub mod reading;
-pub mod running;
 
-pub use answering::image_file;
 pub use command::{BareRun, ImageCommand};
 pub use laws::law_runs;

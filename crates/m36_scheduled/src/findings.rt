@@ -11,7 +11,7 @@ use arrayvec::ArrayString;
 use m36_audit::JointFinding;
 use m36_outside::{Put, Sink};
 use m36_ran::findings::{place_text, put_yes};
-use m36_ran::running::put_line;
+use m36_ran::line_output::put_line;
 use m36_text::{decimal, octal};
 
 /// The line of a finding of a process, without its line feed.

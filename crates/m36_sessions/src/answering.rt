@@ -48,7 +48,7 @@ fn hold<M: Stepper, L: Lines, S: Sink>(
 fn past_of(alloc: Global, image: Image) -> Result<Past<Machine>, NoMemory>
     ensures { IfOk result (λ past. past ≡ new_history image) }
 {
-    let machine = machine_of(alloc, image)?;
+    let machine = machine_of(image);
     match Past::new(alloc, machine) {
         Ok(past) => Ok(past),
         Err(_) => Err(NoMemory),

@@ -140,15 +140,12 @@ impl Machine {
         }
     }
 
-    /// A machine with this core, which is handed on and not copied, and these registers. The error is want of memory alone.
-    pub fn start(alloc: Global, core: Core, regs: Regs) -> Result<Machine, NoMemory>
-        ensures state { IfOk result (λ m. m.state ≡ record { regs = regs; store = core }) }
-        ensures ended { IfOk result (λ m. m.ended ≡ None) }
+    /// A machine with this core, which is moved and not copied, and these registers.
+    pub fn start(core: Core, regs: Regs) -> Machine
+        ensures state { result.state ≡ record { regs = regs; store = core } }
+        ensures ended { result.ended ≡ None }
     {
-        match Walk::new(alloc, core, regs.dbr) {
-            Ok(walk) => Ok(Machine::new(walk, regs)),
-            Err(_) => Err(NoMemory),
-        }
+        Machine::new(Walk::new(core, regs.dbr), regs)
     }
 
     /// One step. The record is that of the written step, and the machine is left in the state after it. Where the audit

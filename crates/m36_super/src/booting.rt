@@ -85,7 +85,7 @@ fn started(
         regs,
         ..
     } = image;
-    let machine = Machine::start(alloc, core, regs)?;
+    let machine = Machine::start(core, regs);
     Ok(Super::at_start(alloc, machine, pager, known, catalog, files))
 }
 

@@ -105,13 +105,7 @@ fn put_tables(core: &mut Core) {
 fn walk_of(alloc: Global, dbr: Dbr) -> Result<Walk, NoMemory> {
     let mut core = Core::new(alloc, 4)?;
     put_tables(&mut core);
-    match Walk::new(alloc, core, dbr) {
-        Ok(walk) => Ok(walk),
-        Err(core) => {
-            drop(core);
-            Err(NoMemory)
-        }
-    }
+    Ok(Walk::new(core, dbr))
 }
 
 /// The segments whose descriptors are kept, the one that was used last first.

@@ -1,6 +1,6 @@
 //! The walk.
 
-ghost use Rattle.std.specs.Prelude.{ℕ, ◌≡◌, IfOk, IfErr};
+ghost use Rattle.std.specs.Prelude.{ℕ, ◌≡◌, IfOk};
 ghost use Rattle.std.specs.Borrow.{sem};
 
 use m36_associative::Memories;
@@ -33,30 +33,24 @@ impl Model for Walk {
 impl Walk {
     ghost use Rattle.m36_walk.specs.Lending.{LendsCore};
 
-    /// A walk over core. The error would hand core back; none comes, as the memories take no memory of the allocator.
-    pub fn new(_alloc: Global, core: Core, dbr: Dbr) -> Result<Walk, Core>
-        ensures ok { IfOk result (λ walk. (walk.core ≡ core) × (walk.dbr ≡ dbr)) }
-        ensures err { IfErr result (λ back. back ≡ core) }
+    /// A walk over core, with empty memories.
+    pub fn new(core: Core, dbr: Dbr) -> Walk
+        ensures core { result.core ≡ core }
+        ensures dbr { result.dbr ≡ dbr }
     {
-        Ok(Walk {
+        Walk {
             core,
             dbr,
             memories: Memories::new(),
-        })
+        }
     }
 
-    /// A second walk over a copy of core, by the same register. The error is want of memory alone.
+    /// A second walk over a copy of core, by the same register. Fails only with `NoMemory`.
     pub fn copy(&self, alloc: Global) -> Result<Walk, NoMemory>
         ensures { IfOk result (λ walk. (walk.core ≡ self.now.core) × (walk.dbr ≡ self.now.dbr)) }
     {
         match self.core.copy(alloc) {
-            Ok(core) => match Walk::new(alloc, core, self.dbr) {
-                Ok(walk) => Ok(walk),
-                Err(core) => {
-                    drop(core); // Dropped by a call: so the drop is proved once for its type.
-                    Err(NoMemory)
-                }
-            },
+            Ok(core) => Ok(Walk::new(core, self.dbr)),
             Err(NoMemory) => Err(NoMemory),
         }
     }

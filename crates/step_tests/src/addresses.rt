@@ -22,10 +22,7 @@ fn walk(alloc: Global, regs: &Regs, words: &[(u32, u64)]) -> Result<Walk, NoMemo
     let mut core = Core::new(alloc, 1)?;
     put(&mut core, &PROCEDURE);
     put(&mut core, words);
-    match Walk::new(alloc, core, regs.dbr) {
-        Ok(walk) => Ok(walk),
-        Err(_core) => Err(NoMemory),
-    }
+    Ok(Walk::new(core, regs.dbr))
 }
 
 /// Registers at word 0 of segment 1 in a ring, with X1 and PR0.

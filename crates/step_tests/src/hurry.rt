@@ -95,7 +95,7 @@ fn machine(
     let mut core = Core::new(alloc, 2)?;
     put(&mut core, segment);
     put(&mut core, words);
-    Machine::start(alloc, core, regs(a))
+    Ok(Machine::start(core, regs(a)))
 }
 
 /// Whether two machines have the same registers and the same core.

@@ -47,7 +47,7 @@ fn with_a(a: u64) -> Regs {
 fn machine(alloc: Global, regs: &Regs, words: &[(u32, u64)]) -> Result<Machine, NoMemory> {
     let mut core = Core::new(alloc, 2)?;
     put(&mut core, words);
-    Machine::start(alloc, core, *regs)
+    Ok(Machine::start(core, *regs))
 }
 
 fn word_at(machine: &Machine, place: u32) -> u64 {

@@ -75,10 +75,7 @@ pub fn core_of_segments(alloc: Global) -> Result<Core, NoMemory> {
 
 fn walk(alloc: Global) -> Result<Walk, NoMemory> {
     let core = core_of_segments(alloc)?;
-    match Walk::new(alloc, core, DBR) {
-        Ok(walk) => Ok(walk),
-        Err(_core) => Err(NoMemory),
-    }
+    Ok(Walk::new(core, DBR))
 }
 
 fn put(core: &mut Core, place: u32, word: Word) {

@@ -57,7 +57,7 @@ fn machine(alloc: Global, words: &[(u32, u64)]) -> Result<Machine, NoMemory> {
             core.poke(*place, Word::low(*word));
         }
     }
-    Machine::start(alloc, core, regs())
+    Ok(Machine::start(core, regs()))
 }
 
 fn past<M: m36_step::Replay + Drop>(alloc: Global, machine: M) -> Result<Past<M>, NoMemory> {

@@ -132,7 +132,7 @@ fn past(alloc: Global, image: &[u8]) -> Result<Past<Machine>, NoMemory> {
         return Err(NoMemory);
     };
     let Image { core, regs } = image;
-    let machine = Machine::start(alloc, core, regs)?;
+    let machine = Machine::start(core, regs);
     match Past::new(alloc, machine) {
         Ok(past) => Ok(past),
         Err(_) => Err(NoMemory),

@@ -125,7 +125,7 @@ fn core(alloc: Global, line: &Line) -> Result<Core, NoMemory> {
 
 fn machine(alloc: Global, line: &Line) -> Result<Machine, NoMemory> {
     let dbr = dbr(&line.before);
-    Machine::start(alloc, core(alloc, line)?, regs(&line.before, dbr))
+    Ok(Machine::start(core(alloc, line)?, regs(&line.before, dbr)))
 }
 
 fn end_of(outcome: Outcome, before: &Seen) -> u64 {
