@@ -1,13 +1,13 @@
-//! Commands on a bare image: its machine is audited, and may then be run.
+//! The audit of an image and its text, the machine of an image, and the status of a run.
 //!
-//! `audit FILE` puts what the audit finds, each place in all its digits. `bare FILE` does so too, and where the audit
-//! passes, or `--unaudited` is given, it runs the machine and puts a trace line for each step and the end line. Each trace
-//! line is the line of the written step of the state that the step before left, from the image of the file on. A run that
-//! has come to no end has taken all its steps, and the steps of any run are those among the turns of a machine. Where
-//! nothing is found all six conditions of the audit hold, and the tables of the image isolate each ring from 1.
+//! A bare image is read (I1 to I3), and [`findings_in`](answering::findings_in) audits its core. The
+//! text of an audit has a line for each finding, with the place of the finding in all its digits, or
+//! the line `audit yes`. Where nothing is found, all six conditions of the audit hold, and the tables
+//! of the image isolate each ring from 1.
 //!
-//! `specs/Ran.antt` says which answer is due, by what the audit of the image finds; `specs/AuditText.antt` and
-//! `specs/Output.antt` have the texts. Memory is wanted, if at all, before anything is put.
+//! `specs/Ran.antt` says what a command on an image reads and answers, by the findings of the audit;
+//! `specs/Run.antt` has its run, and `specs/AuditText.antt` and `specs/Output.antt` the texts.
+//! `cmd_image` has the commands; sessions and commands on folders and processes use parts.
 //!
 //! The machine is that of the Multics Processor Manual AL39.
 #![tactic(auto)]
