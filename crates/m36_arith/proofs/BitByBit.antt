@@ -1,4 +1,4 @@
--- Operations on machine words are the operations on their bits.
+-- Operations on machine words are the same operations on each bit.
 use Rattle.std.proofs.Common.{ℕ, zero, suc, ◌≡◌, ◌+◌, ◌-◌, ◌*◌, ◌%◌, ◌^◌, ◌<◌, ◌≤◌, min, max, Bool, ◌==◌, length, refl, sym, ap, ◌∙◌, arith}
 use Rattle.std.specs.Prelude.{bit_and, bit_or, bit_xor}
 use Rattle.std.specs.Int.{Width, w32, w64, bit_at, bit_not}
@@ -9,7 +9,7 @@ use Rattle.std.proofs.Math.Nat.{mod-eq_of_lt, mod-one}
 use Rattle.m36_word.specs.Bits.{of_bit}
 use Rattle.m36_model.specs.Booleans.{bits_of, number_from, each_bit, bitwise, and_bit, or_bit, xor_bit, and_not_bit, and_of, or_of, xor_of, and_not_of}
 
--- as many bits as the width
+-- the number of bits is the width
 length_is : (f : Bool → Bool → Bool) (k x y : ℕ) → length (each_bit f (bits_of k x) (bits_of k y)) ≡ k
 unfolding bits_of each_bit
 length_is f zero x y = refl
@@ -21,7 +21,7 @@ unfolding bitwise bits_of each_bit number_from
 front f k x y =
     ap (λ n. of_bit (f (bit_at x k == 1) (bit_at y k == 1)) * 2 ^ n + bitwise f k x y) (length_is f k x y)
 
--- The number with these bits
+-- the number with these bits
 bitwise_is : (f : Bool → Bool → Bool) (k x y z : ℕ) → ((i : ℕ) → i < k → bit_at z i ≡ of_bit (f (bit_at x i == 1) (bit_at y i == 1))) → bitwise f k x y ≡ z % 2 ^ k
 unfolding bitwise bits_of each_bit number_from
 bitwise_is f zero x y z same = sym (mod-one z)
@@ -44,7 +44,7 @@ one_of a b p q = grind arith
 first_alone : (a b : ℕ) → a < 2 → b < 2 → min a (1 - b) ≡ of_bit (and_not_bit (a == 1) (b == 1))
 first_alone a b p q = grind arith
 
--- the low bits of what the machine word gives
+-- the low bits of the machine word's result
 pub and_low : (k x y : ℕ) → and_of k x y ≡ bit_and x y % 2 ^ k
 unfolding and_of
 and_low k x y =
@@ -66,11 +66,11 @@ and_not_low w k x y fits within =
     bitwise_is and_not_bit k x y (bit_and x (bit_not w y)) (λ i below. bit_at_and x (bit_not w y) i
     ∙ (ap (λ b. min (bit_at x i) b) (bit_at_not w y i fits (omega arith)) ∙ first_alone (bit_at x i) (bit_at y i) (bit_at-lt x i) (bit_at-lt y i)))
 
--- words in machine words of 64 bits, halves in those of 32
+-- words in machine words of 64 bits, and halves in those of 32
 pub and_not_word : (x y : ℕ) → y < 2 ^ 36 → and_not_of 36 x y ≡ bit_and x (18446744073709551615 - y) % 2 ^ 36
 and_not_word x y fits = and_not_low w64 36 x y (omega arith) (omega arith)
 
--- where the machine word's result fits by itself
+-- the machine word's result fits without a modulus
 pub and_half : (x y : ℕ) → x < 2 ^ 18 → and_of 18 x y ≡ bit_and x y
 and_half x y fits = and_low 18 x y ∙ mod-eq_of_lt (omega (arith, and_le_l x y))
 

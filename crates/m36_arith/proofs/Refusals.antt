@@ -1,4 +1,4 @@
--- A division is refused exactly where its quotient is no word.
+-- A division is refused exactly if its quotient does not fit into a word.
 use Rattle.std.proofs.Common.{ℕ, zero, suc, ◌≡◌, ◌≢◌, ◌+◌, ◌-◌, ◌*◌, ◌/◌, ◌^◌, ◌<◌, ◌≤◌, Bool, true, false, not, ◌&&◌, ◌||◌, ◌==◌, nat_lt, nat_le, pos, neg_ℤ, ◌+ℤ◌, int_div, refl, sym, ap, ◌∙◌, inl, inr, true≢false, arith, div-one, div-le_self}
 use Rattle.std.proofs.lemmas.Bool.{cases_lt, lt-ltb, le-ltb, le-leb, eq-eqb, ne_eqb, and_from, and_left, and_right}
 use Rattle.std.proofs.lemmas.Int.{ints}
@@ -11,7 +11,7 @@ use Rattle.m36_arith.specs.Division.{RefusedWhereNoWord}
 use Rattle.m36_arith.proofs.SignRules.{positive, negative, quotients}
 use Rattle.m36_arith.proofs.SignedOrder.{fits_is}
 
--- ---- numbers in range, and out of it
+-- ---- numbers that fit, and numbers that do not
 
 plain_in : (half m : ℕ) → m < half → in_range half (pos m) ≡ true
 plain_in half m low =
@@ -66,7 +66,7 @@ both_turned half x y a c high high_too e f some =
 
 -- ---- the test
 
--- a first number that is not the least one, or a second one that is not the last one
+-- the dividend is not the least number, or the divisor is not -1
 not_first : (half top x y : ℕ) (fits : Bool) → x ≢ half → fits ≡ true → ((x == half) && (y == top)) ≡ not fits
 not_first half top x y fits differs e = and_left (x == half) (y == top) (ne_eqb x half differs) ∙ sym (ap not e)
 

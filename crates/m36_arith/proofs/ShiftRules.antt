@@ -12,14 +12,14 @@ use Rattle.m36_model.specs.Shifts.{first_bits, left_shift_carry, copying_right_s
 power_parts : (k n : ℕ) → k ≤ n → 2 ^ n ≡ 2 ^ (n - k) * 2 ^ k
 power_parts k n within = ap (λ m. 2 ^ m) (omega arith) ∙ pow-add 2 (n - k) k
 
--- past the width nothing is left
+-- a shift by the width or more leaves no bit
 pub shifted_out : (v n : ℕ) → 36 ≤ n → v * 2 ^ n % 2 ^ 36 ≡ 0
 shifted_out v n past = rw (power_parts 36 n past) (omega arith)
 
 pub all_out : (v n : ℕ) → v < 2 ^ 36 → 36 ≤ n → v / 2 ^ n ≡ 0
 all_out v n fits past = div-eq_of_lt (omega (arith, pow-le-pow_right {n = 2} (omega arith) past))
 
--- the first bits, while they are within the number and past it
+-- the first bits, if they are all within the number and if not
 first_within : (k v c : ℕ) → c < k → first_bits k v c ≡ v / 2 ^ (k - 1 - c)
 unfolding first_bits
 first_within k v c below =
@@ -33,7 +33,7 @@ first_past k v c past =
     ap (λ m. v * m / 2 ^ k) (power_parts k (c + 1) within)
     ∙ (ap (λ m. m / 2 ^ k) (sym (mul_assoc v (2 ^ (c + 1 - k)) (2 ^ k))) ∙ shl-shr (v * 2 ^ (c + 1 - k)) k)
 
--- past the number a zero is among them
+-- past the number, one of them is a zero
 even_number : (v p q : ℕ) → 0 < q → v * (2 * p) ≢ 2 * q - 1
 even_number v p q some e = omega arith
 
@@ -66,7 +66,7 @@ carry_within v c below = carry_inside 36 v c below
 pub carry_within_wide : (v c : ℕ) → c < 72 → left_shift_carry 72 v c ≡ (not (v / 2 ^ (71 - c) == 0) && not (v / 2 ^ (71 - c) == 2 ^ (c + 1) - 1))
 carry_within_wide v c below = carry_inside 72 v c below
 
--- copied bits
+-- right shifts that copy the sign
 copied_low : (k v c half : ℕ) → 2 ^ (k - 1) ≡ half → v < half → v < 2 ^ k → copying_right_shift k v c ≡ v / 2 ^ c
 unfolding copying_right_shift signed modulo
 copied_low k v c half e low fits =
@@ -93,7 +93,7 @@ copied_zeros_wide v c low = copied_low 72 v c (2 ^ 71) refl low (omega arith)
 pub copied_ones_wide : (v c : ℕ) → 2 ^ 71 ≤ v → v < 2 ^ 72 → copying_right_shift 72 v c ≡ 2 ^ 72 - 1 - (2 ^ 72 - 1 - v) / 2 ^ c
 copied_ones_wide v c high fits = copied_high 72 v c (2 ^ 71) (2 ^ 72 - 1 - v) refl refl high (omega arith)
 
--- what stays in a rotation, and that what went out fits below it
+-- the bits that stay in a rotation, and that those that leave fit below them
 stays : (k v d : ℕ) → d ≤ k → v * 2 ^ d % 2 ^ k ≡ v % 2 ^ (k - d) * 2 ^ d
 stays k v d within =
     let a = 2 ^ (k - d) in
@@ -118,7 +118,7 @@ turned_below k v d within fits =
     let rest : v % 2 ^ (k - d) < 2 ^ (k - d) = mod_below v (2 ^ (k - d)) (pow_pos (k - d)) in
     rw (stays k v d within, power_parts d k within) (omega (arith, mul-add-lt (v % 2 ^ (k - d)) (2 ^ d) (v / 2 ^ (k - d)) (2 ^ (k - d)) rest out))
 
--- the same, with the bits dropped that the machine word drops
+-- the same, with the bits above the number dropped
 pub rotated_below : (v n : ℕ) → v < 2 ^ 36 → v * 2 ^ (n % 36) % 2 ^ 64 % 2 ^ 36 + v / 2 ^ (36 - n % 36) < 2 ^ 36
 rotated_below v n fits = omega (arith, turned_below 36 v (n % 36) (omega arith) fits)
 

@@ -9,7 +9,7 @@ use Rattle.m36_model.specs.Arithmetic.{is_negative, modulo, product, quotient, r
 use Rattle.m36_model.specs.Booleans.{xor_bit}
 use Rattle.m36_arith.specs.Signs.{with_sign}
 
--- a number of a width has the sign of its first bit
+-- the first bit of a number decides its sign
 pub positive : (half v m : ℕ) → v < half → m ≡ v → signed half v ≡ pos m
 unfolding signed
 positive half v m low e = grind (arith, ints)
@@ -25,7 +25,7 @@ signed_is half v m low high =
       | inr above ↦ negative half v m above (high above) ∙ sym (ap (λ s. with_sign s m) (le-leb half v above))
     ]
 
--- zero has no sign
+-- zero is its own negative
 no_sign : (n : ℕ) → n ≡ 0 → pos n ≡ neg_ℤ (pos n)
 no_sign n e = ap pos e ∙ sym (ap (λ k. neg_ℤ (pos k)) e)
 
@@ -72,7 +72,7 @@ unfolding remainder
 remainder_is x y a b s t p q =
     rw (p, q) (ap (λ z. modulo z (2 ^ 36)) (remainders s a (with_sign t b) ∙ ap (λ n. with_sign s (a % n)) (magnitude_of t b)))
 
--- a magnitude with a sign, as a number
+-- a magnitude with a sign, as a number of the width
 pub plain_is : (m n : ℕ) → m < n → modulo (with_sign false m) n ≡ m
 unfolding modulo
 plain_is m n below = mod-eq_of_lt below

@@ -1,4 +1,4 @@
--- Signed sums, differences and order of numbers below twice a half, told by the numbers plus that half.
+-- Signed sums, differences and order of numbers below 2 * half, by these numbers plus half.
 use Rattle.std.proofs.Common.{ℕ, ◌≡◌, ◌+◌, ◌-◌, ◌*◌, ◌%◌, ◌<◌, ◌≤◌, Bool, true, false, not, ◌&&◌, nat_lt, nat_le, ℤ, pos, ◌+ℤ◌, ◌-ℤ◌, refl, ap, ◌∙◌, inl, inr, arith}
 use Rattle.std.proofs.lemmas.Bool.{cases_lt}
 use Rattle.std.proofs.Math.Nat.{mod-eq_of_lt, mod-eq-sub-mod}
@@ -8,12 +8,12 @@ use Rattle.m36_word.specs.Bits.{of_bit}
 use Rattle.m36_word.specs.Signed.{signed}
 use Rattle.m36_model.specs.Arithmetic.{in_range, sum_overflow, difference_overflow, is_less}
 
--- a signed number plus half of the range
+-- a signed number plus half of its range
 biased_is : (half a x : ℕ) → (a < half → x ≡ a + half) → (half ≤ a → x + half ≡ a) → signed half a +ℤ pos half ≡ pos x
 unfolding signed
 biased_is half a x low high = grind (arith, ints)
 
--- a signed number that fits, told by the number plus the whole range
+-- whether a signed number fits, by the number plus the whole range
 at_least : (half n : ℕ) (z : ℤ) → z +ℤ pos (2 * half) ≡ pos n → int_le (pos 0 -ℤ pos half) z ≡ nat_le half n
 at_least half n z e = grind (arith, ints)
 
@@ -47,7 +47,7 @@ unfolding is_less
 is_less_is half a b x y al ah bl bh =
     less half x y (signed half a) (signed half b) (biased_is half a x al ah) (biased_is half b y bl bh)
 
--- a sum modulo twice the half
+-- a sum modulo 2 * half
 sum_below : (half t : ℕ) → t < 2 * half → t % (2 * half) ≡ t
 sum_below half t low = mod-eq_of_lt low
 
@@ -57,7 +57,7 @@ sum_above half t high fits =
     let e : t % (2 * half) ≡ t - 2 * half = mod-eq-sub-mod high ∙ mod-eq_of_lt less in
     rw e (omega arith)
 
--- overflow by the signs of both numbers
+-- overflow, if the signs of both numbers are known
 both_low : (half a b : ℕ) (carry : Bool) → a < half → b < half → sum_overflow half a b carry ≡ nat_le half (a + b + of_bit carry)
 both_low half a b carry p q =
     sum_overflow_is half a b carry (a + half) (b + half) (λ _. refl) (λ h. absurd (omega arith)) (λ _. refl) (λ h. absurd (omega arith)) ∙ grind arith
@@ -78,7 +78,8 @@ bit_at_most : (on : Bool) → of_bit on ≤ 1
 bit_at_most false = omega arith
 bit_at_most true = omega arith
 
--- a sum overflows where neither number has its sign: by the sign of the sum and of the first number
+-- a sum overflows if neither number has its sign: by the sign of the sum and that of the first
+-- number
 pub high_sum_of_low : (half a b : ℕ) (carry : Bool) → a < half → b < 2 * half → half ≤ (a + b + of_bit carry) % (2 * half) → nat_lt b half ≡ sum_overflow half a b carry
 high_sum_of_low half a b carry p t s =
     let bit = bit_at_most carry in

@@ -5,13 +5,15 @@ use Rattle.m36_word.specs.Signed.{signed}
 use Rattle.m36_model.specs.Arithmetic.{in_range, quotient, remainder, is_divide_check}
 use Rattle.m36_arith.specs.declared.divisions.DivideCheck.{DivideCheck}
 
--- what an answer says of the division of a first word by a second
+-- The result of dividing a first word by a second: the quotient and the remainder if the division
+-- is not refused, and otherwise a divide check.
 abbrev pub DivisionSays : Result (ℕ × ℕ) DivideCheck → ℕ → ℕ → Type 0
 DivisionSays (Ok r) x y =
     (is_divide_check x y ≡ false) × (r.0 ≡ quotient x y) × (r.1 ≡ remainder x y)
 DivisionSays (Err _) x y = is_divide_check x y ≡ true
 
--- A division of words is refused exactly where the divisor is 0 or the quotient is no word.
+-- A division is refused exactly if the divisor is 0, or the signed quotient does not fit into a
+-- word.
 abbrev pub RefusedWhereNoWord : Type 0
 RefusedWhereNoWord =
     (x y : ℕ) → x < 2 ^ 36 → y < 2 ^ 36

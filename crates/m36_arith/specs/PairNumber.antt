@@ -1,4 +1,4 @@
--- A pair of words is given back by its number.
+-- A pair of words is determined by its number.
 use Rattle.std.proofs.Common.{◌≡◌, ◌%◌, ◌^◌, ◌<◌, ap, ◌∙◌}
 use Rattle.std.proofs.lemmas.Nat.{shr_high, mod_low}
 use Rattle.std.proofs.Math.Nat.{mod-eq_of_lt}

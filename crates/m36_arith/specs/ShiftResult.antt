@@ -1,6 +1,6 @@
--- What a shift gives: its number with zero and negative, and for a left shift the carry. Overflow
--- is off, and so is the carry of every other shift. Multics Processor Manual AL39, "Fixed-point
--- data movement shift instructions".
+-- The result of a shift: its number with zero and negative, and for a left shift the carry.
+-- Overflow is off, and so is carry after every other shift. Multics Processor Manual AL39,
+-- "Fixed-point data movement shift instructions".
 use Rattle.std.specs.Prelude.{ℕ, ◌-◌, ◌^◌, Bool, false}
 use Rattle.m36_model.specs.Arithmetic.{SumFields, result_of}
 use Rattle.m36_model.specs.Shifts.{left_shift, left_shift_carry, copying_right_shift}
@@ -21,6 +21,7 @@ shift_carry shift.Right k v c = false
 shift_carry shift.RightZero k v c = false
 shift_carry shift.Rotate k v c = false
 
+-- the result of a shift of a number of k bits
 unfoldable pub shift_result : Shift → ℕ → ℕ → ℕ → SumFields
 shift_result op k v c =
     result_of (2 ^ (k - 1)) (shifted op k v c) (shift_carry op k v c) false

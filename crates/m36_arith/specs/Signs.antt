@@ -1,4 +1,4 @@
--- A signed number by its sign and its magnitude.
+-- Signed numbers by their sign and magnitude.
 use Rattle.std.specs.Prelude.{ℕ, Bool, true, false, ℤ, pos, neg_ℤ}
 
 abbrev pub with_sign : Bool → ℕ → ℤ

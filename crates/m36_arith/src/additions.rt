@@ -1,5 +1,5 @@
-//! Sums with a carry in. Carry is on exactly where the unsigned sum does not fit, overflow exactly where the signed sum does
-//! not.
+//! Sums with a carry in. Carry is on if the unsigned sum does not fit, and overflow if the signed
+//! sum does not fit.
 
 ghost use Rattle.std.specs.Prelude.{◌≡◌, ◌^◌, ◌<◌};
 ghost use Rattle.m36_word.specs.Pairs.{number_of};
@@ -10,7 +10,7 @@ use crate::sums::{Sum18, Sum36, Sum72};
 use crate::wide::{pair_of, wide_of_bit, wide_sum_overflows};
 use m36_word::{Pair, Word};
 
-/// The sum of two words and a carry.
+/// The sum of two words, plus 1 if `carry_in` is on.
 #[tactic(auto, unfolding(m36_model::specs::Arithmetic::sum, m36_model::specs::Arithmetic::sum_value, m36_model::specs::Arithmetic::sum_carry))]
 pub fn add36(x: Word, y: Word, carry_in: bool) -> Sum36
     ensures { result ≡ sum (2 ^ 35) x y carry_in }
@@ -26,7 +26,7 @@ pub fn add36(x: Word, y: Word, carry_in: bool) -> Sum36
     }
 }
 
-/// The sum of two pairs and a carry.
+/// The sum of two pairs, plus 1 if `carry_in` is on.
 #[tactic(auto, unfolding(m36_model::specs::Arithmetic::sum, m36_model::specs::Arithmetic::sum_value, m36_model::specs::Arithmetic::sum_carry))]
 pub fn add72(x: Pair, y: Pair, carry_in: bool) -> Sum72
     ensures { result ≡ sum (2 ^ 71) (number_of x) (number_of y) carry_in }
@@ -44,7 +44,7 @@ pub fn add72(x: Pair, y: Pair, carry_in: bool) -> Sum72
     }
 }
 
-/// The sum of two halves and a carry.
+/// The sum of two halves, plus 1 if `carry_in` is on.
 #[tactic(auto, unfolding(m36_model::specs::Arithmetic::sum, m36_model::specs::Arithmetic::sum_value, m36_model::specs::Arithmetic::sum_carry))]
 pub fn add18(x: u32, y: u32, carry_in: bool) -> Sum18
     requires first { x < 2 ^ 18 }

@@ -14,7 +14,7 @@ pub fn and36(x: Word, y: Word) -> Word
     Word::low(x.value() & y.value())
 }
 
-/// The bits that are on in either word.
+/// The bits that are on in at least one of the words.
 #[tactic(auto, using(crate::proofs::BitByBit::or_low))]
 pub fn or36(x: Word, y: Word) -> Word
     ensures { result ≡ or_of 36 x y }
@@ -49,7 +49,7 @@ pub fn and72(x: Pair, y: Pair) -> Pair
     }
 }
 
-/// The bits that are on in either pair.
+/// The bits that are on in at least one of the pairs.
 #[tactic(auto, using(crate::proofs::BitByBit::or_pair))]
 pub fn or72(x: Pair, y: Pair) -> Pair
     ensures { number_of result ≡ or_of 72 (number_of x) (number_of y) }
@@ -93,7 +93,7 @@ pub fn and18(x: u32, y: u32) -> u32
     x & y
 }
 
-/// The bits that are on in either half.
+/// The bits that are on in at least one of the halves.
 #[tactic(auto, using(crate::proofs::BitByBit::or_half, crate::proofs::BitByBit::or_below))]
 pub fn or18(x: u32, y: u32) -> u32
     requires first { x < 2 ^ 18 }

@@ -1,5 +1,5 @@
-//! Comparisons: zero where both numbers are equal, negative where the first is less as a signed number, carry as for their
-//! difference.
+//! Comparisons. Zero is on if both numbers are equal, and negative if the first is less as a signed
+//! number. Carry is that of their difference: on if the first is not less as an unsigned number.
 
 ghost use Rattle.std.specs.Prelude.{◌≡◌, ◌^◌, ◌<◌};
 ghost use Rattle.m36_word.specs.Pairs.{number_of};
@@ -10,7 +10,7 @@ use crate::wide::wide_is_less;
 use m36_word::{Pair, Word};
 use std::marker::Model;
 
-/// What a comparison tells.
+/// The result of a comparison.
 #[derive(Clone, Copy, PartialEq, Eq)]
 pub struct Compare {
     pub zero: bool,

@@ -7,7 +7,8 @@ ghost use Rattle.m36_arith.specs.Division.{DivisionSays, RefusedWhereNoWord};
 use crate::signs::{differ, is_negative, magnitude, signed_word};
 use m36_word::Word;
 
-/// A division is refused: the second word is 0, or the quotient does not fit, as for the least number by -1.
+/// The division was refused: the divisor is 0, or the quotient does not fit into a word, which is
+/// only that of -2^35 by -1.
 #[derive(Clone, Copy, PartialEq, Eq)]
 pub struct DivideCheck;
 
@@ -19,7 +20,8 @@ fn is_refused(q: Word, y: Word) -> bool
     y.value() == 0 || (q.value() == 1 << 35 && y.value() == (1 << 36) - 1)
 }
 
-/// The quotient of two signed words, cut toward zero, and the remainder, which has the sign of the first.
+/// The quotient of two signed words, truncated toward zero, and the remainder, which has the sign
+/// of the dividend.
 #[tactic(auto, using(crate::proofs::SignRules::quotient_is, crate::proofs::SignRules::remainder_is))]
 pub fn div(q: Word, y: Word) -> Result<(Word, Word), DivideCheck>
     ensures { DivisionSays result q y }
@@ -34,7 +36,8 @@ pub fn div(q: Word, y: Word) -> Result<(Word, Word), DivideCheck>
     Ok((quotient, remainder))
 }
 
-/// A division is refused exactly where the divisor is 0 or the quotient of the two signed words is no word.
+/// A division is refused exactly if the divisor is 0, or the signed quotient does not fit into a
+/// word.
 pub fn division_law()
     ensures { RefusedWhereNoWord }
 {}

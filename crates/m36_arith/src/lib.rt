@@ -1,17 +1,24 @@
 //! Arithmetic of words, pairs and halves.
 //!
-//! Words have 36 bits, pairs 72 and halves 18; the name of a call ends in the number of its bits, but for `mul` and `div`,
-//! which are of words. Signed numbers are in two's complement. Each call takes no memory and has no refusal but that of a
-//! division.
+//! Words have 36 bits, pairs 72 and halves 18. The name of a call ends in the number of its bits,
+//! except `mul` and `div`, which are for words. Signed numbers are in two's complement. No call
+//! allocates memory, and only `div` can be refused.
 //!
-//! What is promised: each call gives what the definitions of `m36_model` say, which speak of whole numbers: a sum or a
-//! difference is the true result modulo two to the number of bits, with carry by the unsigned and overflow by the signed
-//! true result; a product is exact; a quotient is cut toward zero; a Boolean operation goes bit by bit; a shift is a product
-//! or a quotient by a power of two, and a rotation the sum of both. A `Sum36`, `Sum72` or `Sum18` is seen by contracts as the
-//! numbers and tests of such a result, and `DivideCheck` comes exactly where the divisor is 0 or the quotient does not fit,
-//! which is a law.
+//! Each call returns the result that `m36_model` defines with whole numbers:
 //!
-//! Source: Multics Processor Manual AL39, "Number representation" and the fixed point, Boolean and shift instructions.
+//! - A sum or a difference is the true result modulo two to the number of bits. Carry depends on
+//!   the unsigned result, and overflow on the signed one.
+//! - A product is exact, and a quotient is truncated toward zero.
+//! - A Boolean operation works bit by bit.
+//! - A shift is a product with a power of two or a quotient by one, and a rotation is the sum of
+//!   both.
+//!
+//! Contracts see a `Sum36`, `Sum72` or `Sum18` as a number with its indicators. It is a theorem
+//! (`division_law`) that `DivideCheck` is returned exactly if the divisor is 0 or the quotient does
+//! not fit into a word.
+//!
+//! Source: Multics Processor Manual AL39, "Number representation" and the fixed point, Boolean and
+//! shift instructions.
 #![tactic(auto)]
 
 pub mod additions;

@@ -1,13 +1,13 @@
-//! Overflow and order of signed numbers, by unsigned arithmetic.
+//! Overflow and order of signed numbers of up to 36 bits, by unsigned arithmetic.
 //!
-//! A number below twice a half stands for a signed one. The biased number is that number plus the half, modulo twice the half:
-//! biased numbers are in the order of the signed ones.
+//! A number below 2 * half represents a signed number in two's complement. The biased number is
+//! this number plus half, modulo 2 * half. Biased numbers have the order of the signed numbers.
 
 ghost use Rattle.std.specs.Prelude.{ℕ, ◌≡◌, ◌+◌, ◌*◌, ◌^◌, ◌<◌, ◌≤◌, not, ◌&&◌, nat_lt, nat_le};
 ghost use Rattle.m36_word.specs.Bits.{of_bit};
 ghost use Rattle.m36_model.specs.Arithmetic.{sum_overflow, difference_overflow, is_less};
 
-/// 1 where a bit is on.
+/// 1 if a bit is on, and otherwise 0.
 pub fn of_bit(on: bool) -> u64
     ensures value { result ≡ of_bit on }
     ensures bound { result ≤ 1 }
@@ -32,8 +32,8 @@ fn is_outside(half: u64, total: u64) -> bool
     !(half <= total && total < 3 * half)
 }
 
-/// The signed sum of two numbers and a carry does not fit: neither number has the sign of the
-/// sum modulo twice the half.
+/// Whether the signed sum of two numbers and a carry does not fit. This is so if neither number has
+/// the sign of the sum modulo 2 * half.
 pub fn sum_overflows(half: u64, x: u64, y: u64, carry_in: bool) -> bool
     requires half { half ≤ 2 ^ 35 }
     requires first { x < 2 * half }
@@ -48,7 +48,7 @@ pub fn sum_overflows(half: u64, x: u64, y: u64, carry_in: bool) -> bool
     }
 }
 
-/// The signed difference of two numbers and a borrow does not fit.
+/// Whether the signed difference of two numbers and a borrow does not fit.
 #[tactic(auto, using(crate::proofs::SignedOrder::difference_overflow_is))]
 pub fn difference_overflows(half: u64, x: u64, y: u64, borrow: bool) -> bool
     requires half { half ≤ 2 ^ 35 }
@@ -62,7 +62,7 @@ pub fn difference_overflows(half: u64, x: u64, y: u64, borrow: bool) -> bool
     )
 }
 
-/// The first number is less than the second, as signed numbers.
+/// Whether the first number is less than the second, as signed numbers.
 #[tactic(auto, using(crate::proofs::SignedOrder::is_less_is))]
 pub fn is_less(half: u64, x: u64, y: u64) -> bool
     requires half { half ≤ 2 ^ 35 }

@@ -8,7 +8,7 @@ use crate::signs::{differ, is_negative, magnitude, signed_number};
 use crate::wide::pair_of;
 use m36_word::{Pair, Word};
 
-/// The product of two signed words, which always fits a pair.
+/// The product of two signed words. It always fits into a pair.
 #[tactic(auto, using(crate::proofs::SignRules::product_is))]
 pub fn mul(x: Word, y: Word) -> Pair
     ensures { number_of result ≡ product x y }

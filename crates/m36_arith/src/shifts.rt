@@ -1,4 +1,5 @@
-//! Shifts of words and pairs. Overflow is off after each, and so is carry but after a left shift.
+//! Shifts of words and pairs. Overflow is off after each shift, and carry after each except a left
+//! shift.
 
 ghost use Rattle.std.specs.Prelude.{◌≡◌, ◌^◌, ◌<◌};
 ghost use Rattle.m36_word.specs.Pairs.{number_of};
@@ -9,16 +10,16 @@ use crate::wide::pair_of;
 use crate::{pair_shifts, word_shifts};
 use m36_word::{Pair, Word};
 
-/// The ways of shifting.
+/// The kinds of shifts.
 #[derive(Clone, Copy, PartialEq, Eq)]
 pub enum Shift {
-    /// To the left; zeros come in. Carry tells whether two of the bits differ that were or became the first bit.
+    /// To the left; zeros enter. Carry is on if the first bit changes during the shift.
     Left,
-    /// To the right; the first bit is copied in.
+    /// To the right; copies of the first bit enter.
     Right,
-    /// To the right; zeros come in.
+    /// To the right; zeros enter.
     RightZero,
-    /// To the left; what goes out comes in at the other end.
+    /// To the left; the bits that leave enter at the other end.
     Rotate,
 }
 
@@ -47,7 +48,7 @@ fn carry_of_word(op: Shift, v: u64, n: u32) -> bool
     }
 }
 
-/// The word shifted by a count below 128.
+/// A word shifted by n, a count below 128.
 #[tactic(auto, unfolding(crate::specs::ShiftResult::shift_result))]
 pub fn shift36(op: Shift, v: Word, n: u32) -> Sum36
     requires { n < 128 }
@@ -89,7 +90,7 @@ fn carry_of_pair(op: Shift, v: u128, n: u32) -> bool
     }
 }
 
-/// The pair shifted by a count below 128.
+/// A pair shifted by n, a count below 128.
 #[tactic(auto, unfolding(crate::specs::ShiftResult::shift_result))]
 pub fn shift72(op: Shift, v: Pair, n: u32) -> Sum72
     requires { n < 128 }

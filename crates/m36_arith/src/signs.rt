@@ -1,4 +1,4 @@
-//! Signs and magnitudes of words, and numbers made of them.
+//! Signs and magnitudes of words, and numbers with a given sign and magnitude.
 
 ghost use Rattle.std.specs.Prelude.{◌≡◌, ◌^◌, ◌<◌, ◌≤◌};
 ghost use Rattle.m36_word.specs.Signed.{signed};
@@ -8,14 +8,14 @@ ghost use Rattle.m36_arith.specs.Signs.{with_sign};
 
 use m36_word::Word;
 
-/// The first bit of a word is on.
+/// Whether the first bit of a word is on.
 pub fn is_negative(w: Word) -> bool
     ensures { result ≡ is_negative (2 ^ 35) w }
 {
     w.value() >= 1 << 35
 }
 
-/// The size of a word as a signed number.
+/// The magnitude of a word as a signed number, at most 2^35.
 #[tactic(auto, using(crate::proofs::SignRules::signed_is))]
 pub fn magnitude(w: Word) -> u64
     ensures value { signed (2 ^ 35) w ≡ with_sign (is_negative (2 ^ 35) w) result }
@@ -30,14 +30,14 @@ pub fn magnitude(w: Word) -> u64
     }
 }
 
-/// Two signs are not the same.
+/// Whether two signs are different.
 pub fn differ(first: bool, second: bool) -> bool
     ensures { result ≡ xor_bit first second }
 {
     if first { !second } else { second }
 }
 
-/// The word of a sign and a size.
+/// The word with this sign and magnitude, modulo 2^36.
 #[tactic(auto, using(crate::proofs::SignRules::plain_is, crate::proofs::SignRules::turned_is))]
 pub fn signed_word(negative: bool, size: u64) -> Word
     requires { size ≤ 2 ^ 35 }
@@ -50,7 +50,7 @@ pub fn signed_word(negative: bool, size: u64) -> Word
     }
 }
 
-/// The number of 72 bits of a sign and a size.
+/// The number of 72 bits with this sign and magnitude, modulo 2^72.
 #[tactic(auto, using(crate::proofs::SignRules::plain_is, crate::proofs::SignRules::turned_is))]
 pub fn signed_number(negative: bool, size: u128) -> u128
     requires { size < 2 ^ 72 }

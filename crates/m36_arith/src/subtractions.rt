@@ -1,5 +1,5 @@
-//! Differences with a borrow, and negatives. Carry is on exactly where the unsigned first number is at least the second plus
-//! the borrow, overflow exactly where the signed difference does not fit.
+//! Differences with a borrow, and negatives. Carry is on if the unsigned minuend is at least the
+//! subtrahend plus the borrow, and overflow if the signed difference does not fit.
 
 ghost use Rattle.std.specs.Prelude.{◌≡◌, ◌^◌, ◌<◌};
 ghost use Rattle.m36_word.specs.Pairs.{number_of};
@@ -10,7 +10,7 @@ use crate::sums::{Sum18, Sum36, Sum72};
 use crate::wide::{pair_of, wide_difference_overflows, wide_of_bit};
 use m36_word::{Pair, Word};
 
-/// The first word less the second and a borrow of 1 where there is one.
+/// The first word minus the second, and minus 1 if `borrow` is on.
 #[tactic(auto, unfolding(m36_model::specs::Arithmetic::difference, m36_model::specs::Arithmetic::difference_value, m36_model::specs::Arithmetic::difference_carry))]
 pub fn sub36(x: Word, y: Word, borrow: bool) -> Sum36
     ensures { result ≡ difference (2 ^ 35) x y borrow }
@@ -26,7 +26,7 @@ pub fn sub36(x: Word, y: Word, borrow: bool) -> Sum36
     }
 }
 
-/// The first pair less the second and a borrow of 1 where there is one.
+/// The first pair minus the second, and minus 1 if `borrow` is on.
 #[tactic(auto, unfolding(m36_model::specs::Arithmetic::difference, m36_model::specs::Arithmetic::difference_value, m36_model::specs::Arithmetic::difference_carry))]
 pub fn sub72(x: Pair, y: Pair, borrow: bool) -> Sum72
     ensures { result ≡ difference (2 ^ 71) (number_of x) (number_of y) borrow }
@@ -44,7 +44,7 @@ pub fn sub72(x: Pair, y: Pair, borrow: bool) -> Sum72
     }
 }
 
-/// The first half less the second and a borrow of 1 where there is one.
+/// The first half minus the second, and minus 1 if `borrow` is on.
 #[tactic(auto, unfolding(m36_model::specs::Arithmetic::difference, m36_model::specs::Arithmetic::difference_value, m36_model::specs::Arithmetic::difference_carry))]
 pub fn sub18(x: u32, y: u32, borrow: bool) -> Sum18
     requires first { x < 2 ^ 18 }
@@ -62,7 +62,7 @@ pub fn sub18(x: u32, y: u32, borrow: bool) -> Sum18
     }
 }
 
-/// The negative of a word. It overflows for the least number alone.
+/// The negative of a word. It overflows only for the least number, -2^35.
 #[tactic(auto, unfolding(m36_model::specs::Arithmetic::negation))]
 pub fn neg36(x: Word) -> Sum36
     ensures { result ≡ negation (2 ^ 35) x }
@@ -70,7 +70,7 @@ pub fn neg36(x: Word) -> Sum36
     sub36(Word::ZERO, x, false)
 }
 
-/// The negative of a pair. It overflows for the least number alone.
+/// The negative of a pair. It overflows only for the least number, -2^71.
 #[tactic(auto, unfolding(m36_model::specs::Arithmetic::negation))]
 pub fn neg72(x: Pair) -> Sum72
     ensures { result ≡ negation (2 ^ 71) (number_of x) }
@@ -85,7 +85,7 @@ pub fn neg72(x: Pair) -> Sum72
     )
 }
 
-/// The negative of a half. It overflows for the least number alone.
+/// The negative of a half. It overflows only for the least number, -2^17.
 #[tactic(auto, unfolding(m36_model::specs::Arithmetic::negation))]
 pub fn neg18(x: u32) -> Sum18
     requires { x < 2 ^ 18 }

@@ -1,10 +1,10 @@
-//! What sums, differences, negatives and shifts give: a number, whether it is zero, whether its first bit is on, carry and
-//! overflow.
+//! The results of sums, differences, negatives and shifts: a number, whether it is zero, whether
+//! its first bit is on, carry and overflow.
 
 use m36_word::{Pair, Word};
 use std::marker::Model;
 
-/// What an operation on words gives.
+/// The result of an operation on words.
 #[derive(Clone, Copy, PartialEq, Eq)]
 pub struct Sum36 {
     pub value: Word,
@@ -24,7 +24,7 @@ impl Model for Sum36 {
     ghost inverse = { λ s. record { value = s.value; zero = s.zero; negative = s.negative; carry = s.carry; overflow = s.overflow } };
 }
 
-/// What an operation on pairs gives.
+/// The result of an operation on pairs.
 #[derive(Clone, Copy, PartialEq, Eq)]
 pub struct Sum72 {
     pub value: Pair,
@@ -51,7 +51,7 @@ impl Model for Sum72 {
     ghost inverse_ok = { λ s h i. record { value = pair_back s.value h.0 h.1 i; zero = s.zero; negative = s.negative; carry = s.carry; overflow = s.overflow } };
 }
 
-/// What an operation on halves gives.
+/// The result of an operation on halves; the value is below 2^18.
 #[derive(Clone, Copy, PartialEq, Eq)]
 pub struct Sum18 {
     pub value: u32,

@@ -1,4 +1,5 @@
-//! Numbers of 72 bits: pairs of them, and overflow and order of the signed ones as for narrower numbers.
+//! Numbers of 72 bits: pairs with a given number, and overflow and order of signed numbers, as
+//! `narrow` has them for fewer bits.
 
 ghost use Rattle.std.specs.Prelude.{ℕ, ◌≡◌, ◌+◌, ◌*◌, ◌^◌, ◌<◌, ◌≤◌, not, ◌&&◌, nat_lt, nat_le};
 ghost use Rattle.m36_word.specs.Bits.{of_bit};
@@ -7,10 +8,10 @@ ghost use Rattle.m36_model.specs.Arithmetic.{sum_overflow, difference_overflow, 
 
 use m36_word::Pair;
 
-/// Half of the range.
+/// Half of the range: 2^71.
 const HALF: u128 = 1 << 71;
 
-/// The pair that is a number.
+/// The pair with this number.
 pub fn pair_of(v: u128) -> Pair
     requires { v < 2 ^ 72 }
     ensures value { number_of result ≡ v }
@@ -20,7 +21,7 @@ pub fn pair_of(v: u128) -> Pair
     Pair::of_value(v)
 }
 
-/// 1 where a bit is on.
+/// 1 if a bit is on, and otherwise 0.
 pub fn wide_of_bit(on: bool) -> u128
     ensures value { result ≡ of_bit on }
     ensures bound { result ≤ 1 }
@@ -43,7 +44,7 @@ fn is_outside(total: u128) -> bool
     !(HALF <= total && total < 3 * HALF)
 }
 
-/// The signed sum of two numbers and a carry does not fit.
+/// Whether the signed sum of two numbers and a carry does not fit.
 #[tactic(auto, using(crate::proofs::SignedOrder::sum_overflow_is))]
 pub fn wide_sum_overflows(x: u128, y: u128, carry_in: bool) -> bool
     requires first { x < 2 ^ 72 }
@@ -53,7 +54,7 @@ pub fn wide_sum_overflows(x: u128, y: u128, carry_in: bool) -> bool
     is_outside(biased(x) + biased(y) + wide_of_bit(carry_in))
 }
 
-/// The signed difference of two numbers and a borrow does not fit.
+/// Whether the signed difference of two numbers and a borrow does not fit.
 #[tactic(auto, using(crate::proofs::SignedOrder::difference_overflow_is))]
 pub fn wide_difference_overflows(x: u128, y: u128, borrow: bool) -> bool
     requires first { x < 2 ^ 72 }
@@ -63,7 +64,7 @@ pub fn wide_difference_overflows(x: u128, y: u128, borrow: bool) -> bool
     is_outside(biased(x) + 2 * HALF - (biased(y) + wide_of_bit(borrow)))
 }
 
-/// The first number is less than the second, as signed numbers.
+/// Whether the first number is less than the second, as signed numbers.
 #[tactic(auto, using(crate::proofs::SignedOrder::is_less_is))]
 pub fn wide_is_less(x: u128, y: u128) -> bool
     requires first { x < 2 ^ 72 }

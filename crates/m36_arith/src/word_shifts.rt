@@ -4,7 +4,7 @@ ghost use Rattle.std.specs.Prelude.{◌≡◌, ◌-◌, ◌/◌, ◌^◌, ◌<�
 ghost use Rattle.m36_model.specs.Shifts.{left_shift, left_shift_carry, copying_right_shift};
 ghost use Rattle.m36_model.specs.Shifts.{plain_right_shift, rotation};
 
-/// Shifted to the left, where zeros follow.
+/// A shift to the left; zeros enter at the right.
 #[tactic(auto, unfolding(m36_model::specs::Shifts::left_shift), using(crate::proofs::ShiftRules::shifted_out))]
 pub fn left(v: u64, n: u32) -> u64
     requires number { v < 2 ^ 36 }
@@ -15,7 +15,7 @@ pub fn left(v: u64, n: u32) -> u64
     if n < 36 { (v << n) % (1 << 36) } else { 0 }
 }
 
-/// So many ones.
+/// A number of `count` ones.
 #[tactic(auto, using(std::proofs::lemmas::Nat::one_shl, std::proofs::lemmas::Nat::pow_pos))]
 fn ones(count: u32) -> u64
     requires { count ≤ 36 }
@@ -30,7 +30,8 @@ fn is_mixed(bits: u64, ones: u64) -> bool
     bits != 0 && bits != ones
 }
 
-/// Two of the bits 0 to n differ, where zeros follow the number. Past the width they do unless all are zero.
+/// The carry of a left shift: the bits 0 to n of the number, followed by zeros, are neither all
+/// zeros nor all ones. If n is the width or more, this means that the number is not 0.
 #[tactic(auto, using(crate::proofs::ShiftRules::carry_within, crate::proofs::ShiftRules::carry_past))]
 pub fn left_carries(v: u64, n: u32) -> bool
     requires number { v < 2 ^ 36 }
@@ -54,7 +55,7 @@ fn shifted_right(v: u64, n: u32) -> u64
     if n < 36 { v >> n } else { 0 }
 }
 
-/// Shifted to the right, where zeros come before.
+/// A shift to the right; zeros enter at the left.
 #[tactic(auto, unfolding(m36_model::specs::Shifts::plain_right_shift))]
 pub fn right_zero(v: u64, n: u32) -> u64
     requires number { v < 2 ^ 36 }
@@ -65,7 +66,8 @@ pub fn right_zero(v: u64, n: u32) -> u64
     shifted_right(v, n)
 }
 
-/// The zeros of a negative number are shifted as the ones of any other.
+/// A shift to the right that copies the sign. A negative number is complemented before and after a
+/// shift with zeros.
 #[tactic(auto, using(crate::proofs::ShiftRules::copied_zeros, crate::proofs::ShiftRules::copied_ones))]
 pub fn right(v: u64, n: u32) -> u64
     requires number { v < 2 ^ 36 }
@@ -81,7 +83,7 @@ pub fn right(v: u64, n: u32) -> u64
     }
 }
 
-/// Rotated to the left: what leaves on the left comes in on the right.
+/// A rotation to the left: the bits that leave at the left enter at the right.
 #[tactic(auto, unfolding(m36_model::specs::Shifts::rotation), using(crate::proofs::ShiftRules::rotated_below))]
 pub fn rotated(v: u64, n: u32) -> u64
     requires number { v < 2 ^ 36 }

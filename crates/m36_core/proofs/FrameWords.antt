@@ -1,11 +1,11 @@
--- Words written over a frame.
+-- Words that are written over a frame.
 use Rattle.std.proofs.Common.{ℕ, ◌+◌, ◌-◌, ◌*◌, ◌≡◌, ◌<◌, ◌≤◌, List, ◌++◌, length, take, drop, get_or, sym, ap, ◌∙◌, arith, length-append, length-drop}
 use Rattle.std.proofs.Math.Seq.{take-length}
 use Rattle.std.proofs.lemmas.List.{append-nil, drop-drop, drop_all, length-take-le, get_or-take, get_or-drop, get_or_append_left, get_or-append_right}
 use Rattle.m36_core.specs.Frames.{with_frame, IsFrameWritten}
 use Rattle.m36_core.specs.Places.{overwritten}
 
--- the list with words in the place of as many others
+-- the list with 1,024 of its words replaced
 abbrev around : List ℕ → ℕ → List ℕ → List ℕ
 around core first words = take first core ++ (words ++ drop (first + 1024) core)
 

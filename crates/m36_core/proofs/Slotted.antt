@@ -1,7 +1,8 @@
--- What the walks of the unsafe functions share. Assumes `Logic`.
---     word_had, word_made, mark_had, mark_made      a value of one pointer, and one of no bytes
---     slot_out, slot_in, run_out, run_in, slot_seen, run_seen      one place or a run of places is taken out of the row, put back, or seen
---     of_room, to_room      room for an array is a row of empty places
+-- Lemmas that the proofs of the unsafe functions share. Assumes `Logic`.
+-- word_had, word_made, mark_had, mark_made: a value of one pointer, and one of no bytes
+-- slot_out, slot_in, run_out, run_in: one slot or a range of slots is taken out of the row, or put back
+-- slot_seen, run_seen: one slot or a range of slots is read
+-- of_room, to_room: memory for an array is a row of empty slots
 use mathlib.Core.Path.{◌≡◌, refl, sym, ap, subst, ◌∙◌}
 use Prim.Native.Nat.{ℕ, zero, suc, ◌+◌, ◌*◌, ◌<◌, ◌≤◌}
 use native.Mathlib.Omega.{arith}
@@ -84,7 +85,7 @@ module _ {M : Type 1} {𝓤 : Ura M} {𝓛 : Logic 𝓤} {K : Type 0} {Γ : List
       k (subst (λ (ws : List Val). vs ≡ vstruct (of_list (ws ++ [])) ∷ []) e ev)))))
 
 module _ {M : Type 1} {𝓤 : Ura M} {𝓛 : Logic 𝓤} {K : Type 0} {Γ : List (Item 𝓤)} where
-  -- an `ensures` of two facts
+  -- proves an `ensures` of two facts
   pub says_both : K → {φ ψ : Type 0} {P : SProp 𝓤} → φ → ψ → Step K 𝓛 Γ (prop P) Γ (prop (sep 𝓤 P (sep 𝓤 (fact 𝓤 φ) (fact 𝓤 ψ))))
   says_both t {φ} {ψ} {P} x y = step (λ s. record {
     prf = via 𝓤 P s.prf (qed 𝓛 (raw P ∷ []) {P = sep 𝓤 P (sep 𝓤 (fact 𝓤 φ) (fact 𝓤 ψ))} (
@@ -119,7 +120,7 @@ alone τ (v ∷ []) t = (v, (refl, t.0))
 alone τ (v ∷ w ∷ vs) t = absurd t.1
 
 module _ (Y : RattleType) (L : Laws Y) {M : Type 1} {𝓤 : Ura M} {𝓛 : Logic 𝓤} {K : Type 0} {Γ : List (Item 𝓤)} {G : Goal 𝓤 𝓛.H} where
-  -- what is owned of a value is one machine value, of its type
+  -- an owned value is one machine value of its type
   pub tells : K → (x : Y.Denot) (vs : List Val) → ((v : Val) → vs ≡ v ∷ [] → Good (layout Y) v → Seq K 𝓛 (‵ (Y.own_val x (v ∷ [])) ∷ Γ) G) → Seq K 𝓛 (‵ (Y.own_val x vs) ∷ Γ) G
   tells t x vs k =
       peeks t (param 0 Y) (Is (param 0 Y)) (shows 𝓛 (param 0 Y)) x vs (λ is.
@@ -146,7 +147,7 @@ module _ (E : El) {M : Type 1} {𝓤 : Ura M} (𝓛 : Logic 𝓤) (b : ℕ) wher
       use2 𝓛 (‵ (Row (o + s) (xs ++ ys))) (glue xs ys (o + s) at (omega (arith, suc-mul (length xs) s))) $ move ! (1 ∷ 0 ∷ []) $ fjoin ! $ done !
 
   module _ (o : ℕ) (cs : List (Place E)) (i : ℕ) where
-    -- the places but for the i-th
+    -- the slots except the i-th
     abbrev pub Besides : Fml
     Besides = fsep (Row o (take i cs)) (Row (i * s + o + s) (drop (suc i) cs))
 
@@ -165,7 +166,7 @@ module _ (E : El) {M : Type 1} {𝓤 : Ura M} (𝓛 : Logic 𝓤) (b : ℕ) wher
         rewrite ! 0 (λ (l : List (Place E)). ‵ (Row o l)) (sym (set_split cs i c lt)) refl $ done !
 
     module _ (n : ℕ) where
-      -- the places but for the n from the i-th on
+      -- the slots except n of them from the i-th on
       abbrev pub Around : Fml
       Around = fsep (Row o (take i cs)) (Row (n * s + (i * s + o)) (drop (i + n) cs))
 
@@ -198,7 +199,7 @@ module _ (E : El) {M : Type 1} {𝓤 : Ura M} (𝓛 : Logic 𝓤) (b : ℕ) wher
       use1 𝓛 (‵ (froom (elτ E) b o) ⊛ ‵ (froom (ty_array (elτ E) n) b (o + s))) (𝓛.laws.room_uncons (elτ E) n b o) $ split ! $
       use1 𝓛 (‵ (slot (R E) b o None)) (𝓛.laws.room-raw (elτ E) b o) $ frame ! $ by ! (of_room n (o + s))
 
-  -- what a place holds is let go
+  -- the value of a slot is forgotten, so that the slot is empty room
   pub slot_room : (c : Place E) (o : ℕ) → ent 𝓤 (sem 𝓛 (slot (R E) b o c)) (H.room (elτ E) b o)
   slot_room None o = 𝓛.laws.raw-room (elτ E) b o
   slot_room (Some x) o = qed 𝓛 (‵ (part_at (R E) full_share x b o) ∷ []) ∵

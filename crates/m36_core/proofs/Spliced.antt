@@ -1,4 +1,4 @@
--- Values written over a run of places that all hold values.
+-- Values that are written over a range of slots which all hold values.
 use Rattle.std.proofs.Common.{ℕ, zero, suc, get_or, ◌+◌, ◌-◌, ◌≡◌, ◌<◌, ◌≤◌, List, [], ◌∷◌, ◌++◌, length, take, drop, map, sym, ap, refl, ◌∙◌, arith, length-append, length-drop, set, replicate, Option, Some, None}
 use Rattle.std.proofs.Math.Seq.{take-length}
 use Rattle.std.proofs.lemmas.List.{append-nil, drop-drop, drop_all, length-take-le, length-map, take_more, take_more_set, take_all}
@@ -24,7 +24,7 @@ module _ {X : Type 0} where
   map-drop (suc n) [] = refl
   map-drop (suc n) (x ∷ xs) = map-drop n xs
 
-  -- the list with values in the place of as many others
+  -- the list with a range of its values replaced by a list of the same length
   abbrev pub around : List X → ℕ → List X → List X
   around xs from ws = take from xs ++ (ws ++ drop (from + length ws) xs)
 
@@ -68,7 +68,7 @@ module _ {X : Type 0} where
       let held = at_place xs i (omega (arith, ap length e, length-map xs Some)) in
       (held.0, ap (λ (ds : List (Option X)). get_or ds i None) e ∙ held.1)
 
-  -- a value is put into one place
+  -- writing a value into one slot
   set_map : (xs : List X) (i : ℕ) (y : X) → set (map Some xs) i (Some y) ≡ map Some (set xs i y)
   set_map [] i y = refl
   set_map (x ∷ xs) zero y = refl
@@ -77,7 +77,7 @@ module _ {X : Type 0} where
   pub set_whole : (cs : List (Option X)) (xs : List X) (i : ℕ) (y : X) → cs ≡ map Some xs → set cs i (Some y) ≡ map Some (set xs i y)
   set_whole cs xs i y e = ap (λ (ds : List (Option X)). set ds i (Some y)) e ∙ set_map xs i y
 
-  -- the places up to one have been filled from a list
+  -- filling the next slot, after the slots before it were filled from a list
   push_map : (xs : List X) (y : X) → map Some xs ++ Some y ∷ [] ≡ map Some (xs ++ y ∷ [])
   push_map xs y = sym (map-append xs (y ∷ []))
 
@@ -90,7 +90,7 @@ module _ {X : Type 0} where
   pub copied_more : (cs : List (Option X)) (xs : List X) (i : ℕ) (y d : X) → i < length cs → i < length xs → y ≡ get_or xs i d → take i cs ≡ map Some (take i xs) → take (i + 1) (set cs i (Some y)) ≡ map Some (take (i + 1) xs)
   copied_more cs xs i y d h k at e = filled_more cs (take i xs) i y h e ∙ ap (map Some) (ap (λ (z : X). take i xs ++ z ∷ []) at ∙ sym (take_more xs i d k))
 
-  -- all of them
+  -- all slots are filled
   pub all_filled : (cs ds : List (Option X)) (i : ℕ) → length cs ≤ i → take i cs ≡ ds → cs ≡ ds
   all_filled cs ds i h e = sym (take_all i cs h) ∙ e
 

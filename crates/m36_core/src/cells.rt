@@ -1,4 +1,5 @@
-//! A block of raw memory: a row of places, each empty or holding a value. Only the functions here go through its pointer.
+//! A block of raw memory, as a row of slots. A slot is empty or holds a value. Only the functions
+//! of this file use the pointer to the block.
 ghost use Rattle.std.specs.Prelude.{◌≡◌, ℕ, ◌+◌, ◌<◌, ◌≤◌, List, Option, Some, None, map, length, take, drop, replicate, get_or, slice_set, IfOk, ⊤};
 ghost use Rattle.std.specs.Borrow.{sem};
 ghost use Rattle.std.specs.Vec.Ownership.{FitsInBlock};
@@ -12,7 +13,7 @@ use std::marker::{Model, PhantomData, Send, Sync};
 use std::mem::{align_of, size_of};
 use std::slice;
 
-/// Where the block begins. It owns nothing.
+/// The pointer to the block. It owns nothing.
 pub struct Base<T> {
     ptr: *mut T,
 }
@@ -33,7 +34,8 @@ unsafe impl<T> Send for Base<T> {}
 
 unsafe impl<T> Sync for Base<T> {}
 
-/// The owner of the places. It takes no space: whoever holds it has the pointer and the number of places beside it.
+/// The owner of the slots. It has no size at run time; its holder keeps the pointer and the number
+/// of slots.
 pub struct Cells<T> {
     mark: PhantomData<*const T>,
     ghost at: { Ptr },
@@ -50,7 +52,7 @@ unsafe impl<T: Send> Send for Cells<T> {}
 
 unsafe impl<T: Sync> Sync for Cells<T> {}
 
-/// The right to give the block of `len` places at `at` back to `alloc`. It takes no space.
+/// The right to return the block of `len` slots at `at` to `alloc`. It has no size at run time.
 pub struct Deed<T, A: Allocator> {
     mark: PhantomData<*const (T, A)>,
     ghost at: { Ptr },
@@ -66,9 +68,10 @@ impl<T, A: Allocator> Model for Deed<T, A> {
 
 unsafe impl<T, A: Allocator + Send> Send for Deed<T, A> {}
 
-// A `&` to it holds nothing.
+// A shared reference to a deed gives access to nothing, so it may cross threads.
 unsafe impl<T, A: Allocator> Sync for Deed<T, A> {}
 
+/// Allocates a block of `len` empty slots.
 pub(crate) fn allocate<T, A: Allocator>(
     alloc: &A,
     len: usize,
@@ -92,6 +95,7 @@ pub(crate) fn allocate<T, A: Allocator>(
     }
 }
 
+/// Returns a block to the allocator that it came from.
 pub(crate) fn deallocate<T, A: Allocator>(
     alloc: &A,
     base: Base<T>,
@@ -128,7 +132,7 @@ impl<T> Cells<T> {
         unsafe { &*base.ptr.add(index) }
     }
 
-    /// The `len` values from `from` on.
+    /// The `len` values that begin at index `from`.
     pub(crate) fn slice(&self, base: Base<T>, from: usize, len: usize) -> &[T]
         requires { (base.ptr ≡ self.now.at) × IsWhole self.now.slots
             × (from + len ≤ length self.now.slots) }
@@ -137,7 +141,7 @@ impl<T> Cells<T> {
         unsafe { slice::from_raw_parts(base.ptr.add(from), len) }
     }
 
-    /// The `len` values from `from` on, to be written.
+    /// The `len` values that begin at index `from`, to be written.
     pub(crate) fn slice_mut(&mut self, base: Base<T>, from: usize, len: usize) -> &mut [T]
         requires { (base.ptr ≡ self.old.at) × IsWhole self.old.slots
             × (from + len ≤ length self.old.slots) }

@@ -1,8 +1,9 @@
-//! What holds of every core, as the contract of a function that does nothing.
+//! A theorem about every core, stated as the contract of a function with an empty body.
 
 ghost use Rattle.m36_core.specs.Frames.{FrameLaw};
 
-/// Where other words are written in a frame, these stand in it, and each other word of core is as it was.
+/// If other words are written to a frame, the frame then has these words, and every other word of
+/// core is unchanged.
 #[tactic(auto, using(crate::proofs::FrameWords::frame_written))]
 pub fn frame_law()
     ensures { FrameLaw }

@@ -1,13 +1,13 @@
 //! The core memory of the Honeywell 6180: frames of 1,024 words of 36 bits.
 //!
-//! Core is seen by contracts as a list of words, each a number below 2^36. `peek` and `poke` read and write one word,
-//! `page` and `page_mut` lend exactly the words of a frame, to be read and to be written, and `copy` makes a second core
-//! with the same words. Nothing but `poke` and what is written through `page_mut` changes the list; `frame_law` says what
-//! `page_mut` leaves, word by word.
+//! Contracts see core as a list of words, each a number below 2^36. `peek` and `poke` read and
+//! write one word. `page` and `page_mut` borrow exactly the words of one frame, to read or to write
+//! them. `copy` makes a second core with the same words. Only `poke` and writes through `page_mut`
+//! change the list; `frame_law` states word by word what core is after a write through `page_mut`.
 //!
-//! Core is one block of raw memory. Six functions of `cells` alone go through its pointer: they take the block and give it
-//! back, read and write one word, and lend a run of words, to be read and to be written. A page is lent in place, without a
-//! copy.
+//! Core is one block of raw memory. Only six functions of `cells` use its pointer: they allocate
+//! and free the block, read and write one word, and borrow a range of words for reading or writing.
+//! A page is borrowed in place, without a copy.
 //!
 //! Source: Multics Processor Manual AL39, "Addressing -- segmentation and paging".
 #![tactic(auto)]

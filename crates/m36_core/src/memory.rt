@@ -10,10 +10,10 @@ use m36_word::{NoMemory, Word};
 use std::alloc::Global;
 use std::marker::Model;
 
-/// Words in a frame.
+/// The number of words of a frame.
 const FRAME: usize = 1024;
 
-/// Core memory: 1 to 16,384 frames of 1,024 words, seen as the list of its words.
+/// Core memory: 1 to 16,384 frames of 1,024 words. Contracts see it as the list of its words.
 pub struct Core {
     base: Base<Word>,
     count: usize,
@@ -50,7 +50,7 @@ impl Drop for Core {
     }
 }
 
-/// Writes zero into each place.
+/// Writes zero into each of the `count` slots.
 fn clear(cells: &mut Cells<Word>, base: Base<Word>, count: usize)
     requires { (base.ptr ≡ cells.old.at) × (length cells.old.slots ≡ count) }
     ensures at { cells.new.at ≡ cells.old.at }
@@ -63,7 +63,7 @@ fn clear(cells: &mut Cells<Word>, base: Base<Word>, count: usize)
     }
 }
 
-/// Writes the words into the places, one into each.
+/// Writes one word into each slot.
 fn fill(cells: &mut Cells<Word>, base: Base<Word>, words: &[Word])
     requires { (base.ptr ≡ cells.old.at) × (length cells.old.slots ≡ length words.now) }
     ensures at { cells.new.at ≡ cells.old.at }
@@ -79,7 +79,7 @@ fn fill(cells: &mut Cells<Word>, base: Base<Word>, words: &[Word])
 impl Core {
     ghost use Rattle.m36_core.specs.Lending.{LendsFrame};
 
-    /// Core of so many frames, with every word zero. The error is want of memory alone.
+    /// Core of `frames` frames, with every word zero. Fails only if memory runs out.
     pub fn new(alloc: Global, frames: u32) -> Result<Core, NoMemory>
         requires some { 1 ≤ frames }
         requires most { frames ≤ frames_reached }
@@ -97,7 +97,7 @@ impl Core {
         })
     }
 
-    /// How many words there are.
+    /// The number of words, a multiple of 1,024.
     pub fn len(&self) -> u32
         ensures value { result ≡ length self.now }
         ensures whole { length self.now % 1024 ≡ 0 }
@@ -106,7 +106,7 @@ impl Core {
         self.count as u32
     }
 
-    /// All words, in order.
+    /// All words, in the order of their addresses.
     pub fn words(&self) -> &[Word]
         ensures { result.now ≡ self.now }
     {
@@ -114,7 +114,7 @@ impl Core {
         self.cells.slice(base, 0, self.count)
     }
 
-    /// The word at a place.
+    /// The word at an address.
     pub fn peek(&self, a: u32) -> Word
         requires { a < length self.now }
         ensures { result ≡ slice_index self.now a }
@@ -123,7 +123,7 @@ impl Core {
         *self.cells.get(base, a as usize)
     }
 
-    /// Writes the word at a place.
+    /// Writes the word at an address.
     pub fn poke(&mut self, a: u32, w: Word)
         requires { a < length self.old }
         ensures { self.new ≡ slice_set self.old a w }
@@ -132,7 +132,7 @@ impl Core {
         self.cells.write(base, a as usize, w);
     }
 
-    /// The words of frame `f`.
+    /// The 1,024 words of frame `f`.
     pub fn page(&self, f: u32) -> &[Word]
         requires { 1024 * f < length self.now }
         ensures words { result.now ≡ frame_words self.now f }
@@ -143,7 +143,7 @@ impl Core {
         self.cells.slice(base, first, FRAME)
     }
 
-    /// The words of frame `f`, to be written. No other word changes.
+    /// The 1,024 words of frame `f`, to be written. No other word changes.
     pub fn page_mut(&mut self, f: u32) -> &mut [Word]
         requires { 1024 * f < length self.old }
         ensures* lends { sem 𝓛 (LendsFrame self.entry f result) }
@@ -155,7 +155,7 @@ impl Core {
         self.cells.slice_mut(base, first, FRAME)
     }
 
-    /// A second core with the same words. The error is want of memory alone.
+    /// A second core with the same words. Fails only if memory runs out.
     pub fn copy(&self, alloc: Global) -> Result<Core, NoMemory>
         ensures { IfOk result (λ core. core ≡ self.now) }
     {

@@ -1,4 +1,4 @@
--- What is written to words is read back: each field alone, and then the record of them.
+-- A record that is written to words is read back: first each field, and then the record.
 use Rattle.std.proofs.Common.{◌≡◌, ℕ, ◌-◌, ◌^◌, ◌<◌, ◌≤◌, ◌==◌, Bool, true, false, refl, arith, ap, ◌∙◌}
 use Rattle.std.proofs.lemmas.Bool.{cond-false, ne_eqb}
 use Rattle.m36_word.specs.Field.{field}
@@ -110,6 +110,6 @@ packed_back seg word ring in_seg in_word =
     let bit_back : r.bit ≡ 0 = omega (arith, in_seg, in_word) in
     λ i. record { seg = seg_back i; ring = ring; word = word_back i; bit = bit_back i }
 
--- the same for words that are known to be the descriptor's
+-- as `sdw_back`, for words that are known to be those of the descriptor
 pub sdw_read : (even odd : ℕ) (s : SdwFields) → IsSdw s → even ≡ sdw_even s → odd ≡ sdw_odd s → sdw_of even odd ≡ s
 sdw_read even odd s h e o = rw (e, o) (sdw_back s h)

@@ -1,4 +1,4 @@
--- The widths of what is read from words, and of the words that are made.
+-- The widths of fields that are read from words, and of words that are written.
 use Rattle.std.proofs.Common.{ℕ, ◌<◌, ◌-◌, ◌/◌, ◌%◌, ◌^◌, Bool, true, false, arith, if◌then◌else◌}
 use Rattle.m36_desc.specs.Widths.{SdwFits, PtwFits, DbrFits, PtrFits, ItsFits, ItpFits, PackedFits, SdwWords, PtwWords, DbrWords, PtrWords, ItsWords, ItpWords}
 use Rattle.m36_desc.proofs.RoundTrips.{bit_small}

@@ -1,12 +1,14 @@
 -- Access: which references a segment descriptor allows.
+--
 -- Multics Processor Manual AL39, "Access control" and "Access violation fault"; Schroeder and
 -- Saltzer, "A hardware architecture for implementing protection rings" (1972): the write bracket of
 -- a segment is rings 0 to R1, its read bracket rings 0 to R2, its execute bracket rings R1 to R2,
 -- and through its gates it is called from rings up to R3.
 --
--- Each kind of reference has a list of refusals, each a condition and the number of its access
--- violation. The first condition that holds is the refusal. trr is the ring of the reference, prr
--- the ring of execution, and same says that the segment is the one that executes.
+-- Each kind of reference has a list of rows, each a condition and the number of its access
+-- violation. The first condition that holds refuses the reference. trr is the ring of the
+-- reference, prr the ring of execution, and same says that the segment is the one that the
+-- processor executes.
 use Rattle.std.specs.Prelude.{ℕ, Bool, not, ◌&&◌, ◌==◌, if◌then◌else◌, List, [], ◌∷◌, Option, Some}
 use Rattle.std.specs.Prelude.{None, Result, Ok, Err, nat_lt, nat_le}
 use Rattle.m36_desc.specs.Fields.{SdwFields}
@@ -21,19 +23,20 @@ abbrev pub first_of : List (Bool × ℕ) → Option ℕ
 first_of [] = None
 first_of (row ∷ rows) = if row.0 then Some row.1 else first_of rows
 
--- three ring brackets are in order
+-- the ring brackets are in order: r1 <= r2 <= r3
 abbrev pub are_in_order : ℕ → ℕ → ℕ → Bool
 are_in_order r1 r2 r3 = nat_le r1 r2 && nat_le r2 r3
 
--- those of a segment; where they are not, that comes before every other refusal
+-- The brackets of a segment are in order. If they are not, this refuses every reference to the
+-- segment, before any other condition.
 abbrev pub in_order : SdwFields → Bool
 in_order s = are_in_order s.r1 s.r2 s.r3
 
--- brackets that are not in order, and then more
+-- the row for brackets that are not in order, followed by more rows
 abbrev pub ordered_rows : SdwFields → List (Bool × ℕ) → List (Bool × ℕ)
 ordered_rows s more = (not (in_order s), illegal_ring_order) ∷ more
 
--- A segment needs no right to be read by itself.
+-- A read. A segment needs no R bit to be read by the instructions in it.
 abbrev pub read_rows : SdwFields → ℕ → Bool → List (Bool × ℕ)
 read_rows s trr same =
     ordered_rows s (
@@ -42,6 +45,7 @@ read_rows s trr same =
     ∷ []
     )
 
+-- a write
 abbrev pub write_rows : SdwFields → ℕ → List (Bool × ℕ)
 write_rows s trr =
     ordered_rows s (
@@ -50,7 +54,7 @@ write_rows s trr =
     ∷ []
     )
 
--- a fetch in a ring, and then more: the execute bracket has a lower end too
+-- an execution in a ring, followed by more rows; the execute bracket has a lower end too
 abbrev pub execute_rows : SdwFields → ℕ → List (Bool × ℕ) → List (Bool × ℕ)
 execute_rows s ring more =
     ordered_rows s (
@@ -60,13 +64,15 @@ execute_rows s ring more =
     ∷ more
     )
 
+-- a fetch of an instruction, in the ring of execution
 abbrev pub fetch_rows : SdwFields → ℕ → List (Bool × ℕ)
 fetch_rows s prr = execute_rows s prr []
 
--- as a fetch, at the ring of the reference
+-- a transfer: checked as a fetch in the ring of the reference, which has to be that of execution
 abbrev pub transfer_rows : SdwFields → ℕ → ℕ → List (Bool × ℕ)
 transfer_rows s trr prr = execute_rows s trr ((not (trr == prr), crossing_ring_transfer) ∷ [])
 
+-- a call to a word
 abbrev pub call_rows : SdwFields → ℕ → ℕ → Bool → ℕ → List (Bool × ℕ)
 call_rows s trr prr same word =
     ordered_rows s (
@@ -78,16 +84,15 @@ call_rows s trr prr same word =
     ∷ []
     )
 
--- the ring in which a segment runs for a caller of a ring: that ring, but at most the second end of
--- its brackets
+-- the ring in which a segment executes for a caller: the caller's ring, but at most R2
 abbrev pub ring_under : ℕ → ℕ → ℕ
 ring_under r2 ring = if nat_lt r2 ring then r2 else ring
 
--- the ring after a call: R2 for a caller from above it, and else the ring of the reference
+-- the ring after a call: R2 if the ring of the reference is above it, and otherwise that ring
 abbrev pub ring_called : SdwFields → ℕ → ℕ
 ring_called s trr = ring_under s.r2 trr
 
--- a reference that nothing refuses gives what it is for; else the access violation
+-- the value if no row refuses the reference, and otherwise the access violation
 abbrev pub allowed : {A : Type 0} → A → Option ℕ → Result A Acv
 allowed a None = Ok a
 allowed a (Some n) = Err record { 0 = n }

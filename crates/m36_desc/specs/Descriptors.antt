@@ -1,5 +1,6 @@
--- Descriptors in their words: each is a record of fields of its words, and its words are the sums
--- of its fields, each at its place. Every bit that has no name is zero in the words that are made.
+-- Descriptors in their words. Each record is read from the fields of its words, and its words are
+-- the sums of its fields, each shifted to its bits. Every bit that has no name is written as zero.
+--
 -- Multics Processor Manual AL39, "Segment descriptor word", "Page table word", "Descriptor segment
 -- base register", "Indirect word formats" and "Pointer registers".
 use Rattle.std.specs.Prelude.{ℕ, ◌+◌, ◌-◌, ◌*◌, ◌^◌, ◌==◌, if◌then◌else◌}
@@ -71,21 +72,21 @@ dbr_even d = d.addr * 2 ^ 12
 abbrev pub dbr_odd : DbrFields → ℕ
 dbr_odd d = d.bnd * 2 ^ 21 + of_bit d.unpaged * 2 ^ 16 + d.stack
 
--- The odd word of an indirect pair: WORDNO 0-17, BITNO 21-26, tag 30-35.
+-- The odd word of an ITS or ITP pair: WORDNO 0-17, BITNO 21-26, tag 30-35.
 abbrev pub wordno_of : ℕ → ℕ
 wordno_of odd = field odd 0 18
 
 abbrev pub bitno_of : ℕ → ℕ
 bitno_of odd = field odd 21 6
 
--- the tag of an indirect word: of a plain one, and of the even and the odd one of a pair
+-- the tag of an indirect word, and of either word of a pair
 abbrev pub tag_of : ℕ → ℕ
 tag_of w = field w 30 6
 
 abbrev pub odd_of : ℕ → ℕ → ℕ → ℕ
 odd_of number bit tag = number * 2 ^ 18 + bit * 2 ^ 9 + tag
 
--- Indirect to segment. Even word: SEGNO 3-17, RNR 18-20, tag 43 octal in 30-35.
+-- Indirect to segment (ITS). Even word: SEGNO 3-17, RNR 18-20, tag 43 octal in 30-35.
 abbrev pub its_tag : ℕ
 its_tag = 0o43
 
@@ -114,7 +115,7 @@ its_odd p = odd_of p.word p.bit p.tag
 abbrev pub its_pair : ItsFields → Pair
 its_pair p = record { even = its_even p; odd = its_odd p }
 
--- Indirect through a pointer register. Even word: PRNUM 0-2, tag 41 octal in 30-35.
+-- Indirect through a pointer register (ITP). Even word: PRNUM 0-2, tag 41 octal in 30-35.
 abbrev pub itp_tag : ℕ
 itp_tag = 0o41
 
@@ -133,7 +134,7 @@ itp_even p = p.pr * 2 ^ 33 + itp_tag
 abbrev pub itp_odd : ItpFields → ℕ
 itp_odd p = odd_of p.word p.bit p.tag
 
--- Pointer register: its pair is the ITS pair of its fields with tag 0 in the odd word.
+-- Pointer register. It is stored as the ITS pair of its fields with tag 0 in the odd word.
 abbrev pub ptr_of : ℕ → ℕ → PtrFields
 ptr_of even odd =
     record {
@@ -152,12 +153,12 @@ ptr_even p = its_even (its_of_ptr p)
 abbrev pub ptr_odd : PtrFields → ℕ
 ptr_odd p = its_odd (its_of_ptr p)
 
--- Packed pointer: BITNO 0-5, SEGNO 6-17, WORDNO 18-35. Of the segment number it has 12 bits: the
--- three before them are ones where all of these are ones, and else zeros.
+-- Packed pointer: BITNO 0-5, SEGNO 6-17, WORDNO 18-35. It has 12 bits of the segment number. The
+-- upper three are ones if all twelve are ones, and otherwise zeros.
 abbrev pub unpacked_segment : ℕ → ℕ
 unpacked_segment seg = if seg == 2 ^ 12 - 1 then 2 ^ 15 - 1 else seg
 
--- the pointer that a packed pointer means in a ring
+-- the pointer of a packed pointer, for a given ring
 abbrev pub packed_of : ℕ → ℕ → PtrFields
 packed_of w ring =
     record {
@@ -167,6 +168,6 @@ packed_of w ring =
       bit = field w 0 6;
     }
 
--- the packed pointer to a word, at its bit 0, of a segment whose number is below 2^12 - 1
+-- the packed pointer to bit 0 of a word, for a segment number below 2^12 - 1
 abbrev pub packed_word : ℕ → ℕ → ℕ
 packed_word seg word = seg * 2 ^ 18 + word

@@ -1,5 +1,5 @@
--- What contracts see of a descriptor: its fields, as numbers and tests. Each number is below 2 to
--- the power of its width, which the types keep.
+-- Descriptors as contracts see them: numbers and Booleans. The types keep each number below 2 to
+-- the power of its width (`Widths.antt`). `Descriptors.antt` has the bits of each field.
 use Rattle.std.specs.Prelude.{ℕ, Bool}
 
 -- a segment descriptor word

@@ -1,4 +1,4 @@
--- What is written to words is read back.
+-- A record whose fields are within their widths is written to words and read back unchanged.
 use Rattle.std.specs.Prelude.{◌≡◌, ℕ, ◌-◌, ◌^◌, ◌<◌}
 use Rattle.m36_desc.specs.Fields.{SdwFields, PtwFields, DbrFields, PtrFields, ItsFields, ItpFields}
 use Rattle.m36_desc.specs.Widths.{IsSdw, IsPtw, IsDbr, IsPtr, IsIts, IsItp}
@@ -25,12 +25,12 @@ ItsComesBack = (p : ItsFields) → IsIts p → its_of (its_even p) (its_odd p) �
 abbrev pub ItpComesBack : Type 0
 ItpComesBack = (p : ItpFields) → IsItp p → itp_of (itp_even p) (itp_odd p) ≡ p
 
--- The even word of a pair has the tag by which an address chain knows the pair.
+-- The even word of an ITS or ITP pair has the tag by which address formation recognises it.
 pub record EvenTags : Type 0 where
   pub its : (p : ItsFields) → tag_of (its_even p) ≡ its_tag
   pub itp : (p : ItpFields) → tag_of (itp_even p) ≡ itp_tag
 
--- A packed pointer that is written is read back, in the ring that it is given.
+-- A packed pointer that was written is read back with the ring that the reader supplies.
 abbrev pub PackedComesBack : Type 0
 PackedComesBack =
     (seg word ring : ℕ) → seg < 2 ^ 12 - 1 → word < 2 ^ 18

@@ -1,4 +1,4 @@
--- The widths of a descriptor's fields.
+-- The widths of the fields of each record, and of its words.
 use Rattle.std.specs.Prelude.{ℕ, ◌^◌, ◌<◌}
 use Rattle.m36_desc.specs.Fields.{SdwFields, PtwFields, DbrFields, PtrFields, ItsFields, ItpFields}
 use Rattle.m36_desc.specs.Descriptors.{sdw_of, sdw_even, sdw_odd, ptw_of, ptw_word, dbr_of}
@@ -42,7 +42,7 @@ pub record IsItp (p : ItpFields) : Type 0 where
   pub bit : p.bit < 2 ^ 6
   pub tag : p.tag < 2 ^ 6
 
--- Whatever words are read, each field is within its width.
+-- Each field that is read is within its width, whatever the words are.
 abbrev pub SdwFits : Type 0
 SdwFits = (even odd : ℕ) → IsSdw (sdw_of even odd)
 
@@ -64,7 +64,7 @@ ItpFits = (even odd : ℕ) → IsItp (itp_of even odd)
 abbrev pub PackedFits : Type 0
 PackedFits = (w ring : ℕ) → ring < 2 ^ 3 → IsPtr (packed_of w ring)
 
--- The words of a descriptor within its widths have 36 bits.
+-- The words of a record whose fields are within their widths have 36 bits.
 pub record AreWords (first second : ℕ) : Type 0 where
   pub even : first < 2 ^ 36
   pub odd : second < 2 ^ 36

@@ -6,11 +6,12 @@ ghost use Rattle.m36_desc.specs.Access.{fetch_rows, transfer_rows, call_rows, ri
 
 use crate::sdw::Sdw;
 
-/// An access violation, by its number from 0 to 15.
+/// An access violation, by its number from 0 to 15. `specs/Violations.antt` has the names.
 #[derive(Clone, Copy, PartialEq, Eq)]
 pub struct Acv(pub u8);
 
-/// Whether a word may be read in ring `trr`. `same` says that the segment is the one that executes.
+/// Checks that a word may be read in ring `trr`. `same` says that the segment is the one that the
+/// processor executes; it needs no R bit to read itself.
 #[inline(always)]
 pub fn may_read(s: &Sdw, trr: u8, same: bool) -> Result<(), Acv>
     ensures { result ≡ allowed tt (first_of (read_rows s.now trr same)) }
@@ -25,7 +26,7 @@ pub fn may_read(s: &Sdw, trr: u8, same: bool) -> Result<(), Acv>
     Ok(())
 }
 
-/// Whether a word may be written in ring `trr`.
+/// Checks that a word may be written in ring `trr`.
 #[inline(always)]
 pub fn may_write(s: &Sdw, trr: u8) -> Result<(), Acv>
     ensures { result ≡ allowed tt (first_of (write_rows s.now trr)) }
@@ -40,7 +41,7 @@ pub fn may_write(s: &Sdw, trr: u8) -> Result<(), Acv>
     Ok(())
 }
 
-/// Whether an instruction may be fetched in ring `prr`.
+/// Checks that an instruction may be fetched in ring `prr`.
 #[inline(always)]
 pub fn may_fetch(s: &Sdw, prr: u8) -> Result<(), Acv>
     ensures { result ≡ allowed tt (first_of (fetch_rows s.now prr)) }
@@ -55,7 +56,8 @@ pub fn may_fetch(s: &Sdw, prr: u8) -> Result<(), Acv>
     Ok(())
 }
 
-/// Whether a transfer may go there in ring `trr` from ring `prr`.
+/// Checks that a transfer may go to the segment. `trr` is the ring of the reference, `prr` the ring
+/// of execution; a transfer must not change the ring.
 #[inline(always)]
 pub fn may_transfer(s: &Sdw, trr: u8, prr: u8) -> Result<(), Acv>
     ensures { result ≡ allowed tt (first_of (transfer_rows s.now trr prr)) }
@@ -67,8 +69,9 @@ pub fn may_transfer(s: &Sdw, trr: u8, prr: u8) -> Result<(), Acv>
     Ok(())
 }
 
-/// The ring in which a call to a word goes on, where it is allowed in ring `trr` from ring `prr`. `same` says that
-/// the segment is the one that executes.
+/// The ring in which execution continues after a call to word `word`, or the access violation.
+/// `trr` is the ring of the reference, `prr` the ring of execution. `same` says that the segment is
+/// the one that the processor executes; it may call itself at any word.
 #[inline]
 pub fn call_ring(s: &Sdw, trr: u8, prr: u8, same: bool, word: u32) -> Result<u8, Acv>
     ensures answer { result

@@ -6,17 +6,17 @@ ghost use Rattle.m36_desc.specs.Descriptors.{dbr_of, dbr_even, dbr_odd};
 use m36_word::{Field, Pair, Word};
 use std::marker::Model;
 
-/// The descriptor segment base register: where the descriptor segment lies, how far it reaches, and where the
-/// stacks of the rings begin.
+/// The descriptor segment base register: the address and length of the descriptor segment, and the
+/// segment numbers of the stacks.
 #[derive(Clone, Copy, PartialEq, Eq)]
 pub struct Dbr {
-    /// Place in core of the descriptor segment or of its page table; 24 bits.
+    /// Core address of the descriptor segment, or of its page table if it is paged; 24 bits.
     pub addr: u32,
     /// The number of the last block of 16 words of the descriptor segment; 14 bits.
     pub bnd: u16,
-    /// The stack of ring r is segment 8 times this, plus r; 12 bits.
+    /// Stack number: the stack of ring r is segment 8 * stack + r; 12 bits.
     pub stack: u16,
-    /// The descriptor segment lies in one piece.
+    /// The descriptor segment is contiguous in core, without a page table.
     pub unpaged: bool,
 }
 
@@ -34,7 +34,7 @@ impl Model for Dbr {
 }
 
 impl Dbr {
-    /// The register that a pair of words is loaded into.
+    /// Reads the register from a pair of words.
     pub fn of_words(p: Pair) -> Dbr
         ensures { result ≡ dbr_of p.even p.odd }
     {
@@ -46,7 +46,7 @@ impl Dbr {
         }
     }
 
-    /// The pair of words that the register is stored as, with all other bits zero.
+    /// The pair of words of the register. All bits without a name are zero.
     #[tactic(auto, using(crate::proofs::RoundTrips::dbr_back))]
     pub fn to_words(&self) -> Pair
         ensures even { result.even ≡ dbr_even self.now }

@@ -1,4 +1,4 @@
-//! What holds of all descriptors, as the contracts of functions that do nothing.
+//! Theorems about all descriptors, stated as the contracts of functions with empty bodies.
 
 ghost use Rattle.m36_desc.specs.RoundTrips.{SdwComesBack, PtwComesBack, DbrComesBack, PtrComesBack};
 ghost use Rattle.m36_desc.specs.RoundTrips.{ItsComesBack, ItpComesBack, EvenTags, PackedComesBack};
@@ -6,8 +6,9 @@ ghost use Rattle.m36_desc.specs.Widths.{SdwFits, PtwFits, DbrFits, PtrFits, ItsF
 ghost use Rattle.m36_desc.specs.Widths.{PackedFits, SdwWords, PtwWords, DbrWords, PtrWords};
 ghost use Rattle.m36_desc.specs.Widths.{ItsWords, ItpWords};
 
-/// Each descriptor that is written to words is read back as it was, whatever its fields within their widths, and so is
-/// a packed pointer to bit 0 of a word. The even word of a pair has the tag by which the pair is known.
+/// A record of any type of this crate whose fields are within their widths is written to words and
+/// read back unchanged. So is a packed pointer to bit 0 of a word, for a segment number below 2^12
+/// - 1. The even word of an ITS or ITP pair has the tag of its kind.
 pub fn descriptor_laws()
     ensures sdw { SdwComesBack }
     ensures ptw { PtwComesBack }
@@ -19,7 +20,7 @@ pub fn descriptor_laws()
     ensures packed { PackedComesBack }
 {}
 
-/// Whatever words are read as a descriptor, each of its fields is within its width.
+/// Each field that is read from words is below 2 to the power of its width, whatever the words are.
 #[tactic(auto, using(crate::proofs::WidthLaws::widths))]
 pub fn field_widths()
     ensures sdw { SdwFits }
@@ -31,7 +32,7 @@ pub fn field_widths()
     ensures packed { PackedFits }
 {}
 
-/// The words of a descriptor whose fields are within their widths have 36 bits.
+/// The words of a record whose fields are within their widths are below 2^36.
 #[tactic(auto, using(crate::proofs::WidthLaws::widths))]
 pub fn word_widths()
     ensures sdw { SdwWords }

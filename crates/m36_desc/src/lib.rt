@@ -1,16 +1,20 @@
 //! Descriptors of the Honeywell 6180, and the rights that they give.
 //!
-//! A segment is found by its segment descriptor word (SDW), a page by its page table word (PTW), the descriptor
-//! segment by the descriptor segment base register (DBR). Pointer registers and the pairs ITS and ITP name words of
-//! segments. Each is a record that is read from words and written to words, with no bit lost that has a name.
+//! A segment descriptor word (SDW) locates a segment, a page table word (PTW) a page, and the
+//! descriptor segment base register (DBR) the descriptor segment. Pointer registers and the pairs
+//! ITS and ITP name words of segments. Each of these is a record that is read from words and
+//! written to words.
 //!
-//! What is proved: each field is read from its place in the words and written to it, all bits without a name are
-//! written as zero, and what is written is read back. A reference is refused with an access violation exactly where
-//! a rule of its kind holds, and with that of the first such rule; a call that is allowed goes on in the ring that
-//! the ring rules say.
+//! Reading takes each field from its bits of the words. Writing puts each field into its bits and
+//! zeros into all bits without a name. A record that was written is read back unchanged.
 //!
-//! Source: Multics Processor Manual AL39, "Addressing -- segmentation and paging" and "Access control"; for the
-//! ring rules, Schroeder and Saltzer, "A hardware architecture for implementing protection rings" (1972).
+//! Each kind of reference has a list of rules that refuse it (`specs/Access.antt`). A reference
+//! gets the access violation of the first rule that applies, and is allowed if none applies. A call
+//! that is allowed yields its new ring by the ring rules.
+//!
+//! Source: Multics Processor Manual AL39, "Addressing -- segmentation and paging" and "Access
+//! control"; for the ring rules, Schroeder and Saltzer, "A hardware architecture for implementing
+//! protection rings" (1972).
 #![tactic(auto)]
 
 pub mod access;

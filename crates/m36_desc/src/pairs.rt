@@ -1,4 +1,4 @@
-//! The indirect pairs ITS (to a segment) and ITP (through a pointer register).
+//! The indirect pairs: ITS (indirect to segment) and ITP (indirect through pointer register).
 
 ghost use Rattle.std.specs.Prelude.{◌≡◌};
 ghost use Rattle.m36_desc.specs.Descriptors.{its_of, its_even, its_odd, itp_of, itp_even, itp_odd};
@@ -17,7 +17,7 @@ pub struct Its {
     pub ring: u8,
     /// Bit number; 6 bits.
     pub bit: u8,
-    /// The tag that goes on from the pair; 6 bits.
+    /// The tag with which address formation continues after the pair; 6 bits.
     pub tag: u8,
 }
 
@@ -29,7 +29,8 @@ impl Model for Its {
 
     ghost view = { λ p. record { seg = p.seg; ring = p.ring; word = p.word; bit = p.bit; tag = p.tag } };
 
-    ghost invariant = { λ p. (p.word < 2 ^ 18) × (p.seg < 2 ^ 15) × (p.ring < 2 ^ 3) × (p.bit < 2 ^ 6) × (p.tag < 2 ^ 6) };
+    ghost invariant = { λ p. (p.word < 2 ^ 18) × (p.seg < 2 ^ 15) × (p.ring < 2 ^ 3)
+        × (p.bit < 2 ^ 6) × (p.tag < 2 ^ 6) };
 
     ghost inverse = { λ p. record { seg = p.seg; ring = p.ring; word = p.word; bit = p.bit; tag = p.tag } };
 }
@@ -37,13 +38,13 @@ impl Model for Its {
 /// An indirect-through-pointer-register pair.
 #[derive(Clone, Copy, PartialEq, Eq)]
 pub struct Itp {
-    /// Word number, to be added to that of the pointer register; 18 bits.
+    /// Word number that is added to that of the pointer register; 18 bits.
     pub word: u32,
-    /// Which pointer register; 3 bits.
+    /// Number of the pointer register; 3 bits.
     pub pr: u8,
     /// Bit number; 6 bits.
     pub bit: u8,
-    /// The tag that goes on from the pair; 6 bits.
+    /// The tag with which address formation continues after the pair; 6 bits.
     pub tag: u8,
 }
 
@@ -55,7 +56,8 @@ impl Model for Itp {
 
     ghost view = { λ p. record { pr = p.pr; word = p.word; bit = p.bit; tag = p.tag } };
 
-    ghost invariant = { λ p. (p.word < 2 ^ 18) × (p.pr < 2 ^ 3) × (p.bit < 2 ^ 6) × (p.tag < 2 ^ 6) };
+    ghost invariant = { λ p. (p.word < 2 ^ 18) × (p.pr < 2 ^ 3) × (p.bit < 2 ^ 6)
+        × (p.tag < 2 ^ 6) };
 
     ghost inverse = { λ p. record { pr = p.pr; word = p.word; bit = p.bit; tag = p.tag } };
 }
@@ -67,7 +69,7 @@ pub const ITS_TAG: u8 = 0o43;
 pub const ITP_TAG: u8 = 0o41;
 
 impl Its {
-    /// The fields of a pair, whatever its even word's tag is.
+    /// Reads the fields of a pair. The tag of the even word is not checked.
     #[inline(always)]
     pub fn of_words(p: Pair) -> Its
         ensures { result ≡ its_of p.even p.odd }
@@ -81,7 +83,7 @@ impl Its {
         }
     }
 
-    /// The pair with these fields, tag 43 octal in its even word, and all other bits zero.
+    /// The pair with these fields and tag 43 octal in its even word. All other bits are zero.
     #[tactic(auto, using(crate::proofs::RoundTrips::its_back))]
     pub fn to_words(&self) -> Pair
         ensures even { result.even ≡ its_even self.now }
@@ -98,7 +100,7 @@ impl Its {
 }
 
 impl Itp {
-    /// The fields of a pair, whatever its even word's tag is.
+    /// Reads the fields of a pair. The tag of the even word is not checked.
     #[inline(always)]
     pub fn of_words(p: Pair) -> Itp
         ensures { result ≡ itp_of p.even p.odd }
@@ -111,7 +113,7 @@ impl Itp {
         }
     }
 
-    /// The pair with these fields, tag 41 octal in its even word, and all other bits zero.
+    /// The pair with these fields and tag 41 octal in its even word. All other bits are zero.
     #[tactic(auto, using(crate::proofs::RoundTrips::itp_back))]
     pub fn to_words(&self) -> Pair
         ensures even { result.even ≡ itp_even self.now }

@@ -7,7 +7,8 @@ use crate::pairs::Its;
 use m36_word::{Field, Pair};
 use std::marker::Model;
 
-/// A pointer register: a bit of a word of a segment, and the ring that stands for it.
+/// A pointer register: a bit of a word of a segment, and the ring whose rights count for a
+/// reference through it.
 #[derive(Clone, Copy, PartialEq, Eq)]
 pub struct Ptr {
     /// Word number; 18 bits.
@@ -28,13 +29,14 @@ impl Model for Ptr {
 
     ghost view = { λ p. record { seg = p.seg; ring = p.ring; word = p.word; bit = p.bit } };
 
-    ghost invariant = { λ p. (p.word < 2 ^ 18) × (p.seg < 2 ^ 15) × (p.ring < 2 ^ 3) × (p.bit < 2 ^ 6) };
+    ghost invariant = { λ p. (p.word < 2 ^ 18) × (p.seg < 2 ^ 15) × (p.ring < 2 ^ 3)
+        × (p.bit < 2 ^ 6) };
 
     ghost inverse = { λ p. record { seg = p.seg; ring = p.ring; word = p.word; bit = p.bit } };
 }
 
 impl Ptr {
-    /// The pointer that an ITS pair holds; the pair's tags are not looked at.
+    /// Reads the pointer of an ITS pair. The tags of the pair are not checked.
     #[inline(always)]
     pub fn of_words(p: Pair) -> Ptr
         ensures { result ≡ ptr_of p.even p.odd }
@@ -47,7 +49,7 @@ impl Ptr {
         }
     }
 
-    /// The ITS pair of the pointer's fields, with tag 0 in its odd word.
+    /// The ITS pair of the pointer, with tag 0 in its odd word.
     #[tactic(auto, using(crate::proofs::RoundTrips::ptr_back))]
     pub fn to_words(&self) -> Pair
         ensures even { result.even ≡ ptr_even self.now }

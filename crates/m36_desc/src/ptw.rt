@@ -6,16 +6,17 @@ ghost use Rattle.m36_desc.specs.Descriptors.{ptw_of, ptw_word};
 use m36_word::{Field, Word};
 use std::marker::Model;
 
-/// A page table word: where a page lies, and whether it was used and modified.
+/// A page table word: the frame of a page, and whether the page was used and modified.
 #[derive(Clone, Copy, PartialEq, Eq)]
 pub struct Ptw {
-    /// Place of the frame in units of 64 words, whose low four bits count as zero; 18 bits.
+    /// Core address of the frame in units of 64 words; 18 bits. The low four bits are taken as
+    /// zero.
     pub addr: u32,
-    /// Which directed fault is given where `f` is off; 2 bits.
+    /// Number of the directed fault that a reference gets if `f` is off; 2 bits.
     pub fc: u8,
-    /// A reference has passed the word.
+    /// A reference has used this word.
     pub used: bool,
-    /// A write has passed the word.
+    /// A write has used this word.
     pub modified: bool,
     /// The page is in core.
     pub f: bool,
@@ -35,7 +36,7 @@ impl Model for Ptw {
 }
 
 impl Ptw {
-    /// The descriptor that a word holds.
+    /// Reads the fields of a word.
     #[inline(always)]
     pub fn of_words(w: Word) -> Ptw
         ensures { result ≡ ptw_of w }
@@ -49,7 +50,7 @@ impl Ptw {
         }
     }
 
-    /// The word that holds the descriptor, with all other bits zero.
+    /// The word with these fields. All other bits are zero.
     #[tactic(auto, using(crate::proofs::RoundTrips::ptw_back))]
     pub fn to_words(&self) -> Word
         ensures word { result ≡ ptw_word self.now }

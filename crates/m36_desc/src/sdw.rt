@@ -7,34 +7,34 @@ ghost use Rattle.m36_desc.specs.Widths.{IsSdw};
 use m36_word::{Field, Pair, Word};
 use std::marker::Model;
 
-/// A segment descriptor word: where a segment lies, who may use it, and how far it reaches.
+/// A segment descriptor word: where a segment is, who may use it, and how long it is.
 #[derive(Clone, Copy, PartialEq, Eq)]
 pub struct Sdw {
-    /// Place in core of the segment or of its page table; 24 bits.
+    /// Core address of the segment, or of its page table if it is paged; 24 bits.
     pub addr: u32,
-    /// The number of the last block of 16 words; 14 bits.
+    /// Number of the last block of 16 words that is within the bound; 14 bits.
     pub bound: u16,
-    /// Words below this one are entries for callers from outside; 14 bits.
+    /// Call limiter: callers from other segments may enter a gate at words below this one; 14 bits.
     pub limit: u16,
-    /// The highest ring that may write; 3 bits.
+    /// R1, the highest ring that may write; 3 bits.
     pub r1: u8,
-    /// The highest ring that may read and execute; 3 bits.
+    /// R2, the highest ring that may read and execute; 3 bits.
     pub r2: u8,
-    /// The highest ring that may call; 3 bits.
+    /// R3, the highest ring that may call; 3 bits.
     pub r3: u8,
-    /// Which directed fault is given where `f` is off; 2 bits.
+    /// Number of the directed fault that a reference gets if `f` is off; 2 bits.
     pub fc: u8,
-    /// The segment is there.
+    /// The segment is present: the other fields locate it.
     pub f: bool,
     pub readable: bool,
     pub executable: bool,
     pub writable: bool,
     pub privileged: bool,
-    /// The segment lies in one piece.
+    /// The segment is contiguous in core, without a page table.
     pub unpaged: bool,
     /// On: callers may enter at any word. Off: the segment is a gate.
     pub no_gate: bool,
-    /// The manual's cache control bit, which nothing here looks at.
+    /// The manual's cache control bit, which nothing here uses.
     pub cached: bool,
 }
 
@@ -46,13 +46,14 @@ impl Model for Sdw {
 
     ghost view = { λ d. record { addr = d.addr; r1 = d.r1; r2 = d.r2; r3 = d.r3; f = d.f; fc = d.fc; bound = d.bound; readable = d.readable; executable = d.executable; writable = d.writable; privileged = d.privileged; unpaged = d.unpaged; no_gate = d.no_gate; cached = d.cached; limit = d.limit } };
 
-    ghost invariant = { λ d. (d.addr < 2 ^ 24) × (d.bound < 2 ^ 14) × (d.limit < 2 ^ 14) × (d.r1 < 2 ^ 3) × (d.r2 < 2 ^ 3) × (d.r3 < 2 ^ 3) × (d.fc < 2 ^ 2) };
+    ghost invariant = { λ d. (d.addr < 2 ^ 24) × (d.bound < 2 ^ 14) × (d.limit < 2 ^ 14)
+        × (d.r1 < 2 ^ 3) × (d.r2 < 2 ^ 3) × (d.r3 < 2 ^ 3) × (d.fc < 2 ^ 2) };
 
     ghost inverse = { λ d. record { addr = d.addr; r1 = d.r1; r2 = d.r2; r3 = d.r3; f = d.f; fc = d.fc; bound = d.bound; readable = d.readable; executable = d.executable; writable = d.writable; privileged = d.privileged; unpaged = d.unpaged; no_gate = d.no_gate; cached = d.cached; limit = d.limit } };
 }
 
 impl Sdw {
-    /// The descriptor that a pair of words holds.
+    /// Reads the fields of a pair of words.
     #[inline(always)]
     pub fn of_words(p: Pair) -> Sdw
         ensures { result ≡ sdw_of p.even p.odd }
@@ -76,7 +77,7 @@ impl Sdw {
         }
     }
 
-    /// The pair of words that holds the descriptor, with all other bits zero.
+    /// The pair of words with these fields. All other bits are zero.
     pub fn to_words(&self) -> Pair
         ensures even { result.even ≡ sdw_even self.now }
         ensures odd { result.odd ≡ sdw_odd self.now }

@@ -1,4 +1,5 @@
--- The rows of each block of 64 codes are those that the table has: the block is computed, and then looked up.
+-- The rows of each block of 64 codes are those of the table. Each block is computed, and then
+-- looked up.
 use Rattle.std.proofs.Common.{◌≡◌, ℕ, ◌*◌, ◌/◌, ◌%◌, ◌==◌, ◌&&◌, refl, sym, ap, ◌∙◌, true, false, None, Bool, List, [], ◌∷◌, Option, slice_index_or, map, arith}
 use Rattle.std.specs.Prelude.{option_map}
 use Rattle.std.specs.List.{find, filter, list_all, range_with_len}
@@ -13,13 +14,13 @@ use Rattle.m36_inst.proofs.Halves.{found_in_part}
 use Rattle.m36_inst.specs.declared.codes.from_400.TheConstants.{ROWS_400, ROWS_500, ROWS_600, ROWS_700}
 use Rattle.m36_inst.specs.declared.codes.bit_27.TheConstants.{ROWS_000_ON, ROWS_100_ON, ROWS_200_ON, ROWS_300_ON, ROWS_400_ON, ROWS_500_ON, ROWS_600_ON, ROWS_700_ON}
 
--- a code of nine bits stands in its block
+-- a code of nine bits is found in its block
 pub in_block : (bit27 : Bool) (rows : List (Option Named)) (code : ℕ) → rows ≡ block bit27 (64 * (code / 64)) → slice_index_or rows (code % 64) None ≡ place_of bit27 code
 unfolding block
 in_block bit27 rows code same =
     ap (λ r. slice_index_or r (code % 64) None) same ∙ get_or-map-range_with_len (place_of bit27) (64 * (code / 64)) 64 (code % 64) code None (omega arith) (omega arith)
 
--- the entries of a block, and what stands at its codes by them alone
+-- the entries of a block are enough to compute the rows of its codes
 abbrev in_part : Bool → ℕ → Entry → Bool
 in_part bit27 high e = (e.code / 64 == high) && same_bit e.bit27 bit27
 

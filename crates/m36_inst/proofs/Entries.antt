@@ -1,4 +1,4 @@
--- What holds of each entry of the table, since the table is computed.
+-- Properties of each entry of the table, which computation shows.
 use Rattle.std.proofs.Common.{◌≡◌, ℕ, ◌+◌, ◌*◌, ◌/◌, ◌%◌, ◌^◌, ◌<◌, ◌≤◌, refl, sym, ap, Bool, true, false, ◌&&◌, ◌==◌, nat_lt, nat_le, Option, Some, None, List, [], ◌∷◌, length, arith}
 use Rattle.std.specs.List.{list_all, All}
 use Rattle.std.specs.Str.{bytes_eq}
@@ -11,7 +11,8 @@ use Rattle.m36_inst.specs.Named.{padded, text_of, IsPlain}
 use Rattle.m36_inst.proofs.Found.{found_passes, found_sound, apart, found_by_key}
 use Rattle.m36_inst.proofs.Halves.{apart_from}
 
--- a test of an entry: its code and its register are within their widths, and its name is plain text of up to five characters
+-- a test of an entry: its code and register are within their widths, and its name is ASCII and has
+-- at most five characters
 abbrev is_ascii : List ℕ → Bool
 is_ascii name = list_all (λ b. nat_lt b 128) name
 
@@ -29,7 +30,7 @@ by_code x = has_code x.code x.bit27
 abbrev by_name : Entry → Entry → Bool
 by_name x = has_name x.name
 
--- bits by which codes and names are told apart in parts of the table
+-- bits of codes and of names, by which the table is divided into parts
 abbrev pub code_bit : ℕ → Entry → Bool
 code_bit n e = e.code / 2 ^ n % 2 == 1
 
@@ -52,7 +53,7 @@ apart_by_name =
     (λ n x z h. ap (λ name. mixed name / 2 ^ n % 2 == 1) (sym ((bytes_eq-Decides z.name x.name).0 h)))
     refl
 
--- what the test says
+-- what holds of an entry that passes the test
 all_ascii : (name : List ℕ) → is_ascii name ≡ true → All (λ b. b < 128) name
 all_ascii [] h = All-nil (λ b. b < 128)
 all_ascii (b ∷ name) h =
@@ -79,7 +80,7 @@ sound e h =
       text = (bytes_eq-Decides (text_of (padded e.name)) e.name).0 d.1;
     }
 
--- tests of codes and of names
+-- equality of codes, and of names
 pub same_bit_true : (a b : Bool) → same_bit a b ≡ true → a ≡ b
 same_bit_true true b h = sym h
 same_bit_true false true h = h
@@ -113,7 +114,7 @@ found code bit27 e h =
       named = found_by_key by_name (has_code code bit27) table e own_name apart_by_name h;
     }
 
--- and one that is found by its name
+-- an entry that is found by its name
 pub record IsNamed (name : List ℕ) (e : Entry) : Type 0 where
   pub sound : IsSound e
   pub same_name : e.name ≡ name

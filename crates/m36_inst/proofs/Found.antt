@@ -1,9 +1,9 @@
--- What is found in a list.
+-- The element that `find` returns.
 use Rattle.std.proofs.Common.{◌≡◌, Bool, true, false, cond, not, ◌&&◌, Option, Some, List, [], ◌∷◌, refl, sym, ap}
 use Rattle.std.specs.List.{find, list_all}
 use Rattle.std.proofs.lemmas.Bool.{and_parts, not-true}
 
--- an element at the head, or further on
+-- the element is the head, or comes later
 found_by : {X : Type 0} (p q : X → Bool) (b : Bool) (y x : X) (rest : Option X) → p y ≡ b → cond b (Some y) rest ≡ Some x → (rest ≡ Some x → q x ≡ true) → (p y ≡ true → q y ≡ true) → q x ≡ true
 found_by p q true y x rest e h later here =
     let same : y ≡ x = cc in
@@ -11,12 +11,12 @@ found_by p q true y x rest e h later here =
     cc
 found_by p q false y x rest e h later here = later h
 
--- what is found passes the test that it was found by
+-- the element passes the test by which it was found
 pub found_passes : {X : Type 0} (p : X → Bool) (xs : List X) (x : X) → find p xs ≡ Some x → p x ≡ true
 found_passes p [] x h = cc
 found_passes p (y ∷ ys) x h = found_by p p (p y) y x (find p ys) refl h (found_passes p ys x) (λ e. e)
 
--- what is found passes each test that all elements pass
+-- the element passes each test that all elements pass
 pub found_sound : {X : Type 0} (p q : X → Bool) (xs : List X) (x : X) → list_all q xs ≡ true → find p xs ≡ Some x → q x ≡ true
 found_sound p q [] x all h = cc
 found_sound p q (y ∷ ys) x all h =
@@ -34,7 +34,7 @@ keyed_by true y x rest rest_by_key by_key h here there later =
     rw (here refl (sym same)) (ap Some same)
 keyed_by false y x rest rest_by_key by_key h here there later = rw (there h) (later h)
 
--- so what is found by any test is found by its own key
+-- if elements are apart, the one that any test finds is also found by its own key
 pub found_by_key : {X : Type 0} (key : X → X → Bool) (p : X → Bool) (xs : List X) (x : X) → ((y : X) → key y y ≡ true) → apart key xs ≡ true → find p xs ≡ Some x → find (key x) xs ≡ Some x
 found_by_key key p [] x own distinct h = cc
 found_by_key key p (y ∷ ys) x own distinct h =

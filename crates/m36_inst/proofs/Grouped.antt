@@ -1,4 +1,4 @@
--- How the instructions of a group get their operand, and that none is privileged.
+-- How the instructions of each group reference their operands; and that none of them is privileged.
 use Rattle.std.proofs.Common.{refl}
 use Rattle.m36_inst.specs.Quick.{group_of, Fits}
 use Rattle.m36_inst.specs.declared.effect.Effect.{Effect}

@@ -1,4 +1,5 @@
--- What holds of a list, by the parts that a test makes of it: so fewer elements are compared with one another.
+-- Properties of a list, from those of the two parts into which a test divides it. So fewer elements
+-- have to be compared with one another.
 use Rattle.std.proofs.Common.{◌≡◌, ℕ, zero, suc, Bool, true, false, cond, not, ◌&&◌, ◌||◌, Option, Some, List, [], ◌∷◌, refl, ap}
 use Rattle.std.specs.List.{find, filter, list_all, list_any}
 use Rattle.std.proofs.lemmas.Bool.{and_parts, and_from}
@@ -7,7 +8,8 @@ use Rattle.m36_inst.proofs.Found.{apart}
 abbrev pub others : {X : Type 0} → (X → Bool) → List X → List X
 others q xs = filter (λ x. not (q x)) xs
 
--- what is found is found in the part that has all elements which pass the test
+-- An element is found in a part of the list if every element that passes the search is in this
+-- part.
 found_by :
     {X : Type 0} (p q : X → Bool) (y : X) (zs : List X) (rest : Option X) (b c : Bool) → p y ≡ b → q y ≡ c → (p y ≡ true → q y ≡ true)
     → rest ≡ find p zs → cond b (Some y) rest ≡ find p (cond c (y ∷ zs) zs)
@@ -23,7 +25,7 @@ found_in_part p q [] within = refl
 found_in_part p q (y ∷ ys) within =
     found_by p q y (filter q ys) (find p ys) (p y) (q y) refl refl (within y) (found_in_part p q ys within)
 
--- a test of all elements, or of any
+-- a test that all elements pass, or some element
 all_by : {X : Type 0} (p q : X → Bool) (y : X) (ys : List X) (b : Bool) → q y ≡ b → list_all p (cond b (y ∷ filter q ys) (filter q ys)) ≡ true
     → list_all p (cond (not b) (y ∷ others q ys) (others q ys)) ≡ true
     → (list_all p (filter q ys) ≡ true → list_all p (others q ys) ≡ true → list_all p ys ≡ true) → (p y && list_all p ys) ≡ true
@@ -59,7 +61,7 @@ any_more p q [] any = any
 any_more p q (y ∷ ys) any =
     any_by (q y) (list_any p (filter q ys)) (p y) (list_any p ys) (any_head p q y ys (q y) any) (any_more p q ys)
 
--- No element passes the test that finds a later one, where none does in either half and the halves are apart.
+-- The elements are apart if those of each half are, and no key occurs in both halves.
 unlike_by :
     {X : Type 0} (key : X → X → Bool) (q : X → Bool) (y z : X) (zs : List X) (b c : Bool) → key z y ≡ b → q z ≡ c → (key z y ≡ true → q z ≡ q y) → q y ≡ true
     → list_all (λ x. not (key x y)) (cond c (z ∷ zs) zs) ≡ true → not b ≡ true
@@ -107,7 +109,7 @@ apart_halves key q r [] same same_too other these those = refl
 apart_halves key q r (y ∷ ys) same same_too other these those =
     apart_head key q r y ys (q y) (r y) same same_too refl refl (other y) these those (apart_halves key q r ys same same_too other)
 
--- the same, by halves of halves, as often as is said
+-- the same, by dividing each half again, n times
 abbrev pub apart_by : {X : Type 0} → (X → X → Bool) → (ℕ → X → Bool) → ℕ → List X → Bool
 apart_by key bit zero xs = apart key xs
 apart_by key bit (suc n) xs = apart_by key bit n (filter (bit n) xs) && apart_by key bit n (others (bit n) xs)
@@ -121,7 +123,7 @@ apart_from {X = X} key bit (suc n) xs same h =
     let same_too : (x z : X) → key x z ≡ true → not (bit n x) ≡ not (bit n z) = λ x z e. ap (λ b. not b) (same n x z e) in
     apart_halves key (bit n) (λ x. not (bit n x)) xs (same n) same_too (λ x. refl) (apart_from key bit n (filter (bit n) xs) same parts.0) (apart_from key bit n (others (bit n) xs) same parts.1)
 
--- Each element of a list has a partner in another.
+-- Each element of a list has a partner in another list.
 abbrev pub paired : {X Y : Type 0} → (X → Y → Bool) → List X → List Y → Bool
 paired fits xs ys = list_all (λ x. list_any (fits x) ys) xs
 

@@ -1,4 +1,5 @@
--- The names in rising order are those of the table, since both are computed; and a name is found among them by halves.
+-- The names are in ascending order and are those of the table, as computation shows; and binary
+-- search finds a name among them.
 use Rattle.std.proofs.Common.{◌≡◌, ℕ, ◌/◌, ◌%◌, ◌^◌, ◌<◌, zero, suc, refl, sym, ap, ◌∙◌, Bool, true, false, ◌&&◌, ◌||◌, ◌==◌, nat_lt, Option, Some, None, List, [], ◌∷◌, length, map, get_or, arith}
 use Rattle.std.specs.Prelude.{option_map}
 use Rattle.std.specs.List.{list_any}
@@ -15,7 +16,7 @@ use Rattle.m36_inst.proofs.Halves.{paired, paired_from}
 use Rattle.m36_inst.proofs.Entries.{found, same_bit_true, code_bit}
 use Rattle.m36_inst.proofs.OneToOne.{named_code, unnamed}
 
--- ---- rising order
+-- ---- ascending order
 
 abbrev is_rising : List ℕ → Bool
 is_rising [] = true
@@ -126,7 +127,7 @@ names_there = paired_from is_of code_bit coded_bit 6 table NAMES refl
 pub is_index : IsIndex NAMES
 is_index = index_of NAMES in_order names_there
 
--- ---- what is found
+-- ---- the result of the search
 
 pub key_in : (rows : List Coded) (i : ℕ) (d : Coded) → i < length rows → key_at rows i ≡ key (get_or rows i d).name
 key_in rows i d within = get_or-map (λ r. key r.name) rows i d 0 within
@@ -139,7 +140,7 @@ bit27_in rows i d within = get_or-map (λ r. r.bit27) rows i d false within
 
 pub ruleset columns = (key_in, code_in, bit27_in)
 
--- A name whose number no row has is none,
+-- If no row has the number of a name, no instruction has this name.
 pub absent :
     (rows : List Coded) (name : List ℕ) (wanted : ℕ) → IsIndex rows → wanted ≡ key name
     → ((i : ℕ) → i < length rows → key_at rows i ≡ wanted → ⊥) → code_named name ≡ None
@@ -167,7 +168,7 @@ one_place : (rows : List Coded) (i j : ℕ) → IsRising rows → i < length row
 one_place rows i j rising within inside same =
     place_by rows i j (nat_lt i j) (nat_lt j i) rising within inside same refl refl
 
--- and so is one that the only row with its number does not have.
+-- If the only row with the number of a name has another name, no instruction has this name.
 pub other :
     (rows : List Coded) (name : List ℕ) (i code : ℕ) (bit27 : Bool) → IsIndex rows → i < length rows → key_at rows i ≡ key name
     → code ≡ code_at rows i → bit27 ≡ bit27_at rows i → (name_at code bit27 ≡ Some name → ⊥) → code_named name ≡ None

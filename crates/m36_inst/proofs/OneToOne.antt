@@ -38,7 +38,7 @@ code_name code bit27 name h = name_by code bit27 name (entry_named name) refl h
 pub one_to_one : OneToOne
 one_to_one code bit27 name = (named_code code bit27 name, code_name code bit27 name)
 
--- a name that no code has is none
+-- a name that no code has is not found
 unnamed_by : (name : List ℕ) (o : Option Entry) → entry_named name ≡ o → ((code : ℕ) (bit27 : Bool) → name_at code bit27 ≡ Some name → ⊥) → o ≡ None
 unnamed_by name None e h = refl
 unnamed_by name (Some x) e h =

@@ -1,4 +1,4 @@
--- What a place of the processor's table says, of the entry that it stands for.
+-- A row of the processor's table has the row, name and register of its entry.
 use Rattle.std.proofs.Common.{◌≡◌, ℕ, Bool, Option, Some, None, refl, sym, ap, subst}
 use Rattle.std.specs.Prelude.{option_map, IfSome, List}
 use Rattle.m36_inst.specs.Table.{Entry}

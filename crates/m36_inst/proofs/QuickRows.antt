@@ -1,4 +1,4 @@
--- The rows of the quick table are those that the table has: each part is computed, and then looked up.
+-- The rows of the quick table are those of the table. Each part is computed, and then looked up.
 use Rattle.std.proofs.Common.{◌≡◌, ℕ, ◌*◌, ◌/◌, ◌%◌, ◌^◌, ◌==◌, lit<, Some, None, refl, subst, sym, ap, ◌∙◌, true, Bool, List, [], ◌∷◌, Option, slice_index_or, map, arith}
 use Rattle.std.specs.Prelude.{option_map}
 use Rattle.std.specs.List.{find, filter, list_all, range_with_len}
@@ -14,7 +14,7 @@ use Rattle.m36_inst.specs.declared.codes.quick.TheConstants.{QUICK, QUICK_000, Q
 use Rattle.m36_inst.proofs.Halves.{found_in_part}
 use Rattle.m36_inst.proofs.OneToOne.{rows_fit}
 
--- the entries of a part, and what stands at its places by them alone
+-- the entries of a part are enough to compute its rows
 abbrev in_part : ℕ → Entry → Bool
 in_part high e = e.code / 64 == high
 

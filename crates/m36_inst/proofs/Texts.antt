@@ -1,4 +1,4 @@
--- The text of a padded name, by where its first blank is.
+-- The text of a padded name, by the position of its first blank.
 use Rattle.std.proofs.Common.{◌≡◌, ℕ, ◌≤◌, Bool, true, false, cond, Some, None, List, length, take, nat_lt, refl, sym, ap}
 use Rattle.std.specs.List.{position, before_first, position_or_len}
 use Rattle.std.proofs.lemmas.List.{take_all}

@@ -1,4 +1,4 @@
--- What contracts see of an instruction's word: its fields, as numbers and tests.
+-- An instruction word as contracts see it: its fields, as numbers and Booleans.
 use Rattle.std.specs.Prelude.{ℕ, Bool, ◌^◌, ◌<◌}
 
 pub record InstFields : Type 0 where

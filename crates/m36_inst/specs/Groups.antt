@@ -1,5 +1,5 @@
--- The groups of the instructions that form an address: those on pointer registers, those of
--- control, and those on data. Multics Processor Manual AL39, "Pointer register instructions",
+-- The instructions that form an address, in three groups: those for pointer registers, those of
+-- control, and those for data. Multics Processor Manual AL39, "Pointer register instructions",
 -- "Effective address to AQ", "Store control double"; "Transfer of control instructions",
 -- "Miscellaneous instructions", "Privileged instructions"; "Fixed-point instructions", "Boolean
 -- operation instructions".
@@ -8,8 +8,8 @@ use Rattle.m36_inst.specs.Operands.{operand_of, forms_address}
 use Rattle.m36_inst.specs.declared.effect.Effect.{Effect}
 use Rattle.m36_inst.specs.declared.effect.Effect.TheVariants as effect
 
--- loads and stores of pointer registers, the effective address to A and Q, and the store of the
--- control double word
+-- loads and stores of pointer registers, the effective pointer to AQ, and the store of the control
+-- double word
 abbrev pub is_pointer : Effect → Bool
 is_pointer effect.EppN = true
 is_pointer effect.EpbpN = true
@@ -22,7 +22,7 @@ is_pointer effect.Epaq = true
 is_pointer effect.Stcd = true
 is_pointer _ = false
 
--- transfers of control, call and return, no operation, and the privileged instructions that have an
+-- transfers of control, call and return, no operation, and the privileged instructions that form an
 -- address
 abbrev pub is_control : Effect → Bool
 is_control effect.Tra = true
@@ -48,6 +48,6 @@ is_control effect.Camp = true
 is_control effect.Absa = true
 is_control _ = false
 
--- all others: those that load, store, add, compare, combine and shift data
+-- all others that form an address: those that load, store, add, compare, combine and shift data
 abbrev pub is_data : Effect → Bool
 is_data e = not (is_pointer e) && not (is_control e) && forms_address (operand_of e)

@@ -21,23 +21,24 @@ inst_word i =
     i.y * 2 ^ 18 + i.code * 2 ^ 9 + of_bit i.bit27 * 2 ^ 8 + of_bit i.inhibit * 2 ^ 7
     + of_bit i.by_pr * 2 ^ 6 + i.tag
 
--- where the address is through a pointer register: the register's number in bits 0-2, and bits 3-17
+-- if the address is relative to a pointer register: the register's number, bits 0-2
 abbrev pub pr_number : InstFields → ℕ
 pr_number i = i.y / 2 ^ 15
 
+-- and the offset, bits 3-17
 abbrev pub offset_field : InstFields → ℕ
 offset_field i = i.y % 2 ^ 15
 
--- these bits as a signed offset, which is a word number modulo 2^18
+-- the offset in two's complement, as a word number modulo 2^18
 abbrev pub pr_offset : InstFields → ℕ
 pr_offset i =
     let offset = offset_field i in
     if nat_lt offset offset_limit then offset else offset + 7 * 2 ^ 15
 
--- An instruction that is written to a word is read back, and a word is the word of the instruction
--- that is read from it.
+-- An instruction whose fields are within their widths is read back unchanged from its word.
 abbrev pub InstComesBack : Type 0
 InstComesBack = (i : InstFields) → IsInst i → inst_of (inst_word i) ≡ i
 
+-- A word is written back unchanged from the instruction that is read from it.
 abbrev pub WordComesBack : Type 0
 WordComesBack = (w : ℕ) → w < 2 ^ 36 → inst_word (inst_of w) ≡ w

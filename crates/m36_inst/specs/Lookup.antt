@@ -1,4 +1,4 @@
--- The instruction of an operation code with bit 27, and the code of a name.
+-- The entry of the table for an operation code with bit 27, and the one for a name.
 use Rattle.std.specs.Prelude.{ℕ, ◌≡◌, ◌^◌, ◌<◌, ◌↔◌, Bool, true, false, not, ◌&&◌, ◌==◌, nat_eq}
 use Rattle.std.specs.Prelude.{List, Option, Some, option_map, IsSome}
 use Rattle.std.specs.List.{find}
@@ -18,14 +18,15 @@ has_code code bit27 e = (e.code == code) && same_bit e.bit27 bit27
 abbrev pub has_name : List ℕ → Entry → Bool
 has_name name e = pointwise nat_eq e.name name
 
--- the entry of the table with a code, and the one with a name
+-- the entry with an operation code and bit 27, if there is one
 unfoldable pub entry_at : ℕ → Bool → Option Entry
 entry_at code bit27 = find (has_code code bit27) table
 
+-- the entry with a name, if there is one
 unfoldable pub entry_named : List ℕ → Option Entry
 entry_named name = find (has_name name) table
 
--- what the processor has to know of an instruction: all but the register hangs on the effect
+-- the row of an instruction; everything except the register depends only on the effect
 abbrev pub row_of : Effect → ℕ → Row
 row_of effect reg =
     record {
@@ -48,26 +49,26 @@ code_of e = (e.code, e.bit27)
 abbrev pub code_named : List ℕ → Option (ℕ × Bool)
 code_named name = option_map code_of (entry_named name)
 
--- how an operand is referenced, whether it may be direct and whether the instruction is privileged
--- are as its effect has it
+-- the operand, `direct` and `privileged` of a row are those of its effect, and its register is
+-- below 8
 pub record IsRow (row : Row) : Type 0 where
   pub operand : row.operand ≡ operand_of row.effect
   pub direct : row.direct ≡ takes_direct row.effect
   pub privileged : row.privileged ≡ is_privileged row.effect
   pub reg : row.reg < 8
 
--- Names and codes are one to one: a code with bit 27 has a name exactly where that name has this
+-- Names and codes are one to one: a code with bit 27 has a name if and only if that name has this
 -- code with bit 27.
 abbrev pub OneToOne : Type 0
 OneToOne =
     (code : ℕ) (bit27 : Bool) (name : List ℕ)
     → (name_at code bit27 ≡ Some name) ↔ (code_named name ≡ Some (code, bit27))
 
--- A code with a name has a row, and a code with a row has a name.
+-- A code has a row if and only if it has a name.
 abbrev pub RowsHaveNames : Type 0
 RowsHaveNames = (code : ℕ) (bit27 : Bool) → IsSome (row_at code bit27) ↔ IsSome (name_at code bit27)
 
--- A code with a row has nine bits.
+-- A code with a row has nine bits, and its row is that of its effect and register.
 pub record IsRowAt (code : ℕ) (row : Row) : Type 0 where
   pub code_fits : code < 2 ^ 9
   pub parts : IsRow row

@@ -1,5 +1,5 @@
--- An instruction as the processor's own table has it: what it has to know, and the name with blanks
--- behind it to five characters, the length of the longest name.
+-- The rows of the processor's own table: a row, with its name padded with blanks to five
+-- characters, the length of the longest name.
 use Rattle.std.specs.Prelude.{ℕ, Bool, List, ◌++◌, ◌==◌, ◌<◌, ◌≤◌, length, take, replicate, map}
 use Rattle.std.specs.Prelude.{Option, option_map}
 use Rattle.std.specs.List.{before_first, range_with_len, All}
@@ -13,21 +13,23 @@ padded name = take 5 (name ++ replicate 5 0x20)
 abbrev pub named_of : Entry → Named
 named_of e = record { row = row_of e.effect e.reg; name = padded e.name }
 
--- what stands at a code with bit 27, and at 64 codes from one on
+-- the row of an operation code with bit 27, if there is one
 abbrev pub place_of : Bool → ℕ → Option Named
 place_of bit27 code = option_map named_of (entry_at code bit27)
 
+-- the rows of 64 operation codes, from `base` on
 unfoldable pub block : Bool → ℕ → List (Option Named)
 block bit27 base = map (place_of bit27) (range_with_len base 64)
 
--- the characters before the first blank
+-- a blank of ASCII
 abbrev pub is_blank : ℕ → Bool
 is_blank b = b == 0x20
 
+-- the characters before the first blank
 abbrev pub text_of : List ℕ → List ℕ
 text_of name = before_first is_blank name
 
--- a name has up to five characters of ASCII
+-- a name has at most five characters, all of them ASCII
 pub record IsPlain (name : List ℕ) : Type 0 where
   pub short : length name ≤ 5
   pub ascii : All (λ b. b < 128) name

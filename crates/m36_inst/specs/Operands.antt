@@ -1,12 +1,13 @@
--- How an instruction gets its operand, whether it forms an address, whether it is privileged, and
--- whether its operand may stand in its address, each as a function of what the instruction does.
--- Multics Processor Manual AL39, "Machine instructions", from the summary of each instruction.
+-- What follows from the effect of an instruction: how it references its operand, whether it forms
+-- an address, whether it is privileged, and whether it accepts a direct operand. Multics Processor
+-- Manual AL39, "Machine instructions", from the summary of each instruction.
 use Rattle.std.specs.Prelude.{Bool, true, false}
 use Rattle.m36_inst.specs.declared.effect.Effect.{Effect}
 use Rattle.m36_inst.specs.declared.effect.Effect.TheVariants as effect
 use Rattle.m36_inst.specs.declared.operand.Operand.{Operand}
 use Rattle.m36_inst.specs.declared.operand.Operand.TheVariants as operand
 
+-- how an instruction references its operand
 abbrev pub operand_of : Effect → Operand
 operand_of effect.Lda = operand.R
 operand_of effect.Ldq = operand.R
@@ -146,7 +147,7 @@ operand_of effect.Cams = operand.A
 operand_of effect.Camp = operand.A
 operand_of effect.Absa = operand.A
 
--- MME, DRL and DIS form no address.
+-- Every instruction forms an address, except MME, DRL and DIS.
 abbrev pub forms_address : Operand → Bool
 forms_address operand.N = false
 forms_address _ = true
@@ -161,12 +162,13 @@ is_privileged effect.Camp = true
 is_privileged effect.Absa = true
 is_privileged _ = false
 
--- an operand of one word that is read may stand in the address itself
+-- an operand of one word that is read
 abbrev pub is_one_word : Operand → Bool
 is_one_word operand.R = true
 is_one_word _ = false
 
--- LPRP must read its word from a segment, and NOP takes any address
+-- The instruction accepts a direct operand: one in the address itself (tags DU and DL). LPRP has to
+-- read its word from a segment, and NOP accepts any address.
 abbrev pub takes_direct : Effect → Bool
 takes_direct effect.LprpN = false
 takes_direct effect.Nop = true

@@ -1,5 +1,5 @@
--- What a quick step has to know of an instruction: in which group of quick steps it is, what it
--- does, and the register that its name has.
+-- What a quick step needs to know of an instruction: its group, its effect, and the register that
+-- its name has.
 use Rattle.std.specs.Prelude.{ℕ, ◌≡◌, ◌*◌, ◌/◌, ◌%◌, ◌<◌, Bool, true, false, ◌==◌, List, map}
 use Rattle.std.specs.Prelude.{Option, Some, None}
 use Rattle.std.specs.List.{range_with_len}
@@ -15,7 +15,8 @@ use Rattle.m36_inst.specs.declared.rows.Group.TheVariants as group
 use Rattle.m36_inst.specs.declared.rows.Quick.{Quick}
 use Rattle.m36_inst.specs.declared.rows.Row.{Row}
 
--- The group of an effect: those that a quick step takes are met most often.
+-- The group of an effect. Quick steps execute the instructions that programs use most often; all
+-- others are in the group `Other`.
 abbrev pub group_of : Effect → Group
 group_of effect.Lda = group.Read
 group_of effect.Ldq = group.Read
@@ -79,33 +80,33 @@ group_of effect.Call6 = group.Call
 group_of effect.Rtcd = group.Return
 group_of _ = group.Other
 
--- A code without an instruction is in no group of quick steps.
+-- the quick row of a row; a code without an instruction is in the group `Other`
 abbrev pub quick_of : Option Row → Quick
 quick_of None = record { effect = effect.Nop; group = group.Other; reg = 0 }
 quick_of (Some row) = record { effect = row.effect; group = group_of row.effect; reg = row.reg }
 
--- what stands at a place: an operation code with bit 27 as its last bit
+-- the quick row at an index: the nine bits of an operation code, followed by bit 27
 abbrev pub quick_at : ℕ → Quick
 quick_at place = quick_of (row_at (place / 2) (place % 2 == 1))
 
--- what stands at the places of 64 codes
+-- the quick rows of 64 operation codes, each with bit 27 off and on
 unfoldable pub quick_part : ℕ → List Quick
 quick_part high = map quick_at (range_with_len (128 * high) 128)
 
--- the whole table, part by part
+-- the whole table, in eight parts
 unfoldable pub quick_table : List (List Quick)
 quick_table = map quick_part (range_with_len 0 8)
 
--- what a quick step has to know of the instruction in a word
+-- the quick row of the instruction in a word
 unfoldable pub quick_row_of : ℕ → Quick
 quick_row_of w = quick_of (row_at (inst_of w).code (inst_of w).bit27)
 
--- The group of a row is that of its effect, and its register has three bits.
+-- The group of a quick row is that of its effect, and its register is below 8.
 pub record IsQuick (q : Quick) : Type 0 where
   pub group : q.group ≡ group_of q.effect
   pub reg : q.reg < 8
 
--- how the instructions of a group get their operand
+-- how the instructions of a group reference their operand; `Other` is not used
 abbrev pub operand_in : Group → Operand
 operand_in group.Read = operand.R
 operand_in group.Store = operand.W
@@ -121,18 +122,18 @@ operand_in group.Call = operand.Call6
 operand_in group.Return = operand.R2
 operand_in group.Other = operand.N
 
--- only those that read a word take a direct operand
+-- the instructions of a group accept a direct operand: only those that read one word
 abbrev pub direct_in : Group → Bool
 direct_in group.Read = true
 direct_in _ = false
 
--- An instruction of a group gets its operand so, and is not privileged.
+-- An instruction of a group references its operand as the group does, and is not privileged.
 pub record IsGrouped (g : Group) (e : Effect) : Type 0 where
   pub operand : operand_of e ≡ operand_in g
   pub direct : takes_direct e ≡ direct_in g
   pub privileged : is_privileged e ≡ false
 
--- the same, of an instruction that is in some group
+-- the same, for an instruction in any group except `Other`
 abbrev pub Fits : Group → Effect → Type 0
 Fits group.Other e = Unit {0}
 Fits g e = IsGrouped g e

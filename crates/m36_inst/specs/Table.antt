@@ -5,7 +5,7 @@ use Rattle.std.specs.Prelude.{ℕ, ◌+◌, Bool, true, false, List, [], ◌∷�
 use Rattle.m36_inst.specs.declared.effect.Effect.{Effect}
 use Rattle.m36_inst.specs.declared.effect.Effect.TheVariants as effect
 
--- one instruction; the register is 0 where no digit of its mnemonic names one
+-- one instruction; the register is 0 if no digit of its mnemonic names one
 pub record Entry : Type 0 where
   pub code : ℕ
   pub bit27 : Bool
@@ -13,16 +13,17 @@ pub record Entry : Type 0 where
   pub effect : Effect
   pub reg : ℕ
 
--- an instruction whose bit 27 is off, and one whose bit 27 is on
+-- an instruction with bit 27 off that has no register
 abbrev pub off : ℕ → List ℕ → Effect → List Entry
 off code name effect =
     record { code = code; bit27 = false; name = name; effect = effect; reg = 0 } ∷ []
 
+-- an instruction with bit 27 on that has no register
 abbrev pub on : ℕ → List ℕ → Effect → List Entry
 on code name effect =
     record { code = code; bit27 = true; name = name; effect = effect; reg = 0 } ∷ []
 
--- an instruction for one of eight registers: the stem of the mnemonic, and the register's digit
+-- an instruction for one of eight registers: its mnemonic is the stem and the register's digit
 abbrev pub numbered : ℕ → Bool → List ℕ → ℕ → Effect → Entry
 numbered code bit27 stem reg effect =
     record {
@@ -33,8 +34,8 @@ numbered code bit27 stem reg effect =
       reg = reg;
     }
 
--- eight codes in two runs of four, for registers 0 to 3 and 4 to 7, with one bit 27 for even registers
--- and one for odd ones
+-- Eight instructions, for registers 0 to 7: four codes from `low` on and four from `high` on. Bit
+-- 27 is `even` for even registers and `odd` for odd ones.
 abbrev pub in_fours : ℕ → ℕ → Bool → Bool → List ℕ → Effect → List Entry
 in_fours low high even odd stem effect =
     numbered low even stem 0 effect ∷ numbered (low + 1) odd stem 1 effect
@@ -42,18 +43,19 @@ in_fours low high even odd stem effect =
     ∷ numbered high even stem 4 effect ∷ numbered (high + 1) odd stem 5 effect
     ∷ numbered (high + 2) even stem 6 effect ∷ numbered (high + 3) odd stem 7 effect ∷ []
 
--- the same with bit 27 off
+-- the same with bit 27 off for all
 abbrev pub two_fours : ℕ → ℕ → List ℕ → Effect → List Entry
 two_fours low high stem effect = in_fours low high false false stem effect
 
--- the same with bit 27 off for even registers and on for odd ones, and the other way
+-- the same with bit 27 off for even registers and on for odd ones
 abbrev pub even_off : ℕ → ℕ → List ℕ → Effect → List Entry
 even_off low high stem effect = in_fours low high false true stem effect
 
+-- the same with bit 27 on for even registers and off for odd ones
 abbrev pub even_on : ℕ → ℕ → List ℕ → Effect → List Entry
 even_on low high stem effect = in_fours low high true false stem effect
 
--- eight codes in a row with bit 27 off, for registers 0 to 7
+-- eight consecutive codes with bit 27 off, for registers 0 to 7
 abbrev pub eight : ℕ → List ℕ → Effect → List Entry
 eight code stem effect = two_fours code (code + 4) stem effect
 
@@ -175,8 +177,8 @@ shifts =
     ++ off 0o776 (codes "qlr") effect.Qlr
     ++ off 0o777 (codes "llr") effect.Llr
 
--- Pointer registers. Of an effective pointer and a base pointer of one code, and of the two stores,
--- bit 27 tells which.
+-- Pointer registers. EPP and EPBP share operation codes, and so do SPRI and SPBP of one register;
+-- bit 27 distinguishes them.
 abbrev pub pointer_registers : List Entry
 pointer_registers =
     even_off 0o350 0o370 (codes "epp") effect.EppN
@@ -188,7 +190,7 @@ pointer_registers =
     ++ eight 0o760 (codes "lprp") effect.LprpN
     ++ off 0o213 (codes "epaq") effect.Epaq
 
--- Stores of the control double word, and stores on a condition.
+-- Store of the control double word, and conditional stores.
 abbrev pub special_stores : List Entry
 special_stores =
     off 0o357 (codes "stcd") effect.Stcd

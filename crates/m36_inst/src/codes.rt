@@ -1,4 +1,4 @@
-//! The table by operation code: sixteen blocks of 64 codes, whose rows macros write.
+//! The table by operation code: sixteen blocks of 64 codes. Macros make their rows.
 
 ghost use Rattle.std.specs.Prelude.{◌≡◌, ◌<◌, ◌*◌, true, false, option_map, IfSome};
 ghost use Rattle.m36_inst.specs.Lookup.{row_at, name_at, IsRow};
@@ -6,8 +6,9 @@ ghost use Rattle.m36_inst.specs.Named.{place_of, block, text_of, IsPlain};
 
 use crate::rows::Named;
 
-/// One row, from what its line says: the name with blanks to five characters, the effect, the register, how the operand is
-/// referenced, and perhaps that it may be direct or is privileged. `_` is a code without an instruction.
+/// One row of the table. Its line has the name padded to five characters, the effect, the register,
+/// how the operand is referenced, and `direct` or `privileged` if it is. `_` is a code without an
+/// instruction.
 macro_rules! row {
     (_) => {
         None
@@ -35,7 +36,7 @@ macro_rules! row {
     };
 }
 
-/// The rows of 64 codes, in order.
+/// The rows of 64 codes, in the order of the codes.
 macro_rules! rows {
     ([$($entry:tt)*]) => {
         [$(row!($entry)),*]
@@ -54,7 +55,8 @@ use bit_27::{
 };
 use from_400::{codes_400, codes_500, codes_600, codes_700};
 
-/// The row and the name of an operation code with bit 27; None exactly where the table has none.
+/// The row and the name of the instruction with this operation code and bit 27, or None if there is
+/// no such instruction.
 pub(crate) fn named(code: u16, bit27: bool) -> Option<Named>
     ensures row { option_map (λ n. n.row) result ≡ row_at code bit27 }
     ensures parts { IfSome result (λ n. IsRow n.row) }

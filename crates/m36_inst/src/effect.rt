@@ -1,7 +1,7 @@
 //! What instructions do.
 
-/// What an instruction does, named by its mnemonic. Where eight mnemonics differ only in the digit of a register, they
-/// are one variant with N in place of the digit.
+/// What an instruction does, named by its mnemonic. Eight mnemonics that differ only in the digit
+/// of a register are one variant, with N in place of the digit.
 #[derive(Clone, Copy, PartialEq, Eq, Debug)]
 pub enum Effect {
     // Data movement: load and store.
@@ -216,7 +216,8 @@ pub enum Effect {
     /// Long left rotate.
     Llr,
 
-    // Pointer registers. Of an effective pointer and a base pointer of one code, and of the two stores, bit 27 tells which.
+    // Pointer registers. EPP and EPBP share operation codes, and so do SPRI and SPBP of one
+    // register; bit 27 distinguishes them.
     /// Effective pointer to pointer register.
     EppN,
     /// Effective pointer at base to pointer register.
@@ -234,7 +235,7 @@ pub enum Effect {
     /// Effective pointer to AQ.
     Epaq,
 
-    // Stores of the control double word, and stores on a condition.
+    // Store of the control double word, and conditional stores.
     /// Store control double.
     Stcd,
     /// Store A conditional.

@@ -6,21 +6,21 @@ ghost use Rattle.m36_inst.specs.Instruction.{inst_of, inst_word};
 use m36_word::{Field, Word};
 use std::marker::Model;
 
-/// The fields of an instruction's word.
+/// The fields of an instruction word.
 #[derive(Clone, Copy, PartialEq, Eq)]
 pub struct Inst {
-    /// The address; 18 bits. Where `by_pr` is on, a pointer register's number in its first 3 bits, and a signed offset
-    /// in the other 15.
+    /// The address; 18 bits. If `by_pr` is on, its first 3 bits are the number of a pointer
+    /// register, and the other 15 a signed offset.
     pub y: u32,
-    /// The operation code; 9 bits.
+    /// The operation code without bit 27; 9 bits.
     pub code: u16,
     /// The tag; 6 bits.
     pub tag: u8,
-    /// The tenth bit of the operation code.
+    /// Bit 27, the tenth bit of the operation code.
     pub bit27: bool,
-    /// The interrupt inhibit bit, which nothing here looks at.
+    /// The interrupt inhibit bit, which nothing here uses.
     pub inhibit: bool,
-    /// The address is through a pointer register.
+    /// The address is relative to a pointer register.
     pub by_pr: bool,
 }
 
@@ -38,7 +38,7 @@ impl Model for Inst {
 }
 
 impl Inst {
-    /// The instruction that a word holds.
+    /// Reads the fields of a word.
     #[tactic(auto, using(crate::proofs::Instructions::comes_back))]
     pub fn of_word(w: Word) -> Inst
         ensures value { result ≡ inst_of w }
@@ -55,7 +55,7 @@ impl Inst {
         }
     }
 
-    /// The word that holds the instruction.
+    /// The word with these fields.
     #[tactic(auto, using(crate::proofs::Instructions::comes_back))]
     pub fn to_word(self) -> Word
         ensures word { result ≡ inst_word self }

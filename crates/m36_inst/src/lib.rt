@@ -1,13 +1,16 @@
 //! The instructions of the Honeywell 6180.
 //!
-//! An instruction's word is an address, an operation code with a tenth bit of its own, and a tag. The table says for each
-//! operation code its mnemonic, what it does, and how its operand is referenced.
+//! An instruction word has an address, an operation code of nine bits with bit 27 as its tenth, and
+//! a tag. The table has for each operation code its mnemonic, what it does, and how its operand is
+//! referenced.
 //!
-//! What is proved: words and instructions stand for each other one to one. The row, the name and the code that are
-//! found are exactly those of the table, none where the table has none, and names and codes are one to one. How an
-//! operand is referenced, whether it may be direct and whether an instruction is privileged hang on its effect alone.
+//! Instruction words and instructions correspond one to one. The row, name and code that the calls
+//! return are those of the table, and None if the table has none. Names and codes correspond one to
+//! one. How an operand is referenced, whether it may be direct and whether the instruction is
+//! privileged depend only on its effect.
 //!
-//! Source: Multics Processor Manual AL39, "Machine instruction format", "Machine instructions" and "Operation code map".
+//! Source: Multics Processor Manual AL39, "Machine instruction format", "Machine instructions" and
+//! "Operation code map".
 #![tactic(auto)]
 
 pub mod codes;

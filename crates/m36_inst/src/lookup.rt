@@ -1,4 +1,4 @@
-//! The table by operation code and by name.
+//! Lookups in the table, by operation code and by name.
 
 ghost use Rattle.std.specs.Prelude.{ℕ, ◌≡◌, ◌≢◌, ◌<◌, ◌↔◌, Some, length, option_map, IfSome, IfNone, IsTrue};
 ghost use Rattle.std.specs.List.{position};
@@ -11,8 +11,8 @@ use crate::names::{Coded, names};
 use crate::rows::Row;
 use arrayvec::ArrayString;
 
-/// What the processor has to know of the instruction with this operation code and bit 27; None exactly where there is
-/// none.
+/// The row of the instruction with this operation code and bit 27, or None if there is no such
+/// instruction.
 pub fn row(code: u16, bit27: bool) -> Option<Row>
     ensures value { result ≡ row_at code bit27 }
     ensures parts { IfSome result IsRow }
@@ -23,7 +23,8 @@ pub fn row(code: u16, bit27: bool) -> Option<Row>
     }
 }
 
-/// The name of the instruction with this operation code and bit 27; None exactly where there is none.
+/// The name of the instruction with this operation code and bit 27, or None if there is no such
+/// instruction.
 pub fn name_of(code: u16, bit27: bool) -> Option<ArrayString<8>>
     ensures { option_map (λ s. s.bytes) result ≡ name_at code bit27 }
 {
@@ -33,8 +34,8 @@ pub fn name_of(code: u16, bit27: bool) -> Option<ArrayString<8>>
     }
 }
 
-/// The operation code and bit 27 of the instruction with this name; None exactly where there is none. It takes nine
-/// comparisons at most.
+/// The operation code and bit 27 of the instruction with this name, or None if there is no such
+/// instruction. A binary search: at most nine comparisons.
 #[tactic(auto, using(crate::proofs::NamesInOrder::named_or_not))]
 pub fn by_name(n: &[u8]) -> Option<(u16, bool)>
     ensures { result ≡ code_named n.now }
@@ -52,7 +53,7 @@ pub fn by_name(n: &[u8]) -> Option<(u16, bool)>
     None
 }
 
-// The place of a row whose name has this number.
+// The index of the row whose key is `wanted`, by binary search.
 fn place_of(rows: &[Coded], wanted: u64) -> Option<usize>
     requires { IsRising rows.now }
     ensures inside { IfSome result (λ i. i < length rows.now) }
@@ -76,6 +77,7 @@ fn place_of(rows: &[Coded], wanted: u64) -> Option<usize>
     None
 }
 
+/// A name as a number, by which names are ordered: its first five characters, padded with blanks.
 #[tactic(auto, unfolding(crate::specs::Names::key))]
 fn key(name: &[u8]) -> u64
     ensures { result ≡ key name.now }
@@ -130,7 +132,7 @@ fn has_name(code: u16, bit27: bool, n: &[u8]) -> bool
     }
 }
 
-/// A name without the blanks behind it.
+/// A name without the blanks at its end.
 #[tactic(auto, using(crate::proofs::Texts::texts))]
 fn text(name: &[u8; 5]) -> &[u8]
     ensures { result.now ≡ text_of name.now }

@@ -1,8 +1,9 @@
-//! The names in rising order, each with its operation code.
+//! The names in ascending order, each with its operation code.
 
 ghost use Rattle.m36_inst.specs.Names.{IsIndex};
 
-/// A name, with blanks behind it to five characters, and the operation code and bit 27 of the instruction.
+/// A name, padded with blanks to five characters, and the operation code and bit 27 of its
+/// instruction.
 #[derive(Clone, Copy)]
 pub(crate) struct Coded {
     pub(crate) name: [u8; 5],
@@ -10,7 +11,8 @@ pub(crate) struct Coded {
     pub(crate) bit27: bool,
 }
 
-/// The rows in the order of their names: the name, the operation code, and `on` where bit 27 is on.
+/// The rows in the order of their names. Each line has the name, the operation code, and `on` or
+/// `off` for bit 27.
 macro_rules! coded {
     ($(($name:literal $code:literal $bit27:ident))*) => {
         [$(Coded { name: *$name, code: $code, bit27: coded!(@$bit27) }),*]
@@ -359,7 +361,7 @@ static NAMES: [Coded; 333] = coded![
     (b"tze  " 0o600 off)
 ];
 
-/// All names.
+/// All names, with their codes, in ascending order.
 pub(crate) fn names() -> &'static [Coded; 333]
     ensures { IsIndex result.now }
 {

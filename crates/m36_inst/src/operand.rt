@@ -1,4 +1,4 @@
-//! How operands are referenced.
+//! How instructions reference their operands.
 
 /// What an instruction does with its final address.
 #[derive(Clone, Copy, PartialEq, Eq)]
@@ -23,12 +23,12 @@ pub enum Operand {
     Rw,
     /// Reads a word, then writes its left half.
     Rwl,
-    /// Uses the address alone.
+    /// Uses only the address.
     A,
     /// Transfers to the address.
     T,
     /// Forms no address.
     N,
-    /// Calls the address, perhaps in a lower ring.
+    /// Calls the address; execution may continue in a lower ring.
     Call6,
 }

@@ -1,4 +1,5 @@
--- What a chain claims: the spot of its tally word, or nothing. And runs of one program after another.
+-- The claims of a chain: the spot of its tally word, or none. And runs of one program after
+-- another.
 use Rattle.std.proofs.Common.{ℕ, zero, suc, ◌≡◌, ◌+◌, refl, ap, ◌∙◌, ◌==◌, ◌%◌, Option, Some, None, Bool, true, false, List, [], ◌∷◌, ◌++◌, length, slice_index, Result, Ok, Err, arith}
 use Rattle.m36_desc.specs.Fields.{SdwFields}
 use Rattle.m36_model.specs.Registers.{RegsFields}
@@ -48,7 +49,7 @@ module _ {S : Type 0} (o : Store S) (g : RegsFields) (m : Mid S) where
   unfolding serve
   same_claims q no_write = same_by_sdw q no_write (o.sdw m.store g.dbr q.at.seg)
 
--- a reply that is known, as a whole answer
+-- a known reply, as a whole answer
 pub served_as : {S : Type 0} (t : Served S) (reply : Result Answer Fault) → t.reply ≡ reply → t ≡ record { reply = reply; mid = t.mid }
 served_as t reply e = λ i. record { reply = e i; mid = t.mid }
 

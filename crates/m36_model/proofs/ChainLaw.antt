@@ -13,7 +13,8 @@ use Rattle.m36_model.specs.declared.outcome.Fault.{Fault}
 use Rattle.m36_model.specs.declared.outcome.Halt.{Halt}
 
 module _ {S : Type 0} (o : Store S) (g : RegsFields) (k : ℕ) (s : Stage S) where
-  -- a run of the chain from here on, where k more indirect words may be read after this point, agrees with the turn
+  -- The run of the chain from here on, if k more indirect words may be read after this point,
+  -- agrees with the turn.
   abbrev Agrees : Ran (Result ChainEnd Halt) S → Turn S → Type 0
   Agrees x (Goes b) = (b.count ≡ s.count + 1) × (x ≡ run o g (chain k g b.point) b.mid)
   Agrees x (Closes r) = x ≡ r
@@ -52,7 +53,7 @@ module _ {S : Type 0} (o : Store S) (g : RegsFields) (k : ℕ) (s : Stage S) whe
   agree_tally m (Ok a) = agree_tally_by a m (s.point.tag % 16 == indirect_only)
   agree_tally m (Err f) = refl
 
-  -- where indirect words may still be read
+  -- if more indirect words may be read
   agree_move : nat_lt s.count indirect_words ≡ true → (v : Move) → Agrees (run o g (chain_by (chain k g) g s.point v) s.mid) (turn_by o g s v)
   unfolding run
   agree_move e (Ends last) = refl
@@ -66,7 +67,7 @@ module _ {S : Type 0} (o : Store S) (g : RegsFields) (k : ℕ) (s : Stage S) whe
   unfolding chain turn
   agree e = agree_move e (move_of_point g s.point)
 
-  -- where none may be read the chain closes
+  -- if no more may be read, the chain closes
   abbrev ClosesBy : Ran (Result ChainEnd Halt) S → Turn S → Type 0
   ClosesBy x (Goes b) = ⊥
   ClosesBy x (Closes r) = x ≡ r
@@ -82,7 +83,7 @@ module _ {S : Type 0} (o : Store S) (g : RegsFields) (k : ℕ) (s : Stage S) whe
   unfolding chain turn
   close e = close_move e (move_of_point g s.point)
 
--- one chain from a stage on
+-- the one chain from a stage on
 record IsOneFrom {S : Type 0} (o : Store S) (g : RegsFields) (n : ℕ) (s : Stage S) : Type 0 where
   more : List (Stage S)
   linked : IsChain o g (s ∷ more) (run o g (chain n g s.point) s.mid)

@@ -1,4 +1,4 @@
--- A run sets exactly the marks of the requests that it completes, and records these.
+-- A run sets exactly the marks of the requests that it completes, and records them.
 use Rattle.std.proofs.Common.{ℕ, ◌≡◌, refl, sym, ap, ◌∙◌, ◌==◌, Option, Some, None, List, [], ◌∷◌, ◌++◌, Result, Ok, Err}
 use Rattle.m36_desc.specs.Fields.{SdwFields, DbrFields}
 use Rattle.m36_model.specs.Registers.{RegsFields}
@@ -20,7 +20,7 @@ unfolding references_of
 more_references refs [] ys = refl
 more_references refs (x ∷ xs) ys = more_references (with_reference x.kind x refs) xs ys
 
--- what one request does to the store and to the references
+-- how one request changes the store and the references
 record Does {S : Type 0} (o : Store S) (g : RegsFields) (m : Mid S) (q : Request) (t : Served S) : Type 0 where
   marks : t.mid.store ≡ with_marks_of o g.dbr m.store (completed_by q t.reply)
   references : t.mid.refs ≡ references_of m.refs (completed_by q t.reply)
@@ -53,7 +53,7 @@ module _ {S : Type 0} (o : Store S) (g : RegsFields) (m : Mid S) where
   unfolding serve
   does q = by_sdw q (o.sdw m.store g.dbr q.at.seg)
 
--- and what a run does
+-- how a run changes them
 record DoesAll {A S : Type 0} (o : Store S) (g : RegsFields) (act : Act A) (m : Mid S) : Type 0 where
   marks : (run o g act m).mid.store ≡ with_marks_of o g.dbr m.store (completed o g act m)
   references : (run o g act m).mid.refs ≡ references_of m.refs (completed o g act m)

@@ -1,4 +1,4 @@
--- The worked steps, by computation. `everything` opens each definition that a step computes with.
+-- The worked steps, by computation. `everything` unfolds each definition that a step computes with.
 use Rattle.std.proofs.Common.{refl}
 use Rattle.m36_word.specs.Signed.{signed}
 use Rattle.m36_inst.specs.Lookup.{entry_at}

@@ -1,4 +1,4 @@
--- A list of eight is its eight elements.
+-- A list of eight elements consists of its eight elements.
 use Rattle.std.proofs.Common.{ℕ, suc, ◌≡◌, ◌<◌, ◌≤◌, List, [], ◌∷◌, length, get_or, drop, ap, sym, ◌∙◌, subst, arith}
 use Rattle.std.proofs.Math.Seq.{drop-cons}
 use Rattle.std.proofs.Math.ListN.{drop_of_length-le}
@@ -23,7 +23,7 @@ eight xs d h =
     let at7 : 7 < length xs = omega arith in
     next xs _ d 0 at0 (next xs _ d 1 at1 (next xs _ d 2 at2 (next xs _ d 3 at3 (next xs _ d 4 at4 (next xs _ d 5 at5 (next xs _ d 6 at6 (next xs _ d 7 at7 (last xs h))))))))
 
--- what holds of each list of eight elements holds of a list of that length
+-- what holds of each list of eight elements holds of each list of length 8
 pub by_eight : {A : Type 0} (P : List A → Type 0) (d : A) → ((p0 p1 p2 p3 p4 p5 p6 p7 : A) → P (p0 ∷ (p1 ∷ (p2 ∷ (p3 ∷ (p4 ∷ (p5 ∷ (p6 ∷ (p7 ∷ [])))))))))
     → (xs : List A) → length xs ≡ 8 → P xs
 by_eight P d each xs h = subst P (sym (eight xs d h)) (each _ _ _ _ _ _ _ _)

@@ -1,4 +1,4 @@
--- Indicators that are stored and loaded back.
+-- Indicators that are stored are loaded back.
 use Rattle.std.proofs.Common.{◌≡◌, Bool, true, false, refl}
 use Rattle.m36_model.specs.Loads.{indicators_of}
 use Rattle.m36_model.specs.Stores.{indicators_half, IndicatorsComeBack}

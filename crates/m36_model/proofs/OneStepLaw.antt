@@ -1,4 +1,4 @@
--- A case of a step is the step: of no other record and no other state is there a case.
+-- A case of a step is the step: no other record and no other state is a case.
 use Rattle.std.proofs.Common.{ℕ, ◌≡◌, refl, sym, ap, subst, ◌∙◌, Option, Some, None, Bool, true, false, not, ◌&&◌, List, [], ◌∷◌, ◌++◌, map, length, append-nil, slice_index, ◌⊎◌, inl, inr, Result, Ok, Err, arith}
 use Rattle.m36_inst.specs.Instruction.{inst_of}
 use Rattle.m36_inst.specs.Operands.{operand_of, forms_address, is_privileged}
@@ -28,12 +28,13 @@ use Rattle.m36_model.specs.declared.record.StepRecord.{StepRecord}
 use Rattle.m36_model.proofs.StepLaw.{core_quiet}
 use Rattle.m36_model.proofs.ChainClaims.{run_then, same_claims, PostOf, chain_claims}
 
--- no words are put, whatever part of a word
+-- no words are put, whatever the part
 parts_alike : (a b : Part) (first : ℕ) (words : List ℕ) → 0 ≡ length words → puts_from a first words ≡ puts_from b first words
 parts_alike a b first [] e = refl
 parts_alike a b first (w ∷ words) e = absurd (omega arith)
 
--- An operation with an operand that is there gives the effect, and puts its words at the spots that were claimed for them.
+-- An operation whose operand was referenced performs the effect, and puts its words at the spots
+-- that were claimed for them.
 module _ {S : Type 0} (o : Store S) (g : RegsFields) (e : Effect) (n : ℕ) (c : ChainEnd) (m : Mid S) (u : Reached S) (x : EffectFields) where
   pub record Performs (r : Ran (Result Performed Halt) S) : Type 0 where
     pub first : ℕ
@@ -130,7 +131,7 @@ module _ {S : Type 0} (o : Store S) (g : RegsFields) (e : Effect) (n : ℕ) (c :
   performs p h b = performs_on c.last.direct p h b
 
 module _ {S : Type 0} (o : Store S) (quiet : (x : S) → o.put x [] ≡ x) (s : State S) (e : StepRecord) (t : State S) where
-  -- a run of the step's program tells the record and leaves the state
+  -- a run of the step's program gives the record and the state
   abbrev Tells : Ran Ending S → Type 0
   Tells x = (e ≡ step_record s.regs x) × (t ≡ stepped o x)
 

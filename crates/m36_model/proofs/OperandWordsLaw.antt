@@ -1,4 +1,4 @@
--- The words of an operand are those at the places of word numbers that follow one another.
+-- The words of an operand are those at consecutive word numbers.
 use Rattle.std.proofs.Common.{ℕ, zero, suc, ◌≡◌, ◌+◌, ◌<◌, refl, sym, ap, subst, ◌∙◌, ◌==◌, Option, Some, None, Bool, true, false, List, [], ◌∷◌, map, length, slice_get, if◌then◌else◌, Result, Ok, Err, arith}
 use Rattle.m36_desc.specs.Fields.{SdwFields, DbrFields}
 use Rattle.m36_model.specs.Registers.{RegsFields}
@@ -23,7 +23,7 @@ is_one word true (Ok p) (Err x) spots e = cc
 is_one word true (Ok p) (Ok ps) spots e =
     record { spot = p; more = ps; inside = refl; here_is = refl; rest_is = refl; all = cc }
 
--- what is known of the spots of n words from a word on
+-- the spots of n words from a word on
 record AreSpots {S : Type 0} (o : Store S) (s : S) (dbr : DbrFields) (d : SdwFields) (seg word n : ℕ) (spots : List Spot) : Type 0 where
   count : length spots ≡ n
   inside : (k : ℕ) → k < n → within d (word + k) ≡ true
@@ -62,7 +62,7 @@ module _ {S : Type 0} (o : Store S) (s : S) (dbr : DbrFields) (d : SdwFields) (s
         each = λ k spot h. each_more word u.spot u.more u.here_is v.each k spot (subst (λ (xs : List Spot). slice_get xs k ≡ Some spot) u.all h);
       }
 
--- what is known of an answered request
+-- an answered request
 pub record IsAnswered {S : Type 0} (o : Store S) (g : RegsFields) (m : Mid S) (q : Request) (a : Answer) (after : Mid S) : Type 0 where
   pub spots : List Spot
   pub found : o.sdw m.store g.dbr q.at.seg ≡ Ok a.sdw
@@ -115,7 +115,7 @@ module _ {S : Type 0} (o : Store S) (s : S) (dbr : DbrFields) (d : SdwFields) (q
   spots_by true e h = cc
   spots_by false e h = h
 
-  -- every word is placed, but for the targets of transfers and calls
+  -- every word has a place, except for targets of transfers and calls
   placed_words : is_target q.kind ≡ false → places o s dbr d q ≡ Ok spots → spots_of o s dbr d q.at.seg q.at.word q.count ≡ Ok spots
   unfolding places
   placed_words e h = spots_by (is_target q.kind) e h

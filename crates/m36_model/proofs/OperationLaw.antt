@@ -23,7 +23,7 @@ use Rattle.m36_model.specs.declared.outcome.Halt.{Halt}
 use Rattle.m36_model.specs.declared.outcome.Halt.TheVariants as halt
 use Rattle.m36_model.proofs.ChainClaims.{same_claims, served_as}
 
--- How an operation ends: it is refused, or performed with an operand that is there.
+-- How an operation ends: it is refused, or is performed with its operand.
 pub data OperationCase {S : Type 0} (g : RegsFields) (e : Effect) (n : ℕ) (c : ChainEnd) (P : Reached S → Type 0) (m : Mid S) (r : Ran (Result Performed Halt) S) : Type 0 where
   refused : (h : Halt) → r.value ≡ Err h → OperationCase g e n c P m r
   performed_with : (u : Reached S) (first : ℕ) (x : EffectFields) → P u → exec e n (tallied g c) c.last u.operand ≡ Ok x → u.mid.claims ≡ m.claims ++ u.spots → length u.spots ≡ length x.put → (u.spots ≡ []) ⊎ (first ≡ length m.claims) → r ≡ record { value = Ok (record { regs = x.regs; puts = c.pending ++ puts_from u.part first x.put; overflow = x.overflow }); mid = u.mid } → OperationCase g e n c P m r
@@ -125,7 +125,7 @@ module _ {S : Type 0} (o : Store S) (g : RegsFields) (e : Effect) (n : ℕ) (c :
   kind_case kind.Call6 b =
       references (IsOperandOf o g e c kind.Call6 m) (request_at Call c 1) (got_ring c.last.at.ring) (λ x. cc) (λ u r. r) b
 
--- what a direct operand serves writes nothing
+-- a direct operand writes nothing
 one_word_reads : (k : Operand) → is_one_word k ≡ true → words_written k ≡ 0
 one_word_reads kind.R h = refl
 one_word_reads kind.W h = cc

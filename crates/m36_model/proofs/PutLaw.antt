@@ -1,4 +1,5 @@
--- Each effect puts as many words as its operand kind writes, and each put reaches the spot that was claimed for it.
+-- Each effect gives as many words as its operand kind writes, and each put reaches the spot that
+-- was claimed for it.
 use Rattle.std.proofs.Common.{ℕ, ◌≡◌, ◌+◌, ◌<◌, refl, ap, ◌∙◌, ◌==◌, Option, Some, None, Bool, true, false, List, [], ◌∷◌, ◌++◌, map, length, slice_get, append_assoc, length-append, ◌⊎◌, inl, inr, Result, Ok, Err, arith}
 use Rattle.m36_word.specs.Field.{field}
 use Rattle.m36_inst.specs.Operands.{operand_of}
@@ -20,7 +21,7 @@ use Rattle.m36_model.specs.Step.{puts_from}
 use Rattle.m36_model.specs.StepCases.{at_spots}
 use Rattle.m36_model.proofs.Computed.{everything}
 
--- what an effect puts; and where it is refused, its fault is none of those from 16 on
+-- the words that an effect gives; and if it is refused, its fault has a number below 16
 abbrev pub PutsSo : ℕ → Result EffectFields ℕ → Type 0
 PutsSo n (Ok x) = length x.put ≡ n
 PutsSo n (Err number) = number < 16
@@ -83,7 +84,7 @@ changes_of_more claims (x ∷ xs) ys = by_spot (slice_get claims x.claim) (chang
     by_spot None rest = rest
     by_spot (Some spot) rest = ap (λ (more : List Change). put_at x.part spot x.value ∷ more) rest
 
--- what a chain has claimed: the spot of its tally word, or nothing
+-- the claims of a chain: the spot of its tally word, or none
 pub data IsTallied (c : ChainEnd) (claims : List Spot) : Type 0 where
   no_tally : c.pending ≡ [] → claims ≡ [] → IsTallied c claims
   tallied_at : (spot : Spot) (v : ℕ) → c.pending ≡ record { claim = 0; part = Whole; value = v } ∷ [] → claims ≡ spot ∷ [] → IsTallied c claims

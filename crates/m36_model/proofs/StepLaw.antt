@@ -25,7 +25,7 @@ use Rattle.m36_model.specs.declared.outcome.Stop.TheVariants as stop
 use Rattle.m36_model.proofs.ChainClaims.{run_then, same_claims, served_as, PostOf, chain_claims}
 use Rattle.m36_model.proofs.OperationLaw.{OperationCase, refused, performed_with, operation_case}
 
--- an equation of tests, taken apart
+-- the parts of a conjunction
 and_left : (a b : Bool) → (a && b) ≡ true → a ≡ true
 and_left true b e = refl
 and_left false b e = e

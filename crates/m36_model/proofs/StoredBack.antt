@@ -1,4 +1,5 @@
--- What is stored is loaded: halves, numbers in two words, tally words, and the registers that fill pairs.
+-- What is stored is loaded back: halves, numbers in two words, tally words, and the registers that
+-- fill pairs.
 use Rattle.std.proofs.Common.{ℕ, ◌≡◌, ◌+◌, ◌*◌, ◌/◌, ◌%◌, ◌^◌, ◌<◌, List, [], ◌∷◌, map, length, slice_index, All, ap, sym, ◌∙◌, arith}
 use Rattle.m36_word.specs.Field.{field}
 use Rattle.m36_desc.specs.Fields.{DbrFields, PtrFields, ItsFields}
@@ -46,7 +47,7 @@ count_back a t d in_t in_d = omega (arith, in_t, in_d)
 delta_back : (a t d : ℕ) → d < 2 ^ 6 → field (a * 2 ^ 18 + t * 2 ^ 6 + d) 30 6 ≡ d
 delta_back a t d in_d = omega (arith, in_d)
 
--- ---- the descriptor segment base register, and the place behind an instruction
+-- ---- the descriptor segment base register, and the return pointer
 
 dbr_loaded : (g h : RegsFields) (o : OperandFields) → IsDbr g.dbr → HasWritten o (store_dbr g) → load_dbr o h ≡ completes (record h { dbr = g.dbr })
 unfolding store_dbr load_dbr

@@ -1,7 +1,7 @@
 -- Arithmetic on numbers of k bits, which are whole numbers below 2^k. `half` is 2^(k-1): 2^17 for
--- an index register, 2^35 for a word, 2^71 for a pair. Numbers from half on count as negative.
--- Multics Processor Manual AL39, "Number representation" and the fixed point instructions; carry
--- and overflow as written here are this project's choice.
+-- an index register, 2^35 for a word, 2^71 for a pair. In two's complement, numbers of `half` or
+-- more are negative. Multics Processor Manual AL39, "Number representation" and the fixed point
+-- instructions; carry and overflow as defined here are this project's choice.
 use Rattle.std.specs.Prelude.{ℕ, ◌+◌, ◌-◌, ◌*◌, ◌%◌, ◌^◌, Bool, false, not, ◌&&◌, ◌||◌, ◌==◌}
 use Rattle.std.specs.Prelude.{nat_le, ℤ, pos, ◌+ℤ◌, ◌-ℤ◌, ◌*ℤ◌, int_lt, int_le, int_div, int_rem}
 use Rattle.std.specs.Prelude.{unsigned_abs}
@@ -9,7 +9,7 @@ use Rattle.std.specs.Int.{int_rem_euclid}
 use Rattle.m36_word.specs.Bits.{of_bit}
 use Rattle.m36_word.specs.Signed.{signed}
 
--- what an operation gives: a number, whether it is 0, whether its first bit is on, carry and
+-- the result of an operation: a number, whether it is 0, whether its first bit is on, carry, and
 -- overflow
 pub record SumFields : Type 0 where
   pub value : ℕ
@@ -22,7 +22,7 @@ pub record SumFields : Type 0 where
 abbrev pub is_negative : ℕ → ℕ → Bool
 is_negative half v = nat_le half v
 
--- a number with zero and negative as it has them, and with this carry and this overflow
+-- a number as a result, with this carry and this overflow
 abbrev pub result_of : ℕ → ℕ → Bool → Bool → SumFields
 result_of half v carry overflow =
     record {
@@ -37,12 +37,12 @@ result_of half v carry overflow =
 abbrev pub in_range : ℕ → ℤ → Bool
 in_range half z = int_le (pos 0 -ℤ pos half) z && int_lt z (pos half)
 
--- a whole number modulo another
+-- a signed number modulo n, from 0 to n - 1
 unfoldable pub modulo : ℤ → ℕ → ℕ
 modulo z n = unsigned_abs (int_rem_euclid z (pos n))
 
--- A sum with a carry in: the true result modulo 2^k. Carry is on exactly where the unsigned sum is
--- at least 2^k, overflow exactly where the signed true result is out of range.
+-- A sum with a carry in: the true sum modulo 2^k. Carry is on if the unsigned sum is at least 2^k,
+-- and overflow if the signed sum is out of range.
 unfoldable pub sum_value : ℕ → ℕ → ℕ → Bool → ℕ
 sum_value half x y carry_in = (x + y + of_bit carry_in) % (2 * half)
 
@@ -58,8 +58,9 @@ sum half x y carry_in =
     result_of half (sum_value half x y carry_in) (sum_carry half x y carry_in)
     (sum_overflow half x y carry_in)
 
--- A difference with a borrow: the true result modulo 2^k. Carry is on exactly where the unsigned
--- minuend is at least the subtrahend plus the borrow.
+-- A difference with a borrow: the true difference modulo 2^k. Carry is on if the unsigned minuend
+-- is at least the subtrahend plus the borrow, and overflow if the signed difference is out of
+-- range.
 unfoldable pub difference_value : ℕ → ℕ → ℕ → Bool → ℕ
 difference_value half x y borrow = (x + 2 * half - (y + of_bit borrow)) % (2 * half)
 
@@ -75,11 +76,11 @@ difference half x y borrow =
     result_of half (difference_value half x y borrow) (difference_carry half x y borrow)
     (difference_overflow half x y borrow)
 
--- a negative: the difference of 0 and the number, which overflows for the least number alone
+-- the negative of a number: 0 minus it; it overflows only for the least number
 unfoldable pub negation : ℕ → ℕ → SumFields
 negation half x = difference half 0 x false
 
--- What a comparison tells: zero where both are equal, negative where the first is less as a signed
+-- The result of a comparison: zero if both are equal, negative if the first is less as a signed
 -- number, carry as for their difference.
 pub record ComparisonFields : Type 0 where
   pub zero : Bool
@@ -93,11 +94,11 @@ unfoldable pub comparison : ℕ → ℕ → ℕ → ComparisonFields
 comparison half x y =
     record { zero = x == y; negative = is_less half x y; carry = difference_carry half x y false }
 
--- the product of two words as a number of 72 bits
+-- the signed product of two words, as a number of 72 bits
 unfoldable pub product : ℕ → ℕ → ℕ
 product x y = modulo (signed (2 ^ 35) x *ℤ signed (2 ^ 35) y) (2 ^ 72)
 
--- Division of words: the quotient is cut toward zero, and the remainder has the sign of the
+-- The signed quotient of words is truncated toward zero; the remainder has the sign of the
 -- dividend.
 unfoldable pub quotient : ℕ → ℕ → ℕ
 quotient x y = modulo (int_div (signed (2 ^ 35) x) (signed (2 ^ 35) y)) (2 ^ 36)
@@ -105,7 +106,7 @@ quotient x y = modulo (int_div (signed (2 ^ 35) x) (signed (2 ^ 35) y)) (2 ^ 36)
 unfoldable pub remainder : ℕ → ℕ → ℕ
 remainder x y = modulo (int_rem (signed (2 ^ 35) x) (signed (2 ^ 35) y)) (2 ^ 36)
 
--- A division is refused exactly where the divisor is 0, or where the quotient, -2^35 over -1, is
--- out of range (this project's choice).
+-- A division is refused if the divisor is 0, or if the quotient is out of range, which is only that
+-- of -2^35 by -1 (this project's choice).
 unfoldable pub is_divide_check : ℕ → ℕ → Bool
 is_divide_check x y = (y == 0) || ((x == 2 ^ 35) && (y == 2 ^ 36 - 1))

@@ -1,4 +1,4 @@
--- The six conditions of the audit, each by the places that break it, and what the audit finds.
+-- The six conditions of the audit, each by what breaks it, and the findings of the audit.
 use Rattle.std.specs.Prelude.{◌≡◌, ◌≢◌, ℕ, ◌+◌, ◌<◌, ◌≤◌, ◌⊎◌, Bool, true, false, ◌&&◌}
 use Rattle.std.specs.Prelude.{◌==◌, List, [], ◌∷◌, ◌++◌, length, Option, Some, None, Result, Ok}
 use Rattle.std.specs.Prelude.{Err}
@@ -10,19 +10,19 @@ use Rattle.m36_model.specs.Place.{core_sdw, ring_stack}
 use Rattle.m36_model.specs.Core.{core_store}
 use Rattle.m36_model.specs.declared.outcome.Refusal.{Refusal}
 
--- a core word that holds a half of a descriptor in bounds
+-- the core word at an address is one of the two words of a descriptor that is in bounds
 pub record IsSdwWord (core : List ℕ) (dbr : DbrFields) (seg a : ℕ) : Type 0 where
   pub even : ℕ
   pub found : sdw_place core dbr seg ≡ Ok even
   pub half : (a ≡ even) ⊎ (a ≡ wrapped (even + 1))
 
--- a PTW of a paged descriptor segment by which a descriptor in bounds is looked for
+-- the address is that of the PTW of a paged descriptor segment for a descriptor that is in bounds
 pub record IsDirectoryWord (dbr : DbrFields) (seg a : ℕ) : Type 0 where
   pub bounds : in_bounds dbr seg ≡ true
   pub paged : dbr.unpaged ≡ false
   pub found : a ≡ directory_at dbr seg
 
--- a PTW of a live paged segment for a page that begins within its bound
+-- the address is that of the PTW of a live paged segment for a page that begins within its bound
 pub record IsPageWord (core : List ℕ) (dbr : DbrFields) (seg page a : ℕ) : Type 0 where
   pub sdw : SdwFields
   pub live : core_sdw core dbr seg ≡ Ok sdw
@@ -30,8 +30,8 @@ pub record IsPageWord (core : List ℕ) (dbr : DbrFields) (seg page a : ℕ) : T
   pub begins : page ≤ last_page sdw
   pub found : a ≡ page_at sdw page
 
--- the descriptors, the page table of the descriptor segment, and the page table of each live paged
--- segment
+-- the tables: the descriptors, the page table of the descriptor segment, and the page table of each
+-- live paged segment
 pub data Table : Type 0 where
   Sdws : Table
   Directory : Table
@@ -43,19 +43,18 @@ IsOf core dbr Sdws a = (seg : ℕ) × IsSdwWord core dbr seg a
 IsOf core dbr Directory a = (seg : ℕ) × IsDirectoryWord dbr seg a
 IsOf core dbr (Pages seg) a = (page : ℕ) × IsPageWord core dbr seg page a
 
--- a word of a segment that lies at an address in core
+-- the core word at an address is word w of a segment
 abbrev pub IsSegmentWord : List ℕ → DbrFields → ℕ → ℕ → ℕ → Type 0
 IsSegmentWord core dbr seg w a = place core_store core dbr seg w ≡ Ok (Core_word a)
 
 -- First condition: each live segment has its ring brackets in order. A segment breaks it. This
--- condition, the fifth and the sixth are on the descriptors of segments alone, of a core or of a
--- flat memory.
+-- condition, the fifth and the sixth depend only on descriptors; those of core or of a flat memory.
 pub record IsOutOfOrder (sdws : ℕ → Result SdwFields Refusal) (seg : ℕ) : Type 0 where
   pub sdw : SdwFields
   pub live : sdws seg ≡ Ok sdw
   pub out : in_order sdw ≡ false
 
--- a core word, of so many, is a word of two tables, by what is a word of each
+-- a core word below `size` is a word of two tables, where Of says what the words of a table are
 pub record InTwo (Of : Table → ℕ → Type 0) (size a : ℕ) : Type 0 where
   pub inside : a < size
   pub table : Table
@@ -68,7 +67,8 @@ pub record InTwo (Of : Table → ℕ → Type 0) (size a : ℕ) : Type 0 where
 abbrev pub IsInTwoTables : List ℕ → DbrFields → ℕ → Type 0
 IsInTwoTables core dbr = InTwo (IsOf core dbr) (length core)
 
--- Third condition: no word of a segment lies on a table word. A core word breaks it.
+-- Third condition: no core word is both a table word and a word of a segment. A core word breaks
+-- it.
 pub record IsTableAndSegment (core : List ℕ) (dbr : DbrFields) (a : ℕ) : Type 0 where
   pub table : Table
   pub of : IsOf core dbr table a
@@ -76,7 +76,7 @@ pub record IsTableAndSegment (core : List ℕ) (dbr : DbrFields) (a : ℕ) : Typ
   pub w : ℕ
   pub word : IsSegmentWord core dbr seg w a
 
--- Fourth condition: no two words of segments lie on one core word. A core word breaks it.
+-- Fourth condition: no core word is two words of segments. A core word breaks it.
 pub record IsInTwoSegments (core : List ℕ) (dbr : DbrFields) (a : ℕ) : Type 0 where
   pub seg : ℕ
   pub w : ℕ
@@ -86,41 +86,41 @@ pub record IsInTwoSegments (core : List ℕ) (dbr : DbrFields) (a : ℕ) : Type 
   pub other_word : IsSegmentWord core dbr other_seg other_w a
   pub differ : (seg ≢ other_seg) ⊎ (w ≢ other_w)
 
--- the second, the third and the fourth condition: table words and words of segments are apart
+-- the second, third and fourth condition: table words and words of segments are separate
 pub record AreApart (core : List ℕ) (dbr : DbrFields) : Type 0 where
   pub tables : (a : ℕ) → IsInTwoTables core dbr a → ⊥
   pub segments : (a : ℕ) → IsTableAndSegment core dbr a → ⊥
   pub words : (a : ℕ) → IsInTwoSegments core dbr a → ⊥
 
--- a live segment that rings outside its read bracket may call
+-- a live segment that rings above R2 may call
 pub record IsCallable (sdws : ℕ → Result SdwFields Refusal) (seg : ℕ) (sdw : SdwFields)
     : Type 0 where
   pub live : sdws seg ≡ Ok sdw
   pub executable : sdw.executable ≡ true
   pub outer : sdw.r2 < sdw.r3
 
--- Fifth condition: each live segment with E on and R3 greater than R2 is a gate. A
--- segment breaks it.
+-- Fifth condition: each live segment with E on and R3 greater than R2 is a gate. A segment breaks
+-- it.
 pub record IsNoGate (sdws : ℕ → Result SdwFields Refusal) (seg : ℕ) : Type 0 where
   pub sdw : SdwFields
   pub callable : IsCallable sdws seg sdw
   pub open_everywhere : sdw.no_gate ≡ true
 
--- the segment is live with R and W on, and its first two brackets are this ring
+-- the segment is live, R and W are on, and R1 and R2 are this ring
 abbrev pub is_stack_of : ℕ → Result SdwFields Refusal → Bool
 is_stack_of ring (Ok d) = (d.readable && d.writable) && (d.r1 == ring && d.r2 == ring)
 is_stack_of ring (Err e) = false
 
--- Sixth condition: each live segment with E on and R3 greater than R2 has a stack in the ring that
--- a call enters. A segment breaks it.
+-- Sixth condition: for each live segment with E on and R3 greater than R2, the ring that a call
+-- enters has a stack. A segment breaks it.
 pub record HasNoStack (dbr : DbrFields) (sdws : ℕ → Result SdwFields Refusal) (seg : ℕ)
     : Type 0 where
   pub sdw : SdwFields
   pub callable : IsCallable sdws seg sdw
   pub missing : is_stack_of sdw.r2 (sdws (ring_stack dbr sdw.r2)) ≡ false
 
--- What the fifth and the sixth condition say of descriptors, in plain terms: a segment that rings
--- outside its read bracket may call is a gate, and the ring that a call enters has a stack.
+-- The fifth and sixth condition, stated for descriptors: a segment that rings above R2 may call is
+-- a gate, and the ring that a call enters has a stack.
 pub record IsGuarded (dbr : DbrFields) (sdws : ℕ → Result SdwFields Refusal) : Type 0 where
   pub gates :
       (seg : ℕ) (d : SdwFields) → sdws seg ≡ Ok d → d.executable ≡ true → d.r2 < d.r3
@@ -138,7 +138,7 @@ pub record IsAudited (core : List ℕ) (dbr : DbrFields) : Type 0 where
   pub fifth : (seg : ℕ) → IsNoGate (core_sdw core dbr) seg → ⊥
   pub sixth : (seg : ℕ) → HasNoStack dbr (core_sdw core dbr) seg → ⊥
 
--- what is found of one condition: nothing where it holds, and else the least place that breaks it
+-- the finding of one condition: none if it holds, and otherwise the least place that breaks it
 abbrev pub Finds : (ℕ → Type 0) → Option ℕ → Type 0
 Finds Breaks None = (p : ℕ) → Breaks p → ⊥
 Finds Breaks (Some p) = Breaks p × ((q : ℕ) → Breaks q → p ≤ q)
@@ -148,7 +148,7 @@ abbrev pub noted : ℕ → Option ℕ → List (ℕ × ℕ)
 noted condition None = []
 noted condition (Some p) = (condition, p) ∷ []
 
--- the findings of an audit: one for each condition that fails, in order
+-- the findings of an audit: one for each condition that fails, in the order of the conditions
 pub record AreFindings (core : List ℕ) (dbr : DbrFields) (findings : List (ℕ × ℕ)) : Type 0 where
   pub first : Option ℕ
   pub finds_first : Finds (IsOutOfOrder (core_sdw core dbr)) first

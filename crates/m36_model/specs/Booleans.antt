@@ -4,22 +4,23 @@ use Rattle.std.specs.Prelude.{ℕ, zero, suc, ◌+◌, ◌*◌, ◌/◌, ◌%◌
 use Rattle.std.specs.Prelude.{◌||◌, ◌==◌, List, [], ◌∷◌, length}
 use Rattle.m36_word.specs.Bits.{of_bit}
 
--- the bits of a number of k bits, the first one first
+-- the bits of a number of k bits, the most significant first
 unfoldable pub bits_of : ℕ → ℕ → List Bool
 bits_of zero v = []
 bits_of (suc k) v = (v / 2 ^ k % 2 == 1) ∷ bits_of k v
 
--- the number that bits write out
+-- the number with these bits
 unfoldable pub number_from : List Bool → ℕ
 number_from [] = 0
 number_from (b ∷ bits) = of_bit b * 2 ^ length bits + number_from bits
 
--- one operation on each pair of bits
+-- an operation on each pair of bits
 unfoldable pub each_bit : (Bool → Bool → Bool) → List Bool → List Bool → List Bool
 each_bit f [] bits = []
 each_bit f (a ∷ more) [] = []
 each_bit f (a ∷ more) (b ∷ bits) = f a b ∷ each_bit f more bits
 
+-- an operation on each pair of bits of two numbers of k bits
 unfoldable pub bitwise : (Bool → Bool → Bool) → ℕ → ℕ → ℕ → ℕ
 bitwise f k x y = number_from (each_bit f (bits_of k x) (bits_of k y))
 
@@ -36,7 +37,7 @@ xor_bit false b = b
 abbrev pub and_not_bit : Bool → Bool → Bool
 and_not_bit a b = a && not b
 
--- and, or, exclusive or, and "the first and not the second" of numbers of k bits
+-- AND, OR, EXCLUSIVE OR, and AND NOT ("the first and not the second") of numbers of k bits
 unfoldable pub and_of : ℕ → ℕ → ℕ → ℕ
 and_of k x y = bitwise and_bit k x y
 

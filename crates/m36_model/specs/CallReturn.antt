@@ -11,24 +11,24 @@ use Rattle.m36_model.specs.Place.{ring_stack}
 use Rattle.m36_model.specs.Pointers.{with_pr, pointer}
 use Rattle.m36_model.specs.Results.{OperandFields, EffectFields, leaves}
 
--- PR7 after CALL6 is the base of a stack in the new ring: where the ring changes, the stack that
--- the DBR gives to it, and where it does not, the segment of PR6.
+-- PR7 after CALL6 is the base of a stack in the new ring. If the ring changes, this is the stack of
+-- the new ring by the DBR, and otherwise the segment of PR6.
 abbrev pub stack_segment : RegsFields → ℕ → ℕ
 stack_segment g ring = if ring == g.ppr.prr then (ptr g 6).seg else ring_stack g.dbr ring
 
 abbrev pub stack_pointer : RegsFields → ℕ → PtrFields
 stack_pointer g ring = pointer (stack_segment g ring) ring 0
 
--- CALL6: control goes to the final address in the new ring, which is the operand's; access has
--- found it as the lesser of TRR and R2 of the target.
+-- CALL6: transfers to the final address in the new ring, which is given as the operand: the lesser
+-- of TRR and R2 of the target.
 abbrev pub in_ring : FinalFields → ℕ → RegsFields → RegsFields
 in_ring f ring g = record g { ppr = record { psr = f.at.seg; prr = ring; ic = f.at.word } }
 
 unfoldable pub call : FinalFields → ℕ → RegsFields → Result EffectFields ℕ
 call f ring g = leaves (in_ring f ring (with_pr 7 (stack_pointer g ring) g))
 
--- RTCD: a return goes to the ring after its pair. No pointer register keeps another ring. The target
--- is examined by the next fetch (this project's choice).
+-- RTCD: returns to the ring after its pair (`pair_ring`). All pointer registers get this ring. The
+-- target is examined by the next fetch (this project's choice).
 abbrev pub return_ring : ItsFields → FinalFields → OperandFields → ℕ
 return_ring its f o = pair_ring f.at.ring o.ring its.ring
 

@@ -1,4 +1,4 @@
--- The address chain: from the point of the instruction through its indirect words to the final
+-- The address chain: from the point of the instruction, through its indirect words, to the final
 -- address. Multics Processor Manual AL39, "Effective address formation", "Indirect word formats"
 -- (ITS and ITP pairs).
 use Rattle.std.specs.Prelude.{ℕ, zero, suc, ◌+◌, ◌%◌, ◌^◌, max, Bool, true, false, ◌==◌}
@@ -19,8 +19,8 @@ use Rattle.m36_model.specs.Modification.{Point, Move, Ends, Fails, Reads, Counts
 use Rattle.m36_model.specs.Modification.{ptr, pair_ring, fault_at, at_point, final_at}
 use Rattle.m36_model.specs.Tally.{Counted, tally, tally_address, indirect_only}
 
--- What a chain gives: the final address, the tally word that is still to be written, and the tally
--- runout indicator where a tag has set it.
+-- The result of a chain: the final address, the tally word that is still to be written, and the new
+-- tally runout indicator if a tag sets it.
 pub record ChainEnd : Type 0 where
   pub last : FinalFields
   pub pending : List Put
@@ -30,19 +30,19 @@ pub record ChainEnd : Type 0 where
 abbrev pub Formation : Type 0
 Formation = Act (Result ChainEnd Halt)
 
--- a chain that ends without a tally word
+-- the result of a chain without a tally word
 abbrev pub without_tally : FinalFields → ChainEnd
 without_tally last = record { last = last; pending = []; runout = None }
 
 abbrev pub ends_plain : FinalFields → Formation
 ends_plain last = done (Ok (without_tally last))
 
--- an indirect word is referenced in the segment and the ring of its point
+-- the reference to an indirect word, in the segment and the ring of its point
 abbrev pub indirect : RequestKind → Point → ℕ → Request
 indirect kind p word = record { kind = kind; at = at_point p word; count = 1; pending = [] }
 
--- What an indirect word is: at an even word number tag 43 makes it the even word of an ITS pair and
--- tag 41 that of an ITP pair; any other is a plain indirect word.
+-- The kinds of indirect words. At an even word number, tag 43 makes a word the even word of an ITS
+-- pair, and tag 41 that of an ITP pair. Every other word is a plain indirect word.
 pub data Found : Type 0 where
   Its : Found
   Itp : Found
@@ -51,15 +51,15 @@ pub data Found : Type 0 where
 abbrev pub found_by_tag : ℕ → Found
 found_by_tag tag = if tag == its_tag then Its else if tag == itp_tag then Itp else Plain
 
--- the tag of an indirect word, plain or even
+-- the tag of a plain indirect word, or of the even word of a pair
 abbrev pub indirect_tag : ℕ → ℕ
 indirect_tag w = tag_of w
 
 unfoldable pub found : ℕ → ℕ → Found
 found word w = if word % 2 == 0 then found_by_tag (indirect_tag w) else Plain
 
--- A plain indirect word gives y and the tag; segment, ring and bit number stay (the bit number:
--- this project's choice).
+-- The point after a plain indirect word: y and the tag are those of the word. Segment, ring and bit
+-- number do not change (the bit number: this project's choice).
 abbrev pub plain_point : Point → ℕ → Option ℕ → ℕ → ℕ → Point
 plain_point p word held w r1 =
     record p {
@@ -69,8 +69,8 @@ plain_point p word held w r1 =
       carrier = record { seg = p.seg; word = word; ring = max p.ring r1 };
     }
 
--- An ITS pair gives the segment, y, the bit number and the tag that go on, and names a ring; the ring
--- that goes on is the one after a pair. Its odd word carries the tag, in that ring.
+-- The point after an ITS pair: segment, y, bit number and tag are those of the pair, and the ring
+-- is `pair_ring`. The odd word carries the tag.
 abbrev pub its_point : Point → ℕ → Option ℕ → ℕ → ℕ → ℕ → Point
 its_point p word held even odd r1 =
     let its = its_of even odd in
@@ -84,9 +84,9 @@ its_point p word held even odd r1 =
       carrier = record { seg = p.seg; word = word + 1; ring = pair_ring p.ring r1 its.ring };
     }
 
--- An ITP pair names a pointer register: the segment is that of the register, and so is the ring that
--- the pair names; y is the sum of both word numbers, and the bit number and the tag are those of the
--- pair.
+-- The point after an ITP pair: the segment is that of the pointer register that the pair names, and
+-- the ring is `pair_ring` with the register's ring. y is the sum of both word numbers. The bit
+-- number and the tag are those of the pair; the odd word carries the tag.
 abbrev pub itp_point : RegsFields → Point → ℕ → Option ℕ → ℕ → ℕ → ℕ → Point
 itp_point g p word held even odd r1 =
     let itp = itp_of even odd in
@@ -101,9 +101,9 @@ itp_point g p word held even odd r1 =
       carrier = record { seg = p.seg; word = word + 1; ring = pair_ring p.ring r1 base.ring };
     }
 
--- The next point, once the word at the point's address is read. Of a pair the odd word is read with
--- it, as part of the same indirect word. R1 is that of the descriptor by which the first word was
--- found. Where the odd word is refused, the even word stands as a completed reference (this
+-- Continues from the next point, once the word at the point's address is read. If it begins a pair,
+-- the odd word is read too; both are one indirect word. r1 is R1 of the segment in which the word
+-- was found. If the odd word is refused, the even word is still a completed reference (this
 -- project's choice).
 abbrev pub after_word :
     (Point → Formation) → RegsFields → Point → ℕ → Option ℕ → Answer → Found → Formation
@@ -116,13 +116,13 @@ after_word next g p word held a Itp =
     refer (indirect Odd p (word + 1)) (λ b.
     next (itp_point g p word held (slice_index a.words 0) (slice_index b.words 0) a.sdw.r1))
 
--- A tally word ends the chain at an address in the same segment and ring, with the bit number as it
--- was. Any held register is dropped.
+-- The final address after a tally word: the computed address, in the same segment and ring, with
+-- the same bit number. A held register is not used.
 abbrev pub tally_final : Point → ℕ → FinalFields
 tally_final p address = final_at p address None
 
--- I leaves its word. The other four reference it as a Write at the same ring; its new value is
--- written when the instruction completes.
+-- The end of a chain at a tally word that was counted. Its new value is written when the
+-- instruction completes.
 abbrev pub tally_end : Point → ℕ → Counted → ChainEnd
 tally_end p claim counted =
     record {
@@ -131,13 +131,15 @@ tally_end p claim counted =
       runout = Some counted.runs_out;
     }
 
+-- Ends a chain at a tally word. I does not change the word. The other four tags reference it once
+-- more, as a Write in the same ring.
 abbrev pub after_tally : Point → ℕ → Answer → Bool → Formation
 after_tally p td a true = ends_plain (tally_final p (tally_address (slice_index a.words 0)))
 after_tally p td a false =
     refer (indirect Write p p.y) (λ b.
     done (Ok (tally_end p b.first (tally td (slice_index a.words 0)))))
 
--- the chain from a point on, where its indirect word may be read
+-- the chain from a point, while more indirect words may be read
 abbrev pub chain_by : (Point → Formation) → RegsFields → Point → Move → Formation
 chain_by next g p (Ends last) = ends_plain last
 chain_by next g p (Fails h) = done (Err h)
@@ -148,24 +150,25 @@ chain_by next g p Counts =
     refer (indirect Indirect p p.y) (λ a.
     after_tally p (p.tag % 16) a (p.tag % 16 == indirect_only))
 
--- Where a 17th indirect word would be read, the fault is lockup, at that word, and the word is not
--- examined.
+-- A 17th indirect word is not read, nor are the rights to it checked: the fault is lockup, at this
+-- word.
 abbrev pub lockup : Point → ℕ → Halt
 lockup p word = fault_at lockup_fault (at_point p word)
 
+-- the chain from a point at which no more indirect word may be read
 abbrev pub chain_exhausted : Point → Move → Formation
 chain_exhausted p (Ends last) = ends_plain last
 chain_exhausted p (Fails h) = done (Err h)
 chain_exhausted p (Reads word held) = done (Err (lockup p word))
 chain_exhausted p Counts = done (Err (lockup p p.y))
 
--- the chain from a point on, with at most so many more indirect words
+-- the chain from a point, with at most n more indirect words
 unfoldable pub chain : ℕ → RegsFields → Point → Formation
 chain zero g p = chain_exhausted p (move_of_point g p)
 chain (suc n) g p = chain_by (chain n g) g p (move_of_point g p)
 
--- The code's formed address. Where it has a tally word, that is the first claim of the step, and
--- its place in core is the spot.
+-- A formed address of the code, as the result of a chain. A tally word is the first claim of the
+-- step.
 abbrev pub tally_put : Tally → Put
 tally_put t = record { claim = 0; part = Whole; value = t.word }
 
@@ -177,10 +180,12 @@ abbrev pub runout_of : Option Tally → Option Bool
 runout_of None = None
 runout_of (Some t) = Some t.runout
 
+-- the result of a chain that a formed address represents
 abbrev pub chain_end_fields : Formed → ChainEnd
 chain_end_fields f =
     record { last = f.last; pending = pending_of f.tally; runout = runout_of f.tally }
 
+-- the spot that the chain has claimed: the core address of the tally word, if there is one
 abbrev pub claimed_by : Option Tally → ℕ → List Spot
 claimed_by None place = []
 claimed_by (Some t) place = Core_word place ∷ []

@@ -1,7 +1,7 @@
--- The address chain as a list of points, each of which is the next of the one before, over what a
--- store answers. The first point is that of the instruction; the last one ends or is refused, and
--- its answer is the answer of the chain. Each point stands with the count of indirect words that
--- were read to reach it.
+-- The address chain as a list of points, each of which follows from the one before by the answers
+-- of a store. The first point is that of the instruction. The last one ends the chain or is
+-- refused; its answer is that of the chain. Each point has the number of indirect words that were
+-- read before it.
 use Rattle.std.specs.Prelude.{ℕ, ◌≡◌, ◌+◌, ◌%◌, ◌≤◌, Bool, true, false, ◌==◌, nat_lt, List, [], ◌∷◌}
 use Rattle.std.specs.Prelude.{length, Option, Result, Ok, Err, slice_index}
 use Rattle.m36_model.specs.Registers.{RegsFields}
@@ -18,13 +18,13 @@ use Rattle.m36_model.specs.declared.outcome.Fault.{Fault}
 use Rattle.m36_model.specs.declared.outcome.Halt.{Halt}
 use Rattle.m36_model.specs.declared.outcome.Halt.TheVariants as halt
 
--- a point, the count of indirect words read before it, and where the step stands
+-- a point, the number of indirect words read before it, and the state within the step
 pub record Stage (S : Type 0) : Type 0 where
   pub point : Point
   pub count : ℕ
   pub mid : Mid S
 
--- A point has one next point, or the chain closes there with its answer.
+-- what follows from a point: the next point, or the answer of the chain
 pub data Turn (S : Type 0) : Type 0 where
   Goes : Stage S → Turn S
   Closes : Ran (Result ChainEnd Halt) S → Turn S
@@ -38,12 +38,12 @@ ends_with end m = Closes (record { value = Ok end; mid = m })
 abbrev pub refused_with : {S : Type 0} → Halt → Mid S → Turn S
 refused_with h m = Closes (record { value = Err h; mid = m })
 
--- the odd word of a pair: the next point by it, or its refusal
+-- after the odd word of a pair: the next point, or the refusal of this word
 abbrev pub turn_odd : {S : Type 0} → Stage S → (ℕ → Point) → Mid S → Result Answer Fault → Turn S
 turn_odd s next m (Ok b) = goes_on_at s (next (slice_index b.words 0)) m
 turn_odd s next m (Err f) = refused_with (halt.Fault f) m
 
--- the word that was read: plain, or the even word of a pair
+-- after the word that was read: it is plain, or the even word of a pair
 abbrev pub turn_found :
     {S : Type 0} → Store S → RegsFields → Stage S → ℕ → Option ℕ → Answer → Mid S → Found → Turn S
 turn_found o g s word held a m Plain =
@@ -64,19 +64,20 @@ turn_even o g s word held m (Ok a) =
     turn_found o g s word held a m (found word (slice_index a.words 0))
 turn_even o g s word held m (Err f) = refused_with (halt.Fault f) m
 
--- a 17th indirect word is not read
+-- at a point that reads an indirect word, if there were fewer than 16
 abbrev pub turn_reads : {S : Type 0} → Store S → RegsFields → Stage S → ℕ → Option ℕ → Bool → Turn S
 turn_reads o g s word held true =
     let t = serve o g s.mid (indirect Indirect s.point word) in
     turn_even o g s word held t.mid t.reply
 turn_reads o g s word held false = refused_with (lockup s.point word) s.mid
 
--- the tally word: I leaves it, and the others reference it as a Write and give its new value
+-- after the claim of the tally word: the chain ends, or is refused
 abbrev pub turn_claimed : {S : Type 0} → Stage S → Answer → Mid S → Result Answer Fault → Turn S
 turn_claimed s a m (Ok b) =
     ends_with (tally_end s.point b.first (tally (s.point.tag % 16) (slice_index a.words 0))) m
 turn_claimed s a m (Err f) = refused_with (halt.Fault f) m
 
+-- after the tally word: I does not change it, and the other tags reference it as a Write
 abbrev pub turn_tally_by :
     {S : Type 0} → Store S → RegsFields → Stage S → Answer → Mid S → Bool → Turn S
 turn_tally_by o g s a m true =
@@ -89,6 +90,7 @@ abbrev pub turn_tally :
 turn_tally o g s m (Ok a) = turn_tally_by o g s a m (s.point.tag % 16 == indirect_only)
 turn_tally o g s m (Err f) = refused_with (halt.Fault f) m
 
+-- at a point that reads a tally word, if there were fewer than 16 indirect words
 abbrev pub turn_counts : {S : Type 0} → Store S → RegsFields → Stage S → Bool → Turn S
 turn_counts o g s true =
     let t = serve o g s.mid (indirect Indirect s.point s.point.y) in turn_tally o g s t.mid t.reply
@@ -100,10 +102,11 @@ turn_by o g s (Fails h) = refused_with h s.mid
 turn_by o g s (Reads word held) = turn_reads o g s word held (nat_lt s.count indirect_words)
 turn_by o g s Counts = turn_counts o g s (nat_lt s.count indirect_words)
 
+-- what follows from a point
 unfoldable pub turn : {S : Type 0} → Store S → RegsFields → Stage S → Turn S
 turn o g s = turn_by o g s (move_of_point g s.point)
 
--- a list of points in which each is the next of the one before, and the last closes the chain with
+-- a list of points in which each follows from the one before, and the last one ends the chain with
 -- this answer
 abbrev pub IsChain :
     {S : Type 0} → Store S → RegsFields → List (Stage S) → Ran (Result ChainEnd Halt) S → Type 0
@@ -114,7 +117,7 @@ IsChain o g (s ∷ next ∷ more) answer = (turn o g s ≡ Goes next) × IsChain
 abbrev pub first_stage : {S : Type 0} → Point → Mid S → Stage S
 first_stage p m = record { point = p; count = 0; mid = m }
 
--- There is exactly one chain from a point, of at most one point more than indirect words may be
+-- There is exactly one chain from a point. It has at most one point more than indirect words may be
 -- read, and its answer is that of the program that forms the address.
 pub record IsOneChain {S : Type 0} (o : Store S) (g : RegsFields) (p : Point)
     (m : Mid S) : Type 0 where

@@ -1,4 +1,4 @@
--- Comparisons and tests, which change indicators alone, but for SZNC, which clears the word too.
+-- Comparisons and tests. They change only indicators, except that SZNC also clears the word.
 -- Multics Processor Manual AL39, "Fixed-point comparison instructions", "Fixed-point miscellaneous
 -- instructions", "Boolean comparative AND and NOT instructions".
 use Rattle.std.specs.Prelude.{ℕ, ◌^◌, [], ◌∷◌, Result}
@@ -12,26 +12,26 @@ use Rattle.m36_model.specs.Results.{tested, compared, completes, completes_with}
 unfoldable pub compare : Working → ℕ → RegsFields → Result EffectFields ℕ
 compare r v g = completes (with_indicators (compared (comparison (half r) (value r g) v) g.ind) g)
 
--- a number of a width is tested
+-- zero and negative are set by a number
 abbrev pub test : ℕ → ℕ → RegsFields → Result EffectFields ℕ
 test h v g = completes (tested h v g)
 
--- SZN: the word is tested
+-- SZN: by the word
 unfoldable pub test_word : ℕ → RegsFields → Result EffectFields ℕ
 test_word v g = test (2 ^ 35) v g
 
--- SZNC: the word is tested, and becomes 0
+-- SZNC: by the word, and 0 to the word
 unfoldable pub test_and_clear : ℕ → RegsFields → Result EffectFields ℕ
 test_and_clear v g = completes_with (tested (2 ^ 35) v g) (0 ∷ [])
 
--- CMK: A and the word, where Q has no mask bit, are tested for difference
+-- CMK: by the bits in which A and the word differ and Q is 0
 unfoldable pub compare_masked : ℕ → RegsFields → Result EffectFields ℕ
 compare_masked v g = test (2 ^ 35) (and_not_of 36 (xor_of 36 g.a v) g.q) g
 
--- CANA, CANQ, CANAQ, CANX: register and value, bit by bit, are tested
+-- CANA, CANQ, CANAQ, CANX: by register AND value
 unfoldable pub test_and : Working → ℕ → RegsFields → Result EffectFields ℕ
 test_and r v g = test (half r) (and_of (width r) (value r g) v) g
 
--- CNAA, CNAQ, CNAAQ, CNAX: register and not value
+-- CNAA, CNAQ, CNAAQ, CNAX: by register AND NOT value
 unfoldable pub test_and_not : Working → ℕ → RegsFields → Result EffectFields ℕ
 test_and_not r v g = test (half r) (and_not_of (width r) (value r g) v) g

@@ -1,5 +1,5 @@
--- The references that a run completes, and what becomes of the store by them: the marks of each, in
--- order, and no other change. Words are written only after the run.
+-- The references that a run completes, and how they change the store: by the marks of each, in
+-- order, and by nothing else. Words are written only after the run.
 use Rattle.std.specs.Prelude.{ℕ, ◌≡◌, if◌then◌else◌, List, [], ◌∷◌, ◌++◌, Result, Ok, Err}
 use Rattle.m36_desc.specs.Fields.{DbrFields}
 use Rattle.m36_model.specs.Registers.{RegsFields}
@@ -10,12 +10,13 @@ use Rattle.m36_model.specs.Step.{program, start, ran}
 use Rattle.m36_model.specs.declared.outcome.Fault.{Fault}
 use Rattle.m36_model.specs.declared.place.Reference.{Reference}
 
--- a request that is answered is completed; targets of transfers and calls, and the place that ABSA
--- asks for, set no marks
+-- a request is completed if it is answered and its kind sets marks: not a target of a transfer or a
+-- call, nor the word that ABSA locates
 abbrev pub completed_by : Request → Result Answer Fault → List Request
 completed_by q (Ok a) = if touches q.kind then q ∷ [] else []
 completed_by q (Err f) = []
 
+-- the requests that a run completes, in order
 unfoldable pub completed : {A S : Type 0} → Store S → RegsFields → Act A → Mid S → List Request
 completed o g (done a) m = []
 completed o g (ask q next) m =
@@ -27,14 +28,14 @@ with_marks_of o dbr s [] = s
 with_marks_of o dbr s (q ∷ more) =
     with_marks_of o dbr (o.marked s dbr q.kind q.at.seg q.at.word) more
 
--- the references of requests, after earlier ones; the odd word of an indirect pair joins
--- its even word
+-- the completed references after these requests; the odd word of an indirect pair joins its even
+-- word
 unfoldable pub references_of : List Reference → List Request → List Reference
 references_of refs [] = refs
 references_of refs (q ∷ more) = references_of (with_reference q.kind q refs) more
 
--- a run from where a step begins sets exactly the marks of the requests that it completes, and
--- records these
+-- The run of a step from a state sets exactly the marks of the requests that it completes, and
+-- records their references.
 pub record IsMarked {S : Type 0} (o : Store S) (s : State S) : Type 0 where
   pub marks :
       (ran o s).mid.store
@@ -42,6 +43,6 @@ pub record IsMarked {S : Type 0} (o : Store S) (s : State S) : Type 0 where
   pub references :
       (ran o s).mid.refs ≡ references_of [] (completed o s.regs (program s.regs) (start s))
 
--- In every step exactly the marks of the completed references are set before words are written.
+-- In every step, exactly the marks of the completed references are set before words are written.
 abbrev pub MarksOfCompletedReferences : Type 0
 MarksOfCompletedReferences = (s : State (List ℕ)) → IsMarked core_store s

@@ -1,4 +1,4 @@
--- The store Core: a list of words, in which descriptors and pages are found by tables.
+-- The store that is core: a list of words, in which segments and pages are found by tables.
 use Rattle.std.specs.Prelude.{ℕ, zero, suc, ◌+◌, ◌*◌, ◌/◌, ◌%◌, not, ◌&&◌, if◌then◌else◌, List, []}
 use Rattle.std.specs.Prelude.{◌∷◌, length, slice_get, slice_index, slice_set, Option, option_map}
 use Rattle.std.specs.Prelude.{Result, Ok, Err}
@@ -14,20 +14,21 @@ abbrev pub core_word : List ℕ → Spot → ℕ
 core_word core (Core_word a) = slice_index core a
 core_word core (Segment_word s w) = 0
 
--- words written, one after another
+-- core with one word, or a half of it, written at a spot
 abbrev pub put_one : List ℕ → Spot → Part → ℕ → List ℕ
 put_one core (Core_word a) part v = slice_set core a (written part (slice_index core a) v)
 put_one core (Segment_word s w) part v = core
 
+-- core with words written, in order
 unfoldable pub core_put : List ℕ → List Change → List ℕ
 core_put core [] = core
 core_put core (p ∷ puts) = core_put (put_one core p.spot p.part p.value) puts
 
--- a PTW but for its marks, the used bit (26) and the modified bit (29)
+-- a PTW without its marks: the used bit (26) and the modified bit (29) are off
 unfoldable pub unmarked : ℕ → ℕ
 unmarked w = (w / 1024 * 1024 + w / 128 % 4 * 128) + w % 64
 
--- the table words of a segment
+-- an address with the PTW there, without its marks
 abbrev pub ptw_entry : List ℕ → ℕ → ℕ × Option ℕ
 ptw_entry core a = (a, option_map unmarked (slice_get core a))
 
@@ -38,16 +39,17 @@ abbrev pub sdw_entries : List ℕ → Result ℕ Refusal → List (ℕ × Option
 sdw_entries core (Ok a) = sdw_entry core a ∷ sdw_entry core (wrapped (a + 1)) ∷ []
 sdw_entries core (Err e) = []
 
--- the pages from the given one down to 0
+-- the entries of the PTWs of a segment for page n down to page 0
 abbrev pub pages_to : List ℕ → SdwFields → ℕ → List (ℕ × Option ℕ)
 pages_to core d zero = ptw_entry core (page_at d zero) ∷ []
 pages_to core d (suc n) = ptw_entry core (page_at d (suc n)) ∷ pages_to core d n
 
--- the pages that begin within the bound
+-- the entries of the PTWs of the pages that begin within the bound
 abbrev pub page_entries : List ℕ → Result SdwFields Refusal → List (ℕ × Option ℕ)
 page_entries core (Err e) = []
 page_entries core (Ok d) = if d.unpaged then [] else pages_to core d (last_page d)
 
+-- the table words of a segment
 abbrev pub segment_table : List ℕ → DbrFields → ℕ → SegTable
 segment_table core dbr seg =
     record {

@@ -1,16 +1,16 @@
 -- The effect of each instruction: the new registers and the words to write, by the instruction, the
--- number in its name, the registers, the final address and the operand. Where it is refused, the
--- number of the fault. One line an instruction, in the order of the instruction table; the parts
--- have the equations. Of MME, DRL and DIS, which form no address, no step asks the effect: their
--- faults and the stop are told by `at_once` in `Step`. Indicators and registers that an
--- instruction's equations do not name stay; which indicators it sets is this project's choice.
+-- number in its name, the registers, the final address and the operand; or the number of the fault
+-- if it is refused. There is one line for each instruction, in the order of the instruction table;
+-- the equations are in the modules that it uses. MME, DRL and DIS form no address, so a step does
+-- not use their lines: `at_once` in `Step` has their faults and the stop. Registers and indicators
+-- that the equations of an instruction do not name are unchanged. Which indicators it sets is this
+-- project's choice.
 --
--- Beside each line, but those of MME, DRL and DIS, stands what the instruction does here, in the
--- signs of the manual.
--- C(..) is the content of a register or of the operand Y, of which digits are bits, and the arrow
--- says where a number goes; `::` compares; `&`, `|`, `⊕` and `~` go bit by bit. TSR, TRR, CA and
--- TBR are segment, ring, word and bit number of the final address, PSR, PRR and IC segment, ring
--- and word of the instruction, and PPR all three.
+-- Each line, except those of MME, DRL and DIS, ends with what the instruction does, in the manual's
+-- notation. C(..) is the content of a register or of the operand Y; numbers after it are bits. The
+-- arrow says where a number goes, and `::` compares. `&`, `|`, `⊕` and `~` work bit by bit. TSR,
+-- TRR, CA and TBR are segment, ring, word and bit number of the final address. PSR, PRR and IC are
+-- segment, ring and word of the instruction, and PPR is all three.
 --
 -- Multics Processor Manual AL39, "Machine instructions".
 use Rattle.std.specs.Prelude.{ℕ, Bool, true, false, Result, Ok, Err}
@@ -44,7 +44,7 @@ use Rattle.m36_model.specs.Transfers.{transfer_and_set_index, transfer_and_set_p
 use Rattle.m36_model.specs.CallReturn.{call, return_to}
 use Rattle.m36_model.specs.Privileged.{load_dbr, store_dbr, load_absolute_address}
 
--- ABSA asks for a place in core; no other instruction that uses its address alone does
+-- ABSA asks for a core address; no other instruction that uses only its address does
 abbrev pub is_absa : Effect → Bool
 is_absa effect.Absa = true
 is_absa _ = false
@@ -149,9 +149,9 @@ exec effect.Lrs n g f o = shift_right AQ f.at.word g  -- C(AQ) to the right, sig
 exec effect.Arl n g f o = shift_right_logical A f.at.word g  -- C(A) to the right, zeros in
 exec effect.Qrl n g f o = shift_right_logical Q f.at.word g  -- C(Q) to the right, zeros in
 exec effect.Lrl n g f o = shift_right_logical AQ f.at.word g  -- C(AQ) to the right, zeros in
-exec effect.Alr n g f o = rotate_left A f.at.word g  -- C(A) round to the left
-exec effect.Qlr n g f o = rotate_left Q f.at.word g  -- C(Q) round to the left
-exec effect.Llr n g f o = rotate_left AQ f.at.word g  -- C(AQ) round to the left
+exec effect.Alr n g f o = rotate_left A f.at.word g  -- C(A) rotated to the left
+exec effect.Qlr n g f o = rotate_left Q f.at.word g  -- C(Q) rotated to the left
+exec effect.Llr n g f o = rotate_left AQ f.at.word g  -- C(AQ) rotated to the left
 exec effect.EppN n g f o = load_pointer n g f  -- TSR, TRR, CA, TBR → C(PRn)
 exec effect.EpbpN n g f o = load_base_pointer n g f  -- TSR, TRR, 0, 0 → C(PRn)
 exec effect.SpriN n g f o = store_pointer n g  -- C(PRn) → C(Y-pair), as ITS
@@ -161,34 +161,34 @@ exec effect.Lpri n g f o = load_pointers g f o  -- C(Y-block16) → C(PR0) .. C(
 exec effect.LprpN n g f o = load_packed n (word o) g f  -- C(Y), packed → C(PRn)
 exec effect.Epaq n g f o = load_address_pair g f  -- TSR, TRR, CA, TBR → C(AQ)
 exec effect.Stcd n g f o = store_control g  -- PSR, PRR, IC + 2 → C(Y-pair), as ITS
-exec effect.Stac n g f o = store_where_zero (word o) g  -- where C(Y) = 0, C(A) → C(Y)
-exec effect.Stacq n g f o = store_where_equal (word o) g  -- where C(Y) = C(Q), C(A) → C(Y)
+exec effect.Stac n g f o = store_where_zero (word o) g  -- if C(Y) = 0, C(A) → C(Y)
+exec effect.Stacq n g f o = store_where_equal (word o) g  -- if C(Y) = C(Q), C(A) → C(Y)
 exec effect.Tra n g f o = transfer_where (is_taken effect.Tra g) f g  -- TSR, CA → PSR, IC
-exec effect.Tze n g f o = transfer_where (is_taken effect.Tze g) f g  -- where zero is on
-exec effect.Tnz n g f o = transfer_where (is_taken effect.Tnz g) f g  -- where zero is off
-exec effect.Tmi n g f o = transfer_where (is_taken effect.Tmi g) f g  -- where negative is on
-exec effect.Tpl n g f o = transfer_where (is_taken effect.Tpl g) f g  -- where negative is off
-exec effect.Trc n g f o = transfer_where (is_taken effect.Trc g) f g  -- where carry is on
-exec effect.Tnc n g f o = transfer_where (is_taken effect.Tnc g) f g  -- where carry is off
-exec effect.Tmoz n g f o = transfer_where (is_taken effect.Tmoz g) f g  -- where either is on
-exec effect.Tpnz n g f o = transfer_where (is_taken effect.Tpnz g) f g  -- where both are off
-exec effect.Tov n g f o = transfer_on_overflow (is_taken effect.Tov g) f g  -- where overflow is on
-exec effect.Ttf n g f o = transfer_where (is_taken effect.Ttf g) f g  -- where tally runout is off
+exec effect.Tze n g f o = transfer_where (is_taken effect.Tze g) f g  -- if zero is on
+exec effect.Tnz n g f o = transfer_where (is_taken effect.Tnz g) f g  -- if zero is off
+exec effect.Tmi n g f o = transfer_where (is_taken effect.Tmi g) f g  -- if negative is on
+exec effect.Tpl n g f o = transfer_where (is_taken effect.Tpl g) f g  -- if negative is off
+exec effect.Trc n g f o = transfer_where (is_taken effect.Trc g) f g  -- if carry is on
+exec effect.Tnc n g f o = transfer_where (is_taken effect.Tnc g) f g  -- if carry is off
+exec effect.Tmoz n g f o = transfer_where (is_taken effect.Tmoz g) f g  -- if negative or zero is on
+exec effect.Tpnz n g f o = transfer_where (is_taken effect.Tpnz g) f g  -- if neither is on
+exec effect.Tov n g f o = transfer_on_overflow (is_taken effect.Tov g) f g  -- if overflow is on
+exec effect.Ttf n g f o = transfer_where (is_taken effect.Ttf g) f g  -- if tally runout is off
 exec effect.TsxN n g f o = transfer_and_set_index n f g  -- IC + 1 → C(Xn)
 exec effect.TspN n g f o = transfer_and_set_pointer n f g  -- PSR, PRR, IC + 1 → C(PRn)
 exec effect.Call6 n g f o = call f o.ring g  -- TSR, ring, CA → PPR
 exec effect.Rtcd n g f o = return_to f o g  -- C(Y-pair) → PPR
 exec effect.Nop n g f o = completes g  -- nothing
-exec effect.Mme n g f o = completes g  -- no step asks it
-exec effect.Drl n g f o = completes g  -- no step asks it
-exec effect.Dis n g f o = completes g  -- no step asks it
+exec effect.Mme n g f o = completes g  -- not used by a step
+exec effect.Drl n g f o = completes g  -- not used by a step
+exec effect.Dis n g f o = completes g  -- not used by a step
 exec effect.Ldbr n g f o = load_dbr o g  -- C(Y-pair) → C(DBR)
 exec effect.Sdbr n g f o = store_dbr g  -- C(DBR) → C(Y-pair)
 exec effect.Cams n g f o = completes g  -- nothing
 exec effect.Camp n g f o = completes g  -- nothing
-exec effect.Absa n g f o = load_absolute_address o g  -- place in core → C(A)0-23, 0 → C(A)24-35
+exec effect.Absa n g f o = load_absolute_address o g  -- core address → C(A)0-23, 0 → C(A)24-35
 
--- The answer of the code's effects: a refusal is a fault at the instruction.
+-- the results of the code's effects: a refusal is a fault at the instruction
 abbrev pub answer_fields : Result Effect36 Fault → Result EffectFields Fault
 answer_fields (Ok e) = Ok (effect_fields e)
 answer_fields (Err f) = Err f

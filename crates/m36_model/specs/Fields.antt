@@ -1,4 +1,5 @@
--- What contracts see of places: their fields as numbers.
+-- Places as contracts see them: their fields as numbers. The types keep each within its width: a
+-- ring has 3 bits, a bit number 6, a segment number 15, a word number 18.
 use Rattle.std.specs.Prelude.{ℕ, Option}
 
 -- the procedure pointer register

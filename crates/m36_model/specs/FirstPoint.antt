@@ -1,15 +1,15 @@
--- The first point of an address chain: where the instruction itself points.
--- Multics Processor Manual AL39, "Machine instruction format" and "Address appending", on bit 29 and
--- pointer registers.
+-- The first point of an address chain, which is that of the instruction.
+-- Multics Processor Manual AL39, "Machine instruction format" and "Address appending", on bit 29
+-- and pointer registers.
 use Rattle.std.specs.Prelude.{◌+◌, ◌%◌, ◌^◌, max, Bool, true, false, None}
 use Rattle.m36_inst.specs.Fields.{InstFields}
 use Rattle.m36_inst.specs.Instruction.{pr_number, pr_offset}
 use Rattle.m36_model.specs.Registers.{RegsFields}
 use Rattle.m36_model.specs.Modification.{Point, here, ptr}
 
--- The first point. Without bit 29 it lies in the procedure segment, in the procedure ring, at the
--- address of the instruction. With bit 29 the address is a pointer register number and a signed
--- offset: the point lies in the segment of that register, at its word number plus the offset, at
+-- Without bit 29, the first point is in the procedure segment and the procedure ring, at the
+-- address of the instruction. With bit 29, the address is a pointer register number and a signed
+-- offset: the point is in the segment of that register, at its word number plus the offset, with
 -- its bit number, and in the greater of its ring and the procedure ring.
 abbrev pub first_point_by : Bool → RegsFields → InstFields → Point
 first_point_by false g i =

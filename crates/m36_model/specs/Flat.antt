@@ -1,5 +1,5 @@
--- The store Flat: the descriptors of a booted image and the content of its segments, with no page
--- tables and no marks. A word lies at itself.
+-- The flat store: the descriptors of a booted image and the content of its segments, without page
+-- tables and without marks. The spot of a word is its segment and word number.
 use Rattle.std.specs.Prelude.{◌≡◌, ℕ, ◌+◌, ◌*◌, Bool, true, false, ◌&&◌, ◌==◌, if◌then◌else◌}
 use Rattle.std.specs.Prelude.{List, [], ◌∷◌, slice_get, Result, Ok, Err}
 use Rattle.m36_desc.specs.Fields.{SdwFields, DbrFields}
@@ -16,7 +16,7 @@ pub record Flat : Type 0 where
   pub descriptors : List ℕ
   pub content : ℕ → ℕ → ℕ
 
--- the descriptor of a segment, where the descriptor segment has one in bounds
+-- the descriptor of a segment, if it is in bounds and live
 abbrev pub flat_sdw_by : Bool → List ℕ → ℕ → Result SdwFields Refusal
 flat_sdw_by true words seg = sdw_words (slice_get words (2 * seg)) (slice_get words (2 * seg + 1))
 flat_sdw_by false words seg = Err (violation out_of_segment_bounds)
@@ -24,7 +24,7 @@ flat_sdw_by false words seg = Err (violation out_of_segment_bounds)
 unfoldable pub flat_sdw : Flat → DbrFields → ℕ → Result SdwFields Refusal
 flat_sdw s dbr seg = flat_sdw_by (in_bounds dbr seg) s.descriptors seg
 
--- each word within the bound has a place
+-- each word within the bound has a spot
 abbrev pub flat_spot : Flat → DbrFields → SdwFields → ℕ → ℕ → Result Spot Refusal
 flat_spot s dbr d seg w = Ok (Segment_word seg w)
 
@@ -32,7 +32,7 @@ abbrev pub flat_word : Flat → Spot → ℕ
 flat_word s (Core_word a) = 0
 flat_word s (Segment_word seg w) = s.content seg w
 
--- words written, one after another
+-- content with one word, or a half of it, written
 abbrev pub content_with : (ℕ → ℕ → ℕ) → ℕ → ℕ → Part → ℕ → ℕ → ℕ → ℕ
 content_with content seg w part v seg' w' =
     if (seg == seg') && (w == w') then written part (content seg' w') v else content seg' w'
@@ -46,7 +46,7 @@ unfoldable pub flat_put : Flat → List Change → Flat
 flat_put s [] = s
 flat_put s (p ∷ puts) = flat_put (flat_put_one s p.spot p.part p.value) puts
 
--- the tables are the words of the descriptors in bounds
+-- the table words of a segment: its descriptor, if it is in bounds
 abbrev pub flat_table_by : Bool → List ℕ → ℕ → SegTable
 flat_table_by true words seg =
     record {
@@ -61,7 +61,7 @@ unfoldable pub flat_tables : Flat → DbrFields → Tables
 flat_tables s dbr =
     record { dbr = dbr; size = 0; of = λ seg. flat_table_by (in_bounds dbr seg) s.descriptors seg }
 
--- there are no marks
+-- a reference sets no marks
 abbrev pub flat_marked : Flat → DbrFields → RequestKind → ℕ → ℕ → Flat
 flat_marked s dbr kind seg w = s
 
@@ -76,17 +76,17 @@ flat_store =
       tables = flat_tables;
     }
 
--- The audit conditions that speak of descriptors alone: the first, the fifth and the sixth.
+-- The audit conditions that depend only on descriptors: the first, the fifth and the sixth.
 pub record IsFlatAudited (s : Flat) (dbr : DbrFields) : Type 0 where
   pub first : (seg : ℕ) → IsOutOfOrder (flat_sdw s dbr) seg → ⊥
   pub fifth : (seg : ℕ) → IsNoGate (flat_sdw s dbr) seg → ⊥
   pub sixth : (seg : ℕ) → HasNoStack dbr (flat_sdw s dbr) seg → ⊥
 
--- the flat state has these descriptors
+-- the flat memory `now` has the descriptors of `s`
 abbrev pub HasDescriptors : Flat → DbrFields → Flat → Type 0
 HasDescriptors s dbr now = flat_tables now dbr ≡ flat_tables s dbr
 
--- a word of the flat store
+-- a spot of the flat store
 abbrev pub IsFlatSpot : Spot → Type 0
 IsFlatSpot (Core_word a) = ⊥
 IsFlatSpot (Segment_word seg w) = Unit {0}

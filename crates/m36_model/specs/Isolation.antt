@@ -1,4 +1,4 @@
--- Isolation: programs of a ring and above neither change words that the ring may not write nor
+-- Isolation: programs of ring r and above do not change words that ring r may not write, and do not
 -- depend on words that it may not read, until they fault, stop, or leave through a gate.
 use Rattle.std.specs.Prelude.{◌≡◌, ℕ, ◌<◌, ◌≤◌, true, false, List, [], ◌∷◌, map, length}
 use Rattle.std.specs.Prelude.{slice_get, Some, Ok}
@@ -18,7 +18,7 @@ use Rattle.m36_model.specs.StoreLaw.{Each}
 use Rattle.m36_model.specs.declared.outcome.Outcome.TheVariants.{Next}
 use Rattle.m36_model.specs.declared.record.StepRecord.{StepRecord}
 
--- the step was this instruction, and completed
+-- the step has executed this instruction to its end
 pub record Executes (instruction : Effect) (e : StepRecord) : Type 0 where
   pub word : ℕ
   pub fetched : e.word ≡ Some word
@@ -26,9 +26,8 @@ pub record Executes (instruction : Effect) (e : StepRecord) : Type 0 where
   pub does : decode word ≡ Some (instruction, number)
   pub next : e.outcome ≡ Next
 
--- A gate call out of ring r: a CALL6 that went to a word below the call limiter of a live gate,
--- whose second bracket is below r and whose third is not. The new ring is the second bracket, and
--- PR7 is the base of a stack of the new ring.
+-- A gate call out of ring r: a CALL6 to a word below the call limiter of a live gate, with R2 below
+-- r and R3 not below r. The new ring is R2, and PR7 is the base of a stack of the new ring.
 pub record IsGateCall {S : Type 0} (o : Store S) (s : State S) (r : ℕ)
     (e : StepRecord) : Type 0 where
   pub executes : Executes effect.Call6 e
@@ -48,21 +47,23 @@ pub record IsGateCall {S : Type 0} (o : Store S) (s : State S) (r : ℕ)
   pub stack_live : IsLive o s stack stack_sdw
   pub stack_is : is_stack_of sdw.r2 (Ok stack_sdw) ≡ true
 
+-- two lists have equal lengths, and P holds of their elements in pairs
 abbrev pub EachTwo : {A B : Type 0} → (A → B → Type 0) → List A → List B → Type 0
 EachTwo P [] [] = Unit {0}
 EachTwo P [] (y ∷ ys) = ⊥
 EachTwo P (x ∷ xs) [] = ⊥
 EachTwo P (x ∷ xs) (y ∷ ys) = P x y × EachTwo P xs ys
 
--- what is said of each step of one window: no word outside the reach of r and no table changes, and
--- the ring falls below r through a gate alone
+-- For a step of a window: no word out of reach of ring r has changed since the start of the window,
+-- the tables are T, and the ring falls below r only by a gate call.
 pub record IsKept {S : Type 0} (o : Store S) (T : Tables) (r : ℕ) (start : State S)
     (v : Visited S) : Type 0 where
   pub unreached : Unreached o r start v.after
   pub tables : tables_of o v.after ≡ T
   pub falls : v.told.after.ppr.prr < r → IsGateCall o v.before r v.told
 
--- what is said of the windows of two states
+-- The windows of two states have equal records, the states after their steps agree for ring r, and
+-- `IsKept` holds of each step of both.
 pub record AreIsolated {S : Type 0} (o : Store S) (T : Tables) (r n : ℕ)
     (a b : State S) : Type 0 where
   pub told : map (λ v. v.told) (window o r n a) ≡ map (λ v. v.told) (window o r n b)
@@ -74,8 +75,8 @@ pub record AreIsolated {S : Type 0} (o : Store S) (T : Tables) (r n : ℕ)
 abbrev pub HasPointers : RegsFields → Type 0
 HasPointers g = length g.pr ≡ 8
 
--- The tables T isolate each ring from 1: whatever two states with these tables agree on, in a ring
--- of at least r, stays so through their windows of any length.
+-- The tables T isolate each ring from 1 to 7: if two states with these tables agree for ring r, and
+-- run in ring r or above, then their windows of any length are isolated.
 abbrev pub Isolated : {S : Type 0} → Store S → Tables → Type 0
 Isolated {S} o T =
     (r : ℕ) → 1 ≤ r → r ≤ 7 → (a b : State S) → HasPointers a.regs → tables_of o a ≡ T

@@ -1,5 +1,5 @@
--- The joint audit of several processes on one core: the six conditions of each, and two conditions
--- between them.
+-- The joint audit of several processes on one core: the six conditions of each process, and two
+-- conditions between processes.
 use Rattle.std.specs.Prelude.{◌≡◌, ◌≢◌, ℕ, ◌+◌, ◌<◌, ◌⊎◌, List, [], ◌∷◌, ◌++◌, map, length}
 use Rattle.std.specs.Prelude.{slice_get, Option, Some, None, Ok}
 use Rattle.m36_desc.specs.Fields.{DbrFields}
@@ -7,11 +7,11 @@ use Rattle.m36_model.specs.Place.{wrapped, sdw_place}
 use Rattle.m36_model.specs.Audit.{Table, Sdws, Directory, Pages, IsOf, IsSegmentWord, IsAudited}
 use Rattle.m36_model.specs.Audit.{Finds, noted, AreFindings}
 
--- at most so many processes
+-- the most processes of a joint audit
 abbrev pub most_processes : ℕ
 most_processes = 8
 
--- two segments of two processes are the same: their descriptors are equal words
+-- two segments of two processes are the same segment: their descriptors are equal words
 pub record AreSame (core : List ℕ) (dbr other : DbrFields) (seg other_seg : ℕ) : Type 0 where
   pub at : ℕ
   pub other_at : ℕ
@@ -20,8 +20,8 @@ pub record AreSame (core : List ℕ) (dbr other : DbrFields) (seg other_seg : �
   pub even : slice_get core at ≡ slice_get core other_at
   pub odd : slice_get core (wrapped (at + 1)) ≡ slice_get core (wrapped (other_at + 1))
 
--- Two processes may share a word of these two tables: they are the page tables of one and the same
--- segment. (Where its descriptors are equal, a word at one address is for one and the same page.)
+-- Two processes may share a word of these two tables: they are the page tables of the same segment.
+-- (Its descriptors are equal, so a word at one address is for the same page.)
 abbrev pub AreShared : List ℕ → DbrFields → DbrFields → Table → Table → Type 0
 AreShared core dbr other (Pages seg) (Pages other_seg) = AreSame core dbr other seg other_seg
 AreShared core dbr other (Pages seg) Sdws = ⊥
@@ -29,7 +29,7 @@ AreShared core dbr other (Pages seg) Directory = ⊥
 AreShared core dbr other Sdws table = ⊥
 AreShared core dbr other Directory table = ⊥
 
--- two processes of the list
+-- two different processes of the list
 pub record AreTwo (dbrs : List DbrFields) (dbr other : DbrFields) : Type 0 where
   pub first : ℕ
   pub second : ℕ
@@ -37,15 +37,15 @@ pub record AreTwo (dbrs : List DbrFields) (dbr other : DbrFields) : Type 0 where
   pub other_at : slice_get dbrs second ≡ Some other
   pub differ : first ≢ second
 
--- a table word of one process that is a segment word, or a table word that is not shared, of
--- another
+-- a table word of one process is a segment word of another, or a table word of it that is not
+-- shared
 abbrev pub IsTaken : List ℕ → DbrFields → DbrFields → Table → ℕ → Type 0
 IsTaken core dbr other table a =
     ((seg : ℕ) × (w : ℕ) × IsSegmentWord core other seg w a) ⊎
     ((other_table : Table) × IsOf core other other_table a ×
     (AreShared core dbr other table other_table → ⊥))
 
--- No table word of one process is a table word or a segment word of another, but for shared page
+-- No table word of one process is a table word or a segment word of another, except in shared page
 -- tables. A core word breaks it.
 pub record IsJointTable (core : List ℕ) (dbrs : List DbrFields) (a : ℕ) : Type 0 where
   pub inside : a < length core
@@ -56,14 +56,14 @@ pub record IsJointTable (core : List ℕ) (dbrs : List DbrFields) (a : ℕ) : Ty
   pub of : IsOf core dbr table a
   pub taken : IsTaken core dbr other table a
 
--- the two words of segments are one word of one and the same segment
+-- two words of segments are the same word of the same segment
 pub record AreSameWord (core : List ℕ) (dbr other : DbrFields)
     (seg w other_seg other_w : ℕ) : Type 0 where
   pub segment : AreSame core dbr other seg other_seg
   pub word : w ≡ other_w
 
--- No segment word of one process lies on one of another, but for the same word of one segment. A
--- core word breaks it.
+-- No segment word of one process is at the core address of one of another, unless they are the same
+-- word of the same segment. A core word breaks it.
 pub record IsJointSegment (core : List ℕ) (dbrs : List DbrFields) (a : ℕ) : Type 0 where
   pub dbr : DbrFields
   pub other : DbrFields
@@ -82,7 +82,7 @@ pub record IsJointlyAudited (core : List ℕ) (dbrs : List DbrFields) : Type 0 w
   pub tables : (a : ℕ) → IsJointTable core dbrs a → ⊥
   pub segments : (a : ℕ) → IsJointSegment core dbrs a → ⊥
 
--- a finding: its process, where it is of one, the number of its condition, and the place
+-- a finding: the number of the process, if it is of one, the number of the condition, and the place
 pub record JointFound : Type 0 where
   pub process : Option ℕ
   pub condition : ℕ
@@ -95,7 +95,7 @@ found_of process findings =
 abbrev pub of_process : ℕ → List (ℕ × ℕ) → List JointFound
 of_process i findings = found_of (Some i) findings
 
--- what is found of a condition between processes
+-- the finding of a condition between processes
 abbrev pub between : ℕ → Option ℕ → List JointFound
 between condition place = found_of None (noted condition place)
 
@@ -108,7 +108,7 @@ AreFindingsFrom i core (dbr ∷ dbrs) findings =
     (findings ≡ of_process i own ++ rest))
 
 -- the findings of a joint audit: those of each process in order, and one for each of the two
--- conditions that fails
+-- conditions between processes that fails
 pub record AreJointFindings (core : List ℕ) (dbrs : List DbrFields)
     (findings : List JointFound) : Type 0 where
   pub own : List JointFound

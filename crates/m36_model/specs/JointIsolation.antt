@@ -1,5 +1,5 @@
--- Isolation over every schedule: several processes that run in a ring and above neither change
--- words that the ring may not write nor depend on words that it may not read, until one of them
+-- Isolation over every schedule: several processes that run in ring r and above do not change words
+-- that ring r may not write, and do not depend on words that it may not read, until one of them
 -- faults, stops, or leaves through a gate.
 use Rattle.std.specs.Prelude.{◌≡◌, ℕ, ◌<◌, ◌≤◌, List, map, length, slice_get, Some}
 use Rattle.m36_model.specs.Registers.{RegsFields}
@@ -11,14 +11,15 @@ use Rattle.m36_model.specs.Isolation.{EachTwo, IsGateCall}
 use Rattle.m36_model.specs.Laws.{IsAbove}
 use Rattle.m36_model.specs.Schedule.{Processes, process_of, Event, window_of}
 
--- equal registers, and every process of the one agrees with that of the other
+-- equal registers, and each process of one state agrees with the same process of the other
 pub record AgreeAll {S : Type 0} (o : Store S) (r : ℕ) (a b : Processes S) : Type 0 where
   pub regs : a.regs ≡ b.regs
   pub each :
       (i : ℕ) (g : RegsFields) → slice_get a.regs i ≡ Some g
       → Agree o r (process_of a g) (process_of b g)
 
--- each process has its tables, but for marks, eight pointer registers, and runs in ring r or above
+-- each process has its tables, except for marks, has eight pointer registers, and runs in ring r or
+-- above
 pub record AreAbove {S : Type 0} (o : Store S) (T : List Tables) (r : ℕ)
     (s : Processes S) : Type 0 where
   pub count : length s.regs ≡ length T
@@ -26,8 +27,9 @@ pub record AreAbove {S : Type 0} (o : Store S) (T : List Tables) (r : ℕ)
       (i : ℕ) (g : RegsFields) (t : Tables) → slice_get s.regs i ≡ Some g → slice_get T i ≡ Some t
       → IsAbove o t r (process_of s g)
 
--- what is said of each event of a window: no word outside the reach of r, of any process, and no
--- table of any process changes, and the ring falls below r through a gate of its own process alone
+-- For an event of a window: no word that is out of reach of ring r in any process has changed since
+-- the start of the window, the tables of each process are its own in T, and the ring of the event's
+-- process falls below r only by a gate call.
 pub record IsEventKept {S : Type 0} (o : Store S) (T : List Tables) (r : ℕ) (start : Processes S)
     (e : Event S) : Type 0 where
   pub unreached :
@@ -41,7 +43,8 @@ pub record IsEventKept {S : Type 0} (o : Store S) (T : List Tables) (r : ℕ) (s
       e.told.after.ppr.prr < r → (g : RegsFields) → slice_get e.before.regs e.process ≡ Some g
       → IsGateCall o (process_of e.before g) r e.told
 
--- what is said of the windows of two states under one schedule
+-- the windows of two states under one schedule have the same processes and records, the states
+-- after their events agree, and `IsEventKept` holds of each event of both
 pub record AreJointlyIsolated {S : Type 0} (o : Store S) (T : List Tables) (r : ℕ)
     (schedule : List ℕ) (a b : Processes S) : Type 0 where
   pub processes :
@@ -55,8 +58,8 @@ pub record AreJointlyIsolated {S : Type 0} (o : Store S) (T : List Tables) (r : 
   pub kept : Each (IsEventKept o T r a) (window_of o r schedule a)
   pub kept_other : Each (IsEventKept o T r b) (window_of o r schedule b)
 
--- Processes with the tables T, one of the list for each, are isolated over every schedule in each
--- ring from 1.
+-- Processes with the tables T, one for each process, are isolated over every schedule, for each
+-- ring from 1 to 7.
 abbrev pub JointlyIsolated : {S : Type 0} → Store S → List Tables → Type 0
 JointlyIsolated {S} o T =
     (r : ℕ) → 1 ≤ r → r ≤ 7 → (a b : Processes S) → AreAbove o T r a → AgreeAll o r a b

@@ -1,4 +1,4 @@
--- The laws on which isolation rests, as statements on one step.
+-- The laws on which isolation rests, each about one step.
 use Rattle.std.specs.Prelude.{◌≡◌, ℕ, ◌<◌, ◌≤◌, ◌⊎◌, false, List, length, slice_get, slice_index}
 use Rattle.std.specs.Prelude.{Some, Ok, Err}
 use Rattle.m36_desc.specs.Fields.{DbrFields}
@@ -25,8 +25,8 @@ use Rattle.m36_model.specs.declared.place.Kind.TheVariants as reference
 use Rattle.m36_model.specs.declared.place.Reference.{Reference}
 use Rattle.m36_model.specs.declared.record.StepRecord.{StepRecord}
 
--- CALL6 goes to the final address in the operand's ring, and PR7 becomes the base of
--- that ring's stack
+-- CALL6 goes to the final address in the ring of the operand, and PR7 becomes the base of the stack
+-- of that ring.
 pub record IsCalled (g : RegsFields) (f : FinalFields) (o : OperandFields)
     (x : EffectFields) : Type 0 where
   pub ring : x.regs.ppr.prr ≡ o.ring
@@ -34,8 +34,8 @@ pub record IsCalled (g : RegsFields) (f : FinalFields) (o : OperandFields)
   pub pointer : HasPointers g → slice_get x.regs.pr 7 ≡ Some (stack_pointer g o.ring)
   pub overflow : x.overflow ≡ false
 
--- An effect changes the ring in CALL6 and RTCD alone, and RTCD not below the ring of the address;
--- it changes the DBR in LDBR alone; and it puts as many words as its operand kind writes.
+-- Only CALL6 and RTCD change the ring, and RTCD does not enter a ring below that of the address.
+-- Only LDBR changes the DBR. An effect gives as many words to write as its operand kind requires.
 pub record IsEffect (e : Effect) (g : RegsFields) (f : FinalFields) (o : OperandFields)
     (x : EffectFields) : Type 0 where
   pub ring :
@@ -56,13 +56,14 @@ EffectRefusals =
     (e : Effect) (n : ℕ) (g : RegsFields) (f : FinalFields) (o : OperandFields) (number : ℕ)
     → exec e n g f o ≡ Err number → number < 16
 
--- a state of which the laws speak: its tables are T but for marks, and it runs in ring r or above
+-- a state to which the laws apply: its tables are T except for marks, and it runs in ring r or
+-- above
 pub record IsAbove {S : Type 0} (o : Store S) (T : Tables) (r : ℕ) (s : State S) : Type 0 where
   pub pointers : HasPointers s.regs
   pub tables : tables_of o s ≡ T
   pub low : r ≤ s.regs.ppr.prr
 
--- What is read is in sight, and what is written in reach.
+-- ring r can see a segment that is read, and can change a segment that is written
 abbrev pub MayRefer : {S : Type 0} → Store S → ℕ → State S → ℕ → Kind → Type 0
 MayRefer o r s seg reference.Fetch = InSight o s r seg
 MayRefer o r s seg reference.Indirect = InSight o s r seg
@@ -72,29 +73,30 @@ MayRefer o r s seg reference.Write = InReach o s r seg
 abbrev pub IsWithin : {S : Type 0} → Store S → ℕ → State S → Reference → Type 0
 IsWithin o r s e = MayRefer o r s e.at.seg e.kind
 
--- Each completed reference of a step is to a segment in sight, for a Write in reach.
+-- Each completed reference of a step is to a segment that ring r can see or, for a Write, can
+-- change.
 abbrev pub SightLaw : {S : Type 0} → Store S → Tables → Type 0
 SightLaw {S} o T =
     (r : ℕ) (s : State S) → IsAbove o T r s → Each (IsWithin o r s) (record_of o s).refs.items
 
--- What stands outside the sight of ring r alters no record.
+-- What ring r cannot see does not affect the record of a step.
 abbrev pub DependsLaw : {S : Type 0} → Store S → Tables → Type 0
 DependsLaw {S} o T =
     (r : ℕ) (a b : State S) → IsAbove o T r a → Agree o r a b → record_of o a ≡ record_of o b
 
--- A step changes the content of no live segment outside reach.
+-- A step does not change the content of a segment that ring r cannot change.
 abbrev pub ReachLaw : {S : Type 0} → Store S → Tables → Type 0
 ReachLaw {S} o T =
     (r : ℕ) (s : State S) → 1 ≤ r → IsAbove o T r s → Unreached o r s (state_after o s)
 
--- a word of a segment in reach lies at the address
+-- the address is that of a word of a segment that ring r can change
 pub record IsReachable (r : ℕ) (s : State (List ℕ)) (a : ℕ) : Type 0 where
   pub seg : ℕ
   pub w : ℕ
   pub reach : InReach core_store s r seg
   pub word : IsSegmentWord s.store s.regs.dbr seg w a
 
--- Of core words a step changes those of segments in reach alone, but for marks on page table words.
+-- In core, a step changes only words of segments that ring r can change, and marks of PTWs.
 abbrev pub CoreReachLaw : List ℕ → DbrFields → Type 0
 CoreReachLaw core dbr =
     (r : ℕ) (s : State (List ℕ)) → IsAbove core_store (core_tables core dbr) r s → (a : ℕ)
@@ -102,14 +104,14 @@ CoreReachLaw core dbr =
     → IsButMarked core dbr a (slice_index s.store a)
     (slice_index (state_after core_store s).store a)
 
--- A step ends below r by a gate call alone.
+-- A step ends in a ring below r only by a gate call.
 abbrev pub FallLaw : {S : Type 0} → Store S → Tables → Type 0
 FallLaw {S} o T =
     (r : ℕ) (s : State S) → 1 ≤ r → IsAbove o T r s → (state_after o s).regs.ppr.prr < r
     → IsGateCall o s r (record_of o s)
 
--- Marks alter no descriptor, no place and no record: two states with equal registers, tables equal
--- but for marks and equal content tell the same.
+-- Marks affect no descriptor, no place and no record: these are the same for two states with equal
+-- registers, tables that are equal except for marks, and equal content.
 pub record MarksAlterNothing {S : Type 0} (o : Store S) (a b : State S) : Type 0 where
   pub descriptors : (seg : ℕ) → o.sdw a.store a.regs.dbr seg ≡ o.sdw b.store b.regs.dbr seg
   pub places : (seg w : ℕ) → place o a.store a.regs.dbr seg w ≡ place o b.store b.regs.dbr seg w
@@ -120,12 +122,12 @@ MarksLaw {S} o T =
     (a b : State S) → a.regs ≡ b.regs → tables_of o a ≡ T → tables_of o b ≡ T
     → ((seg w : ℕ) → content o a seg w ≡ content o b seg w) → MarksAlterNothing o a b
 
--- one step of two agreeing states: equal records, and they agree again
+-- one step of two states that agree: their records are equal, and the states agree again
 pub record IsAlike {S : Type 0} (o : Store S) (T : Tables) (r : ℕ) (a b : State S) : Type 0 where
   pub told : record_of o a ≡ record_of o b
   pub agree : Agree o r (state_after o a) (state_after o b)
-  -- content that was equal stays equal, in sight or not: so the half of a word that a store keeps
-  -- shows nowhere else
+  -- Content that was equal is equal again, whether ring r can see it or not. So the half of a word
+  -- that a store keeps affects nothing else.
   pub words :
       (seg w : ℕ) → content o a seg w ≡ content o b seg w
       → content o (state_after o a) seg w ≡ content o (state_after o b) seg w
@@ -138,11 +140,11 @@ AgreeLaw {S} o T =
 abbrev pub ExecutesLdbr : StepRecord → Type 0
 ExecutesLdbr e = Executes effect.Ldbr e
 
--- A step of this record, if it executes no LDBR, keeps the audit conditions.
+-- A step with this record that executes no LDBR preserves the audit conditions.
 abbrev pub Keeps : State (List ℕ) → State (List ℕ) → StepRecord → Type 0
 Keeps old new e =
     IsAudited old.store old.regs.dbr → (ExecutesLdbr e → ⊥) → IsAudited new.store new.regs.dbr
 
--- Each step does so, in any ring.
+-- Each step, in any ring, preserves the audit conditions unless it executes LDBR.
 abbrev pub KeptLaw : Type 0
 KeptLaw = (s : State (List ℕ)) → Keeps s (state_after core_store s) (record_of core_store s)

@@ -1,16 +1,17 @@
--- The machine by the manual. Two modules tell the whole of it: `Step` has the program of one step,
--- and `Store` says how a store serves what the program asks. `StepCases` says it as a relation.
+-- The machine, by the manual. Two modules define all of it: `Step` has the program of one step, and
+-- `Store` says how a store serves the requests of a program. `StepCases` states a step as a
+-- relation.
 --
--- Letters stand for what lives for a line or two, in the modules of a step mostly for these:
+-- Letters name what is used for a line or two. In the modules of a step they mean mostly:
 --
 --   g  registers                        e  an instruction, and n the number in its name
 --   w  a word, or the number of one     f  a final address
 --   p  a point of an address chain      c  the end of one
 --   q  a request                        a  the answer to one, and b to a second
 --   d  a segment descriptor             r  a working register, or in laws a ring
---   m  where a step stands              s  a state, or what a store holds
---   i  indicators                       t  what came of a run, or of one reference
---   o  in effects an operand, and else a store
+--   m  the state within a step          s  a state, or the content of a store
+--   i  indicators                       t  the result of a run, or of one reference
+--   o  in effects an operand, and otherwise a store
 pub mod Faults
 pub mod Fields
 pub mod Registers

@@ -16,9 +16,10 @@ use Rattle.m36_model.specs.declared.outcome.Halt.{Halt}
 use Rattle.m36_model.specs.declared.outcome.Halt.TheVariants as halt
 use Rattle.m36_model.specs.declared.outcome.Stop.TheVariants as stop
 
--- A point of a chain: segment TSR, ring TRR, address y, bit number, tag and perhaps a held
--- register, of which the chain keeps the value. The last field is the word that carried the tag,
--- with the ring that a fault tag names: the greater of TRR and R1 of that word's segment.
+-- A point of a chain: segment TSR, ring TRR, address y, bit number, tag, and the value of the
+-- register that is held, if there is one. The last field is the word that carried the tag, with the
+-- ring in which a fault tag is reported: the ring of the point and, for an indirect word, at least
+-- R1 of its segment.
 pub record Point : Type 0 where
   pub seg : ℕ
   pub ring : ℕ
@@ -28,30 +29,30 @@ pub record Point : Type 0 where
   pub held : Option ℕ
   pub carrier : AtFields
 
--- the instruction that is executed: the place of the faults that name no other word
+-- the position of the instruction, where faults are reported that name no other word
 abbrev pub here : RegsFields → AtFields
 here g = record { seg = g.ppr.psr; word = g.ppr.ic; ring = g.ppr.prr }
 
--- a fault other than an access violation, at a place
+-- a fault at a place that is not an access violation
 abbrev pub plain_fault : ℕ → AtFields → Fault
 plain_fault number at = fault_by (plain_refusal number) at
 
 abbrev pub fault_at : ℕ → AtFields → Halt
 fault_at number at = halt.Fault (plain_fault number at)
 
--- at the instruction itself
+-- a fault at the instruction
 abbrev pub fault_here : ℕ → RegsFields → Fault
 fault_here number g = plain_fault number (here g)
 
 abbrev pub halt_here : ℕ → RegsFields → Halt
 halt_here number g = halt.Fault (fault_here number g)
 
--- The ring after a pair is the greatest of TRR, R1 of the segment that holds the pair, and the ring
--- that the pair names: its own, or of an ITP pair that of its pointer register.
+-- The ring after a pair: the greatest of TRR, R1 of the segment that holds the pair, and the ring
+-- that the pair names. An ITS pair names its own ring, an ITP pair that of its pointer register.
 abbrev pub pair_ring : ℕ → ℕ → ℕ → ℕ
 pair_ring trr r1 named = max (max trr r1) named
 
--- a register that no number names
+-- the pointer for a register number of 8 or more, which does not occur
 abbrev pub no_ptr : PtrFields
 no_ptr = record { seg = 0; ring = 0; word = 0; bit = 0 }
 
@@ -59,8 +60,8 @@ no_ptr = record { seg = 0; ring = 0; word = 0; bit = 0 }
 abbrev pub ptr : RegsFields → ℕ → PtrFields
 ptr g n = slice_index_or g.pr n no_ptr
 
--- The value of the register that Td names: none (which is 0), au, qu, ic, al, ql, x0 to x7. Td 3
--- and 7, du and dl, name a direct operand and no register.
+-- The value of the register that Td names: none (0), au, qu, ic, al, ql, x0 to x7. Td 3 and 7, du
+-- and dl, name no register but a direct operand.
 unfoldable pub index_of : RegsFields → ℕ → ℕ
 index_of g td =
     if td == 0 then 0
@@ -77,7 +78,7 @@ direct_upper = 3
 abbrev pub direct_lower : ℕ
 direct_lower = 7
 
--- du and dl
+-- Td is du or dl
 abbrev pub is_direct : ℕ → Bool
 is_direct td = (td == direct_upper) || (td == direct_lower)
 
@@ -85,9 +86,9 @@ is_direct td = (td == direct_upper) || (td == direct_lower)
 pub data Move : Type 0 where
   -- the chain ends here
   Ends : FinalFields → Move
-  -- the tag gives a fault or a stop, and no word is read
+  -- a fault or a stop; no word is read
   Fails : Halt → Move
-  -- the indirect word at this word number is read, and from then on this register is held
+  -- the indirect word at this word number is read, and this register is held from then on
   Reads : (word : ℕ) → (held : Option ℕ) → Move
   -- the tally word at y is read
   Counts : Move
@@ -96,20 +97,20 @@ pub data Move : Type 0 where
 abbrev pub at_point : Point → ℕ → AtFields
 at_point p word = record { seg = p.seg; word = word; ring = p.ring }
 
--- the end of a chain at a word of the point's segment, perhaps with a direct operand
+-- the final address at a word of the point's segment, with a direct operand or without
 abbrev pub final_at : Point → ℕ → Option ℕ → FinalFields
 final_at p word direct = record { at = at_point p word; bit = p.bit; direct = direct }
 
 abbrev pub ends_at : Point → ℕ → Move
 ends_at p word = Ends (final_at p word None)
 
--- at a direct operand the place is that of the point itself
+-- with a direct operand, the address is that of the point itself
 abbrev pub ends_direct : Point → ℕ → Move
 ends_direct p operand = Ends (final_at p p.y (Some operand))
 
--- Register modification (R). With a held register the chain ends at y plus that register, whatever
--- Td is. Without one, du ends it with y as bits 0 to 17 of a direct operand and dl with y as bits
--- 18 to 35; any other Td ends it at y plus the register that Td names.
+-- Register modification (R). If a register is held, the chain ends at y plus that register, and Td
+-- is not used. Otherwise du ends it with y as bits 0 to 17 of a direct operand, dl with y as bits
+-- 18 to 35, and any other Td ends it at y plus the register that Td names.
 abbrev pub move_register : RegsFields → Point → ℕ → Option ℕ → Move
 move_register g p td (Some held) = ends_at p ((p.y + held) % 2 ^ 18)
 move_register g p td None =
@@ -117,23 +118,24 @@ move_register g p td None =
     else if td == direct_lower then ends_direct p p.y
     else ends_at p ((p.y + index_of g td) % 2 ^ 18)
 
--- A modification by a register and an indirect word reads the word of that number, and from then on
--- this register is held. du and dl are an illegal procedure (this project's choice).
+-- Reads the indirect word at this word number; `held` is the register that is held from then on. A
+-- modification by du or dl is an illegal procedure (this project's choice).
 abbrev pub reads_unless_direct : RegsFields → ℕ → ℕ → Option ℕ → Move
 reads_unless_direct g td word held =
     if is_direct td then Fails (halt_here illegal_procedure g) else Reads word held
 
--- Register then indirect (RI). The indirect word is at y plus the register; a held register stays.
+-- Register then indirect (RI). The indirect word is at y plus the register. A held register is
+-- kept.
 abbrev pub move_register_then_indirect : RegsFields → Point → ℕ → Move
 move_register_then_indirect g p td =
     reads_unless_direct g td ((p.y + index_of g td) % 2 ^ 18) p.held
 
--- Indirect then register (IR). The indirect word is at y; the register is held in place of any
--- earlier one, and none is held as 0.
+-- Indirect then register (IR). The indirect word is at y. The register is held, in place of any
+-- earlier one; Td 0 holds the value 0.
 abbrev pub move_indirect_then_register : RegsFields → Point → ℕ → Move
 move_indirect_then_register g p td = reads_unless_direct g td p.y (Some (index_of g td))
 
--- Td of the three fault tags, of Tm IT
+-- Td of the three fault tags, which have Tm IT
 abbrev pub first_fault_tag : ℕ
 first_fault_tag = 0o0
 
@@ -143,14 +145,14 @@ second_fault_tag = 0o6
 abbrev pub third_fault_tag : ℕ
 third_fault_tag = 0o7
 
--- Td of the tags of pairs, which have Tm IT too
+-- Td is that of a tag of a pair; these have Tm IT too
 abbrev pub is_pair_tag : ℕ → Bool
 is_pair_tag td = (td == itp_tag % 16) || (td == its_tag % 16)
 
--- Indirect then tally (IT). Fault tags 1, 2 and 3 (octal 40, 46, 47) are told at the word that
--- carried the tag. The pair tags ITP and ITS (41, 43) count only in the even word of a pair that RI
--- or IR has reached; here they are an illegal procedure (this project's choice). SD, I, AD, DI and
--- ID (44, 51, 53, 54, 56) read a tally word. The others stop the machine.
+-- Indirect then tally (IT). Fault tags 1, 2 and 3 (octal 40, 46, 47) are faults at the word that
+-- carried the tag. The tags ITP and ITS (41, 43) mean a pair only in an even word that RI or IR has
+-- read; here they are an illegal procedure (this project's choice). SD, I, AD, DI and ID (44, 51,
+-- 53, 54, 56) read a tally word. The other tags stop the machine.
 abbrev pub move_indirect_then_tally : RegsFields → Point → ℕ → Move
 move_indirect_then_tally g p td =
     if td == first_fault_tag then Fails (fault_at fault_tag_1 p.carrier)
@@ -160,7 +162,7 @@ move_indirect_then_tally g p td =
     else if is_tally_tag td then Counts
     else Fails (halt.Stop stop.Tag)
 
--- The tag has Tm in its first two bits (R, RI, IT, IR) and Td in the other four.
+-- A tag has Tm in its first two bits (R, RI, IT, IR) and Td in the other four.
 unfoldable pub move_of_point : RegsFields → Point → Move
 move_of_point g p =
     let tm = p.tag / 16 in

@@ -1,5 +1,5 @@
--- Which words an effect is given, by how its instruction references its operand: the word, the pair
--- or the block that it reads, and none where it reads nothing. A direct operand is a word.
+-- The words that an effect gets, by how its instruction references its operand: the word, the pair
+-- or the block that it reads, or none if it reads nothing. A direct operand is one word.
 use Rattle.std.specs.Prelude.{Bool, true, false, IsTrue}
 use Rattle.m36_inst.specs.declared.operand.Operand.{Operand}
 use Rattle.m36_inst.specs.declared.operand.Operand.TheVariants as operand
@@ -22,6 +22,7 @@ abbrev pub is_block : Held → Bool
 is_block (held.Block b) = true
 is_block _ = false
 
+-- the words have the form that this kind of operand requires
 abbrev pub holds_for : Operand → Held → Bool
 holds_for operand.R got = is_word got
 holds_for operand.Rw got = is_word got

@@ -1,5 +1,5 @@
--- The words of an operand: a word, a pair or a block is words that follow one another, and the k-th
--- of them is the word at the place of the first word number plus k.
+-- The words of an operand. A pair or a block is consecutive words: word k is the one at the first
+-- word number plus k.
 use Rattle.std.specs.Prelude.{ℕ, ◌≡◌, ◌+◌, ◌<◌, true, List, ◌++◌, map, length, slice_get, Some, Ok}
 use Rattle.m36_desc.specs.Fields.{SdwFields}
 use Rattle.m36_model.specs.Registers.{RegsFields}
@@ -7,8 +7,7 @@ use Rattle.m36_model.specs.Act.{Read, Write, Request, Answer}
 use Rattle.m36_model.specs.Store.{Spot, Store, Mid, serve, changes, within}
 use Rattle.m36_model.specs.Core.{core_store}
 
--- the spots of so many words of a segment from a word on, each within the bound and placed by the
--- descriptor
+-- the spots of the words of a request, each of them within the bound and placed by the descriptor
 pub record ArePlaces {S : Type 0} (o : Store S) (s : S) (g : RegsFields) (q : Request)
     (d : SdwFields) (spots : List Spot) : Type 0 where
   pub count : length spots ≡ q.count
@@ -17,8 +16,8 @@ pub record ArePlaces {S : Type 0} (o : Store S) (s : S) (g : RegsFields) (q : Re
       (k : ℕ) (spot : Spot) → slice_get spots k ≡ Some spot
       → o.spot s g.dbr d q.at.seg (q.at.word + k) ≡ Ok spot
 
--- an answered request to read: its words are those at these places, with the marks set and the
--- pending words written
+-- a request to read that was answered: its words are those at these spots, after the marks are set
+-- and the pending words are written
 pub record AreReadWords {S : Type 0} (o : Store S) (g : RegsFields) (m : Mid S) (q : Request)
     (a : Answer) (after : Mid S) : Type 0 where
   pub spots : List Spot
@@ -26,8 +25,8 @@ pub record AreReadWords {S : Type 0} (o : Store S) (g : RegsFields) (m : Mid S) 
   pub places : ArePlaces o m.store g q a.sdw spots
   pub words : a.words ≡ map (o.word (o.put after.store (changes m.claims q.pending))) spots
 
--- an answered request to write: these places are claimed, after those that the step
--- has claimed before
+-- a request to write that was answered: these spots are claimed, after those that the step has
+-- claimed before
 pub record AreWrittenWords {S : Type 0} (o : Store S) (g : RegsFields) (m : Mid S) (q : Request)
     (a : Answer) (after : Mid S) : Type 0 where
   pub spots : List Spot
@@ -36,12 +35,14 @@ pub record AreWrittenWords {S : Type 0} (o : Store S) (g : RegsFields) (m : Mid 
   pub claims : after.claims ≡ m.claims ++ spots
   pub first : a.first ≡ length m.claims
 
+-- an answered request to read has the words at its consecutive word numbers
 abbrev pub ReadsWordsInOrder : Type 0
 ReadsWordsInOrder =
     (g : RegsFields) (m after : Mid (List ℕ)) (q : Request) (a : Answer) → q.kind ≡ Read
     → serve core_store g m q ≡ record { reply = Ok a; mid = after }
     → AreReadWords core_store g m q a after
 
+-- an answered request to write has claimed the words at its consecutive word numbers
 abbrev pub WritesWordsInOrder : Type 0
 WritesWordsInOrder =
     (g : RegsFields) (m after : Mid (List ℕ)) (q : Request) (a : Answer) → q.kind ≡ Write

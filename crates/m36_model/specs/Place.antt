@@ -1,6 +1,6 @@
--- Places of words in core: how a descriptor is found, how a word is found by it, and which marks a
--- reference sets. Multics Processor Manual AL39, "Address appending", "Segment descriptor word",
--- "Page table word".
+-- Places of words in core: how the descriptor of a segment is found, how a word is found by it, and
+-- which marks a reference sets. Multics Processor Manual AL39, "Address appending", "Segment
+-- descriptor word", "Page table word".
 use Rattle.std.specs.Prelude.{ℕ, ◌+◌, ◌*◌, ◌/◌, ◌%◌, ◌^◌, Bool, true, false, ◌&&◌, nat_lt}
 use Rattle.std.specs.Prelude.{if◌then◌else◌, List, [], ◌∷◌, ◌++◌, length, slice_get, slice_index}
 use Rattle.std.specs.Prelude.{slice_set, Option, Some, None, option_map, Result, Ok, Err}
@@ -12,50 +12,53 @@ use Rattle.m36_desc.specs.Violations.{out_of_segment_bounds}
 use Rattle.m36_model.specs.Store.{Spot, Core_word, violation, plain_refusal, claims_words}
 use Rattle.m36_model.specs.declared.outcome.Refusal.{Refusal}
 
--- a table word or a place at or past the end of core
+-- a table word, or the word itself, is past the end of core
 abbrev pub store_fault : Refusal
 store_fault = plain_refusal 1
 
--- the directed fault that a descriptor with F off names
+-- the directed fault with the number in FC, of a descriptor or PTW whose F is off
 abbrev pub directed : ℕ → Refusal
 directed fc = plain_refusal (directed_fault fc)
 
--- sums of addresses wrap
+-- an address modulo 2^24: sums of addresses wrap
 abbrev pub wrapped : ℕ → ℕ
 wrapped a = a % 2 ^ 24
 
--- the frame that a PTW names: its address counts blocks of 64 words, and its low four bits are not
--- looked at
+-- the frame that a PTW names: its address counts blocks of 64 words, and the low four bits are
+-- ignored
 abbrev pub frame_named : PtwFields → ℕ
 frame_named p = p.addr / 16
 
--- where a page's frame begins
+-- the address at which the frame begins
 abbrev pub frame_at : PtwFields → ℕ
 frame_at p = frame_named p * 1024
 
--- a place by a PTW
+-- the address of a word of a page, if F of its PTW is on
 abbrev pub in_frame_by : Bool → PtwFields → ℕ → Result ℕ Refusal
 in_frame_by true p offset = Ok (wrapped (frame_at p + offset))
 in_frame_by false p offset = Err (directed p.fc)
 
+-- the same for a PTW that may be missing: past the end of core
 abbrev pub in_frame : Option PtwFields → ℕ → Result ℕ Refusal
 in_frame None offset = Err store_fault
 in_frame (Some p) offset = in_frame_by p.f p offset
 
+-- the PTW at an address, or None past the end of core
 abbrev pub ptw_at : List ℕ → ℕ → Option PtwFields
 ptw_at core a = option_map ptw_of (slice_get core a)
 
--- The words of a segment, and those of the descriptor segment, lie in one piece or in pages. Their
--- address is where the piece begins or the page table: where the PTW of a page stands,
+-- A segment, or the descriptor segment, is contiguous or paged. `addr` is the address of its first
+-- word, or of its page table. This is the address of the PTW for a page.
 abbrev pub ptw_from : ℕ → ℕ → ℕ
 ptw_from addr page = wrapped (addr + page)
 
--- and where a word lies, in one piece or by the PTW of its page.
+-- the address of word w: by `addr` if the segment is contiguous, and otherwise by the PTW of its
+-- page
 abbrev pub place_from : Bool → ℕ → ℕ → Option PtwFields → Result ℕ Refusal
 place_from true addr w p = Ok (wrapped (addr + w))
 place_from false addr w p = in_frame p (w % 1024)
 
--- the address of the descriptor segment's PTW for a segment
+-- the address of the descriptor segment's PTW for the page with the descriptor of a segment
 abbrev pub directory_at : DbrFields → ℕ → ℕ
 directory_at dbr seg = ptw_from dbr.addr ((2 * seg) / 1024)
 
@@ -63,18 +66,19 @@ directory_at dbr seg = ptw_from dbr.addr ((2 * seg) / 1024)
 abbrev pub page_at : SdwFields → ℕ → ℕ
 page_at d page = ptw_from d.addr page
 
--- the last page that begins within the bound of a segment, and how many do
+-- the number of the last page that begins within the bound
 abbrev pub last_page : SdwFields → ℕ
 last_page d = d.bound / 64
 
+-- the number of pages that begin within the bound
 abbrev pub page_count : SdwFields → ℕ
 page_count d = last_page d + 1
 
--- the descriptor segment has a descriptor for the segment, whose number has 15 bits
+-- the descriptor of the segment is within the bound, and the segment number has 15 bits
 abbrev pub in_bounds : DbrFields → ℕ → Bool
 in_bounds dbr seg = nat_lt (2 * seg) (16 * (dbr.bnd + 1)) && nat_lt seg (2 ^ 15)
 
--- the segment that the DBR gives to a ring as its stack
+-- the segment number of the stack of a ring, by the DBR
 abbrev pub ring_stack : DbrFields → ℕ → ℕ
 ring_stack dbr ring = 8 * dbr.stack + ring
 
@@ -87,7 +91,7 @@ abbrev pub sdw_place : List ℕ → DbrFields → ℕ → Result ℕ Refusal
 sdw_place core dbr seg =
     sdw_place_by (in_bounds dbr seg) dbr.unpaged dbr seg (ptw_at core (directory_at dbr seg))
 
--- the descriptor in two words; both stand in core before F is looked at
+-- The descriptor in two words, if F is on. Both words have to be in core; this is checked before F.
 abbrev pub live_by : Bool → ℕ → ℕ → Result SdwFields Refusal
 live_by true even odd = Ok (sdw_of even odd)
 live_by false even odd = Err (directed (sdw_of even odd).fc)
@@ -101,11 +105,11 @@ abbrev pub sdw_at : List ℕ → Result ℕ Refusal → Result SdwFields Refusal
 sdw_at core (Err e) = Err e
 sdw_at core (Ok a) = sdw_words (slice_get core a) (slice_get core (wrapped (a + 1)))
 
--- the descriptor of a live segment
+-- the descriptor of a live segment, or the fault of its lookup
 unfoldable pub core_sdw : List ℕ → DbrFields → ℕ → Result SdwFields Refusal
 core_sdw core dbr seg = sdw_at core (sdw_place core dbr seg)
 
--- the place lies in core
+-- the address as a spot, if it is in core
 abbrev pub inside_core_by : Bool → ℕ → Result Spot Refusal
 inside_core_by true a = Ok (Core_word a)
 inside_core_by false a = Err store_fault
@@ -114,32 +118,33 @@ abbrev pub inside_core : ℕ → Result ℕ Refusal → Result Spot Refusal
 inside_core size (Ok a) = inside_core_by (nat_lt a size) a
 inside_core size (Err e) = Err e
 
--- the place of a word within the bound, by the descriptor
+-- the address of a word within the bound, by the descriptor and the PTW of the word's page
 abbrev pub word_place_by : Bool → SdwFields → ℕ → Option PtwFields → Result ℕ Refusal
 word_place_by unpaged d w p = place_from unpaged d.addr w p
 
--- the same by the tables in core; it may be past the end of core
+-- the same, with the PTW from core; the address may be past the end of core
 abbrev pub word_place : List ℕ → SdwFields → ℕ → Result ℕ Refusal
 word_place core d w = word_place_by d.unpaged d w (ptw_at core (page_at d (w / 1024)))
 
+-- the spot of a word within the bound: the same, if the address is in core
 unfoldable pub core_spot : List ℕ → DbrFields → SdwFields → ℕ → ℕ → Result Spot Refusal
 core_spot core dbr d seg w = inside_core (length core) (word_place core d w)
 
--- where a page of a paged segment begins, which may be past the end of core
+-- the address at which a page of a paged segment begins, which may be past the end of core
 abbrev pub page_frame : List ℕ → SdwFields → ℕ → Result ℕ Refusal
 page_frame core d page = in_frame (ptw_at core (page_at d page)) 0
 
--- a mark to be set in the PTW at an address: the used bit, and with it the modified bit where
--- modified is on
+-- A mark that a reference sets in the PTW at an address: the used bit, and also the modified bit if
+-- `modified` is on.
 pub record Mark : Type 0 where
   pub address : ℕ
   pub modified : Bool
 
--- a PTW with its used bit (26) on, and with its modified bit (29) on: the bits that `ptw_of` tells
--- as used and modified
+-- a PTW with its used bit (bit 26) on
 unfoldable pub with_used : ℕ → ℕ
 with_used w = (w / 1024 * 1024 + 512) + w % 512
 
+-- a PTW with its modified bit (bit 29) on
 unfoldable pub with_modified : ℕ → ℕ
 with_modified w = (w / 128 * 128 + 64) + w % 64
 
@@ -151,11 +156,11 @@ abbrev pub marked_word : Bool → ℕ → ℕ
 marked_word true w = with_modified (with_used w)
 marked_word false w = with_used w
 
--- a Write sets the modified bit of the segment's own PTW
+-- a Write sets the modified bit in the PTW of the page that it writes
 abbrev pub is_write : RequestKind → Bool
 is_write kind = claims_words kind
 
--- the mark of the PTW that a reference passes; there is none where the words lie in one piece
+-- the mark in the PTW through which a reference passes; none if the segment is contiguous
 abbrev pub marks_passed : Bool → ℕ → Bool → List Mark
 marks_passed unpaged a modified =
     if unpaged then [] else record { address = a; modified = modified } ∷ []
@@ -168,19 +173,22 @@ page_marks write w (Err e) = []
 page_marks write w (Ok d) =
     marks_passed d.unpaged (page_at d (w / 1024)) write
 
--- the marks of a reference: one for each PTW that it passes
+-- the marks of a reference: one in each PTW through which it passes
 abbrev pub marks_by : DbrFields → ℕ → Bool → ℕ → Result SdwFields Refusal → List Mark
 marks_by dbr seg write w sdw = directory_marks dbr seg ++ page_marks write w sdw
 
 unfoldable pub marks : List ℕ → DbrFields → RequestKind → ℕ → ℕ → List Mark
 marks core dbr kind seg w = marks_by dbr seg (is_write kind) w (core_sdw core dbr seg)
 
+-- core with a mark set
 abbrev pub with_mark : List ℕ → Mark → List ℕ
 with_mark core m = slice_set core m.address (marked_word m.modified (slice_index core m.address))
 
+-- core with marks set, in order
 unfoldable pub with_marks : List ℕ → List Mark → List ℕ
 with_marks core [] = core
 with_marks core (m ∷ more) = with_marks (with_mark core m) more
 
+-- core with the marks of a reference to word w of a segment
 unfoldable pub core_marked : List ℕ → DbrFields → RequestKind → ℕ → ℕ → List ℕ
 core_marked core dbr kind seg w = with_marks core (marks core dbr kind seg w)

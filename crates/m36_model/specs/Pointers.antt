@@ -13,41 +13,43 @@ use Rattle.m36_model.specs.Modification.{ptr, pair_ring}
 use Rattle.m36_model.specs.Results.{OperandFields, EffectFields, with_zero, completes}
 use Rattle.m36_model.specs.Results.{completes_with}
 
+-- the registers with a pointer in pointer register n
 unfoldable pub with_pr : ℕ → PtrFields → RegsFields → RegsFields
 with_pr n p g = record g { pr = slice_set g.pr n p }
 
--- a pointer to a word of a segment in a ring
+-- a pointer to bit 0 of a word
 abbrev pub pointer : ℕ → ℕ → ℕ → PtrFields
 pointer seg ring word = record { seg = seg; ring = ring; word = word; bit = 0 }
 
--- the final address as a pointer, and the base of its segment
+-- the final address as a pointer
 abbrev pub pointer_to : FinalFields → PtrFields
 pointer_to f = record { seg = f.at.seg; ring = f.at.ring; word = f.at.word; bit = f.bit }
 
+-- a pointer to the base of the final address's segment
 abbrev pub base_of : FinalFields → PtrFields
 base_of f = pointer f.at.seg f.at.ring 0
 
--- EPP: the pointer register becomes the final address
+-- EPP: the final address to the pointer register
 unfoldable pub load_pointer : ℕ → RegsFields → FinalFields → Result EffectFields ℕ
 load_pointer n g f = completes (with_pr n (pointer_to f) g)
 
--- EPBP: the pointer register becomes the base of the final address's segment
+-- EPBP: the base of the final address's segment to the pointer register
 unfoldable pub load_base_pointer : ℕ → RegsFields → FinalFields → Result EffectFields ℕ
 load_base_pointer n g f = completes (with_pr n (base_of f) g)
 
--- the ITS pair of a pointer, and further words
+-- the ITS pair of a pointer, and more words
 abbrev pub pair_before : PtrFields → List ℕ → List ℕ
 pair_before p words = ptr_even p ∷ ptr_odd p ∷ words
 
--- SPRI0 to SPRI7: the pair becomes the ITS form of the pointer register with tag 0
+-- SPRI0 to SPRI7: the pointer register to the pair, as ITS with tag 0
 unfoldable pub store_pointer : ℕ → RegsFields → Result EffectFields ℕ
 store_pointer n g = completes_with g (pair_before (ptr g n) [])
 
--- SPBP: the same with an odd word of 0
+-- SPBP: the same, with 0 as the odd word
 unfoldable pub store_base_pointer : ℕ → RegsFields → Result EffectFields ℕ
 store_base_pointer n g = completes_with g (ptr_even (ptr g n) ∷ 0 ∷ [])
 
--- SPRI: the block becomes the eight pairs, PR0 first
+-- SPRI: the eight pairs, PR0 first
 abbrev pub pointer_block : RegsFields → List ℕ
 pointer_block g =
     pair_before (ptr g 0)
@@ -60,8 +62,8 @@ pointer_block g =
 unfoldable pub store_pointers : RegsFields → Result EffectFields ℕ
 store_pointers g = completes_with g (pointer_block g)
 
--- LPRI: each pointer register becomes segment, word and bit of its pair, in the ring after the pair.
--- The tags of the pairs are not examined (this project's choice).
+-- LPRI: each pointer register gets the segment, word and bit of its pair, and the ring after the
+-- pair (`pair_ring`). The tags of the pairs are not checked (this project's choice).
 abbrev pub pointer_raised : PtrFields → ℕ → ℕ → PtrFields
 pointer_raised p trr r1 = record p { ring = pair_ring trr r1 p.ring }
 
@@ -78,8 +80,8 @@ pointers_in o f =
 unfoldable pub load_pointers : RegsFields → FinalFields → OperandFields → Result EffectFields ℕ
 load_pointers g f o = completes (record g { pr = pointers_in o f })
 
--- LPRP: the pointer register becomes what the packed pointer means in ring TRR. Where bits 0 and 1
--- of the word are both on, the fault is command.
+-- LPRP: the pointer register gets the pointer of the packed pointer, in ring TRR. The fault is
+-- command if bits 0 and 1 of the word are both on.
 abbrev pub load_packed_by : Bool → ℕ → ℕ → RegsFields → FinalFields → Result EffectFields ℕ
 load_packed_by true n w g f = Err command
 load_packed_by false n w g f = completes (with_pr n (packed_of w f.at.ring) g)
@@ -87,9 +89,9 @@ load_packed_by false n w g f = completes (with_pr n (packed_of w f.at.ring) g)
 unfoldable pub load_packed : ℕ → ℕ → RegsFields → FinalFields → Result EffectFields ℕ
 load_packed n w g f = load_packed_by (field w 0 2 == 3) n w g f
 
--- EPAQ: A 3-17 become the segment, A 33-35 the ring, Q 0-17 the computed address, Q 30-35 the bit
--- number, all else 0. Zero is on where AQ is 0, and no other indicator changes (this project's
--- choice).
+-- EPAQ: the segment to A 3-17, the ring to A 33-35, the computed address to Q 0-17, the bit number
+-- to Q 30-35, and zeros to the rest. Zero is on if AQ is 0; no other indicator changes (this
+-- project's choice).
 abbrev pub address_even : FinalFields → ℕ
 address_even f = f.at.seg * 2 ^ 18 + f.at.ring
 
@@ -101,7 +103,7 @@ load_address_pair g f =
     let zero = (address_even f == 0) && (address_odd f == 0) in
     completes (record g { a = address_even f; q = address_odd f; ind = with_zero zero g.ind })
 
--- STCD: the pair becomes the ITS form of the second instruction from here
+-- STCD: a pointer to the second instruction after this one to the pair, as ITS
 abbrev pub control_pointer : RegsFields → PtrFields
 control_pointer g = pointer g.ppr.psr g.ppr.prr ((g.ppr.ic + 2) % 2 ^ 18)
 

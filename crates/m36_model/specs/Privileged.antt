@@ -7,15 +7,15 @@ use Rattle.m36_model.specs.Registers.{RegsFields}
 use Rattle.m36_model.specs.Results.{OperandFields, EffectFields, A, completes, completes_with}
 use Rattle.m36_model.specs.Results.{becomes}
 
--- LDBR: the descriptor segment base register becomes the fields of the pair
+-- LDBR: the fields of the pair to the descriptor segment base register
 unfoldable pub load_dbr : OperandFields → RegsFields → Result EffectFields ℕ
 load_dbr o g = completes (record g { dbr = dbr_of (slice_index o.got 0) (slice_index o.got 1) })
 
--- SDBR: the pair becomes the fields of the register, the rest 0
+-- SDBR: the fields of the register to the pair, and zeros to the rest
 unfoldable pub store_dbr : RegsFields → Result EffectFields ℕ
 store_dbr g = completes_with g (dbr_even g.dbr ∷ dbr_odd g.dbr ∷ [])
 
--- ABSA: A 0-23 become the place in core, and A 24-35 become 0. The indicators are this project's
+-- ABSA: the core address to A 0-23, and zeros to A 24-35. Setting the indicators is this project's
 -- choice.
 unfoldable pub load_absolute_address : OperandFields → RegsFields → Result EffectFields ℕ
 load_absolute_address o g = becomes A (o.place * 2 ^ 12) g

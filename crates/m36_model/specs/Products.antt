@@ -7,11 +7,11 @@ use Rattle.m36_model.specs.Arithmetic.{product, quotient, remainder, is_divide_c
 use Rattle.m36_model.specs.Results.{EffectFields, A, Q, AQ, half, with_value, takes, zn, completes}
 use Rattle.m36_model.specs.Results.{becomes}
 
--- MPY: AQ becomes Q times the value
+-- MPY: Q times the value to AQ
 unfoldable pub multiply : ℕ → RegsFields → Result EffectFields ℕ
 multiply v g = becomes AQ (product g.q v) g
 
--- DIV: Q becomes Q over the value, and A the remainder; a divide check changes nothing
+-- DIV: the quotient of Q by the value to Q, and the remainder to A; a divide check changes nothing
 abbrev pub divide_by : Bool → ℕ → RegsFields → Result EffectFields ℕ
 divide_by true v g = Err divide_check
 divide_by false v g =

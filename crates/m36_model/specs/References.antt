@@ -1,4 +1,4 @@
--- What contracts see of the references of a step.
+-- The completed references of a step as contracts see them.
 use Rattle.std.specs.Prelude.{List}
 use Rattle.m36_model.specs.declared.place.Reference.{Reference}
 

@@ -1,4 +1,4 @@
--- What contracts see of the registers.
+-- The registers as contracts see them.
 use Rattle.std.specs.Prelude.{ℕ, List}
 use Rattle.m36_desc.specs.Fields.{PtrFields, DbrFields}
 use Rattle.m36_model.specs.Fields.{PprFields}

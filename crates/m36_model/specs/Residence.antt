@@ -1,5 +1,5 @@
--- Residence: pages of a booted image are in frames of core, or their words are kept elsewhere. What
--- the image holds is the same either way.
+-- Residence: a page of a booted image is in a frame of core, or its words are kept elsewhere. The
+-- content of the image is the same in both cases.
 use Rattle.std.specs.Prelude.{◌≡◌, ℕ, ◌+◌, ◌*◌, ◌/◌, ◌%◌, ◌==◌, if◌then◌else◌, List}
 use Rattle.std.specs.Prelude.{length, take, slice_index, Option, Some, None, Result, Ok, Err}
 use Rattle.m36_model.specs.Faults.{missing_page_code, missing_page}
@@ -12,7 +12,7 @@ use Rattle.m36_model.specs.BootedCore.{absent_ptw, IsPage, page_word}
 use Rattle.m36_model.specs.declared.outcome.Refusal.{Refusal}
 use Rattle.m36_model.specs.declared.place.Reference.{Reference}
 
--- core, and the words that are kept for pages in no frame
+-- core, and the kept words of pages that are in no frame, by segment and word number
 pub record Paged : Type 0 where
   pub core : List ℕ
   pub kept : ℕ → ℕ → ℕ
@@ -21,8 +21,7 @@ pub record Paged : Type 0 where
 abbrev pub absence : Refusal
 absence = directed missing_page_code
 
--- The content of a word: its frame's word where its page is resident, and else the word
--- kept for it.
+-- The content of a word: the word in core if its page is in a frame, and otherwise its kept word.
 abbrev pub word_at : Paged → ℕ → ℕ → Result Spot Refusal → ℕ
 word_at m seg w (Ok spot) = core_word m.core spot
 word_at m seg w (Err why) = if why.number == missing_page then m.kept seg w else 0
@@ -30,7 +29,7 @@ word_at m seg w (Err why) = if why.number == missing_page then m.kept seg w else
 unfoldable pub paged_content : Paged → ℕ → ℕ → ℕ
 paged_content m seg w = word_at m seg w (place core_store m.core booted_dbr seg w)
 
--- the flat memory for which a paged one stands
+-- the flat memory that core and the kept words represent
 unfoldable pub flat_of : Paged → Flat
 flat_of m = record { descriptors = take descriptor_words m.core; content = paged_content m }
 
@@ -38,13 +37,13 @@ flat_of m = record { descriptors = take descriptor_words m.core; content = paged
 abbrev pub Lacks : List ℕ → ℕ → ℕ → Type 0
 Lacks core seg w = place core_store core booted_dbr seg w ≡ Err absence
 
--- the page table word of a page by the frame that it is in, if any
+-- the PTW of a page, without marks, by its frame if it is in one
 abbrev pub ptw_of_page : Option ℕ → ℕ
 ptw_of_page None = absent_ptw
 ptw_of_page (Some frame) = resident_ptw frame
 
--- Which frame each page is in, as the page table words tell: a pageable one, and no frame
--- holds two pages.
+-- `frame_of` is the frame of each page, as its PTW says: a pageable frame, and no frame has two
+-- pages.
 pub record IsResidence (core : List ℕ) (frames : ℕ) (frame_of : ℕ → ℕ → Option ℕ) : Type 0 where
   pub words :
       (seg page : ℕ) → IsPage core seg page
@@ -55,7 +54,7 @@ pub record IsResidence (core : List ℕ) (frames : ℕ) (frame_of : ℕ → ℕ 
       (seg page seg' page' frame : ℕ) → frame_of seg page ≡ Some frame
       → frame_of seg' page' ≡ Some frame → (seg ≡ seg') × (page ≡ page')
 
--- a word of core by the frame of its page, if any, and else the word that is kept for it
+-- a word by the frame of its page, or its kept word if there is no frame
 abbrev pub word_in : Option ℕ → List ℕ → ℕ → ℕ → ℕ
 word_in (Some frame) core w kept = slice_index core (1024 * frame + w % 1024)
 word_in None core w kept = kept
@@ -63,9 +62,9 @@ word_in None core w kept = kept
 abbrev pub resident_word : Paged → Option ℕ → ℕ → ℕ → ℕ
 resident_word m frame seg w = word_in frame m.core w (m.kept seg w)
 
--- Pages have moved between frames and the words kept: descriptors are as they were, and so is each
--- word of each page. `before` and `after` give the frame of each page of the image (`IsPage`). What
--- they give for other numbers is arbitrary, so it says nothing of core.
+-- Pages have moved between frames and the kept words. The descriptors and each word of each page
+-- are unchanged. `before` and `after` give the frame of each page of the image (`IsPage`). What
+-- they give for other numbers is arbitrary, and says nothing about core.
 pub record IsMoved (frames : ℕ) (old new : Paged) : Type 0 where
   pub size : length new.core ≡ length old.core
   pub descriptors : take descriptor_words new.core ≡ take descriptor_words old.core
@@ -78,8 +77,7 @@ pub record IsMoved (frames : ℕ) (old new : Paged) : Type 0 where
       → resident_word new (after seg (w / 1024)) seg w ≡ resident_word old (before seg (w / 1024))
       seg w
 
--- A page that is referenced stays in its frame, where these tell which frame each page was in and
--- is in.
+-- If the page of a reference was in a frame before, it is in the same frame after.
 abbrev pub StaysIn : (ℕ → ℕ → Option ℕ) → (ℕ → ℕ → Option ℕ) → Reference → Type 0
 StaysIn before after e =
     (frame : ℕ) → before e.at.seg (e.at.word / 1024) ≡ Some frame

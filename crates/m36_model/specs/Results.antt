@@ -1,4 +1,4 @@
--- What an effect is given and what it gives: operands, working registers, indicators.
+-- The operands and results of effects: words, working registers, indicators.
 -- Multics Processor Manual AL39, "Processor registers" and "Indicator register".
 use Rattle.std.specs.Prelude.{ℕ, ◌+◌, ◌/◌, ◌%◌, ◌^◌, Bool, false, ◌||◌, List, [], ◌∷◌, Result, Ok}
 use Rattle.std.specs.Prelude.{slice_index, slice_set}
@@ -13,35 +13,37 @@ use Rattle.m36_model.specs.declared.effects.Operand36.{Operand36}
 use Rattle.m36_model.specs.declared.effects.Effect36.{Effect36}
 use Rattle.m36_model.specs.declared.registers.Ind.{Ind}
 
--- The operand of an effect: the words that were read; for pairs and blocks R1 of their segment, for
--- CALL6 the new ring; for ABSA the place in core.
+-- The operand of an effect: the words that were read; R1 of their segment for pairs and blocks, or
+-- the new ring for CALL6; the core address for ABSA.
 pub record OperandFields : Type 0 where
   pub got : List ℕ
   pub ring : ℕ
   pub place : ℕ
 
--- an operand of words alone, and of words with the first ring bracket of their segment
+-- an operand that is only words
 abbrev pub words_only : List ℕ → OperandFields
 words_only got = record { got = got; ring = 0; place = 0 }
 
+-- words, with R1 of their segment
 abbrev pub words_in_ring : List ℕ → ℕ → OperandFields
 words_in_ring got ring = record { got = got; ring = ring; place = 0 }
 
--- an operand of a new ring alone, and of a place in core alone
+-- only a new ring
 abbrev pub ring_only : ℕ → OperandFields
 ring_only ring = words_in_ring [] ring
 
+-- only a core address
 abbrev pub place_only : ℕ → OperandFields
 place_only place = record { got = []; ring = 0; place = place }
 
--- What an effect gives: the new registers, the words to write, and whether it has put overflow on.
--- A half to write stands right-justified in its word.
+-- The result of an effect: the new registers, the words to write, and whether it has turned the
+-- overflow indicator on. A half to write is right-justified in its word.
 pub record EffectFields : Type 0 where
   pub regs : RegsFields
   pub put : List ℕ
   pub overflow : Bool
 
--- the words of the code's operands and results
+-- the operands and results of the code as numbers and lists
 abbrev pub words_of_pairs : List Pair → List ℕ
 words_of_pairs [] = []
 words_of_pairs (p ∷ pairs) = p.even ∷ p.odd ∷ words_of_pairs pairs
@@ -58,20 +60,23 @@ operand_fields o = record { got = words_of_held o.got; ring = o.ring; place = o.
 abbrev pub effect_fields : Effect36 → EffectFields
 effect_fields e = record { regs = e.regs; put = words_of_held e.put; overflow = e.overflow }
 
--- the operand word Y, its two halves, and an operand pair as a number
+-- the operand word Y
 abbrev pub word : OperandFields → ℕ
 word o = slice_index o.got 0
 
+-- bits 0 to 17 of it
 abbrev pub upper : OperandFields → ℕ
 upper o = field (word o) 0 18
 
+-- bits 18 to 35 of it
 abbrev pub lower : OperandFields → ℕ
 lower o = field (word o) 18 18
 
+-- an operand pair as a number
 abbrev pub pair : OperandFields → ℕ
 pair o = number_of (record { even = slice_index o.got 0; odd = slice_index o.got 1 })
 
--- no indicator is on
+-- all indicators off
 abbrev pub no_indicators : Ind
 no_indicators =
     record {
@@ -91,36 +96,39 @@ pub data Working : Type 0 where
   AQ : Working
   X : (n : ℕ) → Working
 
--- its width, and half of its range
+-- the width in bits
 abbrev pub width : Working → ℕ
 width A = 36
 width Q = 36
 width AQ = 72
 width (X n) = 18
 
+-- half of the range: 2^(width - 1)
 abbrev pub half : Working → ℕ
 half A = 2 ^ 35
 half Q = 2 ^ 35
 half AQ = 2 ^ 71
 half (X n) = 2 ^ 17
 
--- the accumulator and the quotient register as a pair, and the number that a register holds
+-- the accumulator and the quotient register as a pair
 abbrev pub aq_pair : RegsFields → Pair
 aq_pair g = record { even = g.a; odd = g.q }
 
+-- the number in a register
 abbrev pub value : Working → RegsFields → ℕ
 value A g = g.a
 value Q g = g.q
 value AQ g = number_of (aq_pair g)
 value (X n) g = slice_index g.x n
 
--- a number of 72 bits in two words
+-- the two words of a number of 72 bits
 abbrev pub upper_word : ℕ → ℕ
 upper_word v = v / 2 ^ 36
 
 abbrev pub lower_word : ℕ → ℕ
 lower_word v = v % 2 ^ 36
 
+-- the registers with another number in a register
 unfoldable pub with_value : Working → ℕ → RegsFields → RegsFields
 with_value A v g = record g { a = v }
 with_value Q v g = record g { q = v }
@@ -134,15 +142,15 @@ operand Q o = word o
 operand AQ o = pair o
 operand (X n) o = upper o
 
--- the words that hold a number of the register's width
+-- the words of a number of the register's width
 abbrev pub words : Working → ℕ → List ℕ
 words A v = v ∷ []
 words Q v = v ∷ []
 words AQ v = upper_word v ∷ lower_word v ∷ []
 words (X n) v = v ∷ []
 
--- Indicators. Zero is on where the result is 0 and negative where its first bit is on; an indicator
--- that is not named stays. Overflow is put on and never off.
+-- Indicators. Zero is on if the result is 0, and negative if its first bit is on. Indicators that
+-- are not named do not change. Arithmetic turns overflow on, never off.
 unfoldable pub zn : ℕ → ℕ → Ind → Ind
 zn h v i =
     let s = result_of h v false false in
@@ -178,47 +186,48 @@ with_zero z i = record i { zero = z }
 abbrev pub with_indicators : Ind → RegsFields → RegsFields
 with_indicators i g = record g { ind = i }
 
--- the word of the next instruction
+-- the word number of the next instruction
 abbrev pub next_word : RegsFields → ℕ
 next_word g = (g.ppr.ic + 1) % 2 ^ 18
 
--- The instruction counter moves on by 1.
+-- the instruction counter advances by 1
 unfoldable pub moved_on : RegsFields → RegsFields
 moved_on g = record g { ppr = record g.ppr { ic = next_word g } }
 
--- an effect on registers alone, which leaves them so
+-- a result that consists of the new registers
 abbrev pub leaves : RegsFields → Result EffectFields ℕ
 leaves g = Ok (record { regs = g; put = []; overflow = false })
 
--- An effect that moves on to the next instruction: on registers alone, with words to write and
--- overflow as it may be, and with words to write.
+-- A result that continues with the next instruction: with new registers,
 abbrev pub completes : RegsFields → Result EffectFields ℕ
 completes g = leaves (moved_on g)
 
+-- with words to write and perhaps overflow,
 abbrev pub completes_or_overflows : RegsFields → List ℕ → Bool → Result EffectFields ℕ
 completes_or_overflows g put overflow =
     Ok (record { regs = moved_on g; put = put; overflow = overflow })
 
+-- and with words to write.
 abbrev pub completes_with : RegsFields → List ℕ → Result EffectFields ℕ
 completes_with g put = completes_or_overflows g put false
 
--- a register takes a value, with the indicators as they are to be
+-- a register and the indicators with new values
 abbrev pub takes : Working → ℕ → Ind → RegsFields → RegsFields
 takes r v i g = with_indicators i (with_value r v g)
 
--- a number of a width is tested: zero and negative tell of it, and nothing else changes
+-- zero and negative are set by a number; h is half of its range
 abbrev pub tested : ℕ → ℕ → RegsFields → RegsFields
 tested h v g = with_indicators (zn h v g.ind) g
 
--- a register takes a value, of which zero and negative tell
+-- a register gets a value, by which zero and negative are set
 abbrev pub takes_tested : Working → ℕ → RegsFields → RegsFields
 takes_tested r v g = takes r v (zn (half r) v g.ind) g
 
--- A register becomes a value, of which zero and negative tell; and the negative of a value, of
--- which overflow tells too.
+-- a register gets a value, by which zero and negative are set
 abbrev pub becomes : Working → ℕ → RegsFields → Result EffectFields ℕ
 becomes r v g = completes (takes_tested r v g)
 
+-- a register gets the negative of a value, by which zero, negative and overflow are set
 abbrev pub becomes_negative : Working → ℕ → RegsFields → Result EffectFields ℕ
 becomes_negative r v g =
     let s = negation (half r) v in

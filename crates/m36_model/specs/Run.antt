@@ -1,4 +1,4 @@
--- A run of steps, and the part of it that a ring's window shows.
+-- A run of steps, and the part of it that is the window of a ring.
 use Rattle.std.specs.Prelude.{ℕ, zero, suc, Bool, true, false, nat_le, List, [], ◌∷◌, map}
 use Rattle.m36_model.specs.Store.{Store, State}
 use Rattle.m36_model.specs.Step.{record_of, state_after}
@@ -6,7 +6,7 @@ use Rattle.m36_model.specs.declared.outcome.Outcome.{Outcome}
 use Rattle.m36_model.specs.declared.outcome.Outcome.TheVariants.{Next, Faulted, Stopped}
 use Rattle.m36_model.specs.declared.record.StepRecord.{StepRecord}
 
--- a step of a run: the state before it, what it tells, and the state after it
+-- a step of a run: the state before it, its record, and the state after it
 pub record Visited (S : Type 0) : Type 0 where
   pub before : State S
   pub told : StepRecord
@@ -17,20 +17,22 @@ is_next Next = true
 is_next (Faulted f) = false
 is_next (Stopped s) = false
 
+-- a list, or the empty list
 abbrev pub only_if : {A : Type 0} → Bool → List A → List A
 only_if true xs = xs
 only_if false xs = []
 
+-- a step from a state
 abbrev pub visit : {S : Type 0} → Store S → State S → Visited S
 visit o s = record { before = s; told = record_of o s; after = state_after o s }
 
--- the run of at most n steps; it ends after the first that is a fault or a stop
+-- the run of at most n steps; it ends with the first fault or stop
 unfoldable pub visits : {S : Type 0} → Store S → ℕ → State S → List (Visited S)
 visits o zero s = []
 visits o (suc n) s =
     visit o s ∷ only_if (is_next (record_of o s).outcome) (visits o n (state_after o s))
 
--- the state that the last of some steps or events leaves; the one before them where there is none
+-- the state after the last of some steps or events, or the state s if there are none
 abbrev pub state_behind : {S A : Type 0} → (A → S) → S → List A → S
 state_behind after s [] = s
 state_behind after s (x ∷ more) = state_behind after (after x) more
@@ -39,12 +41,12 @@ state_behind after s (x ∷ more) = state_behind after (after x) more
 abbrev pub told : {S : Type 0} → Store S → ℕ → State S → List StepRecord
 told o n s = map (λ v. v.told) (visits o n s)
 
--- cut after the first step that ends in a ring below r
+-- the steps up to the first one that ends in a ring below r
 unfoldable pub cut_below : {S : Type 0} → ℕ → List (Visited S) → List (Visited S)
 cut_below r [] = []
 cut_below r (v ∷ steps) = v ∷ only_if (nat_le r v.told.after.ppr.prr) (cut_below r steps)
 
--- the window of ring r: the run up to the first fault, stop or step into a ring below r, that step
--- included
+-- the window of ring r: the steps of a run up to the first fault, stop, or step that ends in a ring
+-- below r
 abbrev pub window : {S : Type 0} → Store S → ℕ → ℕ → State S → List (Visited S)
 window o r n s = cut_below r (visits o n s)

@@ -1,4 +1,4 @@
--- Several processes on one store, and what they do under a written schedule.
+-- Several processes on one store, and what they do under a given schedule.
 use Rattle.std.specs.Prelude.{ℕ, ◌&&◌, nat_le, List, [], ◌∷◌, slice_get, slice_set, Option, Some}
 use Rattle.std.specs.Prelude.{None}
 use Rattle.m36_model.specs.Registers.{RegsFields}
@@ -7,7 +7,7 @@ use Rattle.m36_model.specs.Step.{record_of, state_after}
 use Rattle.m36_model.specs.Run.{is_next, only_if}
 use Rattle.m36_model.specs.declared.record.StepRecord.{StepRecord}
 
--- one store, and the registers of each process, which are numbered from 0
+-- one store, and the registers of each process; processes are numbered from 0
 pub record Processes (S : Type 0) : Type 0 where
   pub regs : List RegsFields
   pub store : S
@@ -16,15 +16,15 @@ pub record Processes (S : Type 0) : Type 0 where
 abbrev pub process_of : {S : Type 0} → Processes S → RegsFields → State S
 process_of s g = record { regs = g; store = s.store }
 
--- one step of one process: which it was, the state before, what the step tells, and the
--- state after it
+-- a step of one process: its number, the state before it, its record, and the state after it
 pub record Event (S : Type 0) : Type 0 where
   pub process : ℕ
   pub before : Processes S
   pub told : StepRecord
   pub after : Processes S
 
--- A step of process i on its registers g and the store. The registers of the others stay.
+-- The processes after a step of process i, whose registers are g. The registers of the others do
+-- not change.
 abbrev pub stepped : {S : Type 0} → Store S → Processes S → ℕ → RegsFields → Processes S
 stepped o s i g =
     record {
@@ -36,8 +36,8 @@ abbrev pub event : {S : Type 0} → Store S → Processes S → ℕ → RegsFiel
 event o s i g =
     record { process = i; before = s; told = record_of o (process_of s g); after = stepped o s i g }
 
--- A schedule is a list of process numbers. Each event is a step of its process, of one that has
--- stopped or faulted too; a number that no process has means none.
+-- The events of a schedule, which is a list of process numbers. Each event is a step of its
+-- process, even if this has stopped or faulted before. A number that no process has is no event.
 abbrev pub events_by :
     {S : Type 0} → Store S → Processes S → ℕ → Option RegsFields → (Processes S → List (Event S))
     → List (Event S)
@@ -48,7 +48,7 @@ unfoldable pub events : {S : Type 0} → Store S → List ℕ → Processes S �
 events o [] s = []
 events o (i ∷ schedule) s = events_by o s i (slice_get s.regs i) (events o schedule)
 
--- cut after the first event that is a fault or a stop or ends in a ring below r
+-- the events up to the first one that is a fault or a stop, or ends in a ring below r
 unfoldable pub cut_events : {S : Type 0} → ℕ → List (Event S) → List (Event S)
 cut_events r [] = []
 cut_events r (e ∷ more) =

@@ -11,26 +11,26 @@ use Rattle.m36_model.specs.declared.registers.Ind.{Ind}
 abbrev pub with_carry : Bool → Ind → Ind
 with_carry c i = record i { carry = c }
 
--- ALS, QLS, LLS: carry is put on or off
+-- ALS, QLS, LLS: a left shift; carry is set on or off
 unfoldable pub shift_left : Working → ℕ → RegsFields → Result EffectFields ℕ
 shift_left r address g =
     let v = left_shift (width r) (value r g) (count_of address) in
     let c = left_shift_carry (width r) (value r g) (count_of address) in
     completes (takes r v (with_carry c (zn (half r) v g.ind)) g)
 
--- ARS, QRS, LRS
+-- ARS, QRS, LRS: a right shift that copies the sign
 unfoldable pub shift_right : Working → ℕ → RegsFields → Result EffectFields ℕ
 shift_right r address g =
     let v = copying_right_shift (width r) (value r g) (count_of address) in
     becomes r v g
 
--- ARL, QRL, LRL
+-- ARL, QRL, LRL: a right shift with zeros
 unfoldable pub shift_right_logical : Working → ℕ → RegsFields → Result EffectFields ℕ
 shift_right_logical r address g =
     let v = plain_right_shift (value r g) (count_of address) in
     becomes r v g
 
--- ALR, QLR, LLR
+-- ALR, QLR, LLR: a rotation to the left
 unfoldable pub rotate_left : Working → ℕ → RegsFields → Result EffectFields ℕ
 rotate_left r address g =
     let v = rotation (width r) (value r g) (count_of address) in

@@ -1,6 +1,6 @@
 -- Shifts of numbers of k bits by a count, which is the address modulo 128.
 -- Multics Processor Manual AL39, "Fixed-point data movement shift instructions"; the carry of a
--- left shift as written here is this project's choice.
+-- left shift as defined here is this project's choice.
 use Rattle.std.specs.Prelude.{ℕ, ◌+◌, ◌-◌, ◌*◌, ◌/◌, ◌%◌, ◌^◌, Bool, not, ◌&&◌, ◌==◌, pos}
 use Rattle.std.specs.Int.{int_div_euclid}
 use Rattle.m36_word.specs.Signed.{signed}
@@ -9,26 +9,26 @@ use Rattle.m36_model.specs.Arithmetic.{modulo}
 abbrev pub count_of : ℕ → ℕ
 count_of address = address % 128
 
--- a left shift: zeros come in
+-- a left shift by c: zeros enter at the right
 unfoldable pub left_shift : ℕ → ℕ → ℕ → ℕ
 left_shift k v c = v * 2 ^ c % 2 ^ k
 
--- Bits 0 to c of the number followed by zeros without end, as a number.
+-- the first c + 1 bits of the number followed by zeros, as a number
 unfoldable pub first_bits : ℕ → ℕ → ℕ → ℕ
 first_bits k v c = v * 2 ^ (c + 1) / 2 ^ k
 
--- Carry is on exactly where two of these bits differ: they are neither all zeros nor all ones.
+-- Carry is on if these bits are neither all zeros nor all ones: the sign changes during the shift.
 unfoldable pub left_shift_carry : ℕ → ℕ → ℕ → Bool
 left_shift_carry k v c = not (first_bits k v c == 0) && not (first_bits k v c == 2 ^ (c + 1) - 1)
 
--- a right shift into which the first bit is copied: the signed value over 2^c, cut downward
+-- a right shift by c that copies the first bit: the signed value divided by 2^c, rounded down
 unfoldable pub copying_right_shift : ℕ → ℕ → ℕ → ℕ
 copying_right_shift k v c = modulo (int_div_euclid (signed (2 ^ (k - 1)) v) (pos (2 ^ c))) (2 ^ k)
 
--- a right shift: zeros come in
+-- a right shift by c: zeros enter at the left
 unfoldable pub plain_right_shift : ℕ → ℕ → ℕ
 plain_right_shift v c = v / 2 ^ c
 
--- a rotation to the left, by the count modulo the width
+-- a rotation to the left by c modulo the width
 unfoldable pub rotation : ℕ → ℕ → ℕ → ℕ
 rotation k v c = v * 2 ^ (c % k) % 2 ^ k + v / 2 ^ (k - c % k)

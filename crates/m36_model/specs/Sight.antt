@@ -1,10 +1,10 @@
--- The content of a segment, and which segments a ring may see and may change.
+-- The content of a segment, and which segments a ring can see and can change.
 use Rattle.std.specs.Prelude.{◌≡◌, ℕ, ◌≤◌, true, ◌||◌, Option, Some, None, Result, Ok, Err}
 use Rattle.m36_desc.specs.Fields.{SdwFields, DbrFields}
 use Rattle.m36_model.specs.Store.{Spot, Store, State, Tables, place}
 use Rattle.m36_model.specs.declared.outcome.Refusal.{Refusal}
 
--- the segment has this descriptor, and so is live
+-- the segment has this descriptor; so it is live
 abbrev pub IsLive : {S : Type 0} → Store S → State S → ℕ → SdwFields → Type 0
 IsLive o s seg d = o.sdw s.store s.regs.dbr seg ≡ Ok d
 
@@ -12,32 +12,32 @@ abbrev pub word_of : {S : Type 0} → Store S → S → Result Spot Refusal → 
 word_of o s (Ok spot) = Some (o.word s spot)
 word_of o s (Err e) = None
 
--- the word at the place of a segment word, and none elsewhere
+-- the word of a segment, or None if it has no place
 unfoldable pub content_in : {S : Type 0} → Store S → S → DbrFields → ℕ → ℕ → Option ℕ
 content_in o s dbr seg w = word_of o s (place o s dbr seg w)
 
 abbrev pub content : {S : Type 0} → Store S → State S → ℕ → ℕ → Option ℕ
 content o s seg w = content_in o s.store s.regs.dbr seg w
 
--- the DBR, and the table words of the store but for their marks
+-- the DBR and the table words of the store, without marks
 abbrev pub tables_of : {S : Type 0} → Store S → State S → Tables
 tables_of o s = o.tables s.store s.regs.dbr
 
--- in sight of ring r: the live segments with R or E on and R2 at least r
+-- ring r can see the segment: it is live, R or E is on, and R2 is at least r
 pub record InSight {S : Type 0} (o : Store S) (s : State S) (r seg : ℕ) : Type 0 where
   pub sdw : SdwFields
   pub live : IsLive o s seg sdw
   pub opens : (sdw.readable || sdw.executable) ≡ true
   pub high : r ≤ sdw.r2
 
--- in reach of ring r: the live segments with W on and R1 at least r
+-- ring r can change the segment: it is live, W is on, and R1 is at least r
 pub record InReach {S : Type 0} (o : Store S) (s : State S) (r seg : ℕ) : Type 0 where
   pub sdw : SdwFields
   pub live : IsLive o s seg sdw
   pub opens : sdw.writable ≡ true
   pub high : r ≤ sdw.r1
 
--- every live segment outside the reach of ring r has the content that it had
+-- every segment that ring r cannot change has the same content as before
 abbrev pub Unreached : {S : Type 0} → Store S → ℕ → State S → State S → Type 0
 Unreached o r old new =
     (seg w : ℕ) → (InReach o old r seg → ⊥) → content o new seg w ≡ content o old seg w

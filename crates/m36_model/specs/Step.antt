@@ -1,16 +1,15 @@
--- One step, from the fetch of an instruction to its stored result, as a program that depends on the
--- registers alone. Multics Processor Manual AL39, "Instruction execution", "Processor modes"; the
+-- One step, from the fetch of an instruction to its stored result, as a program that depends only
+-- on the registers. Multics Processor Manual AL39, "Instruction execution", "Processor modes"; the
 -- order of the parts is this project's choice:
 --
---   1. the instruction is fetched;
---   2. a code without an instruction stops the machine;
---   3. a privileged instruction without the right to it is an illegal procedure;
---   4. MME and DRL give their faults, and DIS stops the machine;
---   5. the address is formed;
---   6. a direct operand that the instruction does not take is an illegal procedure;
---   7. the operand is referenced, or whether a transfer is taken decides that its target is
---   examined;
---   8. the effect happens.
+--   1. The instruction is fetched.
+--   2. A code without an instruction stops the machine.
+--   3. A privileged instruction without the right to it is an illegal procedure.
+--   4. MME and DRL give their faults, and DIS stops the machine.
+--   5. The address is formed.
+--   6. A direct operand that the instruction does not accept is an illegal procedure.
+--   7. The operand is referenced. Of transfers, only one that is taken examines its target.
+--   8. The effect happens.
 use Rattle.std.specs.Prelude.{ℕ, zero, suc, ◌+◌, ◌-◌, ◌%◌, Bool, true, false, not, ◌&&◌, ◌==◌, List}
 use Rattle.std.specs.Prelude.{[], ◌∷◌, ◌++◌, Option, Some, None, option_map, Result, Ok, Err}
 use Rattle.std.specs.Prelude.{slice_index}
@@ -48,8 +47,8 @@ use Rattle.m36_model.specs.declared.outcome.Outcome.{Outcome}
 use Rattle.m36_model.specs.declared.outcome.Outcome.TheVariants.{Next, Faulted, Stopped}
 use Rattle.m36_model.specs.declared.record.StepRecord.{StepRecord}
 
--- an operation that nothing has refused: the new registers, the words to write in order, and
--- whether overflow was put on
+-- an operation that was not refused: the new registers, the words to write in order, and whether
+-- the overflow indicator was turned on
 pub record Performed : Type 0 where
   pub regs : RegsFields
   pub puts : List Put
@@ -58,7 +57,7 @@ pub record Performed : Type 0 where
 abbrev pub Operation : Type 0
 Operation = Act (Result Performed Halt)
 
--- words for the claimed words from a number on
+-- puts of these words into the claimed words from number `first` on
 abbrev pub puts_from : Part → ℕ → List ℕ → List Put
 puts_from part first [] = []
 puts_from part first (w ∷ words) =
@@ -68,6 +67,7 @@ puts_from part first (w ∷ words) =
 abbrev pub puts_with : List Put → Part → ℕ → List ℕ → List Put
 puts_with pending part first words = pending ++ puts_from part first words
 
+-- an operation by the result of its effect; a refusal is a fault at the instruction
 abbrev pub performed :
     RegsFields → ChainEnd → Part → ℕ → Result EffectFields ℕ → Result Performed Halt
 performed g c part first (Ok e) =
@@ -78,7 +78,7 @@ performed g c part first (Ok e) =
     })
 performed g c part first (Err number) = Err (halt_here number g)
 
--- tally runout as the chain has set it
+-- the tally runout indicator after a chain that may have set it
 abbrev pub tally_by : Bool → Option Bool → Bool
 tally_by old None = old
 tally_by old (Some b) = b
@@ -90,14 +90,15 @@ with_tally runout g = record g { ind = record g.ind { tally = runout } }
 unfoldable pub tallied : RegsFields → ChainEnd → RegsFields
 tallied g c = with_tally (tally_by g.ind.tally c.runout) g
 
--- the effect, once the operand is there; tally runout is set before it
+-- the effect, once the operand is known; tally runout is set before it
 abbrev pub perform : Effect → ℕ → RegsFields → ChainEnd → Part → ℕ → OperandFields → Operation
 perform e n g c part first o = done (performed g c part first (exec e n (tallied g c) c.last o))
 
 abbrev pub no_operand : OperandFields
 no_operand = words_only []
 
--- The low bits of the address of a pair or a block are dropped.
+-- the word number with the low bits dropped for a pair or a block, so that it is a multiple of
+-- count
 abbrev pub aligned : ℕ → ℕ → ℕ
 aligned zero w = w
 aligned (suc zero) w = w
@@ -106,7 +107,7 @@ aligned (suc (suc n)) w = w - w % suc (suc n)
 abbrev pub aligned_at : ℕ → AtFields → AtFields
 aligned_at count at = record { seg = at.seg; word = aligned count at.word; ring = at.ring }
 
--- A reference at the end of the chain, to so many words. It sees the new tally word.
+-- a reference to `count` words at the end of the chain; it sees the new tally word
 abbrev pub request_at : RequestKind → ChainEnd → ℕ → Request
 request_at kind c count =
     record {
@@ -116,9 +117,9 @@ request_at kind c count =
       at = aligned_at count c.last.at;
     }
 
--- What an effect is given of an answer: of a word that is read the word; of a pair or a block its
--- words, and R1 of their segment; of a place that is asked for the place; of a transfer nothing; of
--- a call the new ring.
+-- The operand of an effect, from the answer to its reference: of a word that is read, the word; of
+-- a pair or a block, its words and R1 of their segment; of ABSA, the core address; of a transfer,
+-- nothing; of a call, the new ring.
 abbrev pub got_word : Answer → OperandFields
 got_word a = words_only a.words
 
@@ -134,45 +135,46 @@ got_nothing a = no_operand
 abbrev pub got_ring : ℕ → Answer → OperandFields
 got_ring trr a = ring_only (ring_called a.sdw trr)
 
--- a word is read; and a pair or a block
+-- reads a word
 abbrev pub reading_word : Effect → ℕ → RegsFields → ChainEnd → Operation
 reading_word e n g c =
     refer (request_at Read c 1) (λ a. perform e n g c Whole 0 (got_word a))
 
+-- reads a pair or a block
 abbrev pub reading_words : Effect → ℕ → RegsFields → ChainEnd → ℕ → Operation
 reading_words e n g c count =
     refer (request_at Read c count) (λ a. perform e n g c Whole 0 (got_words a))
 
--- words are written, or a half of one word
+-- writes words, or a half of one word
 abbrev pub writing : Effect → ℕ → RegsFields → ChainEnd → ℕ → Part → Operation
 writing e n g c count part =
     refer (request_at Write c count) (λ a. perform e n g c part a.first no_operand)
 
--- a word is read, and then it is written: two references
+-- reads a word and then writes it: two references
 abbrev pub changing : Effect → ℕ → RegsFields → ChainEnd → Part → Operation
 changing e n g c part =
     refer (request_at Read c 1) (λ a.
     refer (request_at Write c 1) (λ b.
     perform e n g c part b.first (got_word a)))
 
--- the address alone is used; ABSA asks for its place
+-- uses only the address; ABSA also asks for its core address
 abbrev pub addressing : Effect → ℕ → RegsFields → ChainEnd → Bool → Operation
 addressing e n g c false = perform e n g c Whole 0 no_operand
 addressing e n g c true =
     refer (request_at Locate c 1) (λ a. perform e n g c Whole 0 (got_place a))
 
--- a transfer that is taken examines its target, and one that is not taken does not
+-- examines the target of a transfer, if the transfer is taken
 abbrev pub transferring : Effect → ℕ → RegsFields → ChainEnd → Bool → Operation
 transferring e n g c false = perform e n g c Whole 0 no_operand
 transferring e n g c true =
     refer (request_at Transfer c 1) (λ a. perform e n g c Whole 0 (got_nothing a))
 
--- CALL6 examines its target, and the target gives the new ring
+-- CALL6 examines its target, whose descriptor gives the new ring
 abbrev pub calling : Effect → ℕ → RegsFields → ChainEnd → Operation
 calling e n g c =
     refer (request_at Call c 1) (λ a. perform e n g c Whole 0 (got_ring c.last.at.ring a))
 
--- by operand kind, where the operand is not direct
+-- references the operand by its kind, if it is not direct
 abbrev pub by_kind : Effect → ℕ → RegsFields → ChainEnd → Operand → Operation
 by_kind e n g c kind.R = reading_word e n g c
 by_kind e n g c kind.R2 = reading_words e n g c 2
@@ -189,13 +191,13 @@ by_kind e n g c kind.T = transferring e n g c (is_taken e (tallied g c))
 by_kind e n g c kind.N = perform e n g c Whole 0 no_operand
 by_kind e n g c kind.Call6 = calling e n g c
 
--- A direct operand is the operand word of an instruction that reads one. NOP takes it and looks at
--- nothing.
+-- A direct operand is the operand word of an instruction that reads one word. NOP accepts one and
+-- does not use it.
 abbrev pub direct_word : Operand → ℕ → List ℕ
 direct_word kind.R w = w ∷ []
 direct_word _ w = []
 
--- A direct operand is given to the effect as it stands, where the instruction takes it.
+-- A direct operand is the operand unchanged, if the instruction accepts one.
 abbrev pub takes_word : Effect → RegsFields → ℕ → Bool → Result OperandFields Fault
 takes_word e g w true = Ok (words_only (direct_word (operand_of e) w))
 takes_word e g w false = Err (fault_here illegal_procedure g)
@@ -212,11 +214,12 @@ abbrev pub operate_on : Effect → ℕ → RegsFields → ChainEnd → Option �
 operate_on e n g c None = by_kind e n g c (operand_of e)
 operate_on e n g c (Some w) = by_direct e n g c w (takes_direct e)
 
--- the operand is referenced, and the effect happens
+-- references the operand, and then performs the effect
 unfoldable pub operate : Effect → ℕ → RegsFields → ChainEnd → Operation
 operate e n g c = operate_on e n g c c.last.direct
 
--- what the program of a step gives
+-- the result of a step's program: the instruction word, the final address, the registers after the
+-- step, the words to write, and the outcome
 pub record Ending : Type 0 where
   pub word : Option ℕ
   pub at : Option FinalFields
@@ -228,13 +231,13 @@ abbrev pub outcome_of : Halt → Outcome
 outcome_of (halt.Fault f) = Faulted f
 outcome_of (halt.Stop s) = Stopped s
 
--- A step that is refused leaves the registers, and writes nothing.
+-- A step that is refused leaves the registers unchanged, and writes nothing.
 abbrev pub halted : RegsFields → Option ℕ → Option FinalFields → Halt → Act Ending
 halted g word at h =
     done (record { word = word; at = at; after = g; puts = []; outcome = outcome_of h })
 
--- A step that has put overflow on gives its fault where the overflow mask is off. Its effect
--- stands.
+-- A step that has turned the overflow indicator on ends with an overflow fault, unless the overflow
+-- mask is on. Its effect is kept.
 abbrev pub outcome_by : Bool → RegsFields → Outcome
 outcome_by true g = Faulted (fault_here overflow_fault g)
 outcome_by false g = Next
@@ -242,6 +245,7 @@ outcome_by false g = Next
 abbrev pub outcome_after : Bool → Bool → RegsFields → Outcome
 outcome_after overflow mask g = outcome_by (overflow && not mask) g
 
+-- the end of a step whose operation was performed
 abbrev pub completed : RegsFields → ℕ → FinalFields → Performed → Act Ending
 completed g w last e =
     done (record {
@@ -257,7 +261,7 @@ abbrev pub operated : Effect → ℕ → RegsFields → ℕ → ChainEnd → Act
 operated e n g w c =
     otherwise (operate e n g c) (completed g w c.last) (halted g (Some w) (Some c.last))
 
--- at most so many indirect words an address (this project's choice)
+-- the most indirect words that one address may have (this project's choice)
 abbrev pub indirect_words : ℕ
 indirect_words = 16
 
@@ -265,12 +269,12 @@ indirect_words = 16
 abbrev pub formation : RegsFields → InstFields → Formation
 formation g i = chain indirect_words g (first_point g i)
 
--- the address, and then the operation
+-- forms the address, and then performs the operation
 abbrev pub addressed : Effect → ℕ → RegsFields → ℕ → Act Ending
 addressed e n g w =
     otherwise (formation g (inst_of w)) (operated e n g w) (halted g (Some w) None)
 
--- MME, DRL and DIS form no address (this project's choice): they end at once.
+-- MME, DRL and DIS form no address (this project's choice): they end the step at once.
 abbrev pub at_once : Effect → RegsFields → Halt
 at_once effect.Mme g = halt_here master_mode_entry g
 at_once effect.Drl g = halt_here derail g
@@ -291,7 +295,7 @@ abbrev pub admitted : Effect → ℕ → RegsFields → ℕ → Bool → Act End
 admitted e n g w true = halted g (Some w) None (halt_here illegal_procedure g)
 admitted e n g w false = started e n g w (operand_of e)
 
--- The instruction that a word is, with the number in its name. The inhibit bit is ignored.
+-- The instruction in a word, with the number in its name. The inhibit bit is ignored.
 abbrev pub effect_and_number : Row → Effect × ℕ
 effect_and_number row = (row.effect, row.reg)
 
@@ -302,7 +306,8 @@ abbrev pub decoded : RegsFields → ℕ → Bool → Option (Effect × ℕ) → 
 decoded g w privileged None = halted g (Some w) None (halt.Stop stop.Operation)
 decoded g w privileged (Some row) = admitted row.0 row.1 g w (is_barred row.0 privileged)
 
--- The right to privileged instructions: that of the segment fetched from, in ring 0.
+-- The right to privileged instructions: the segment that has the instruction is privileged, and the
+-- ring is 0.
 abbrev pub has_right : SdwFields → ℕ → Bool
 has_right d ring = d.privileged && (ring == 0)
 
@@ -314,11 +319,11 @@ fetched g (Ok a) =
 abbrev pub fetch_request : RegsFields → Request
 fetch_request g = record { kind = Fetch; at = here g; count = 1; pending = [] }
 
--- the program of one step, from the registers alone
+-- the program of one step, which depends only on the registers
 unfoldable pub program : RegsFields → Act Ending
 program g = ask (fetch_request g) (fetched g)
 
--- a step over a store: the record of it, and the state after it
+-- the record of a step that was run over a store
 abbrev pub step_record : {S : Type 0} → RegsFields → Ran Ending S → StepRecord
 step_record g t =
     record {
@@ -330,20 +335,23 @@ step_record g t =
       outcome = t.value.outcome;
     }
 
--- All words of an instruction are written together, once nothing can refuse it.
+-- the state after a step: all words of an instruction are written together, once nothing can refuse
+-- it
 abbrev pub stepped : {S : Type 0} → Store S → Ran Ending S → State S
 stepped o t =
     record { regs = t.value.after; store = o.put t.mid.store (changes t.mid.claims t.value.puts) }
 
--- where a step begins
+-- the state within a step at its beginning
 abbrev pub start : {S : Type 0} → State S → Mid S
 start s = begun s.store
 
 abbrev pub ran : {S : Type 0} → Store S → State S → Ran Ending S
 ran o s = run o s.regs (program s.regs) (start s)
 
+-- the record of a step
 unfoldable pub record_of : {S : Type 0} → Store S → State S → StepRecord
 record_of o s = step_record s.regs (ran o s)
 
+-- the state after a step
 unfoldable pub state_after : {S : Type 0} → Store S → State S → State S
 state_after o s = stepped o (ran o s)

@@ -1,14 +1,14 @@
--- The cases of a step, and what stands after each.
+-- A step as a relation: its cases, and the state after each.
 --
---   the fetch, the address, the operand or the effect is refused: a fault or a stop; registers as
---   before
---   no instruction, no right to it, MME, DRL, DIS: a fault or a stop; registers as before
---   the effect has put overflow on and the mask is off: the overflow fault; the full effect
---   otherwise: the next instruction; the full effect
+--   The fetch, the address, the operand or the effect is refused: a fault or a stop; the registers
+--   are unchanged.
+--   No instruction, no right to it, MME, DRL, DIS: a fault or a stop; the registers are unchanged.
+--   The effect has turned overflow on, and the mask is off: the overflow fault; the full effect.
+--   Otherwise: the next instruction; the full effect.
 --
--- Where registers are as before no word is written. The full effect has the new tally word and the
--- tally runout of the chain, the new registers, and the words that the instruction writes. Marks
--- are those of the completed references.
+-- If the registers are unchanged, no word is written. The full effect is the new tally word and the
+-- tally runout of the chain, the new registers, and the words that the instruction writes. In all
+-- cases the marks of the completed references are set.
 use Rattle.std.specs.Prelude.{ℕ, ◌≡◌, Bool, true, false, List, [], ◌∷◌, ◌++◌, map, length, Option}
 use Rattle.std.specs.Prelude.{Some, None, Ok, Err, slice_index}
 use Rattle.m36_inst.specs.Instruction.{inst_of}
@@ -40,7 +40,7 @@ use Rattle.m36_model.specs.declared.outcome.Outcome.{Outcome}
 use Rattle.m36_model.specs.declared.outcome.Outcome.TheVariants.{Faulted}
 use Rattle.m36_model.specs.declared.record.StepRecord.{StepRecord}
 
--- A step that has changed nothing: its record, and the state, whose store has marks alone.
+-- A step that changed only marks: its record and its state.
 pub record HasLeft {S : Type 0} (s : State S) (e : StepRecord) (t : State S) (m : Mid S)
     (word : Option ℕ) (at : Option FinalFields) (outcome : Outcome) : Type 0 where
   pub told :
@@ -55,7 +55,7 @@ pub record HasLeft {S : Type 0} (s : State S) (e : StepRecord) (t : State S) (m 
       }
   pub left : t ≡ record { regs = s.regs; store = m.store }
 
--- The instruction word is fetched, with the right to privileged instructions.
+-- The instruction word was fetched; `right` is the right to privileged instructions.
 pub record IsFetched {S : Type 0} (o : Store S) (s : State S) (word : ℕ) (right : Bool)
     (m : Mid S) : Type 0 where
   pub answer : Answer
@@ -72,7 +72,7 @@ pub record IsAdmitted {S : Type 0} (o : Store S) (s : State S) (word : ℕ) (e :
   pub decoded : decode word ≡ Some (e, n)
   pub allowed : is_barred e right ≡ false
 
--- Its address is formed.
+-- The address of the instruction was formed.
 pub record IsFormed {S : Type 0} (o : Store S) (s : State S) (word : ℕ) (e : Effect) (n : ℕ)
     (c : ChainEnd) (m : Mid S) : Type 0 where
   pub before : Mid S
@@ -81,8 +81,8 @@ pub record IsFormed {S : Type 0} (o : Store S) (s : State S) (word : ℕ) (e : E
   pub formed :
       run o s.regs (formation s.regs (inst_of word)) before ≡ record { value = Ok c; mid = m }
 
--- An operand that is there: what the effect is given, which part of words it writes, the spots of
--- these words, and where the step stands.
+-- An operand that was referenced: what the effect gets, the part of words that it writes, the spots
+-- of these words, and the state within the step.
 pub record Reached (S : Type 0) : Type 0 where
   pub operand : OperandFields
   pub part : Part
@@ -96,7 +96,7 @@ pub record IsUnreferenced {S : Type 0} (m : Mid S) (got : OperandFields)
   pub nothing : u.spots ≡ []
   pub mid : u.mid ≡ m
 
--- a reference that writes nothing, with what its answer gives to the effect
+-- a reference that writes nothing; the effect gets what its answer gives
 pub record IsReferenced {S : Type 0} (o : Store S) (g : RegsFields) (q : Request)
     (gives : Answer → OperandFields) (m : Mid S) (u : Reached S) : Type 0 where
   pub answer : Answer
@@ -104,7 +104,7 @@ pub record IsReferenced {S : Type 0} (o : Store S) (g : RegsFields) (q : Request
   pub operand : u.operand ≡ gives answer
   pub nothing : u.spots ≡ []
 
--- words to be written
+-- words to be written are claimed
 pub record IsClaimed {S : Type 0} (o : Store S) (g : RegsFields) (q : Request) (part : Part)
     (got : OperandFields) (m : Mid S) (u : Reached S) : Type 0 where
   pub answer : Answer
@@ -113,7 +113,7 @@ pub record IsClaimed {S : Type 0} (o : Store S) (g : RegsFields) (q : Request) (
   pub part_is : u.part ≡ part
   pub claims : u.mid.claims ≡ m.claims ++ u.spots
 
--- a word that is read and then written
+-- a word is read and then claimed, to be written
 pub record IsChanged {S : Type 0} (o : Store S) (g : RegsFields) (c : ChainEnd) (part : Part)
     (m : Mid S) (u : Reached S) : Type 0 where
   pub answer : Answer
@@ -131,13 +131,13 @@ abbrev pub IsTargeted :
 IsTargeted o g c false m u = IsUnreferenced m no_operand u
 IsTargeted o g c true m u = IsReferenced o g (request_at Transfer c 1) got_nothing m u
 
--- the words that an operand kind writes
+-- the words that an operand kind writes are claimed
 abbrev pub IsClaimedFor :
     {S : Type 0} → Store S → RegsFields → ChainEnd → Operand → Mid S → Reached S → Type 0
 IsClaimedFor o g c k m u =
     IsClaimed o g (request_at Write c (words_written k)) (part_written k) no_operand m u
 
--- by operand kind
+-- the operand is referenced by its kind
 abbrev pub IsOperandOf :
     {S : Type 0} → Store S → RegsFields → Effect → ChainEnd → Operand → Mid S → Reached S → Type 0
 IsOperandOf o g e c kind.R m u = IsReferenced o g (request_at Read c 1) got_word m u
@@ -156,21 +156,21 @@ IsOperandOf o g e c kind.N m u = IsUnreferenced m no_operand u
 IsOperandOf o g e c kind.Call6 m u =
     IsReferenced o g (request_at Call c 1) (got_ring c.last.at.ring) m u
 
--- a direct operand that the instruction takes is the operand itself
+-- the operand is referenced, or is a direct one that the instruction accepts
 abbrev pub IsOperand :
     {S : Type 0} → Store S → RegsFields → Effect → ChainEnd → Option ℕ → Mid S → Reached S → Type 0
 IsOperand o g e c None m u = IsOperandOf o g e c (operand_of e) m u
 IsOperand o g e c (Some w) m u =
     (takes_direct e ≡ true) × IsUnreferenced m (words_only (direct_word (operand_of e) w)) u
 
--- Words written at spots, in order.
+-- words to be written at spots, in order
 abbrev pub at_spots : Part → List Spot → List ℕ → List Change
 at_spots part [] words = []
 at_spots part (spot ∷ spots) [] = []
 at_spots part (spot ∷ spots) (w ∷ words) =
     record { spot = spot; part = part; value = w } ∷ at_spots part spots words
 
--- The full effect: the tally word, whose spot the chain has claimed, is written first, and then the
+-- The full effect. The tally word, whose spot the chain has claimed, is written first, and then the
 -- words of the operand.
 pub record HasEffect {S : Type 0} (o : Store S) (s : State S) (e : StepRecord)
     (t : State S) : Type 0 where
@@ -202,6 +202,7 @@ pub record HasEffect {S : Type 0} (o : Store S) (s : State S) (e : StepRecord)
         ++ at_spots reached.part reached.spots result.put);
   }
 
+-- the cases of a step with this record and this state after it
 pub data StepCase {S : Type 0} (o : Store S) (s : State S) (e : StepRecord)
     (t : State S) : Type 0 where
   fetch_refused :
@@ -232,11 +233,13 @@ pub data StepCase {S : Type 0} (o : Store S) (s : State S) (e : StepRecord)
       → HasLeft s e t m (Some word) (Some c.last) (outcome_of h) → StepCase o s e t
   effected : HasEffect o s e t → StepCase o s e t
 
+-- Each step is one of the cases.
 abbrev pub StepHasACase : Type 0
 StepHasACase =
     (s : State (List ℕ)) → StepCase core_store s (record_of core_store s) (state_after core_store s)
 
--- Of no other record and no other state is there a case.
+-- Each case is the record and the state of the step; so no other record and no other state is a
+-- case.
 abbrev pub CaseIsTheStep : Type 0
 CaseIsTheStep =
     (s : State (List ℕ)) (e : StepRecord) (t : State (List ℕ)) → StepCase core_store s e t

@@ -1,4 +1,4 @@
--- A store, how it serves the requests of a step, and a run of a program over it.
+-- Stores: how a store serves the requests of a step, and a run of a program over it.
 -- Multics Processor Manual AL39, "Address appending" and "Access control".
 use Rattle.std.specs.Prelude.{ℕ, zero, suc, ◌+◌, ◌-◌, ◌*◌, ◌/◌, ◌%◌, ◌^◌, Bool, true, false}
 use Rattle.std.specs.Prelude.{◌&&◌, ◌==◌, nat_le, if◌then◌else◌, List, [], ◌∷◌, ◌++◌, map, length}
@@ -18,28 +18,28 @@ use Rattle.m36_model.specs.declared.place.Reference.{Reference}
 use Rattle.m36_model.specs.declared.place.Kind.{Kind}
 use Rattle.m36_model.specs.declared.place.Kind.TheVariants as reference
 
--- where a word lies in a store: its address in core, or in a flat store the word of
--- the segment itself
+-- where a word is in a store: its address in core or, in a flat store, its segment and word number
 pub data Spot : Type 0 where
   Core_word : ℕ → Spot
   Segment_word : (seg word : ℕ) → Spot
 
--- a word to be written at a spot
+-- a value for the word at a spot, or for a half of it
 pub record Change : Type 0 where
   pub spot : Spot
   pub part : Part
   pub value : ℕ
 
--- a word with a part of it written; a half stands right-justified in the value
+-- a word with a part of it replaced; a half is right-justified in the value
 abbrev pub written : Part → ℕ → ℕ → ℕ
 written Whole old v = v
 written Left old v = v * 2 ^ 18 + old % 2 ^ 18
 written Right old v = (old / 2 ^ 18) * 2 ^ 18 + v
 
--- the refusal by the access violation of this number, and by another fault of this number
+-- the refusal with an access violation of this number
 abbrev pub violation : ℕ → Refusal
 violation acv = record { number = access_violation; acv = acv }
 
+-- the refusal with another fault of this number
 abbrev pub plain_refusal : ℕ → Refusal
 plain_refusal number = record { number = number; acv = 0 }
 
@@ -47,41 +47,44 @@ plain_refusal number = record { number = number; acv = 0 }
 abbrev pub fault_by : Refusal → AtFields → Fault
 fault_by why at = record { at = at; number = why.number; acv = why.acv }
 
--- the fault of a refused word, told at it, by the segment and the ring of its reference
+-- the fault of a refused word, with the segment and ring of its reference
 abbrev pub fault_in : AtFields → ℕ → Refusal → Fault
 fault_in at word why = fault_by why (record { seg = at.seg; word = word; ring = at.ring })
 
--- the table words by which one segment is found: the PTW of the descriptor segment's page, the SDW,
--- and the PTWs of its pages within its bound. Each is an address and the word there, of a PTW but
--- for its marks; none past the end of core
+-- The table words by which a segment is found: the PTW of the descriptor segment's page, the two
+-- words of the SDW, and the PTWs of the pages within its bound. Each is an address with the word
+-- there, without its marks if it is a PTW, or None past the end of core.
 pub record SegTable : Type 0 where
   pub directory : List (ℕ × Option ℕ)
   pub sdw : List (ℕ × Option ℕ)
   pub pages : List (ℕ × Option ℕ)
 
--- the tables of a store but for marks
+-- the tables of a store without marks: the DBR, the size of core, and the table words of each
+-- segment
 pub record Tables : Type 0 where
   pub dbr : DbrFields
   pub size : ℕ
   pub of : ℕ → SegTable
 
--- what a store answers, and how it is changed
+-- a store: what it answers, and how it is changed
 pub record Store (S : Type 0) : Type 0 where
   pub sdw : S → DbrFields → ℕ → Result SdwFields Refusal  -- the descriptor of a segment
-  -- where a word within the bound lies
+  -- the spot of a word within the bound
   pub spot : S → DbrFields → SdwFields → ℕ → ℕ → Result Spot Refusal
   pub word : S → Spot → ℕ
-  pub marked : S → DbrFields → RequestKind → ℕ → ℕ → S  -- with the marks of a reference
-  pub put : S → List Change → S  -- with these words written, in order
+  pub marked : S → DbrFields → RequestKind → ℕ → ℕ → S  -- the store with the marks of a reference
+  pub put : S → List Change → S  -- the store with these words written, in order
   pub tables : S → DbrFields → Tables
 
--- What a reference of each kind does: it reads the words at its places; it sets marks, and stands
--- among the references of the step; it claims its words, to be written, and marks their page as
--- modified; it examines a target, and stops at its bound.
+-- What a reference of each kind does.
 pub record Conduct : Type 0 where
+  -- it reads the words at its places
   pub reads : Bool
+  -- it sets marks, and is among the completed references of the step
   pub touches : Bool
+  -- it claims its words, to be written, and marks their page as modified
   pub claims : Bool
+  -- it examines a target, and checks no more than its bound
   pub target : Bool
 
 abbrev pub conduct : RequestKind → Conduct
@@ -106,8 +109,8 @@ claims_words kind = (conduct kind).claims
 abbrev pub is_target : RequestKind → Bool
 is_target kind = (conduct kind).target
 
--- the rows of refusals by kind of reference, with the ring of the reference, the ring of execution,
--- and whether the segment is the one that executes
+-- The rows of refusals for each kind of reference. trr is the ring of the reference, prr the ring
+-- of execution, and same says that the segment is the one that the processor executes.
 abbrev pub rows : RequestKind → SdwFields → ℕ → ℕ → Bool → ℕ → List (Bool × ℕ)
 rows Fetch d trr prr same word = fetch_rows d prr
 rows Indirect d trr prr same word = read_rows d trr same
@@ -118,7 +121,7 @@ rows Transfer d trr prr same word = transfer_rows d trr prr
 rows Call d trr prr same word = call_rows d trr prr same word
 rows Locate d trr prr same word = ordered_rows d []
 
--- brackets in order and rights: the violation, if any
+-- the access violation, if any, by the order of the brackets and the rights
 unfoldable pub denied : RequestKind → SdwFields → ℕ → ℕ → Bool → ℕ → Option ℕ
 denied kind d trr prr same word = first_of (rows kind d trr prr same word)
 
@@ -126,22 +129,21 @@ denied kind d trr prr same word = first_of (rows kind d trr prr same word)
 abbrev pub within : SdwFields → ℕ → Bool
 within d word = nat_le (word / 16) d.bound
 
--- the refusal of a word past it
+-- the refusal of a word past the bound
 abbrev pub past_bound : Refusal
 past_bound = violation out_of_segment_bounds
 
--- the descriptor gives the word a place: its brackets are in order, and the word is
--- within its bound
+-- the descriptor allows a place to the word: its brackets are in order, and the word is within the
+-- bound
 abbrev pub placed : SdwFields → ℕ → Bool
 placed d word = in_order d && within d word
 
--- the place of a word of a segment, whoever asks for it: descriptor, brackets in order, bound, and
--- where it lies
+-- a spot, if the word is within the bound
 abbrev pub place_within : Bool → Result Spot Refusal → Result Spot Refusal
 place_within true spot = spot
 place_within false spot = Err past_bound
 
--- what a descriptor gives, where its brackets are in order
+-- a result, if the ring brackets of the descriptor are in order
 abbrev pub when_ordered : {A : Type 0} → Bool → Result A Refusal → Result A Refusal
 when_ordered true given = given
 when_ordered false given = Err (violation illegal_ring_order)
@@ -151,10 +153,13 @@ abbrev pub place_by :
 place_by (Ok d) spot word = when_ordered (in_order d) (place_within (within d word) (spot d))
 place_by (Err e) spot word = Err e
 
+-- The spot of a word of a segment, without access checks. Refused, in this order, if the segment
+-- has no live descriptor, its brackets are not in order, the word is past its bound, or the word
+-- has no spot.
 unfoldable pub place : {S : Type 0} → Store S → S → DbrFields → ℕ → ℕ → Result Spot Refusal
 place o s dbr seg word = place_by (o.sdw s dbr seg) (λ d. o.spot s dbr d seg word) word
 
--- the first ring bracket of a segment: descriptor, and brackets in order
+-- R1 of a segment, if it has a live descriptor and its brackets are in order
 abbrev pub first_ring_by : Result SdwFields Refusal → Result ℕ Refusal
 first_ring_by (Ok d) = when_ordered (in_order d) (Ok d.r1)
 first_ring_by (Err e) = Err e
@@ -162,11 +167,12 @@ first_ring_by (Err e) = Err e
 unfoldable pub first_ring : {S : Type 0} → Store S → S → DbrFields → ℕ → Result ℕ Refusal
 first_ring o s dbr seg = first_ring_by (o.sdw s dbr seg)
 
--- places of n words of a segment from a word on; the first word that is refused
+-- a spot before those of the words after it
 abbrev pub placed_next : Result (List Spot) (ℕ × Refusal) → Spot → Result (List Spot) (ℕ × Refusal)
 placed_next (Ok spots) spot = Ok (spot ∷ spots)
 placed_next (Err e) spot = Err e
 
+-- the spots of a word and those after it; the first word that is refused is reported
 abbrev pub placed_one :
     Bool → ℕ → Result Spot Refusal → Result (List Spot) (ℕ × Refusal)
     → Result (List Spot) (ℕ × Refusal)
@@ -174,6 +180,7 @@ placed_one false word spot rest = Err (word, past_bound)
 placed_one true word (Err e) rest = Err (word, e)
 placed_one true word (Ok spot) rest = placed_next rest spot
 
+-- the spots of n words of a segment that begin at a word, or the first that is refused and why
 unfoldable pub spots_of :
     {S : Type 0} → Store S → S → DbrFields → SdwFields → ℕ → ℕ → ℕ
     → Result (List Spot) (ℕ × Refusal)
@@ -181,7 +188,7 @@ spots_of o s dbr d seg word zero = Ok []
 spots_of o s dbr d seg word (suc n) =
     placed_one (within d word) word (o.spot s dbr d seg word) (spots_of o s dbr d seg (word + 1) n)
 
--- a Transfer and a CALL6 touch no page of the target
+-- a Transfer and a CALL6 only check the bound, and reference no page of the target
 abbrev pub bound_only : Bool → ℕ → Result (List Spot) (ℕ × Refusal)
 bound_only true word = Ok []
 bound_only false word = Err (word, past_bound)
@@ -192,44 +199,48 @@ abbrev pub places_by :
 places_by true target spots = target
 places_by false target spots = spots
 
+-- the spots of a request, or the first word that is refused and why
 unfoldable pub places :
     {S : Type 0} → Store S → S → DbrFields → SdwFields → Request → Result (List Spot) (ℕ × Refusal)
 places o s dbr d q =
     places_by (is_target q.kind) (bound_only (within d q.at.word) q.at.word)
     (spots_of o s dbr d q.at.seg q.at.word q.count)
 
--- where a step stands: its store, the spots that its Writes have claimed, and its completed
+-- the state within a step: its store, the spots that its Writes have claimed, and its completed
 -- references, oldest first
 pub record Mid (S : Type 0) : Type 0 where
   pub store : S
   pub claims : List Spot
   pub refs : List Reference
 
--- where nothing is claimed, and no reference is completed
+-- the state at the beginning of a step
 abbrev pub begun : {S : Type 0} → S → Mid S
 begun s = record { store = s; claims = []; refs = [] }
 
--- the changes that puts mean; a number under which nothing is claimed means none
+-- the change that a put makes; none if its number is not claimed
 abbrev pub change_of : Put → Option Spot → List Change → List Change
 change_of p None rest = rest
 change_of p (Some spot) rest = record { spot = spot; part = p.part; value = p.value } ∷ rest
 
+-- the changes that puts make, in order
 unfoldable pub changes : List Spot → List Put → List Change
 changes claims [] = []
 changes claims (p ∷ puts) = change_of p (slice_get claims p.claim) (changes claims puts)
 
--- a reply, and where the step stands after it
+-- a reply, and the state after it
 pub record Served (S : Type 0) : Type 0 where
   pub reply : Result Answer Fault
   pub mid : Mid S
 
+-- a refused reference changes nothing
 abbrev pub refused : {S : Type 0} → Mid S → Request → ℕ → Refusal → Served S
 refused m q word why = record { reply = Err (fault_in q.at word why); mid = m }
 
+-- the store after the marks of a request
 abbrev pub after_marks : {S : Type 0} → Store S → S → DbrFields → Request → S
 after_marks o s dbr q = if touches q.kind then o.marked s dbr q.kind q.at.seg q.at.word else s
 
--- an odd word joins the even one before it: together they are one reference to two words
+-- an odd word joins the even one before it: they are one reference to two words
 abbrev pub with_odd : Request → List Reference → List Reference
 with_odd q [] = []
 with_odd q (e ∷ []) =
@@ -241,8 +252,8 @@ with_odd q (e ∷ []) =
     ∷ []
 with_odd q (e ∷ f ∷ refs) = e ∷ with_odd q (f ∷ refs)
 
--- The kind under which a reference stands among those of the step. Of one that does not stand there
--- it does not matter.
+-- The kind with which a completed reference is recorded. The last line is for kinds that are not
+-- recorded, and has no meaning.
 abbrev pub recorded_kind : RequestKind → Kind
 recorded_kind Fetch = reference.Fetch
 recorded_kind Read = reference.Read
@@ -261,13 +272,13 @@ with_reference kind q refs = if touches kind then with_touched kind q refs else 
 abbrev pub with_claims : RequestKind → List Spot → List Spot → List Spot
 with_claims kind spots claims = if claims_words kind then claims ++ spots else claims
 
--- what a Locate is told: the place in core of its word
+-- the core address of the word of a Locate, or 0 for other kinds
 abbrev pub located : RequestKind → List Spot → ℕ
 located Locate (Core_word a ∷ spots) = a
 located _ _ = 0
 
--- A reference that is answered leaves this store, its claims behind those before it, and itself
--- behind the references before it.
+-- The reply to a reference that is served, and the state after it: its claims are added after
+-- earlier ones, and the reference after earlier references.
 abbrev pub answered_with :
     {S : Type 0} → Store S → S → List Spot → List Reference → Request → SdwFields → List Spot
     → Served S
@@ -306,27 +317,27 @@ serve_sdw o g m q (Err why) = refused m q q.at.word why
 serve_sdw o g m q (Ok d) =
     serve_rights o g m q d (denied q.kind d q.at.ring g.ppr.prr (q.at.seg == g.ppr.psr) q.at.word)
 
--- a reference: descriptor, brackets, rights, bound and place in this order, then its marks, then
--- its words
+-- Serves a reference. Checked in this order: descriptor, brackets, rights, bound and place. Then
+-- its marks are set, and its words are read.
 unfoldable pub serve : {S : Type 0} → Store S → RegsFields → Mid S → Request → Served S
 serve o g m q = serve_sdw o g m q (o.sdw m.store g.dbr q.at.seg)
 
--- A word read outside of any step, by the ring rules, that sets no marks and stands among no
--- references.
+-- a store that sets no marks
 abbrev pub without_marks : {S : Type 0} → Store S → Store S
 without_marks o = record o { marked = λ s dbr kind seg word. s }
 
+-- a word that is read outside of any step, with access checks, but without marks
 unfoldable pub examined : {S : Type 0} → Store S → RegsFields → S → AtFields → Result Answer Fault
 examined o g s at =
     (serve (without_marks o) g (begun s)
     (record { kind = Read; at = at; count = 1; pending = [] })).reply
 
--- what a program gives, and where the step stands then
+-- the result of a program, and the state within the step after it
 pub record Ran (A S : Type 0) : Type 0 where
   pub value : A
   pub mid : Mid S
 
--- a program over a store, from where the step stands
+-- runs a program over a store, from a state within a step
 unfoldable pub run : {A S : Type 0} → Store S → RegsFields → Act A → Mid S → Ran A S
 run o g (done a) m = record { value = a; mid = m }
 run o g (ask q next) m = let t = serve o g m q in run o g (next t.reply) t.mid

@@ -1,5 +1,5 @@
--- What an instruction stores is what an instruction that loads as much reads. Multics Processor
--- Manual AL39, "Machine instructions".
+-- What an instruction stores is read back by an instruction that loads the same words. Multics
+-- Processor Manual AL39, "Machine instructions".
 use Rattle.std.specs.Prelude.{ℕ, ◌≡◌, ◌^◌, ◌<◌, [], ◌∷◌, map, All, Result, Ok, Err}
 use Rattle.m36_desc.specs.Widths.{IsDbr, IsPtr}
 use Rattle.m36_desc.specs.Descriptors.{its_of_ptr}
@@ -28,9 +28,9 @@ abbrev pub HasWritten : OperandFields → Result EffectFields ℕ → Type 0
 HasWritten o (Ok x) = o.got ≡ x.put
 HasWritten o (Err number) = ⊥
 
--- A half that is stored is read back, and the other half of the word stays; so are a number of 72
--- bits, in two words and in A and Q, and the parts of a tally word. What SDBR, STCD and SPRI store,
--- LDBR, RTCD and LPRI load.
+-- A half that is stored is read back, and the other half of the word is kept. A number of 72 bits
+-- is read back from two words, and from A and Q, and the fields of a tally word from the word.
+-- LDBR, RTCD and LPRI load what SDBR, STCD and SPRI have stored.
 pub record StoredIsLoaded : Type 0 where
   pub left : (old v : ℕ) → v < 2 ^ 18 → left_of (written Left old v) ≡ v
   pub left_stays : (old v : ℕ) → v < 2 ^ 18 → left_of (written Right old v) ≡ left_of old

@@ -8,16 +8,16 @@ use Rattle.m36_model.specs.Results.{completes_with}
 use Rattle.m36_model.specs.Loads.{indicators_of}
 use Rattle.m36_model.specs.declared.registers.Ind.{Ind}
 
--- STA, STQ, STAQ, STX, SXL: the word, the pair or the half becomes the register
+-- STA, STQ, STAQ, STX, SXL: register to word, pair or half
 unfoldable pub store : Working → RegsFields → Result EffectFields ℕ
 store r g = completes_with g (words r (value r g))
 
--- STZ: the word becomes 0
+-- STZ: 0 to the word
 unfoldable pub store_zero : RegsFields → Result EffectFields ℕ
 store_zero g = completes_with g (0 ∷ [])
 
 -- The indicators as bits 18 to 35 of a word: 18 zero, 19 negative, 20 carry, 21 overflow, 24
--- overflow mask, 25 tally runout, all others 0 (this project's choice).
+-- overflow mask, 25 tally runout; all others are 0 (this project's choice).
 unfoldable pub indicators_half : Ind → ℕ
 indicators_half i =
     of_bit i.zero * 2 ^ 17 + of_bit i.negative * 2 ^ 16 + of_bit i.carry * 2 ^ 15
@@ -27,19 +27,19 @@ indicators_half i =
 abbrev pub IndicatorsComeBack : Type 0
 IndicatorsComeBack = (i : Ind) → indicators_of (indicators_half i) ≡ i
 
--- STI: bits 18 to 35 of the word become the indicators
+-- STI: the indicators to bits 18 to 35 of the word
 unfoldable pub store_indicators : RegsFields → Result EffectFields ℕ
 store_indicators g = completes_with g (indicators_half g.ind ∷ [])
 
--- a store on a condition: where it holds the word becomes A, and else it stays; zero tells which
+-- a conditional store: A to the word if the condition holds; zero shows whether it did
 abbrev pub store_where : Bool → ℕ → RegsFields → Result EffectFields ℕ
 store_where holds v g =
     completes_with (with_indicators (with_zero holds g.ind) g) ((if holds then g.a else v) ∷ [])
 
--- STAC: a store where the word is 0
+-- STAC: stores if the word is 0
 unfoldable pub store_where_zero : ℕ → RegsFields → Result EffectFields ℕ
 store_where_zero v g = store_where (v == 0) v g
 
--- STACQ: a store where the word equals Q
+-- STACQ: stores if the word equals Q
 unfoldable pub store_where_equal : ℕ → RegsFields → Result EffectFields ℕ
 store_where_equal v g = store_where (v == g.q) v g

@@ -7,15 +7,16 @@ use Rattle.m36_model.specs.Results.{EffectFields, Working, A, half, value, words
 use Rattle.m36_model.specs.Results.{with_indicators, zn_carry, zn_carry_overflow, completes}
 use Rattle.m36_model.specs.Results.{completes_or_overflows, becomes_negative}
 
--- a result that goes into the register, with carry and overflow, and one with carry alone
+-- a result to the register; carry and overflow are set
 unfoldable pub into_register : Working → SumFields → RegsFields → Result EffectFields ℕ
 into_register r s g =
     completes_or_overflows (takes r s.value (zn_carry_overflow s g.ind) g) [] s.overflow
 
+-- a result to the register; carry is set, and overflow is not changed
 unfoldable pub into_register_logical : Working → SumFields → RegsFields → Result EffectFields ℕ
 into_register_logical r s g = completes (takes r s.value (zn_carry s g.ind) g)
 
--- a result that goes into the operand
+-- a result to the operand; carry and overflow are set
 unfoldable pub into_operand : Working → SumFields → RegsFields → Result EffectFields ℕ
 into_operand r s g =
     completes_or_overflows (with_indicators (zn_carry_overflow s g.ind) g) (words r s.value)
@@ -29,11 +30,11 @@ add r v g = into_register r (sum (half r) (value r g) v false) g
 unfoldable pub add_logical : Working → ℕ → RegsFields → Result EffectFields ℕ
 add_logical r v g = into_register_logical r (sum (half r) (value r g) v false) g
 
--- AWCA, AWCQ: register plus value, plus 1 where carry is on
+-- AWCA, AWCQ: register plus value, plus 1 if carry is on
 unfoldable pub add_with_carry : Working → ℕ → RegsFields → Result EffectFields ℕ
 add_with_carry r v g = into_register r (sum (half r) (value r g) v g.ind.carry) g
 
--- ADL: a word as a pair, its sign extended
+-- ADL: a word extended with its sign to a pair
 unfoldable pub sign_extended : ℕ → ℕ
 sign_extended w = if nat_lt w (2 ^ 35) then w else (w + (2 ^ 72 - 2 ^ 36))
 
@@ -45,22 +46,22 @@ subtract r v g = into_register r (difference (half r) (value r g) v false) g
 unfoldable pub subtract_logical : Working → ℕ → RegsFields → Result EffectFields ℕ
 subtract_logical r v g = into_register_logical r (difference (half r) (value r g) v false) g
 
--- SWCA, SWCQ: register minus value, and minus 1 where carry is off
+-- SWCA, SWCQ: register minus value, and minus 1 if carry is off
 unfoldable pub subtract_with_carry : Working → ℕ → RegsFields → Result EffectFields ℕ
 subtract_with_carry r v g = into_register r (difference (half r) (value r g) v (not g.ind.carry)) g
 
--- AOS: the word becomes itself plus 1
+-- AOS: the word plus 1 to the word
 unfoldable pub add_one_to_storage : ℕ → RegsFields → Result EffectFields ℕ
 add_one_to_storage v g = into_operand A (sum (half A) v 1 false) g
 
--- ASA, ASQ, ASX: the operand becomes register plus operand
+-- ASA, ASQ, ASX: register plus operand to the operand
 unfoldable pub add_to_storage : Working → ℕ → RegsFields → Result EffectFields ℕ
 add_to_storage r v g = into_operand r (sum (half r) (value r g) v false) g
 
--- SSA, SSQ, SSX: the operand becomes register minus operand
+-- SSA, SSQ, SSX: register minus operand to the operand
 unfoldable pub subtract_stored : Working → ℕ → RegsFields → Result EffectFields ℕ
 subtract_stored r v g = into_operand r (difference (half r) (value r g) v false) g
 
--- NEG, NEGL: the register becomes its negative
+-- NEG, NEGL: the negative of the register to the register
 unfoldable pub negate : Working → RegsFields → Result EffectFields ℕ
 negate r g = becomes_negative r (value r g) g

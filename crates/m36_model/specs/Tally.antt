@@ -1,14 +1,14 @@
 -- Indirect then tally: what the tags SD, I, AD, DI and ID do with a tally word. The word has an
--- address A (bits 0 to 17), a tally T (18 to 29) and an increment D (30 to 35); A counts modulo
--- 2^18 and T modulo 2^12. After the Multics Processor Manual AL39, "Indirect then tally (IT)
--- modification"; as written here, this project's profile.
+-- address A (bits 0 to 17), a tally T (18 to 29) and an increment D (30 to 35). A counts modulo
+-- 2^18, and T modulo 2^12. By Multics Processor Manual AL39, "Indirect then tally (IT)
+-- modification"; the table here is this project's profile.
 --
 --   tag  name  computed address  new A  new T   tally runout
---   51   I     A                 A      T       as it was
---   56   ID    A                 A + 1  T - 1   on exactly where the new T is 0
---   54   DI    A - 1             A - 1  T + 1   on exactly where the new T is 0
---   53   AD    A                 A + D  T - 1   on exactly where the new T is 0
---   44   SD    A - D             A - D  T + 1   on exactly where the new T is 0
+--   51   I     A                 A      T       unchanged
+--   56   ID    A                 A + 1  T - 1   on if the new T is 0, otherwise off
+--   54   DI    A - 1             A - 1  T + 1   on if the new T is 0, otherwise off
+--   53   AD    A                 A + D  T - 1   on if the new T is 0, otherwise off
+--   44   SD    A - D             A - D  T + 1   on if the new T is 0, otherwise off
 use Rattle.std.specs.Prelude.{ℕ, ◌+◌, ◌-◌, ◌*◌, ◌%◌, ◌^◌, Bool, ◌||◌, ◌==◌, if◌then◌else◌}
 use Rattle.m36_word.specs.Field.{field}
 
@@ -33,7 +33,7 @@ is_tally_tag td =
     (td == subtract_delta) || (td == indirect_only) || (td == add_delta)
     || (td == decrement_increment) || (td == increment_decrement)
 
--- the parts of a tally word
+-- the fields of a tally word
 abbrev pub tally_address : ℕ → ℕ
 tally_address w = field w 0 18
 
@@ -46,13 +46,14 @@ tally_delta w = field w 30 6
 abbrev pub tally_word : ℕ → ℕ → ℕ → ℕ
 tally_word address count delta = address * 2 ^ 18 + count * 2 ^ 6 + delta
 
--- what a tally word gives: the computed address, the new word, and whether the tally runs out
+-- the result of counting a tally word: the computed address, the new word, and whether the tally
+-- has run out
 pub record Counted : Type 0 where
   pub address : ℕ
   pub word : ℕ
   pub runs_out : Bool
 
--- the address is used and then goes up, and the tally goes down
+-- ID and AD: the address is used and then increased, and the tally is decreased
 abbrev pub counted_down : ℕ → ℕ → Counted
 counted_down w step =
     let a = tally_address w in
@@ -63,14 +64,14 @@ counted_down w step =
       runs_out = t == 0;
     }
 
--- the address goes down and is then used, and the tally goes up
+-- DI and SD: the address is decreased and then used, and the tally is increased
 abbrev pub counted_up : ℕ → ℕ → Counted
 counted_up w step =
     let a = (tally_address w + (2 ^ 18 - step)) % 2 ^ 18 in
     let t = (tally_count w + 1) % 2 ^ 12 in
     record { address = a; word = tally_word a t (tally_delta w); runs_out = t == 0 }
 
--- by Td of the four tags that count: ID, AD, DI, SD
+-- counts a tally word, by Td of ID, AD, DI or SD
 unfoldable pub tally : ℕ → ℕ → Counted
 tally td w =
     if td == increment_decrement then counted_down w 1

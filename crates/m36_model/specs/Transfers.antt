@@ -8,8 +8,8 @@ use Rattle.m36_model.specs.Registers.{RegsFields}
 use Rattle.m36_model.specs.Pointers.{with_pr, pointer}
 use Rattle.m36_model.specs.Results.{EffectFields, X, with_value, next_word, leaves, completes}
 
--- Whether a transfer is taken, by the indicators. One that is not taken examines no target (this
--- project's choice).
+-- Whether a transfer is taken, by the indicators. A transfer that is not taken examines no target
+-- (this project's choice).
 unfoldable pub is_taken : Effect → RegsFields → Bool
 is_taken effect.Tze g = g.ind.zero
 is_taken effect.Tnz g = not g.ind.zero
@@ -23,36 +23,35 @@ is_taken effect.Tov g = g.ind.overflow
 is_taken effect.Ttf g = not g.ind.tally
 is_taken _ g = true
 
--- the procedure segment becomes that of the final address, and the instruction counter its word;
--- the ring stays
+-- the registers after a transfer: the segment and the word of the final address, in the same ring
 unfoldable pub gone_to : FinalFields → RegsFields → RegsFields
 gone_to f g = record g { ppr = record g.ppr { psr = f.at.seg; ic = f.at.word } }
 
 abbrev pub goes_to : FinalFields → RegsFields → Result EffectFields ℕ
 goes_to f g = leaves (gone_to f g)
 
--- A transfer that is taken goes to its target, with registers as it leaves them; one that is not
--- completes.
+-- A transfer that is taken goes to its target with the registers `left`. One that is not taken
+-- continues with the next instruction.
 abbrev pub transfer_by : Bool → FinalFields → RegsFields → RegsFields → Result EffectFields ℕ
 transfer_by true f left g = goes_to f left
 transfer_by false f left g = completes g
 
--- TRA and the conditional transfers but TOV
+-- TRA, and the conditional transfers except TOV
 unfoldable pub transfer_where : Bool → FinalFields → RegsFields → Result EffectFields ℕ
 transfer_where taken f g = transfer_by taken f g g
 
--- TOV: overflow goes off when the transfer is taken
+-- TOV: overflow is turned off if the transfer is taken
 abbrev pub without_overflow : RegsFields → RegsFields
 without_overflow g = record g { ind = record g.ind { overflow = false } }
 
 unfoldable pub transfer_on_overflow : Bool → FinalFields → RegsFields → Result EffectFields ℕ
 transfer_on_overflow taken f g = transfer_by taken f (without_overflow g) g
 
--- TSX: the index register becomes the word of the next instruction
+-- TSX: the word number of the next instruction to the index register
 unfoldable pub transfer_and_set_index : ℕ → FinalFields → RegsFields → Result EffectFields ℕ
 transfer_and_set_index n f g = goes_to f (with_value (X n) (next_word g) g)
 
--- TSP: the pointer register becomes the place of the next instruction in the procedure ring
+-- TSP: a pointer to the next instruction, in the procedure ring, to the pointer register
 abbrev pub return_pointer : RegsFields → PtrFields
 return_pointer g = pointer g.ppr.psr g.ppr.prr (next_word g)
 

@@ -1,12 +1,12 @@
--- Which words an effect gives to be written, and which part of a word, by how its instruction
--- references its operand. A half stands right-justified in a word.
+-- The words that an effect gives to be written, and which part of a word each replaces, by how the
+-- instruction references its operand. A half is right-justified in a word.
 use Rattle.std.specs.Prelude.{ℕ, ◌≡◌, ◌^◌, ◌<◌, List, length}
 use Rattle.std.specs.List.{All}
 use Rattle.m36_inst.specs.declared.operand.Operand.{Operand}
 use Rattle.m36_inst.specs.declared.operand.Operand.TheVariants as kind
 use Rattle.m36_model.specs.Act.{Part, Whole, Left, Right}
 
--- how many words an instruction writes
+-- the number of words that an instruction writes
 abbrev pub words_written : Operand → ℕ
 words_written kind.W = 1
 words_written kind.W2 = 2
@@ -17,7 +17,7 @@ words_written kind.Rw = 1
 words_written kind.Rwl = 1
 words_written _ = 0
 
--- and which part of a word
+-- the part of a word that it writes
 abbrev pub part_written : Operand → Part
 part_written kind.Wl = Left
 part_written kind.Wr = Right
@@ -31,6 +31,7 @@ FitsHalf w = w < 2 ^ 18
 abbrev pub IsHalf : List ℕ → Type 0
 IsHalf words = (length words ≡ 1) × All (λ w. FitsHalf w) words
 
+-- the words to be written: as many as the instruction writes, and 18 bits if they replace a half
 abbrev pub PutsFor : Operand → List ℕ → Type 0
 PutsFor kind.Wl words = IsHalf words
 PutsFor kind.Wr words = IsHalf words

@@ -1,5 +1,5 @@
--- Worked steps: small cores of some segments, with their words in octal. What a step does on them
--- is computed from the definitions.
+-- Worked steps: small cores with a few segments, with their words in octal. What a step does with
+-- them is computed from the definitions.
 use Rattle.std.specs.Prelude.{ℕ, ◌+◌, ◌*◌, false, true, List, [], ◌∷◌, replicate, slice_set}
 use Rattle.std.specs.Prelude.{slice_index, Option, None}
 use Rattle.m36_desc.specs.Fields.{SdwFields}
@@ -16,22 +16,22 @@ use Rattle.m36_model.specs.declared.place.Reference.{Reference}
 use Rattle.m36_model.specs.declared.outcome.Outcome.{Outcome}
 use Rattle.m36_model.specs.declared.outcome.Outcome.TheVariants.{Faulted}
 
--- a core of so many words, of which these stand at these places and all others are zero
+-- core with these words at these addresses
 abbrev pub placed : List (ℕ × ℕ) → List ℕ → List ℕ
 placed [] core = core
 placed (w ∷ words) core = placed words (slice_set core w.0 w.1)
 
+-- core of `size` words, with these words at these addresses, and zeros elsewhere
 abbrev pub core_of : ℕ → List (ℕ × ℕ) → List ℕ
 core_of size words = placed words (replicate size 0)
 
--- words one behind the other, from a place on
+-- consecutive words that begin at an address
 abbrev pub words_from : ℕ → List ℕ → List (ℕ × ℕ)
 words_from place [] = []
 words_from place (w ∷ words) = (place, w) ∷ words_from (place + 1) words
 
--- the descriptor of a segment that lies in one piece and has one block of 16 words, with these
--- brackets and no rights; and the same with a right, as a gate with so many entries, or
--- with more blocks
+-- A descriptor of an unpaged segment with these brackets, one block of 16 words, and no rights.
+-- Those after it have one right more, are a gate with n entries, or have n + 1 blocks.
 abbrev pub rings : ℕ → ℕ → ℕ → SdwFields
 rings r1 r2 r3 =
     record {
@@ -70,17 +70,17 @@ gate_with_entries n d = record d { no_gate = false; limit = n }
 abbrev pub last_block : ℕ → SdwFields → SdwFields
 last_block n d = record d { bound = n }
 
--- the descriptor of a segment that lies at a place, in the descriptor segment at word 0
+-- the words of the descriptor of a segment at an address; the descriptor segment begins at word 0
 abbrev pub segment : ℕ → ℕ → SdwFields → List (ℕ × ℕ)
 segment n place d =
     words_from (2 * n) (sdw_even (record d { addr = place }) ∷ sdw_odd d ∷ [])
 
--- a segment of instructions that is read too
+-- a segment of instructions that may be read too
 abbrev pub procedure : SdwFields → SdwFields
 procedure d = readable (executable d)
 
--- registers that hold nothing, at an instruction; the descriptor segment lies in one piece from
--- core word 0 on
+-- registers that are zero, at an instruction; the descriptor segment is unpaged, from core word 0
+-- on
 abbrev pub at_instruction : ℕ → ℕ → ℕ → RegsFields
 at_instruction seg ring word =
     record {
@@ -104,15 +104,15 @@ abbrev pub referred : Kind → ℕ → ℕ → ℕ → ℕ → Reference
 referred kind seg word ring count =
     record { at = at_word seg word ring; kind = kind; count = count }
 
--- faults, and access violations
+-- the outcome of a fault
 abbrev pub faults : ℕ → AtFields → Outcome
 faults number at = Faulted (plain_fault number at)
 
+-- the outcome of an access violation
 abbrev pub violates : ℕ → AtFields → Outcome
 violates acv at = Faulted (fault_by (violation acv) at)
 
--- what one step does: how it ends, the end of its chain, the registers afterwards, the core
--- afterwards
+-- one step: its outcome, the end of its chain, its references, the registers and the core after it
 abbrev pub outcome_of_step : State (List ℕ) → Outcome
 outcome_of_step s = (record_of core_store s).outcome
 

@@ -19,7 +19,7 @@ use Rattle.m36_model.specs.declared.place.Kind.TheVariants.{Fetch, Indirect, Rea
 use Rattle.m36_model.specs.declared.outcome.Stop.TheVariants as stop
 use Rattle.m36_model.specs.declared.outcome.Outcome.TheVariants.{Next, Stopped}
 
--- Segment 1 lies at core word 40, in ring 0, with R, E and P on: `lda 2`, `dis`, and the number 5.
+-- Segment 1 is at core word 40, in ring 0, with R, E and P on: `lda 2`, `dis`, and the number 5.
 abbrev pub load_core : List ℕ
 load_core =
     core_of 0o100
@@ -29,7 +29,7 @@ load_core =
 abbrev pub at_load : State (List ℕ)
 at_load = record { regs = at_instruction 1 0 0; store = load_core }
 
--- The load reads its word into A and moves on; the whole record of the step.
+-- The load reads its word into A and advances; the whole record of the step.
 abbrev pub LoadReadsItsWord : Type 0
 LoadReadsItsWord = record_of core_store at_load ≡ record {
   refs = record { items = referred Fetch 1 0 0 1 ∷ referred Read 1 2 0 1 ∷ [] };
@@ -51,8 +51,8 @@ StopFollows = record_of core_store (state_after core_store at_load) ≡ record {
   ppr = record { psr = 1; prr = 0; ic = 1 };
 }
 
--- The bound counts blocks of 16 words: with bound 0 word 17 is read (here by `lda 15`), and word 20
--- is not (`lda 16`).
+-- The bound counts blocks of 16 words. With bound 0, word 17 is read (here by `lda 15`), and word
+-- 20 is not (`lda 16`).
 abbrev pub bound_state : ℕ → State (List ℕ)
 bound_state instruction =
     record { regs = at_instruction 1 0 0; store = slice_set load_core 0o40 instruction }
@@ -65,7 +65,7 @@ WordPastTheBoundIsNot =
     outcome_of_step (bound_state 0o000020235000) ≡ violates out_of_segment_bounds (at_word 1 0o20 0)
 
 -- `lda pr0|0,*` in ring 1 reads the ITS pair 000123100043 000000000000 in segment 2, whose R1 is 4,
--- so the ring goes up to 4. Segment 123 has brackets 0, 3, 3, and is not read from ring 4.
+-- so the ring is raised to 4. Segment 123 has brackets 0, 3, 3, and may not be read from ring 4.
 abbrev pub pair_core : List ℕ
 pair_core =
     core_of 0o400
@@ -90,8 +90,8 @@ PairTakesTheBracketOfItsSegment =
     × (outcome_of_step at_pair ≡ violates out_of_read_bracket (at_word 0o123 0 4))
     × (references_of_step at_pair ≡ referred Fetch 1 0 1 1 ∷ referred Indirect 2 0 1 2 ∷ [])
 
--- Words 1 to 16 of segment 1 point each to the next one, indirectly, and word 17 to word 18, which
--- is `5`. `lda 1,*` meets 17 indirect words, and `lda 2,*` meets 16.
+-- Words 1 to 16 of segment 1 each point to the next one, indirectly, and word 17 points to word 18,
+-- which is `5`. `lda 1,*` has 17 indirect words, and `lda 2,*` has 16.
 abbrev pub long_chain_core : ℕ → List ℕ
 long_chain_core instruction =
     core_of 0o100
@@ -116,8 +116,8 @@ SixteenIndirectWordsAreServed =
     (outcome_of_step (long_chain 0o000002235020) ≡ Next)
     × ((registers_after (long_chain 0o000002235020)).a ≡ 5)
 
--- `lda 8,*x1` holds X1 while it reads the word at 10, which is 000020000000: the address is
--- 20 and 5.
+-- `lda 8,*x1` holds X1 while it reads the word at 10, which is 000020000000: the address is 20 plus
+-- 5.
 abbrev pub held_core : List ℕ
 held_core =
     core_of 0o100
@@ -135,7 +135,7 @@ at_held =
 abbrev pub IndexIsHeldOverTheIndirectWord : Type 0
 IndexIsHeldOverTheIndirectWord = address_of_step at_held ≡ Some (ends_in 1 0o25 0)
 
--- Tally words. ID twice, the second time with a runout; then SD, AD and DI.
+-- Tally words: ID twice, the second time with a runout; then SD, AD and DI.
 abbrev pub TallyWordsCount : Type 0
 TallyWordsCount =
     (tally 0o16 0o000100000200 ≡ record {
@@ -156,8 +156,8 @@ TallyWordsCount =
     })
     × (tally 0o14 0 ≡ record { address = 0o777777; word = 0o777777000100; runs_out = false })
 
--- The tally word at 10 of segment 1 is 000010000200, so its own address is its first operand: `lda
--- 8,id` loads its new value, and `sta 8,id` leaves A in it, since the operand is written after it.
+-- The tally word at 10 of segment 1 is 000010000200, so its own address is its first operand. `lda
+-- 8,id` loads its new value. `sta 8,id` leaves A in it, since the operand is written after it.
 abbrev pub data_and_procedure : SdwFields → SdwFields
 data_and_procedure d = writable (procedure d)
 
@@ -194,7 +194,7 @@ abbrev pub StoreComesAfterTheTallyWord : Type 0
 StoreComesAfterTheTallyWord =
     (outcome_of_step store_through_tally ≡ Next) × (word_after store_through_tally 0o50 ≡ 0o123456)
 
--- Without the right to write, the Write of the tally word is refused, and nothing has changed.
+-- Without W, the Write of the tally word is refused, and nothing has changed.
 abbrev pub RefusedTallyWordChangesNothing : Type 0
 RefusedTallyWordChangesNothing =
     (record_of core_store (at_tally procedure 0o000010235056) ≡ record {
@@ -219,16 +219,16 @@ DirectOperandIsTheAddress =
       direct = Some 3;
     }))
 
--- `tze 3,du` with zero off is not taken, but its direct operand is refused all the same; `lprp4
--- 3,dl` refuses one, and `nop 3,dl` takes it.
+-- `tze 3,du` with zero off is not taken, but its direct operand is refused nevertheless. `lprp4
+-- 3,dl` does not accept one, and `nop 3,dl` does.
 abbrev pub DirectOperandsAreRefused : Type 0
 DirectOperandsAreRefused =
     (outcome_of_step (bound_state 0o000003600003) ≡ faults illegal_procedure (at_word 1 0 0))
     × (outcome_of_step (bound_state 0o000003764007) ≡ faults illegal_procedure (at_word 1 0 0))
     × (outcome_of_step (bound_state 0o000003011007) ≡ Next)
 
--- The tags of the instruction `lda 3` with tags 40, 41, 46, 47 and 50: three fault tags, told at
--- the instruction; a pair's tag out of place; a modification that is not provided.
+-- The instruction `lda 3` with tags 40, 41, 46, 47 and 50: three fault tags, reported at the
+-- instruction; a tag of a pair where none may be; a modification that is not provided.
 abbrev pub TagsOfTheInstruction : Type 0
 TagsOfTheInstruction =
     (outcome_of_step (bound_state 0o000003235040) ≡ faults fault_tag_1 (at_word 1 0 0))
@@ -238,7 +238,7 @@ TagsOfTheInstruction =
     × (outcome_of_step (bound_state 0o000003235050) ≡ Stopped stop.Tag)
 
 -- `lda pr0|0,*` again, through a word with tag 46 in the segment whose R1 is 4: the fault tag is
--- told at that word, in ring 4.
+-- reported at that word, in ring 4.
 abbrev pub at_fault_tag : State (List ℕ)
 at_fault_tag = record { regs = at_pair.regs; store = slice_set pair_core 0o340 0o000000000046 }
 

@@ -1,4 +1,4 @@
--- Worked steps on calls, returns and pointer registers.
+-- Worked steps of calls, returns and pointer registers.
 use Rattle.std.specs.Prelude.{ℕ, ◌≡◌, ◌++◌, List, [], ◌∷◌, replicate, slice_set, true, false}
 use Rattle.m36_desc.specs.Fields.{SdwFields}
 use Rattle.m36_desc.specs.Violations.{bad_outward_call, not_a_gate, out_of_call_bracket}
@@ -15,7 +15,7 @@ use Rattle.m36_model.specs.Worked.{core_of, at_instruction, at_word, faults, vio
 use Rattle.m36_model.specs.Worked.{outcome_of_step, registers_after, word_after}
 use Rattle.m36_model.specs.declared.outcome.Outcome.TheVariants.{Next}
 
--- Segment 1 holds one instruction and may be executed in every ring. Segment 3 is a gate: E on, G
+-- Segment 1 has one instruction and may be executed in every ring. Segment 3 is a gate: E on, G
 -- off, brackets 0, 0, 5, two entries. Pointer register 2 points to its word 0.
 abbrev pub gate_core : ℕ → List ℕ
 gate_core instruction =
@@ -41,17 +41,18 @@ CallThroughAGate =
     × ((registers_after (at_gate 4 0o200001713100)).ppr ≡ record { psr = 3; prr = 0; ic = 1 })
     × (ptr (registers_after (at_gate 4 0o200001713100)) 7 ≡ pointer 0o10 0 0)
 
--- Word 2 is no entry, and ring 6 is above the call bracket.
+-- Word 2 is not an entry.
 abbrev pub CallPastTheLimiter : Type 0
 CallPastTheLimiter =
     outcome_of_step (at_gate 4 0o200002713100) ≡ violates not_a_gate (at_word 3 2 4)
 
+-- Ring 6 is above the call bracket.
 abbrev pub CallFromAboveTheBracket : Type 0
 CallFromAboveTheBracket =
     outcome_of_step (at_gate 6 0o200001713100) ≡ violates out_of_call_bracket (at_word 3 1 6)
 
--- Segment 4 has E and G on and brackets 2, 3, 3. Pointer register 2 points to it in some ring;
--- pointer register 6 to segment 5.
+-- Segment 4 has E and G on and brackets 2, 3, 3. Pointer register 2 points to it, in the ring
+-- `pointed`; pointer register 6 points to segment 5.
 abbrev pub call_core : List ℕ
 call_core =
     core_of 0o100
@@ -83,8 +84,8 @@ CallWithinTheRing =
     × ((registers_after (at_call 3 3)).ppr ≡ record { psr = 4; prr = 3; ic = 1 })
     × (ptr (registers_after (at_call 3 3)) 7 ≡ pointer 5 3 0)
 
--- `rtcd pr2|0` through the pair of segment 2: to word 1 of segment 1, which is `dis`. R1 of segment
--- 2 is given.
+-- `rtcd pr2|0` through the pair of segment 2, to word 1 of segment 1, which is `dis`. The brackets
+-- of segment 2 are a parameter.
 abbrev pub return_core : SdwFields → ℕ → List ℕ
 return_core brackets pair =
     core_of 0o200
@@ -102,8 +103,8 @@ at_return ring brackets pair =
       store = return_core brackets pair;
     }
 
--- From ring 0 through a pair of ring 4: ring 4 in every register, and there DIS is an illegal
--- procedure.
+-- From ring 0 through a pair of ring 4: every register has ring 4, and DIS is an illegal procedure
+-- there.
 abbrev pub returns_outward : State (List ℕ)
 returns_outward = at_return 0 (rings 0 0 0) 0o000001400043
 
@@ -117,13 +118,13 @@ ReturnTakesThePairsRing =
     (outcome_of_step (state_after core_store returns_outward)
     ≡ faults illegal_procedure (at_word 1 1 4))
 
--- From ring 4 through a pair of ring 0 in its own stack: still ring 4.
+-- From ring 4 through a pair of ring 0 in a segment with R1 4: execution continues in ring 4.
 abbrev pub ReturnTakesTheGreatestRing : Type 0
 ReturnTakesTheGreatestRing =
     (registers_after (at_return 4 (rings 4 4 4) 0o000001000043)).ppr
     ≡ record { psr = 1; prr = 4; ic = 1 }
 
--- `lprp4 1` of a word that begins with octal 60 is a command fault, and PR4 is as before.
+-- `lprp4 1` of a word that begins with octal 60 is a command fault, and PR4 is unchanged.
 abbrev pub packed_core : List ℕ
 packed_core =
     core_of 0o100
@@ -138,8 +139,8 @@ PackedPointerWithAWrongBitNumber =
     (outcome_of_step at_packed ≡ faults command (at_word 1 0 0))
     × (registers_after at_packed ≡ at_instruction 1 0 0)
 
--- A lock: `stac pr1|0` puts A into word 0 of segment 2 where it is zero, and tells so; a second one
--- finds it taken.
+-- A lock: `stac pr1|0` stores A into word 0 of segment 2 if it is zero, and the zero indicator
+-- shows whether it did. A second one finds the lock taken.
 abbrev pub lock_core : List ℕ
 lock_core =
     core_of 0o200

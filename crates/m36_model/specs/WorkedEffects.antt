@@ -1,4 +1,4 @@
--- Worked effects: sums, comparisons, products, shifts, a call of a subroutine.
+-- Worked effects: sums, comparisons, products, shifts, a subroutine call.
 use Rattle.std.specs.Prelude.{ℕ, ◌≡◌, ◌++◌, ◌-◌, ◌^◌, false, true, List, [], ◌∷◌, replicate}
 use Rattle.std.specs.Prelude.{slice_set}
 use Rattle.std.specs.Prelude.{Ok, Err}
@@ -20,13 +20,14 @@ use Rattle.m36_model.specs.Worked.{core_of, at_instruction, at_word, faults}
 use Rattle.m36_model.specs.Worked.{outcome_of_step, registers_after}
 use Rattle.m36_model.specs.declared.outcome.Outcome.TheVariants.{Next}
 
--- 400000000000 against 1: the signed value is less, and the difference, which wraps, has carry.
+-- 400000000000 compared with 1: as a signed number it is less, and the difference, which wraps, has
+-- carry.
 abbrev pub ComparisonIsSigned : Type 0
 ComparisonIsSigned =
     comparison (2 ^ 35) 0o400000000000 1 ≡ record { zero = false; negative = true; carry = true }
 
--- `ada 1` of A 377777777777 and 1: the sum is stored and the instruction counter moves on; then the
--- overflow fault is given, but not while the mask is on.
+-- `ada 1` of A 377777777777 and 1: the sum is stored and the instruction counter advances. Then the
+-- overflow fault is given, unless the mask is on.
 abbrev pub sum_core : List ℕ
 sum_core =
     core_of 0o100
@@ -58,7 +59,7 @@ MaskedOverflowGoesOn =
       ind = record no_indicators { negative = true; overflow = true; mask = true };
     })
 
--- the registers with a number in A, and in Q
+-- registers with a number in A, or in Q
 abbrev pub with_a : ℕ → RegsFields
 with_a v = record (at_instruction 1 0 0) { a = v }
 
@@ -76,7 +77,7 @@ LeastNumberHasNoNegative = load_complement A 0o400000000000 (with_a 0) ≡ Ok (r
   overflow = true;
 })
 
--- the square of the least number, and divisions that cut toward zero
+-- the square of the least number
 abbrev pub SquareOfTheLeastNumber : Type 0
 SquareOfTheLeastNumber = multiply 0o400000000000 (with_q 0o400000000000) ≡ Ok (record {
   regs = record (at_instruction 1 0 1) { a = 0o200000000000 };
@@ -84,6 +85,7 @@ SquareOfTheLeastNumber = multiply 0o400000000000 (with_q 0o400000000000) ≡ Ok 
   overflow = false;
 })
 
+-- a division truncates toward zero
 abbrev pub QuotientIsCutTowardZero : Type 0
 QuotientIsCutTowardZero = divide 0o777777777775 (with_q 7) ≡ Ok (record {
   regs =
@@ -123,7 +125,7 @@ RotationComesRound = rotate_left A 1 (with_a 0o400000000001) ≡ Ok (record {
   overflow = false;
 })
 
--- `tsx1 5` at word 3 leaves the word of the next instruction in X1
+-- `tsx1 5` at word 3 leaves the word number of the next instruction in X1
 abbrev pub subroutine_core : List ℕ
 subroutine_core =
     core_of 0o100
@@ -144,8 +146,8 @@ BooleansGoBitByBit =
     × (and_not_of 36 0o14 0o12 ≡ 0o4)
     × (and_of 72 0o200000000000000000000000 (2 ^ 72 - 1) ≡ 0o200000000000000000000000)
 
--- shifts of 72 bits by a word and more: the one bit of Q goes into A, and back; after 72 or more a
--- left shift leaves nothing, a right one copies of the sign, and a rotation has come round
+-- Shifts of 72 bits by a word and more: the last bit of Q goes into A, and back. After 72 or more,
+-- a left shift leaves zeros, a right shift copies of the sign, and a rotation has wrapped around.
 abbrev pub LongShiftsCrossTheWords : Type 0
 LongShiftsCrossTheWords =
     (left_shift 72 1 36 ≡ 2 ^ 36) × (plain_right_shift (2 ^ 36) 36 ≡ 1) × (left_shift 72 1 127 ≡ 0)
@@ -159,7 +161,7 @@ abbrev pub SignIsExtended : Type 0
 SignIsExtended =
     (sign_extended 0o777777777777 ≡ 2 ^ 72 - 1) × (sign_extended 0o377777777777 ≡ 0o377777777777)
 
--- Each indicator has its bit, where LDI loads it and where STI stores it.
+-- LDI loads each indicator from its bit, and STI stores it there.
 abbrev pub IndicatorsAreLoaded : Type 0
 IndicatorsAreLoaded =
     (indicators_of 0o400000 ≡ record no_indicators { zero = true })

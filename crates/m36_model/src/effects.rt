@@ -1,4 +1,4 @@
-//! What an effect is given, and what it gives.
+//! The operands and results of effects.
 
 ghost use Rattle.std.specs.Prelude.{◌≡◌, ◌<◌, ◌^◌, [], ◌∷◌, Ok, IsTrue};
 
@@ -7,7 +7,7 @@ use crate::place::At;
 use crate::registers::Regs;
 use m36_word::{Pair, Word};
 
-/// Words of an operand.
+/// The words of an operand or of a result: none, one word, a pair, or a block of 16 words.
 #[derive(Clone, Copy, PartialEq, Eq)]
 pub enum Held {
     Empty,
@@ -21,7 +21,7 @@ impl Held {
     ghost use Rattle.m36_model.specs.Results.{words_of_held, words_of_pairs};
     ghost use Rattle.m36_model.specs.OperandHeld.{is_word, is_pair, is_block};
 
-    /// The word, where it is one.
+    /// The word. It has to be one word.
     pub fn word(&self) -> Word
         requires { IsTrue (is_word self.now) }
         ensures { words_of_held self.now ≡ result ∷ [] }
@@ -32,7 +32,7 @@ impl Held {
         }
     }
 
-    /// The pair, where it is one.
+    /// The pair. It has to be a pair.
     pub fn pair(&self) -> Pair
         requires { IsTrue (is_pair self.now) }
         ensures { words_of_held self.now ≡ pair_words result }
@@ -43,7 +43,7 @@ impl Held {
         }
     }
 
-    /// The block of 16 words, where it is one.
+    /// The block of 16 words. It has to be a block.
     pub fn block(&self) -> &[Pair; 8]
         requires { IsTrue (is_block self.now) }
         ensures { words_of_held self.now ≡ words_of_pairs result.now }
@@ -60,22 +60,23 @@ impl Held {
 pub struct Operand36 {
     /// The words that were read.
     pub got: Held,
-    /// The place in core for ABSA, and else 0; 24 bits.
+    /// For ABSA the core address of the operand, and otherwise 0; 24 bits.
     pub place: u32,
-    /// The first ring bracket of the operand's segment for pairs and blocks, the new ring for CALL6, and else 0; 3 bits.
+    /// For pairs and blocks R1 of the operand's segment, for CALL6 the new ring, and otherwise 0; 3
+    /// bits.
     pub ring: u8,
     ghost place_fits: { place < 2 ^ 24 },
     ghost ring_fits: { ring < 2 ^ 3 },
 }
 
-/// What an effect gives.
+/// The result of an effect.
 #[derive(Clone, Copy, PartialEq, Eq)]
 pub struct Effect36 {
     /// The new registers.
     pub regs: Regs,
     /// The words to write.
     pub put: Held,
-    /// An overflow is to be reported.
+    /// The effect has turned the overflow indicator on.
     pub overflow: bool,
 }
 
@@ -83,14 +84,15 @@ impl Effect36 {
     ghost use Rattle.m36_model.specs.Results.{words_of_held, effect_fields, completes};
     ghost use Rattle.m36_model.specs.Results.{completes_with};
 
-    /// An effect that leaves these registers, but for the instruction counter, which moves on to the next instruction.
+    /// The effect that leaves these registers, except that the instruction counter advances to the
+    /// next instruction.
     pub fn completed(regs: Regs) -> Effect36
         ensures { Ok (effect_fields result) ≡ completes regs }
     {
         Effect36::completed_with(regs, Held::Empty)
     }
 
-    /// The same with words to write.
+    /// As `completed`, with words to write.
     #[tactic(auto, unfolding(crate::specs::Results::moved_on))]
     pub fn completed_with(regs: Regs, put: Held) -> Effect36
         ensures { Ok (effect_fields result) ≡ completes_with regs (words_of_held put) }
@@ -105,12 +107,12 @@ impl Effect36 {
     }
 }
 
-/// A tally word that an address has counted: where it stands, and its new value.
+/// A tally word that address formation has counted: where it is, and its new value.
 #[derive(Clone, Copy, PartialEq, Eq)]
 pub struct Tally {
     pub word: Word,
     pub at: At,
-    /// The tally ran out.
+    /// The tally has run out: the new count is 0.
     pub runout: bool,
 }
 
@@ -119,6 +121,6 @@ pub struct Tally {
 pub struct Formed {
     pub last: Final,
     pub tally: Option<Tally>,
-    /// The place in core of the tally word, and 0 without one.
+    /// The core address of the tally word, or 0 if there is none.
     pub place: u32,
 }

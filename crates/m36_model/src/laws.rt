@@ -1,4 +1,4 @@
-//! Laws of the definitions. Each is the contract of a function that does nothing.
+//! Theorems about the definitions. Each is the contract of a function with an empty body.
 
 ghost use Rattle.m36_model.specs.ChainList.{OneChain};
 ghost use Rattle.m36_model.specs.Completed.{MarksOfCompletedReferences};
@@ -7,16 +7,16 @@ ghost use Rattle.m36_model.specs.StepCases.{StepHasACase, CaseIsTheStep};
 ghost use Rattle.m36_model.specs.StoredBack.{StoredIsLoaded};
 ghost use Rattle.m36_model.specs.Stores.{IndicatorsComeBack};
 
-/// From each point there is exactly one address chain, of at most 17 points, and the definition of address formation
-/// gives its answer.
+/// From each point there is exactly one address chain. It has at most 17 points, and the program
+/// that forms the address gives its answer.
 pub fn one_chain()
     ensures { OneChain }
 {}
 
-/// Each step is one of the cases of its definition, of no other record and no other state is there a case, and the step
-/// leaves what its case says: after a refusal or a stop the registers and all words but for marks, and else the full effect.
-/// The marks are exactly those of the completed references. The words of a pair or a block are those at word numbers that
-/// follow one another.
+/// Each step is one of the cases of `StepCases`, and each case is the record and the state of the
+/// step. After a refusal or a stop the registers are unchanged, and so are all words except for
+/// marks; otherwise the whole effect happens. The marks are exactly those of the completed
+/// references. A pair or block has the words at consecutive word numbers.
 pub fn step_cases()
     ensures cases { StepHasACase }
     ensures only { CaseIsTheStep }
@@ -25,13 +25,13 @@ pub fn step_cases()
     ensures writes { WritesWordsInOrder }
 {}
 
-/// Indicators that are stored are loaded back.
+/// Indicators that STI has stored are loaded back by LDI.
 pub fn indicator_law()
     ensures { IndicatorsComeBack }
 {}
 
-/// What is stored is loaded: a half of a word, a number of 72 bits, the parts of a tally word; and what SDBR, STCD and
-/// SPRI store, LDBR, RTCD and LPRI load.
+/// Words that are stored are loaded back: a half of a word, a number of 72 bits, the parts of a
+/// tally word; and LDBR, RTCD and LPRI load what SDBR, STCD and SPRI have stored.
 pub fn stored_law()
     ensures { StoredIsLoaded }
 {}

@@ -1,11 +1,14 @@
-//! The machine in definitions: what a place, an address, a step and a run are, and what the audit and isolation say.
+//! The machine in definitions: places, addresses, steps, runs, the audit and isolation.
 //!
-//! `src/` has the records that the definitions and the code share. `specs/` has the rules, one a module, in the
-//! order and the words of the manual. A step is a program over a store: it depends on the registers alone and asks
-//! the store for each reference; the list of core words is one such store. What is proved of the definitions stands
-//! in `laws`: each step has exactly one meaning, and what an instruction stores is loaded back.
+//! `src/` has the records that the definitions and the code share. `specs/` has the rules, one a
+//! module, in the order and the words of the manual. A step is a program over a store: it depends
+//! only on the registers, and asks the store for each reference. The list of core words is one such
+//! store.
 //!
-//! `docs/MANUAL.md` goes through the rules in plain words and names the module of each.
+//! `laws` has what is proved of the definitions: each step has exactly one meaning, and what an
+//! instruction stores is loaded back. `worked` has steps that were worked out by hand.
+//!
+//! `docs/MANUAL.md` explains the rules in plain words and names the module of each.
 //!
 //! Source: Multics Processor Manual AL39; for the ring rules, Schroeder and Saltzer (1972).
 #![tactic(auto)]

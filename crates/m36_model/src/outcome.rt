@@ -4,27 +4,27 @@ use crate::place::At;
 use m36_word::Word;
 use std::marker::Model;
 
-/// Why a reference is refused, before it is said at which word.
+/// Why a reference is refused, without the word at which it is refused.
 #[derive(Clone, Copy, PartialEq, Eq)]
 pub struct Refusal {
     /// The fault: 1 store, 16 to 19 directed faults 0 to 3, 20 access violation.
     pub number: u8,
-    /// The access violation, and 0 where the number is not 20.
+    /// The number of the access violation, or 0 if the fault is another one.
     pub acv: u8,
 }
 
-/// A fault: its number, for an access violation (number 20) which one, and the word concerned.
+/// A fault: its number, the number of the access violation if it is one, and the word concerned.
 #[derive(Clone, Copy, PartialEq, Eq)]
 pub struct Fault {
     pub at: At,
-    /// 1 store, 2 MME, 3 F1, 5 command, 6 derail, 7 lockup, 10 illegal procedure, 13 overflow, 14 divide check, 16 to
-    /// 19 directed faults 0 to 3, 20 access violation, 24 F2, 25 F3.
+    /// 1 store, 2 MME, 3 F1, 5 command, 6 derail, 7 lockup, 10 illegal procedure, 13 overflow, 14
+    /// divide check, 16 to 19 directed faults 0 to 3, 20 access violation, 24 F2, 25 F3.
     pub number: u8,
-    /// The access violation, and 0 where the number is not 20.
+    /// The number of the access violation, or 0 if the fault is another one.
     pub acv: u8,
 }
 
-/// Why the machine stopped of itself.
+/// Why the machine stopped by itself.
 #[derive(Clone, Copy, PartialEq, Eq)]
 pub enum Stop {
     /// The instruction DIS.
@@ -45,18 +45,19 @@ pub enum Halt {
 /// The outcome of a step.
 #[derive(Clone, Copy, PartialEq, Eq)]
 pub enum Outcome {
-    /// The next instruction follows.
+    /// The run continues with the next instruction.
     Next,
     Faulted(Fault),
     Stopped(Stop),
 }
 
-/// The end of an address chain: a word and a bit of it, or a direct operand.
+/// The final address of an address chain, with a bit number, or a direct operand.
 #[derive(Clone, Copy, PartialEq, Eq)]
 pub struct Final {
-    /// The operand that the address itself is, if it is one.
+    /// The direct operand, if the address itself is the operand.
     pub direct: Option<Word>,
-    /// The final address with its ring; with a direct operand, the address of the chain's last point.
+    /// The final address with its ring. With a direct operand, the address of the chain's last
+    /// point.
     pub at: At,
     /// Bit number; 6 bits.
     pub bit: u8,

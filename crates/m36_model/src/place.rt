@@ -1,4 +1,4 @@
-//! Places that a step refers to, and references to them.
+//! Words that a step refers to, and references to them.
 
 ghost use Rattle.std.specs.Prelude.{◌≡◌};
 
@@ -28,7 +28,7 @@ impl Model for At {
     ghost inverse = { λ p. record { seg = p.seg; word = p.word; ring = p.ring } };
 }
 
-/// What a reference was made for.
+/// The purpose of a reference.
 #[derive(Clone, Copy, PartialEq, Eq)]
 pub enum Kind {
     /// The instruction.
@@ -41,17 +41,17 @@ pub enum Kind {
     Write,
 }
 
-/// A completed reference: its first word, and how many words it has.
+/// A completed reference: its first word, its purpose, and its number of words.
 #[derive(Clone, Copy, PartialEq, Eq)]
 pub struct Reference {
     pub at: At,
     pub kind: Kind,
-    /// 1, 2 or 16.
+    /// Number of words: 1, 2 or 16.
     pub count: u8,
 }
 
 impl Default for Reference {
-    /// What fills the places of a list that hold no reference yet.
+    /// The filler for unused slots of a list of references.
     fn default() -> Reference
         ensures { result
             ≡ record { at = record { seg = 0; word = 0; ring = 0 }; kind = Kind.Fetch; count = 1 } }

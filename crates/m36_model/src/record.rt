@@ -8,27 +8,27 @@ use m36_word::Word;
 /// What one step did.
 #[derive(Drop)]
 pub struct StepRecord {
-    /// The completed references, in order.
+    /// The completed references, in the order in which they were made.
     pub refs: Refs,
     /// The registers after the step.
     pub after: Regs,
-    /// The instruction's word; None where its fetch was refused.
+    /// The instruction word, or None if its fetch was refused.
     pub word: Option<Word>,
-    /// The end of the address chain; None where none was formed or it did not end.
+    /// The end of the address chain, or None if no address was formed or the chain was refused.
     pub at: Option<Final>,
     pub outcome: Outcome,
-    /// Where the instruction stood.
+    /// The position of the instruction: its segment, ring and word.
     pub ppr: Ppr,
 }
 
-/// What the line of a step shows of it, besides the registers after it.
+/// What a trace line shows of a step, besides the registers after it.
 #[derive(Clone, Copy)]
 pub struct Shown {
-    /// The instruction's word; None where its fetch was refused.
+    /// The instruction word, or None if its fetch was refused.
     pub word: Option<Word>,
-    /// The end of the address chain; None where none was formed or it did not end.
+    /// The end of the address chain, or None if no address was formed or the chain was refused.
     pub at: Option<Final>,
     pub outcome: Outcome,
-    /// Where the instruction stood.
+    /// The position of the instruction: its segment, ring and word.
     pub ppr: Ppr,
 }

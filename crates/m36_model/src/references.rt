@@ -1,19 +1,19 @@
-//! The list of the references that a step has completed.
+//! The references that a step has completed.
 
 ghost use Rattle.std.specs.Prelude.{◌≡◌, ◌+◌, ◌<◌, ◌≤◌, [], ◌∷◌, ◌++◌, length};
 
 use crate::place::Reference;
 use std::marker::Model;
 
-/// The most references of one step.
+/// The maximum number of references of one step.
 const MOST: usize = 40;
 
-/// The completed references of one step, in order: at most 40. Clearing only sets the length.
+/// The completed references of one step, in order: at most 40. `clear` only sets the length.
 #[derive(Drop)]
 pub struct Refs {
-    /// The references, followed by places that mean nothing.
+    /// The references, followed by unused slots.
     places: [Reference; MOST],
-    /// How many references there are.
+    /// The number of references.
     len: usize,
 }
 
@@ -29,7 +29,7 @@ impl Model for Refs {
 }
 
 impl Refs {
-    /// No references.
+    /// An empty list.
     pub fn new() -> Refs
         ensures { result.items ≡ [] }
     {
@@ -47,7 +47,7 @@ impl Refs {
         self.len = 0;
     }
 
-    /// Adds a reference at the end. There must be room.
+    /// Adds a reference at the end. The list has to have fewer than 40 references.
     #[inline(always)]
     pub fn push(&mut self, reference: Reference)
         requires { length self.old.items < 40 }
@@ -59,14 +59,14 @@ impl Refs {
         self.len = len + 1;
     }
 
-    /// How many references there are.
+    /// The number of references.
     pub fn len(&self) -> usize
         ensures { result ≡ length self.now.items }
     {
         self.as_slice().len()
     }
 
-    /// The references.
+    /// The references, in order.
     pub fn as_slice(&self) -> &[Reference]
         ensures value { result.now ≡ self.now.items }
         ensures fits { length result.now ≤ 40 }

@@ -8,7 +8,8 @@ use m36_desc::{Dbr, Ptr};
 use m36_word::Word;
 use std::marker::Model;
 
-/// The procedure pointer register: which instruction stands, and in which ring.
+/// The procedure pointer register: the position of the instruction that is executed, and the ring
+/// of execution.
 #[derive(Clone, Copy, PartialEq, Eq)]
 pub struct Ppr {
     /// The instruction counter, a word number; 18 bits.
@@ -39,7 +40,7 @@ pub struct Ind {
     pub negative: bool,
     pub carry: bool,
     pub overflow: bool,
-    /// The overflow mask: an overflow gives no fault while it is on.
+    /// The overflow mask: while it is on, an overflow gives no fault.
     pub mask: bool,
     /// Tally runout.
     pub tally: bool,
@@ -79,7 +80,7 @@ impl Regs {
     ghost use Rattle.m36_model.specs.Pointers.{with_pr};
     ghost use Rattle.m36_model.specs.Results.{X, with_value};
 
-    /// Where the instruction that is executed stands, in the ring of execution.
+    /// The position of the instruction that is executed, in the ring of execution.
     #[inline(always)]
     pub fn here(&self) -> At
         ensures { result ≡ here self.now }
@@ -100,7 +101,7 @@ impl Regs {
         self.pr[n as usize]
     }
 
-    /// The registers with another pointer in pointer register `n`.
+    /// The registers with `pointer` in pointer register `n`.
     #[tactic(auto, unfolding(crate::specs::Pointers::with_pr))]
     pub fn with_pointer(&self, n: u8, pointer: Ptr) -> Regs
         requires { n < 8 }
@@ -111,7 +112,7 @@ impl Regs {
         after
     }
 
-    /// The registers with another value, of 18 bits, in index register `n`.
+    /// The registers with `value`, of 18 bits, in index register `n`.
     #[tactic(auto, unfolding(crate::specs::Results::with_value))]
     pub fn with_index(&self, n: u8, value: u32) -> Regs
         requires reg { n < 8 }

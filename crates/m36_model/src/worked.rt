@@ -1,4 +1,4 @@
-//! Steps worked out by hand, each computed from the definitions.
+//! Steps that were worked out by hand. Each is a theorem that the definitions compute.
 
 ghost use Rattle.m36_model.specs.WorkedAddresses.{LoadReadsItsWord, StopFollows};
 ghost use Rattle.m36_model.specs.WorkedAddresses.{LastWordOfTheBoundIsRead, WordPastTheBoundIsNot};
@@ -26,7 +26,8 @@ ghost use Rattle.m36_model.specs.WorkedEffects.{TransferSetsTheIndex, BooleansGo
 ghost use Rattle.m36_model.specs.WorkedEffects.{LongShiftsCrossTheWords, SignIsExtended};
 ghost use Rattle.m36_model.specs.WorkedEffects.{IndicatorsAreLoaded, IndicatorsAreStored};
 
-/// Each worked step is what the definitions compute.
+/// The definitions compute each worked step as it was worked out by hand. `specs/Worked.antt` and
+/// the `Worked..` modules beside it have the steps.
 pub fn worked_steps()
     ensures load_reads_its_word { LoadReadsItsWord }
     ensures stop_follows { StopFollows }

@@ -1,4 +1,4 @@
-//! Addresses of table words, and how far tables and segments reach.
+//! Addresses of table words, and the lengths of tables and segments.
 
 ghost use Rattle.std.specs.Prelude.{◌≡◌, ◌<◌, ◌^◌};
 ghost use Rattle.m36_model.specs.Place.{wrapped, directory_at, page_at};
@@ -7,10 +7,10 @@ ghost use Rattle.m36_tables.specs.Tables.{IsSegmentCount};
 
 use m36_desc::{Dbr, Sdw};
 
-/// How many segments a process has at most: their numbers have 15 bits.
+/// The number of segments that a process can have: segment numbers have 15 bits.
 pub const SEGMENTS: u16 = 1 << 15;
 
-/// Sums of addresses wrap.
+/// An address modulo 2^24, since sums of addresses wrap.
 #[inline(always)]
 pub fn wrapped(a: u32) -> u32
     ensures value { result ≡ wrapped a }
@@ -19,7 +19,8 @@ pub fn wrapped(a: u32) -> u32
     a % (1 << 24)
 }
 
-/// How many segments the descriptor segment has a descriptor for.
+/// The number of segments for which the descriptor segment has room for a descriptor, at most
+/// `SEGMENTS`.
 pub fn segment_count(dbr: Dbr) -> u16
     ensures { IsSegmentCount dbr result }
 {
@@ -31,7 +32,8 @@ pub fn segment_count(dbr: Dbr) -> u16
     }
 }
 
-/// The address of the descriptor segment's page table word for a segment.
+/// The address of the page table word, of a paged descriptor segment, for the page that has the
+/// descriptor of segment `seg`.
 #[inline(always)]
 pub fn directory_at(dbr: Dbr, seg: u16) -> u32
     requires { seg < 2 ^ 15 }
@@ -41,7 +43,7 @@ pub fn directory_at(dbr: Dbr, seg: u16) -> u32
     wrapped(dbr.addr + 2 * seg as u32 / 1024)
 }
 
-/// The address of a segment's page table word for a page.
+/// The address of a segment's page table word for page `page`.
 #[inline(always)]
 pub fn page_at(sdw: &Sdw, page: u32) -> u32
     requires { page < 256 }
@@ -51,7 +53,7 @@ pub fn page_at(sdw: &Sdw, page: u32) -> u32
     wrapped(sdw.addr + page)
 }
 
-/// Whether a word is within the bound of its segment.
+/// Whether word `word` is within the bound of its segment.
 #[inline(always)]
 pub fn within(sdw: &Sdw, word: u32) -> bool
     ensures { result ≡ within sdw.now word }

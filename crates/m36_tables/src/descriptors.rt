@@ -1,4 +1,4 @@
-//! How the descriptor of a segment is found.
+//! The lookup of a segment's descriptor.
 
 ghost use Rattle.std.specs.Prelude.{◌≡◌, ◌<◌, ◌^◌, IfOk, OnOk, Ok, length};
 ghost use Rattle.m36_desc.specs.Descriptors.{sdw_of};
@@ -13,7 +13,7 @@ use m36_desc::{Dbr, Sdw};
 use m36_model::Refusal;
 use m36_word::Pair;
 
-/// Whether the descriptor segment reaches to a segment's descriptor.
+/// Whether the descriptor of segment `seg` is within the bound of the descriptor segment.
 #[inline(always)]
 fn in_bounds(dbr: Dbr, seg: u16) -> bool
     requires { seg < 2 ^ 15 }
@@ -22,8 +22,8 @@ fn in_bounds(dbr: Dbr, seg: u16) -> bool
     2 * (seg as u32) < 16 * (dbr.bnd as u32 + 1)
 }
 
-/// The address of the even word of a segment's descriptor, which may be past the end of core. The odd word follows it
-/// modulo 2^24.
+/// The address of the even word of a segment's descriptor, which may be past the end of core. The
+/// odd word is at the next address modulo 2^24.
 #[inline(always)]
 pub fn descriptor_place(core: &Core, dbr: Dbr, seg: u16) -> Result<u32, Refusal>
     requires { seg < 2 ^ 15 }
@@ -43,7 +43,7 @@ pub fn descriptor_place(core: &Core, dbr: Dbr, seg: u16) -> Result<u32, Refusal>
     )
 }
 
-/// The descriptor in a pair, where the segment is there.
+/// The descriptor in a pair, or its directed fault if F is off.
 #[inline(always)]
 fn live(pair: Pair) -> Result<Sdw, Refusal>
     ensures { result ≡ live_by (sdw_of pair.even pair.odd).f pair.even pair.odd }
@@ -56,7 +56,8 @@ fn live(pair: Pair) -> Result<Sdw, Refusal>
     }
 }
 
-/// The descriptor in the two words that begin at an address, where they lie in core and the segment is there.
+/// The descriptor in the two words that begin at an address. A store fault if one of them is past
+/// the end of core, and the descriptor's directed fault if its F is off.
 #[inline(always)]
 fn descriptor_at(core: &Core, even: u32) -> Result<Sdw, Refusal>
     requires { even < 2 ^ 24 }
@@ -72,7 +73,7 @@ fn descriptor_at(core: &Core, even: u32) -> Result<Sdw, Refusal>
     })
 }
 
-/// The descriptor of a live segment.
+/// The descriptor of a live segment, or the fault of its lookup.
 #[inline(always)]
 #[tactic(auto, unfolding(m36_model::specs::Place::core_sdw))]
 pub fn descriptor(core: &Core, dbr: Dbr, seg: u16) -> Result<Sdw, Refusal>

@@ -1,24 +1,29 @@
 //! The one reader of descriptors and page tables.
 //!
-//! A segment is found in core by tables: the descriptor segment base register says where the descriptors lie, a
-//! descriptor where the words of its segment lie or its page table, and a page table word which frame holds a page.
-//! The walk of a reference, the audit, and whoever asks where a word lies or what it holds, read through the calls of this
-//! crate:
+//! A word of a segment is found in core through tables. The descriptor segment base register
+//! locates the descriptors. A descriptor locates its segment, or the page table of the segment. A
+//! page table word names the frame of a page. Everything that looks for the place of a word, such
+//! as the walk of a reference or the audit, reads the tables with these calls:
 //!
-//! - `descriptor` gives the descriptor of a live segment, or why there is none; `descriptor_place` where its two words
-//!   lie, and `directory_at` the page table word of the descriptor segment by which they are found;
-//! - `page_table_word` gives a page table word that lies in core, `page_at` the address of that of a page, and
-//!   `page_frame` where the page begins; `in_frame` where a word of it lies, by a page table word that was read before;
-//! - `word_place` gives where a word lies by a descriptor, and `word_in_core` whether it lies in core;
-//! - `place` gives where a word of a segment lies, whoever asks for it, and `content` the word itself.
+//! - `descriptor` reads the descriptor of a live segment, or returns why there is none.
+//!   `descriptor_place` is the address of its two words, and `directory_at` that of the page table
+//!   word of the descriptor segment through which they are found.
+//! - `page_table_word` reads a page table word that is in core. `page_at` is the address of the
+//!   word for a page, and `page_frame` the address at which the page begins. `in_frame` is the
+//!   address of a word of a page, by a page table word that was read before.
+//! - `word_place` is the address of a word by the descriptor of its segment. `word_in_core` also
+//!   checks that this address is in core.
+//! - `place` is the address of a word of a segment, without access checks, and `content` is the
+//!   word.
 //!
-//! Each answer is exactly that of the definitions (`m36_model` specs `Place`, `Store` and `Sight`), each refusal
-//! included. No call looks at rings, and none sets a mark: core is only read.
+//! Each result, each refusal included, is that of the definitions in `Place`, `Store` and `Sight`
+//! of `m36_model`. No call checks rights, and none sets marks: core is only read.
 //!
-//! `m36_associative` keeps words that it has read by these calls. It takes those apart by itself for a segment that lies
-//! in one piece, and for a page that it puts in front.
+//! `m36_associative` keeps words that it has read by these calls. For a contiguous segment, and for
+//! a page that it puts in front, it decodes them itself.
 //!
-//! Source: Multics Processor Manual AL39, "Address appending", "Segment descriptor word", "Page table word".
+//! Source: Multics Processor Manual AL39, "Address appending", "Segment descriptor word", "Page
+//! table word".
 #![tactic(auto)]
 
 pub mod addresses;

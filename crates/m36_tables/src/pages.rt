@@ -1,4 +1,4 @@
-//! Page table words, and where pages lie.
+//! Page table words, and the frames of pages.
 
 ghost use Rattle.std.specs.Prelude.{◌≡◌, ◌<◌, ◌^◌, IfOk, OnOk, OnSome, IsSome, length};
 ghost use Rattle.m36_model.specs.Place.{ptw_at, in_frame, page_at, page_frame};
@@ -9,7 +9,7 @@ use m36_core::Core;
 use m36_desc::{Ptw, Sdw};
 use m36_model::Refusal;
 
-/// The page table word at an address, where that lies in core.
+/// The page table word at an address, or None if the address is past the end of core.
 #[inline(always)]
 pub fn page_table_word(core: &Core, a: u32) -> Option<Ptw>
     ensures value { result ≡ ptw_at core.now a }
@@ -22,7 +22,8 @@ pub fn page_table_word(core: &Core, a: u32) -> Option<Ptw>
     }
 }
 
-/// The place of a word of a page, by its page table word.
+/// The address of a word of a page by its page table word. A store fault if there is no such word,
+/// and its directed fault if its F is off.
 #[inline(always)]
 pub fn in_frame(ptw: Option<Ptw>, offset: u32) -> Result<u32, Refusal>
     requires { offset < 1024 }
@@ -42,7 +43,7 @@ pub fn in_frame(ptw: Option<Ptw>, offset: u32) -> Result<u32, Refusal>
     }
 }
 
-/// Where a page of a paged segment begins, which may be past the end of core.
+/// The address at which a page of a paged segment begins, which may be past the end of core.
 pub fn page_frame(core: &Core, sdw: &Sdw, page: u32) -> Result<u32, Refusal>
     requires { page < 256 }
     ensures value { result ≡ page_frame core.now sdw.now page }

@@ -1,4 +1,4 @@
-//! Where the words of a segment lie, and what they hold.
+//! Where the words of a segment are in core, and their values.
 
 ghost use Rattle.std.specs.Prelude.{ℕ, ◌≡◌, ◌/◌, ◌<◌, ◌^◌, IfOk, OnOk, length};
 ghost use Rattle.m36_desc.specs.Access.{in_order};
@@ -18,14 +18,14 @@ use m36_desc::{Dbr, Sdw};
 use m36_model::Refusal;
 use m36_word::Word;
 
-/// Whether the ring brackets of a segment are in order.
+/// Whether the ring brackets of a segment are in order: R1 <= R2 <= R3.
 pub fn in_order(sdw: &Sdw) -> bool
     ensures { result ≡ in_order sdw.now }
 {
     sdw.r1 <= sdw.r2 && sdw.r2 <= sdw.r3
 }
 
-/// The place of a word within the bound, which may be past the end of core.
+/// The address of a word that is within the bound. It may be past the end of core.
 #[inline(always)]
 pub fn word_place(core: &Core, sdw: &Sdw, word: u32) -> Result<u32, Refusal>
     requires { word < 2 ^ 18 }
@@ -43,7 +43,7 @@ pub fn word_place(core: &Core, sdw: &Sdw, word: u32) -> Result<u32, Refusal>
     )
 }
 
-/// The place in core of a word within the bound.
+/// The address of a word that is within the bound. A store fault if it is past the end of core.
 #[tactic(auto, unfolding(m36_model::specs::Place::core_spot))]
 pub fn word_in_core(core: &Core, sdw: &Sdw, word: u32) -> Result<u32, Refusal>
     requires { word < 2 ^ 18 }
@@ -58,8 +58,9 @@ pub fn word_in_core(core: &Core, sdw: &Sdw, word: u32) -> Result<u32, Refusal>
     Ok(place)
 }
 
-/// The place in core of a word of a segment, whoever asks for it: the descriptor of the segment, that its brackets are
-/// in order, the bound, and the place. The first that is wanting is told.
+/// The core address of a word of a segment, without access checks. The first of these that applies
+/// is the refusal: the segment has no live descriptor, its brackets are not in order, the word is
+/// past its bound, or the word is not in core.
 #[tactic(auto, unfolding(m36_model::specs::Store::place))]
 pub fn place(core: &Core, dbr: Dbr, seg: u16, word: u32) -> Result<u32, Refusal>
     requires seg { seg < 2 ^ 15 }
@@ -77,7 +78,8 @@ pub fn place(core: &Core, dbr: Dbr, seg: u16, word: u32) -> Result<u32, Refusal>
     word_in_core(core, &sdw, word)
 }
 
-/// The word of a segment, whoever asks for it, where it has a place in core. No mark is set.
+/// The value of a word of a segment, without access checks, or None if the word has no place in
+/// core. No mark is set.
 #[tactic(auto, unfolding(m36_model::specs::Sight::content_in))]
 pub fn content(core: &Core, dbr: Dbr, seg: u16, word: u32) -> Option<Word>
     requires seg { seg < 2 ^ 15 }

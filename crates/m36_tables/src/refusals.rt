@@ -1,4 +1,4 @@
-//! Why a word has no place.
+//! The faults with which the lookup of a word is refused.
 
 ghost use Rattle.std.specs.Prelude.{◌≡◌, ◌<◌, ◌^◌};
 ghost use Rattle.m36_model.specs.Place.{store_fault, directed};
@@ -6,7 +6,7 @@ ghost use Rattle.m36_model.specs.Store.{violation};
 
 use m36_model::Refusal;
 
-/// A table word or a place at or past the end of core.
+/// A table word or the word itself is past the end of core.
 #[inline(always)]
 pub fn store_fault() -> Refusal
     ensures { result ≡ store_fault }
@@ -14,7 +14,7 @@ pub fn store_fault() -> Refusal
     Refusal { number: 1, acv: 0 }
 }
 
-/// The access violation of this number.
+/// The access violation fault with this number.
 #[inline(always)]
 pub fn violation(acv: u8) -> Refusal
     ensures { result ≡ violation acv }
@@ -22,7 +22,7 @@ pub fn violation(acv: u8) -> Refusal
     Refusal { number: 20, acv }
 }
 
-/// The directed fault that a descriptor with F off names.
+/// The directed fault with the number in FC, of a descriptor or page table word whose F is off.
 #[inline(always)]
 pub fn directed(fc: u8) -> Refusal
     requires { fc < 2 ^ 2 }

@@ -1,4 +1,4 @@
--- Facts on a number that is a part above a field, the field, and a part below it.
+-- Lemmas about a number that consists of a part above a field, the field, and a part below it.
 use Rattle.std.proofs.Common.{ℕ, ◌≡◌, ◌+◌, ◌-◌, ◌*◌, ◌/◌, ◌%◌, ◌^◌, ◌<◌, ◌≤◌, inl, inr, sym, ap, ◌∙◌, subst, arith}
 use Rattle.std.specs.Int.{bit_at}
 use Rattle.std.proofs.lemmas.Nat.{shr-shr, shr_high, mod_low, shr_split, shr_below, shl_below, shl_whole, one_shl, pow_pos, pow-add, mod_below, mul-add-lt}
@@ -12,18 +12,18 @@ part_above q v r len k in_field in_rest =
     sym (shr-shr ((q * 2 ^ len + v) * 2 ^ k + r) k len)
     ∙ (ap (λ n. n / 2 ^ len) (shr_high (q * 2 ^ len + v) k r in_rest) ∙ shr_high q len v in_field)
 
--- where the field begins at bit `first`, what is above it begins this far from the lowest bit
+-- the number of bits below the part above a field that begins at bit `first`
 from_lowest : (first len : ℕ) → first + len ≤ 36 → 36 - first ≡ 36 - first - len + len
 from_lowest first len inside = omega arith
 
--- the part above the field in a word where the field was put
+-- a put keeps the part above the field
 kept_above : (w first len v : ℕ) → first + len ≤ 36 → v < 2 ^ len
     → with_field w first len v / 2 ^ (36 - first) ≡ w / 2 ^ (36 - first)
 kept_above w first len v inside fits =
     ap (λ n. with_field w first len v / 2 ^ n) (from_lowest first len inside)
     ∙ part_above (w / 2 ^ (36 - first)) v (w % 2 ^ (36 - first - len)) len (36 - first - len) fits (mod_below w (2 ^ (36 - first - len)) (pow_pos (36 - first - len)))
 
--- the part below it
+-- a put keeps the part below the field
 kept_below : (w first len v : ℕ) → with_field w first len v % 2 ^ (36 - first - len) ≡ w % 2 ^ (36 - first - len)
 kept_below w first len v =
     mod_low (w / 2 ^ (36 - first) * 2 ^ len + v) (36 - first - len) (w % 2 ^ (36 - first - len)) (mod_below w (2 ^ (36 - first - len)) (pow_pos (36 - first - len)))
@@ -33,7 +33,7 @@ gets_what_was_put w first len v some inside fits =
     ap (λ n. n % 2 ^ len) (shr_high (w / 2 ^ (36 - first) * 2 ^ len + v) (36 - first - len) (w % 2 ^ (36 - first - len)) (mod_below w (2 ^ (36 - first - len)) (pow_pos (36 - first - len))))
     ∙ mod_low (w / 2 ^ (36 - first)) len v fits
 
--- two numbers with the same part below have the same bits there, and likewise above
+-- two numbers with the same low k bits have the same bits there, and likewise for the high bits
 same_bit_below : (a b k i : ℕ) → a % 2 ^ k ≡ b % 2 ^ k → i < k → bit_at a i ≡ bit_at b i
 same_bit_below a b k i same below =
     sym (ap (λ n. bit_at n i) (shr_split a k)) ∙ (bit_at_cat_low (a / 2 ^ k) k (a % 2 ^ k) i below
@@ -58,7 +58,7 @@ replaces_first_put w first len v u some inside fits fits_again =
     ap (λ q. (q * 2 ^ len + u) * 2 ^ (36 - first - len) + with_field w first len v % 2 ^ (36 - first - len)) (kept_above w first len v inside fits)
     ∙ ap (λ r. (w / 2 ^ (36 - first) * 2 ^ len + u) * 2 ^ (36 - first - len) + r) (kept_below w first len v)
 
--- The sums and shifts of `put` fit.
+-- The sums and shifts that `put` computes do not overflow.
 shifted_above : (w first len : ℕ) → w < 2 ^ 36 → first + len ≤ 36 → w / 2 ^ (36 - first) < 2 ^ first
 shifted_above w first len in_word inside =
     shr_below w first (36 - first) (subst (λ (n : ℕ). w < 2 ^ n) (let e : 36 ≡ first + (36 - first) = omega arith in e) in_word)

@@ -1,35 +1,35 @@
--- Fields of a word, how far the offset in one reaches, and how far addresses do.
+-- Fields of a word; the range of an offset in a word; the number of frames that addresses reach.
 use Rattle.std.specs.Prelude.{ℕ, ◌≡◌, ◌+◌, ◌-◌, ◌*◌, ◌/◌, ◌%◌, ◌^◌, ◌<◌, ◌≤◌, ◌⊎◌}
 
--- the field of so many bits from a bit on, where bit 0 is the most significant of 36
+-- the field of `len` bits that begins at bit `first`, where bit 0 is the most significant of 36
 abbrev pub field : ℕ → ℕ → ℕ → ℕ
 field w first len = w / 2 ^ (36 - first - len) % 2 ^ len
 
--- the word with a field replaced: the bits above it, its value, and the bits below it
+-- the word with this field set to v: the bits above the field, v, and the bits below it
 abbrev pub with_field : ℕ → ℕ → ℕ → ℕ → ℕ
 with_field w first len v =
     (w / 2 ^ (36 - first) * 2 ^ len + v) * 2 ^ (36 - first - len) + w % 2 ^ (36 - first - len)
 
--- a bit of a word
+-- one bit of a word, 0 or 1
 abbrev pub bit : ℕ → ℕ → ℕ
 bit w i = field w i 1
 
--- Bits 3 to 17 of a word, the offset behind a pointer register, count as signed: an offset is below
--- this, and at most as much below zero.
+-- The offset after a pointer register is bits 3 to 17 of a word, in two's complement. It is below
+-- this limit, and not below its negative.
 abbrev pub offset_limit : ℕ
 offset_limit = 16384
 
--- how many frames of 1024 words addresses reach
+-- the number of frames, of 1024 words each, that an address of 24 bits reaches
 abbrev pub frames_reached : ℕ
 frames_reached = 16384
 
--- Getting after putting gives what was put.
+-- A get after a put returns what was put.
 abbrev pub GetsWhatWasPut : Type 0
 GetsWhatWasPut =
     (w first len v : ℕ) → 1 ≤ len → first + len ≤ 36 → v < 2 ^ len
     → field (with_field w first len v) first len ≡ v
 
--- Every other bit stays.
+-- A put keeps every other bit.
 abbrev pub KeepsOtherBits : Type 0
 KeepsOtherBits =
     (w first len v i : ℕ) → 1 ≤ len → first + len ≤ 36 → v < 2 ^ len → i < 36

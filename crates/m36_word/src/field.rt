@@ -1,4 +1,4 @@
-//! Fields of a word, with their places as constants.
+//! Fields of a word, with their positions as constants.
 
 ghost use Rattle.std.specs.Prelude.{ℕ, ◌≡◌, ◌+◌, ◌-◌, ◌≤◌, ◌^◌, ◌<◌};
 ghost use Rattle.m36_word.specs.Field.{field, with_field, GetsWhatWasPut, KeepsOtherBits};
@@ -6,11 +6,11 @@ ghost use Rattle.m36_word.specs.Field.{ReplacesFirstPut};
 
 use crate::word::Word;
 
-/// The field of LEN bits that begins at bit FIRST.
+/// The field of LEN bits that begins at bit FIRST, where bit 0 is the most significant of 36.
 pub struct Field<const FIRST: u32, const LEN: u32>;
 
 impl<const FIRST: u32, const LEN: u32> Field<FIRST, LEN> {
-    /// The field's value, below 2^LEN. The field lies within the word.
+    /// The field's value, below 2^LEN. The field has to lie within the word.
     pub fn get(w: Word) -> u64
         requires some { 1 ≤ LEN }
         requires inside { FIRST + LEN ≤ 36 }
@@ -20,7 +20,7 @@ impl<const FIRST: u32, const LEN: u32> Field<FIRST, LEN> {
         (w.value() >> (36 - FIRST - LEN)) % (1 << LEN)
     }
 
-    /// The word with the field's value replaced by a number below 2^LEN, and every other bit as it was.
+    /// The word with this field set to a number below 2^LEN. Every other bit is kept.
     pub fn put(w: Word, v: u64) -> Word
         requires some { 1 ≤ LEN }
         requires inside { FIRST + LEN ≤ 36 }
@@ -34,8 +34,8 @@ impl<const FIRST: u32, const LEN: u32> Field<FIRST, LEN> {
     }
 }
 
-/// The three laws of fields: what is got after a put is what was put, every other bit stays, and a second put
-/// replaces the first.
+/// The three laws of fields: a get returns what was put, a put keeps every other bit, and a second
+/// put replaces the first.
 pub fn field_laws()
     ensures get { GetsWhatWasPut }
     ensures others { KeepsOtherBits }

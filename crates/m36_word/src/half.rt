@@ -5,7 +5,7 @@ ghost use Rattle.std.specs.Option.{SomeIff};
 
 use std::marker::Model;
 
-/// A number of 18 bits, seen as a number below 2^18.
+/// A number of 18 bits. Contracts see it as a number below 2^18.
 #[derive(Clone, Copy, PartialEq, Eq, PartialOrd, Ord, Hash, Default, Debug)]
 pub struct Half {
     value: u32,
@@ -24,7 +24,7 @@ impl Model for Half {
 }
 
 impl Half {
-    /// The half with this value; None exactly where it is 2^18 or more.
+    /// The half with this value, or None if the value is 2^18 or more.
     pub fn new(v: u32) -> Option<Half>
         ensures { SomeIff result (v < 2 ^ 18) v }
     {
@@ -35,7 +35,7 @@ impl Half {
         }
     }
 
-    /// The half as a number.
+    /// The half as a number below 2^18.
     pub fn value(self) -> u32
         ensures value { result ≡ self }
         ensures bound { self < 2 ^ 18 }

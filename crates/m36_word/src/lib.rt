@@ -1,12 +1,13 @@
-//! Words of 36 bits, as the Honeywell 6180 counts them.
+//! Words of 36 bits, the unit of storage of the Honeywell 6180.
 //!
-//! A word is seen by contracts as a number below 2^36, a half as a number below 2^18, a pair as two words, and a
-//! list of words as a list of numbers. Bits are numbered from 0, the most significant, to 35.
+//! Contracts see a word as a number below 2^36, a half as a number below 2^18, a pair as two words,
+//! and a list of words as a list of numbers. Bits are numbered from 0, the most significant, to 35.
 //!
-//! What is promised: each call gives the number that its clause names, with two's complement for signed numbers
-//! and the even word of a pair as its more significant half. A field is the number in LEN bits from bit FIRST on;
-//! a field that was put is got back, every other bit stays, and a second put replaces the first. `Words::push`
-//! alone takes memory, and changes nothing where there is none.
+//! Each call returns the number that its clause names. Signed numbers are in two's complement. The
+//! even word of a pair is the more significant one. A field is the number in the LEN bits that
+//! begin at bit FIRST: a get returns what was put, a put keeps every other bit, and a second put
+//! replaces the first. Only `Words::push` allocates memory, and it changes nothing if memory runs
+//! out.
 //!
 //! Source: Multics Processor Manual AL39, "Word layout" and "Number representation".
 #![tactic(auto)]

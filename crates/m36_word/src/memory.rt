@@ -1,8 +1,9 @@
-//! The one answer of a call that found no memory.
+//! The error of a call that ran out of memory.
 
 use std::alloc::{AllocError, AllocFailed};
 
-/// No memory was found. A call that answers it has changed nothing, unless its entry says otherwise.
+/// Out of memory. A call that returns it has changed nothing, unless its documentation says
+/// otherwise.
 #[derive(Clone, Copy, Debug, PartialEq, Eq)]
 pub struct NoMemory;
 

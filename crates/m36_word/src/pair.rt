@@ -1,4 +1,4 @@
-//! A pair: two words, the first at an even word number.
+//! A pair: two words, the first of them at an even word number.
 
 ghost use Rattle.std.specs.Prelude.{ℕ, ◌≡◌, ◌+◌, ◌*◌, ◌/◌, ◌%◌, ◌^◌, ◌<◌};
 ghost use Rattle.m36_word.specs.Signed.{signed};
@@ -6,7 +6,8 @@ ghost use Rattle.m36_word.specs.Pairs.{number_of, pair_of};
 
 use crate::word::Word;
 
-/// Two words that are read and written together. As a number, the even word is the more significant.
+/// Two words that are read and written together. As a number, the even word is the more significant
+/// one.
 #[derive(Clone, Copy, PartialEq, Eq, PartialOrd, Ord, Hash, Default, Debug)]
 pub struct Pair {
     pub even: Word,
@@ -14,7 +15,7 @@ pub struct Pair {
 }
 
 impl Pair {
-    /// The pair as a number of 72 bits without sign.
+    /// The pair as an unsigned number of 72 bits.
     pub fn value(self) -> u128
         ensures value { result ≡ number_of self }
         ensures bound { result < 2 ^ 72 }
@@ -22,7 +23,7 @@ impl Pair {
         self.even.value() as u128 * (1 << 36) + self.odd.value() as u128
     }
 
-    /// The pair as a number of 72 bits in two's complement.
+    /// The pair as a number of 72 bits in two's complement, from -2^71 to 2^71 - 1.
     #[tactic(auto, unfolding(crate::specs::Signed::signed))]
     pub fn signed(self) -> i128
         ensures { result ≡ signed (2 ^ 71) (number_of self) }
@@ -35,7 +36,7 @@ impl Pair {
         }
     }
 
-    /// The pair that holds a number modulo 2^72.
+    /// The pair that holds the low 72 bits of a number.
     pub fn of_value(v: u128) -> Pair
         ensures { result ≡ pair_of (v % 2 ^ 72) }
     {

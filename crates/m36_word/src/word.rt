@@ -7,7 +7,7 @@ ghost use Rattle.m36_word.specs.Signed.{signed};
 
 use std::marker::Model;
 
-/// A word of 36 bits, seen as a number below 2^36.
+/// A word of 36 bits. Contracts see it as a number below 2^36.
 #[derive(Clone, Copy, PartialEq, Eq, PartialOrd, Ord, Hash, Default, Debug)]
 pub struct Word {
     value: u64,
@@ -29,7 +29,7 @@ impl Word {
     /// The word 000000000000.
     pub const ZERO: Word = Word { value: 0 };
 
-    /// The word with this value; None exactly where it is 2^36 or more.
+    /// The word with this value, or None if the value is 2^36 or more.
     pub fn new(v: u64) -> Option<Word>
         ensures { SomeIff result (v < 2 ^ 36) v }
     {
@@ -49,7 +49,7 @@ impl Word {
         }
     }
 
-    /// The word as a number without sign.
+    /// The word as an unsigned number, below 2^36.
     pub fn value(self) -> u64
         ensures value { result ≡ self }
         ensures bound { self < 2 ^ 36 }
@@ -70,7 +70,7 @@ impl Word {
         }
     }
 
-    /// The word that holds a number modulo 2^36 in two's complement.
+    /// The word that holds a number modulo 2^36, in two's complement.
     pub fn of_signed(v: i128) -> Word
         ensures { pos result ≡ int_rem_euclid v (pos (2 ^ 36)) }
     {

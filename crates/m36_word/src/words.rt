@@ -8,7 +8,7 @@ use crate::word::Word;
 use std::alloc::Global;
 use std::marker::Model;
 
-/// A list of words that grows at its end, seen as a list of numbers.
+/// A list of words that grows at its end. Contracts see it as a list of numbers below 2^36.
 #[derive(Debug, Drop)]
 pub struct Words {
     items: Vec<Word>,
@@ -35,12 +35,12 @@ impl Words {
         }
     }
 
-    /// Adds a word at the end. Where no memory is found, nothing changes.
+    /// Adds a word at the end. If memory runs out, nothing changes.
     pub fn push(&mut self, x: Word) -> Result<(), NoMemory>
         ensures ok { OnOk result (self.new ≡ self.old ++ x ∷ []) }
         ensures err { OnErr result (self.new ≡ self.old) }
     {
-        // Its bound is what the list keeps of each word.
+        // The contract of `value` gives the bound that the list's invariant has for each word.
         let _value = x.value();
         self.items.push(x)?;
         Ok(())

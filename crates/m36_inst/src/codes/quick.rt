@@ -1,4 +1,5 @@
-//! One table of all operation codes, by the ten bits as they stand in an instruction's word.
+//! One table of all operation codes for quick steps, indexed by the nine bits of the code followed
+//! by bit 27.
 
 ghost use Rattle.std.specs.Prelude.{◌≡◌, ◌<◌, ◌/◌, ◌%◌};
 ghost use Rattle.m36_inst.specs.Quick.{quick_table, quick_row_of, IsQuick};
@@ -78,7 +79,7 @@ macro_rules! group {
     ($effect:ident) => { Group::Other };
 }
 
-/// A row of the quick table, from the line of its code.
+/// A row of the quick table, from the line of its operation code.
 macro_rules! quick {
     (_) => {
         Quick {
@@ -96,7 +97,7 @@ macro_rules! quick {
     };
 }
 
-/// The rows of 64 codes with bit 27 off and on, by turns.
+/// The rows of 64 codes, each with bit 27 off and then with bit 27 on.
 macro_rules! by_turns {
     ([$($off:tt)*] [$($on:tt)*]) => {
         [$(quick!($off), quick!($on)),*]
@@ -142,7 +143,7 @@ fn parts() -> &'static [[Quick; 128]; 8]
     &QUICK
 }
 
-/// What a quick step has to know of the instruction in a word.
+/// The group, effect and register of the instruction in a word.
 #[inline(always)]
 pub fn quick_row(word: Word) -> &'static Quick
     ensures value { result.now ≡ quick_row_of word }

@@ -1,4 +1,5 @@
--- `deallocate` makes the block of its empty places, and hands it back with the allocator's token. Assumes `Logic`.
+-- `deallocate` makes one block of its slots, and returns it with the allocator's token. Assumes
+-- `Logic`.
 use mathlib.Core.Path.{◌≡◌, refl, sym, ap, subst, ◌∙◌}
 use Prim.Native.Nat.{ℕ, ◌*◌, ◌<◌, ◌^◌}
 use native.Mathlib.Omega.{arith}

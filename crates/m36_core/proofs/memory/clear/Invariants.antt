@@ -1,7 +1,7 @@
 use Rattle.std.proofs.Common.{◌-◌, ◌≡◌, ◌≤◌, Some, length, map, replicate, take}
 use Rattle.m36_core.proofs.memory.clear.Given as goal
 
--- The places up to the next are filled.
+-- The slots before index i are filled.
 abbrev pub invariant-loop-i : goal.invariant-loop-i
 invariant-loop-i l = record {
   low : l.i ≤ l.count;

@@ -2,7 +2,7 @@ use Rattle.std.proofs.Common.{ℕ, ◌<◌, ◌≤◌, ◌-◌, length}
 use Rattle.m36_inst.specs.Names.{key_at}
 use Rattle.m36_inst.proofs.lookup.place_of.Given as goal
 
--- the rows below `low` have lesser keys, and those from `high` on have greater ones
+-- the rows before `low` have smaller keys than `wanted`, and those from `high` on have greater ones
 abbrev pub invariant-loop-low : goal.invariant-loop-low
 invariant-loop-low l =
     record {

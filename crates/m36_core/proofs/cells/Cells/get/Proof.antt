@@ -1,4 +1,4 @@
--- `get` shows one value that the places lend. Assumes `Logic`.
+-- `get` reads one value of the borrowed slots. Assumes `Logic`.
 use mathlib.Core.Path.{◌≡◌, refl, sym, subst, ◌∙◌}
 use Prim.Native.Nat.{ℕ, ◌+◌, ◌*◌, ◌<◌, ◌^◌}
 use native.Mathlib.Omega.{arith}

@@ -1,4 +1,4 @@
--- `slice` shows a run of values that the places lend. Assumes `Logic`.
+-- `slice` reads a range of values of the borrowed slots. Assumes `Logic`.
 use mathlib.Core.Path.{◌≡◌, refl, sym, ap, subst, ◌∙◌}
 use Prim.Native.Nat.{ℕ, ◌+◌, ◌*◌, ◌<◌, ◌≤◌, ◌^◌}
 use native.Mathlib.Omega.{arith}

@@ -1,4 +1,5 @@
--- `slice_mut` lends a run of values, and the places follow it. Assumes `Logic`.
+-- `slice_mut` borrows a range of values; what is written there is in the slots afterwards. Assumes
+-- `Logic`.
 use mathlib.Core.Path.{◌≡◌, refl, sym, ap, subst, ◌∙◌}
 use Prim.Native.Nat.{ℕ, ◌+◌, ◌*◌, ◌<◌, ◌≤◌, ◌^◌}
 use native.Mathlib.Omega.{arith}
@@ -102,7 +103,7 @@ module _ (E : El) {M : Type 1} {𝓤 : Ura M} (𝓛 : Logic 𝓤) (C : Calls �
   new = Written E d from
 
   module _ (vs : List Val) (b o : ℕ) (xs : List (el_x E)) where
-    -- all but the run
+    -- everything but the range
     abbrev Rest : Fml
     Rest = fsep (Around E 𝓛 b o d.slots from len) (fsep ((Mark E).own_val (tt, tt) vs) (cell_at full_share (Cr E).mir vs rb ro))
 
