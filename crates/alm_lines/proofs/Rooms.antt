@@ -10,7 +10,7 @@ begins lines few = omega (arith, few)
 pub room_start : (lines : ℕ) → lines < 2 ^ 32 → HasRoom lines start
 room_start lines few = let room = begins lines few in record { text = room; inner = room; outer = room }
 
--- of the lines that are left, for the next one
+-- before the lines that are left, for the first of them
 next : (lines at : ℕ) → 0 < lines → at + lines * 2 ^ 64 ≤ 2 ^ 96 - 2 ^ 64 → at + 1 * 2 ^ 64 ≤ 2 ^ 96 - 2 ^ 64
 next lines at some room = omega (arith, some, room)
 
@@ -22,7 +22,7 @@ room_next lines spot some room =
       outer = next lines spot.outer some room.outer;
     }
 
--- and below it for the others
+-- after it, for the others
 below : (lines more at after : ℕ) → lines ≡ more + 1 → at + lines * 2 ^ 64 ≤ 2 ^ 96 - 2 ^ 64 → after ≤ at + 2 ^ 64 → after + more * 2 ^ 64 ≤ 2 ^ 96 - 2 ^ 64
 below lines more at after e room near = omega (arith, e, room, near)
 

@@ -1,4 +1,4 @@
--- How large sums are.
+-- Bounds of sums.
 use Rattle.std.proofs.Common.{◌≡◌, ℕ, ◌+◌, ◌-◌, ◌*◌, ◌^◌, ◌<◌, ◌≤◌, ◌&&◌, not, true, false, List, is_some, leb, arith}
 use Rattle.std.proofs.lemmas.Bool.{and_parts, leb-true}
 use Rattle.alm_tokens.specs.declared.expression.Term.{Term}
@@ -10,7 +10,7 @@ use Rattle.alm_lines.specs.declared.sum.Sum.{Sum}
 use Rattle.alm_lines.specs.SpotFields.{Spot}
 use Rattle.alm_lines.specs.declared.refusal.Room.TheVariants.{Half}
 
--- of no term
+-- of no terms
 pub sum_begun : (terms left : ℕ) → IsAtMost ((terms - left) * (2 ^ 96 - 1)) no_sum
 sum_begun terms left =
     record {
@@ -24,7 +24,7 @@ sum_begun terms left =
       outer_down = omega arith;
     }
 
--- of fewer terms than there are, where there are at most 2^32
+-- of a part of the terms, of which there are at most 2^32
 pub sum_room : (terms left : ℕ) (s : Sum) → terms ≤ 2 ^ 32 → 0 < left → left ≤ terms → IsAtMost ((terms - left) * (2 ^ 96 - 1)) s → IsAtMost (2 ^ 128 - 2 ^ 96) s
 sum_room terms left s few some within so =
     record {
@@ -38,7 +38,7 @@ sum_room terms left s few some within so =
       outer_down = omega (arith, few, some, within, so.outer_down);
     }
 
--- of one term more
+-- with one more term
 pub sum_more : (terms left more : ℕ) (a b c : Sum) → left ≡ more + 1 → left ≤ terms → IsAtMost ((terms - left) * (2 ^ 96 - 1)) a → IsTerm b → c ≡ sum_plus a b
     → IsAtMost ((terms - more) * (2 ^ 96 - 1)) c
 unfolding sum_plus
@@ -56,7 +56,7 @@ sum_more terms left more a b c e within so small is =
 
 pub ruleset sums = (sum_begun, sum_room, sum_more)
 
--- what has a value as a number is in its room
+-- the number of an expression with a value fits its field
 pub valued_fits : (text : List ℕ) (symbols : List (List ℕ × Sum)) (spot : Spot) (terms : List Term) → has_value text symbols spot terms Half false ≡ true
     → has_room Half (sum_of text symbols spot terms).value ≡ true
 unfolding has_value is_said

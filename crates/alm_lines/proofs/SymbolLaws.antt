@@ -1,4 +1,4 @@
--- Symbols are defined at the end.
+-- Symbols are added at the end.
 use Rattle.std.proofs.Common.{◌≡◌, ℕ, suc, subst, arith, Bool, true, false, cond, List, [], ◌∷◌, ◌++◌, Option, Some, None, is_some, refl, sym, ap, ◌∙◌, true≢false}
 use Rattle.std.specs.Map.{lookup}
 use Rattle.indexmap.specs.IndexMap.{insert_entry}
@@ -16,7 +16,7 @@ no_tail : (b : Bool) (s : Sum) (r : Option Sum) → cond b (Some s) r ≡ None �
 no_tail true s r e = absurd (true≢false (ap is_some e))
 no_tail false s r e = (refl, e)
 
--- a symbol that is not there goes to the end
+-- a symbol that is not defined is added at the end
 goes_last : (symbols : List (List ℕ × Sum)) (name : List ℕ) (sum : Sum) → lookup (same_name name) symbols ≡ None
     → insert_entry same_name symbols name sum ≡ symbols ++ (name, sum) ∷ []
 goes_last [] name sum none = refl

@@ -1,4 +1,4 @@
--- The values of expressions are what is asked of their sums.
+-- The properties of a value are those of the sum of its expression.
 use Rattle.std.proofs.Common.{◌≡◌, ℕ, ◌+◌, Bool, true, false, List, [], ◌∷◌, Option, Some, None, refl, ap, ◌∙◌, zero-add}
 use Rattle.std.specs.Prelude.{not, option_map, if◌then◌else◌}
 use Rattle.alm_tokens.specs.declared.expression.Term.{Term}
@@ -42,7 +42,7 @@ pub undefined_alone : (text : List ℕ) (symbols : List (List ℕ × Sum)) (term
 unfolding place_undefined is_undefined
 undefined_alone text symbols term = alone_by (is_symbol_atom term.what) (is_defined text symbols term.span) term
 
--- ---- what is asked of a value
+-- ---- properties of a value
 
 same_value : (text : List ℕ) (symbols : List (List ℕ × Sum)) (spot : Spot) (terms : List Term) (room : Room) (may_move : Bool)
     → is_value room may_move (evaluated text symbols spot terms) ≡ has_value text symbols spot terms room may_move

@@ -10,7 +10,7 @@ use Rattle.alm_parse.specs.Pairs.{used_section}
 use Rattle.obj36_parts.specs.declared.section.Section.{Section}
 use Rattle.obj36_parts.specs.declared.section.Section.TheVariants.{Text}
 
--- a name, cut to the most characters of one
+-- the first 32 bytes of a span, as a name
 abbrev pub name_at : List ℕ → Span → List ℕ
 name_at text span = take name_limit (slice_of text span)
 
@@ -46,7 +46,7 @@ number_in (Some (Plain terms)) = 0
 number_in (Some (Operand pr seg entry terms tag)) = 0
 number_in None = 0
 
--- the words of `dec`, `oct` and `aci`, behind those so far
+-- the words of the arguments of `dec`, `oct` and `aci`, after the words so far
 abbrev pub words_of_arg : Arg → List ℕ
 words_of_arg (Symbol span) = []
 words_of_arg (Number word) = word ∷ []
@@ -58,7 +58,7 @@ unfoldable pub words_of_args : List ℕ → List Arg → List ℕ
 words_of_args words [] = words
 words_of_args words (arg ∷ more) = words_of_args (words ++ words_of_arg arg) more
 
--- the section of a `use` line
+-- the section that a `use` line selects
 abbrev pub section_named : List ℕ → Section
 section_named name = unwrap_or (used_section name) Text
 

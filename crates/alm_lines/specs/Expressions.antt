@@ -1,4 +1,4 @@
--- What expressions come to.
+-- The sums of expressions.
 use Rattle.std.specs.Prelude.{ℕ, ◌-◌, Bool, true, false, not, List, [], ◌∷◌, Option, option_map}
 use Rattle.std.specs.Prelude.{is_some, unwrap_or, if◌then◌else◌}
 use Rattle.std.specs.List.{find}
@@ -13,7 +13,7 @@ use Rattle.alm_lines.specs.Spots.{here}
 use Rattle.alm_lines.specs.declared.sum.Sum.{Sum}
 use Rattle.alm_lines.specs.SpotFields.{Spot}
 
--- what a symbol comes to; nothing where it is not defined
+-- the sum of a symbol; 0 if it is not defined
 unfoldable pub symbol_sum : List ℕ → List (List ℕ × Sum) → Span → Sum
 symbol_sum text symbols span = unwrap_or (sum_named (name_at text span) symbols) no_sum
 
@@ -27,7 +27,7 @@ term_sum text symbols spot term =
     let sum = atom_sum text symbols spot term.span term.what in
     if term.minus then sum_turned sum else sum
 
--- the terms, added to a sum
+-- a sum to which terms are added
 unfoldable pub added : List ℕ → List (List ℕ × Sum) → Spot → Sum → List Term → Sum
 added text symbols spot sum [] = sum
 added text symbols spot sum (term ∷ terms) =
@@ -49,12 +49,12 @@ unfoldable pub is_undefined : List ℕ → List (List ℕ × Sum) → Term → B
 is_undefined text symbols term =
     if is_symbol_atom term.what then not (is_defined text symbols term.span) else false
 
--- the place of the first symbol that is not defined
+-- the index of the first symbol that is not defined
 unfoldable pub place_undefined : List ℕ → List (List ℕ × Sum) → List Term → Option ℕ
 place_undefined text symbols terms =
     option_map (λ term. term.span.from) (find (is_undefined text symbols) terms)
 
--- where an expression begins: a minus may stand before its first term
+-- the index where an expression begins; a minus may be before its first term
 abbrev pub expression_place : List Term → ℕ
 expression_place [] = 0
 expression_place (term ∷ terms) = if term.minus then term.span.from - 1 else term.span.from

@@ -1,4 +1,4 @@
--- The symbols that lines define, and what is refused of their definitions and of the lengths of
+-- The symbols that lines define, and the refusals of their definitions and of the lengths of
 -- sections.
 use Rattle.std.specs.Prelude.{ℕ, Bool, true, false, List, [], ◌∷◌, Option, Some, None}
 use Rattle.std.specs.Prelude.{if◌then◌else◌}
@@ -21,12 +21,12 @@ use Rattle.alm_lines.specs.declared.refusal.Refusal.{Refusal}
 
 -- ---- labels
 
--- a symbol that is defined a second time
+-- the refusal of a symbol that is defined a second time
 unfoldable pub again : List ℕ → Line36 → List (List ℕ × Sum) → Span → Option Refusal
 again text line symbols span =
     if is_defined text symbols span then Some (refusal_at line span.from E5) else None
 
--- the symbols with the labels of a line, each of which comes to this
+-- the symbols with the labels of a line, each of which has this sum
 unfoldable pub with_labels : List ℕ → Sum → List (List ℕ × Sum) → List Span → List (List ℕ × Sum)
 with_labels text sum symbols [] = symbols
 with_labels text sum symbols (span ∷ spans) =
@@ -55,7 +55,7 @@ own_symbol deed.Block arguments = symbol_in (first_arg arguments)
 own_symbol deed.Even arguments = None
 own_symbol deed.Bound arguments = None
 
--- an `equ` is refused unless it comes to a number by the symbols above
+-- the refusal of an `equ` whose expression is not a number by the symbols above
 abbrev pub value_refusal : List ℕ → List (List ℕ × Sum) → Spot → Line36 → Option Refusal
 value_refusal text symbols spot line =
     number_refusal text symbols spot line (terms_in (second_arg line.args))
@@ -74,8 +74,8 @@ own_refusal text symbols spot line deed.Block = None
 own_refusal text symbols spot line deed.Even = None
 own_refusal text symbols spot line deed.Bound = None
 
--- what the symbol comes to: the number of an `equ`, of which nothing is known where that is refused
--- or stands on one that is, and else the place
+-- The sum of the symbol that an operation defines: the number of an `equ`, or the place of the
+-- line. The number of an `equ` is unknown if it is refused or depends on one that is.
 abbrev pub number_of : Sum → Sum
 number_of sum =
     record {
@@ -116,7 +116,7 @@ abbrev pub own_again : List ℕ → Line36 → List (List ℕ × Sum) → Option
 own_again text line symbols None = None
 own_again text line symbols (Some span) = again text line symbols span
 
--- the symbols with that of an operation, and what is refused of it
+-- the symbols with that of an operation; the refusal of its definition
 unfoldable pub symbols_with : List ℕ → List (List ℕ × Sum) → Spot → Line36 → Deed
     → List (List ℕ × Sum)
 symbols_with text symbols spot line deed =
@@ -129,7 +129,7 @@ refused_with text symbols spot line deed =
 
 -- ---- a line
 
--- A section has no more words of lines than a section may have.
+-- the refusal of a section with more words than it may have
 unfoldable pub over : Line36 → Spot → Option Refusal
 over line spot = if is_over_limit (count spot) then Some (refusal_at line line.start E8) else None
 
@@ -150,14 +150,14 @@ refused_after text first symbols spot line =
 
 -- ---- the lines
 
--- the symbols of the lines, behind those so far
+-- the symbols of the lines, after those so far
 unfoldable pub symbols_from : List ℕ → List (List ℕ × Sum) → Spot → List Line36
     → List (List ℕ × Sum)
 symbols_from text symbols spot [] = symbols
 symbols_from text symbols spot (line ∷ lines) =
     symbols_from text (symbols_after text symbols spot line) (below text spot line) lines
 
--- the first refusal of a symbol's definition or of a section's length
+-- the first refusal of a definition or of the length of a section
 unfoldable pub layout_refusal : List ℕ → Option Refusal → List (List ℕ × Sum) → Spot → List Line36
     → Option Refusal
 layout_refusal text first symbols spot [] = first

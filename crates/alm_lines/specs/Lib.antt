@@ -1,5 +1,6 @@
--- In the order in which they are built: numbers and sums, symbols, arguments, where a line is, what
--- expressions come to, what is refused of them, their values; and Layout, the symbols that lines define.
+-- The modules in the order in which they are built: integers and sums, symbols, arguments, the
+-- places of lines, the sums of expressions, refusals of these, values; and `Layout`, the symbols
+-- that lines define.
 pub mod Sums
 pub mod Symbols
 pub mod Arguments

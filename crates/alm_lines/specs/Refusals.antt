@@ -1,4 +1,4 @@
--- Refusals: which comes first in the text, and what refuses an expression.
+-- Refusals: their order in the text, and how an expression is refused.
 use Rattle.std.specs.Prelude.{ℕ, ◌-◌, ◌%◌, ◌^◌, Bool, true, false, not, ◌&&◌, ◌||◌, nat_eq}
 use Rattle.std.specs.Prelude.{nat_lt, is_some, List, Option, Some, None, if◌then◌else◌}
 use Rattle.m36_word.specs.Field.{offset_limit}
@@ -27,14 +27,14 @@ code_number E6 = 6
 code_number E7 = 7
 code_number E8 = 8
 
--- whether a refusal comes before another: earlier in the text, or at the same place with
--- a lesser code
+-- Whether a refusal precedes another: it is earlier in the text, or at the same place with a lesser
+-- code.
 unfoldable pub precedes : Refusal → Refusal → Bool
 precedes a b =
     nat_lt a.place b.place
     || (nat_eq a.place b.place && nat_lt (code_number a.code) (code_number b.code))
 
--- the first of two refusals, if there are any
+-- the first of two refusals in the order of the text, if there are any
 abbrev pub sooner : Option Refusal → Option Refusal → Option Refusal
 sooner None b = b
 sooner (Some a) None = Some a
@@ -43,7 +43,7 @@ sooner (Some a) (Some b) = Some (if precedes b a then b else a)
 abbrev pub refusal_at : Line36 → ℕ → Code → Refusal
 refusal_at line at code = record { place = at; start = line.start; line = line.line; code = code }
 
--- a refusal by its line and its column
+-- the fault of a refusal, with the number of its line and its column
 abbrev pub column_of : Refusal → ℕ
 column_of refusal = column_at refusal.start refusal.place % 2 ^ 32
 
@@ -58,12 +58,12 @@ fault_of refusal = fault_by refusal.code refusal.line (column_of refusal)
 
 -- ---- expressions
 
--- A half holds -131072 to 262143, the offset behind a pointer register -16384 to 16383.
+-- Half a word holds -131072 to 262143, the offset after a pointer register -16384 to 16383.
 abbrev pub has_room : Room → Balance → Bool
 has_room Half value = is_within 131072 262143 value
 has_room Offset value = is_within offset_limit (offset_limit - 1) value
 
--- whether an object can say this, where a place of a section may or may not stand
+-- whether an object can express a sum in this field; `may_move` says whether it may be a place
 abbrev pub may_stand : Bool → Kind → Bool
 may_stand may_move Absolute = true
 may_stand may_move (Moved section) = may_move
@@ -77,8 +77,9 @@ refusal_by line (Some at) place said = Some (refusal_at line at E6)
 refusal_by line None place true = None
 refusal_by line None place false = Some (refusal_at line place E7)
 
--- An expression that begins at a place is refused for its first symbol that is not defined, or else
--- for what it comes to, unless it stands on an `equ` that is refused.
+-- The refusal of an expression that begins at `place`: E6 at its first symbol that is not defined,
+-- or otherwise E7 if its value does not fit. A value that depends on a refused `equ` is not
+-- refused.
 unfoldable pub expression_refusal : List ℕ → List (List ℕ × Sum) → Spot → Line36 → List Term → ℕ
     → Room → Bool → Option Refusal
 expression_refusal text symbols spot line terms place room may_move =
@@ -86,15 +87,15 @@ expression_refusal text symbols spot line terms place room may_move =
     refusal_by line (place_undefined text symbols terms) place
     (sum.unknown || is_said room may_move sum)
 
--- Whether nothing of an expression is refused, nor an `equ` that it stands on.
+-- Whether an expression has a value: it is not refused, and it does not depend on a refused `equ`.
 unfoldable pub has_value : List ℕ → List (List ℕ × Sum) → Spot → List Term → Room → Bool → Bool
 has_value text symbols spot terms room may_move =
     let sum = sum_of text symbols spot terms in
     not (is_some (place_undefined text symbols terms)) && not sum.unknown
     && is_said room may_move sum
 
--- An `equ`, and an expression behind an external name, is a number of a half, and no place of a
--- section.
+-- The expression of an `equ`, and one after an external name, must be a number that fits half a
+-- word, and not a place of a section.
 abbrev pub number_refusal : List ℕ → List (List ℕ × Sum) → Spot → Line36 → List Term → ℕ
     → Option Refusal
 number_refusal text symbols spot line terms place =
@@ -105,6 +106,6 @@ has_number text symbols spot terms = has_value text symbols spot terms Half fals
 
 -- ---- lengths
 
--- whether so many words are more than a section of an object has
+-- whether this many words are too many for a section of an object
 abbrev pub is_over_limit : ℕ → Bool
 is_over_limit words = nat_lt section_limit words

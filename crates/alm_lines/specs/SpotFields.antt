@@ -1,5 +1,5 @@
--- Where a line is: the section that it belongs to, how many words the lines above it place in each
--- section, and which static words they have entered.
+-- The place of a line: its section, how many words the lines above it place in each section, and
+-- which sections of static words they have selected.
 use Rattle.std.specs.Prelude.{ℕ, Bool}
 use Rattle.obj36_parts.specs.declared.section.Section.{Section}
 

@@ -1,5 +1,4 @@
--- Where a line is: the section that it belongs to, and how many words the lines above it place in
--- each section.
+-- The place of a line: its section, and how many words the lines above it place in each section.
 use Rattle.std.specs.Prelude.{ℕ, ◌≤◌, ◌+◌, ◌-◌, ◌*◌, ◌%◌, ◌^◌, true, false, List, [], ◌∷◌, length}
 use Rattle.obj36_parts.specs.ObjectSegment.{head_words}
 use Rattle.obj36_parts.specs.declared.section.Section.{Section}
@@ -25,7 +24,7 @@ start =
       uses_outer = false;
     }
 
--- how many words the lines above place in a section
+-- the number of words that the lines above place in a section
 abbrev pub count_in : Section → Spot → ℕ
 count_in Text spot = spot.text
 count_in Linkage spot = spot.inner
@@ -35,7 +34,7 @@ count_in Static spot = spot.outer
 abbrev pub count : Spot → ℕ
 count spot = count_in spot.section spot
 
--- the place in the section: static words of the linkage section begin behind its head
+-- the offset in a section; the static words of the linkage section begin after its head
 abbrev pub place_in : Section → Spot → ℕ
 place_in Text spot = spot.text
 place_in Linkage spot = spot.inner + head_words
@@ -45,7 +44,7 @@ place_in Static spot = spot.outer
 abbrev pub place : Spot → ℕ
 place spot = place_in spot.section spot
 
--- what a label there comes to
+-- the sum of a label at this place
 abbrev pub here_in : Section → Spot → Sum
 here_in Text spot =
     record {
@@ -76,7 +75,7 @@ here_in Static spot =
 abbrev pub here : Spot → Sum
 here spot = here_in spot.section spot
 
--- with so many more words
+-- the place after n more words
 abbrev pub grown_in : Section → Spot → ℕ → Spot
 grown_in Text spot n = record spot { text = spot.text + n }
 grown_in Linkage spot n = record spot { inner = spot.inner + n }
@@ -86,14 +85,14 @@ grown_in Static spot n = record spot { outer = spot.outer + n }
 abbrev pub grown : Spot → ℕ → Spot
 grown spot n = grown_in spot.section spot n
 
--- in another section
+-- the place after a `use` line that selects a section
 abbrev pub entered : Spot → Section → Spot
 entered spot Text = record spot { section = Text }
 entered spot Linkage = record spot { section = Linkage; uses_inner = true }
 entered spot Symbol = spot
 entered spot Static = record spot { section = Static; uses_outer = true }
 
--- how many words a line places
+-- the number of words that a line places; `at` is its offset in its section
 abbrev pub size_of : Deed → List Arg → ℕ → ℕ
 size_of deed.Nothing arguments at = 0
 size_of (deed.Instruction code bit27) arguments at = 1
@@ -107,7 +106,7 @@ size_of deed.Block arguments at = number_in (second_arg arguments)
 size_of deed.Even arguments at = at % 2
 size_of deed.Bound arguments at = 0
 
--- where the line below is
+-- the place of the next line
 abbrev pub moved_by : List ℕ → Deed → List Arg → Spot → Spot
 moved_by text deed.Use arguments spot =
     entered spot (section_in text (symbol_in (first_arg arguments)))
@@ -126,21 +125,21 @@ moved_by text deed.Bound arguments spot = spot
 unfoldable pub below : List ℕ → Spot → Line36 → Spot
 below text spot line = moved_by text line.deed line.args spot
 
--- where the end is
+-- the place after the last line
 unfoldable pub end_of : List ℕ → Spot → List Line36 → Spot
 end_of text spot [] = spot
 end_of text spot (line ∷ lines) = end_of text (below text spot line) lines
 
--- ---- how many words there are
+-- ---- bounds of the numbers of words
 
--- There is room for so many lines more, each of fewer than 2^64 words: there are fewer
--- than 2^32 lines.
+-- There is room for this many more lines, each of fewer than 2^64 words. There are fewer than 2^32
+-- lines.
 pub record HasRoom (lines : ℕ) (spot : Spot) : Type 0 where
   pub text : spot.text + lines * 2 ^ 64 ≤ 2 ^ 96 - 2 ^ 64
   pub inner : spot.inner + lines * 2 ^ 64 ≤ 2 ^ 96 - 2 ^ 64
   pub outer : spot.outer + lines * 2 ^ 64 ≤ 2 ^ 96 - 2 ^ 64
 
--- The line below is so far at most.
+-- The place of the next line is at most 2^64 words further in each section.
 pub record IsNear (spot after : Spot) : Type 0 where
   pub text : after.text ≤ spot.text + 2 ^ 64
   pub inner : after.inner ≤ spot.inner + 2 ^ 64

@@ -1,4 +1,4 @@
--- What expressions come to: numbers, and how often the places of each section are counted in them.
+-- Sums of terms: numbers, and how often the places of each section count in them.
 use Rattle.std.specs.Prelude.{ℕ, ◌≤◌, ◌+◌, ◌-◌, ◌%◌, ◌^◌, Bool, true, false, ◌&&◌, ◌||◌, nat_eq}
 use Rattle.std.specs.Prelude.{nat_lt, nat_le, if◌then◌else◌}
 use Rattle.obj36_parts.specs.declared.section.Section.TheVariants.{Text, Linkage, Static}
@@ -7,7 +7,7 @@ use Rattle.alm_lines.specs.declared.sum.Sum.{Sum}
 use Rattle.alm_lines.specs.declared.sum.Kind.{Kind}
 use Rattle.alm_lines.specs.declared.sum.Kind.TheVariants.{Absolute, Moved, Unsaid}
 
--- ---- whole numbers, as what is added and what is taken away
+-- ---- integers, as differences of natural numbers
 
 abbrev pub balance : ℕ → ℕ → Balance
 balance up down = record { up = up; down = down }
@@ -27,11 +27,11 @@ is_even b = nat_eq b.up b.down
 abbrev pub is_one : Balance → Bool
 is_one b = nat_lt b.down b.up && nat_eq (b.up - b.down) 1
 
--- whether the number is from -low to high
+-- whether the number is from -`low` to `high`
 abbrev pub is_within : ℕ → ℕ → Balance → Bool
 is_within low high b = nat_le (b.down - b.up) low && nat_le (b.up - b.down) high
 
--- the number modulo another, and modulo 2^18 and 2^15
+-- the number modulo another, modulo 2^18, and modulo 2^15
 abbrev pub balance_modulo : ℕ → Balance → ℕ
 balance_modulo m b = (b.up % m + (m - b.down % m)) % m
 
@@ -41,7 +41,7 @@ half_of b = balance_modulo (2 ^ 18) b
 unfoldable pub offset_of : Balance → ℕ
 offset_of b = balance_modulo (2 ^ 15) b
 
--- the same number, of which nothing is added that is taken away again
+-- the same number, with the lesser of `up` and `down` reduced to 0
 abbrev pub settled : Balance → Balance
 settled b = record { up = b.up - b.down; down = b.down - b.up }
 
@@ -60,7 +60,7 @@ absolute n =
 abbrev pub no_sum : Sum
 no_sum = absolute 0
 
--- what the symbol of an `equ` that is refused comes to: nothing is known of what stands on it
+-- the sum of the symbol of a refused `equ`; what depends on it is unknown too
 abbrev pub unknown_sum : Sum
 unknown_sum = record no_sum { unknown = true }
 
@@ -84,7 +84,7 @@ sum_turned a =
       unknown = a.unknown;
     }
 
--- A sum is a number, or a place of a section, or what no object can say.
+-- A sum is a number, a place of a section, or something that an object cannot express.
 unfoldable pub kind_of : Sum → Kind
 kind_of s =
     if is_even s.text && is_even s.inner && is_even s.outer
@@ -95,9 +95,9 @@ kind_of s =
     then Moved Linkage
     else (if is_even s.text && is_even s.inner && is_one s.outer then Moved Static else Unsaid)))
 
--- ---- how large sums are
+-- ---- bounds of sums
 
--- Nothing that is added or taken away is more than this.
+-- Each part of the sum is at most this.
 pub record IsAtMost (most : ℕ) (s : Sum) : Type 0 where
   pub value_up : s.value.up ≤ most
   pub value_down : s.value.down ≤ most
@@ -108,7 +108,7 @@ pub record IsAtMost (most : ℕ) (s : Sum) : Type 0 where
   pub outer_up : s.outer.up ≤ most
   pub outer_down : s.outer.down ≤ most
 
--- A term of an expression is less than 2^96: fewer than 2^32 lines place fewer than
--- 2^64 words each.
+-- Each part of a term is less than 2^96, since fewer than 2^32 lines place fewer than 2^64 words
+-- each.
 abbrev pub IsTerm : Sum → Type 0
 IsTerm s = IsAtMost (2 ^ 96 - 1) s

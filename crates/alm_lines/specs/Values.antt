@@ -12,7 +12,7 @@ use Rattle.alm_lines.specs.declared.refusal.Refusal.{Refusal}
 use Rattle.alm_lines.specs.SpotFields.{Spot}
 use Rattle.alm_lines.specs.ValueFields.{ValueFields}
 
--- the value of a sum, and the place of the first symbol that is not defined
+-- the value of a sum; `undefined` is the index of the first symbol that is not defined
 abbrev pub value_by : Sum → Option ℕ → ValueFields
 value_by sum undefined =
     record {
@@ -29,7 +29,7 @@ unfoldable pub evaluated : List ℕ → List (List ℕ × Sum) → Spot → List
 evaluated text symbols spot terms =
     value_by (sum_of text symbols spot terms) (place_undefined text symbols terms)
 
--- whether a value fits, and whether an object can say it
+-- whether a value fits a field; whether an object can express it there
 abbrev pub fits : Room → ValueFields → Bool
 fits Half value = value.fits_half
 fits Offset value = value.fits_offset
@@ -37,12 +37,12 @@ fits Offset value = value.fits_offset
 abbrev pub value_is_said : Room → Bool → ValueFields → Bool
 value_is_said room may_move value = fits room value && may_stand may_move value.kind
 
--- whether nothing is refused of an expression with this value, nor of an `equ` that it uses
+-- whether an expression with this value is not refused, and does not depend on a refused `equ`
 abbrev pub is_value : Room → Bool → ValueFields → Bool
 is_value room may_move value =
     not (is_some value.undefined) && not value.unknown && value_is_said room may_move value
 
--- what is refused of an expression with this value
+-- the refusal of an expression with this value
 abbrev pub value_refused : Line36 → ValueFields → ℕ → Room → Bool → Option Refusal
 value_refused line value place room may_move =
     refusal_by line value.undefined place (value.unknown || value_is_said room may_move value)

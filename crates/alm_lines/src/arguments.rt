@@ -14,7 +14,7 @@ use obj36_parts::Section;
 use obj36_parts::sections::push_all;
 use std::alloc::Global;
 
-// The first bytes, at most so many.
+// The first `count` bytes; all if there are fewer.
 fn front(bytes: &[u8], count: usize) -> &[u8]
     ensures value { result.now ≡ take count bytes.now }
     ensures fits { length result.now ≤ count }
@@ -26,7 +26,7 @@ fn front(bytes: &[u8], count: usize) -> &[u8]
     }
 }
 
-/// The name that a span names, cut to 32 bytes.
+/// The first 32 bytes of a span, as a name.
 pub fn name_at(text: &[u8], span: Span) -> Name
     ensures { result ≡ name_at text.now span }
 {
@@ -36,7 +36,7 @@ pub fn name_at(text: &[u8], span: Span) -> Name
     }
 }
 
-/// The symbol that is the first argument.
+/// The symbol in the first argument, if it is one.
 pub fn first_symbol(args: &[Arg]) -> Option<Span>
     ensures { result ≡ symbol_in (first_arg args.now) }
 {
@@ -46,7 +46,8 @@ pub fn first_symbol(args: &[Arg]) -> Option<Span>
     }
 }
 
-/// The terms of the first argument.
+/// The terms of the first argument; none if it is not an expression or the operand of an
+/// instruction.
 pub fn first_terms(args: &[Arg]) -> &[Term]
     ensures value { result.now ≡ terms_in (first_arg args.now) }
     ensures fits { length result.now ≤ 2 ^ 32 }
@@ -58,7 +59,8 @@ pub fn first_terms(args: &[Arg]) -> &[Term]
     }
 }
 
-/// The terms of the second argument.
+/// The terms of the second argument; none if it is not an expression or the operand of an
+/// instruction.
 pub fn second_terms(args: &[Arg]) -> &[Term]
     ensures value { result.now ≡ terms_in (second_arg args.now) }
     ensures fits { length result.now ≤ 2 ^ 32 }
@@ -69,7 +71,7 @@ pub fn second_terms(args: &[Arg]) -> &[Term]
     }
 }
 
-/// The number that is the second argument.
+/// The number in the second argument; 0 if it is not a number.
 pub fn second_number(args: &[Arg]) -> u64
     ensures { result ≡ number_in (second_arg args.now) }
 {
@@ -89,7 +91,7 @@ fn push_arg(words: &mut Words, arg: &Arg) -> Result<(), NoMemory>
     }
 }
 
-/// The words of `dec`, `oct` and `aci`.
+/// The words of the arguments of `dec`, `oct` and `aci`. Fails only with `NoMemory`.
 #[tactic(auto, unfolding(crate::specs::Arguments::words_of_args))]
 pub fn words_of_args(alloc: Global, args: &[Arg]) -> Result<Words, NoMemory>
     ensures { IfOk result (λ words. words ≡ words_of_args [] args.now) }
@@ -109,7 +111,7 @@ fn section_named(bytes: &[u8]) -> Section
     used_section(bytes).unwrap_or(Section::Text)
 }
 
-/// The section of a `use` line.
+/// The section that a `use` line selects; the text if the name is that of no section.
 pub fn section_in(text: &[u8], name: Option<Span>) -> Section
     ensures { result ≡ section_in text.now name }
 {

@@ -4,7 +4,7 @@ ghost use Rattle.std.specs.Prelude.{ℕ, ◌≡◌, ◌-◌, ◌^◌, ◌<◌};
 
 use std::marker::Model;
 
-/// A count of the words that lines place, below 2^96 - 8, seen as a number.
+/// A number of words that lines place, below 2^96 - 8. Its model is the number.
 #[derive(Clone, Copy, PartialEq, Eq)]
 pub struct Count {
     value: u128,
@@ -23,7 +23,7 @@ impl Model for Count {
 }
 
 impl Count {
-    /// A count of so many words.
+    /// This many words.
     pub fn of(words: u128) -> Count
         requires { words < 2 ^ 96 - 8 }
         ensures { result ≡ words }

@@ -1,4 +1,4 @@
-//! What expressions come to.
+//! The sums of expressions.
 
 ghost use Rattle.std.specs.Prelude.{ℕ, List, [], ◌∷◌, ◌≡◌, ◌-◌, ◌^◌, ◌≤◌, length, Option};
 ghost use Rattle.alm_lines.specs.Sums.{no_sum, IsTerm};
@@ -12,7 +12,7 @@ use crate::sum::{Sum, absolute};
 use crate::symbols::Symbols;
 use alm_parse::{Atom, Span, Term};
 
-/// What a symbol comes to; 0 where it is not defined.
+/// The sum of a symbol; 0 if it is not defined.
 #[tactic(auto, unfolding(crate::specs::Expressions::symbol_sum))]
 pub fn symbol_sum(text: &[u8], symbols: &Symbols, span: Span) -> Sum
     ensures value { result ≡ symbol_sum text.now symbols.now span }
@@ -44,7 +44,7 @@ fn term_sum(text: &[u8], symbols: &Symbols, spot: Spot, term: Term) -> Sum
     if term.minus { sum.turned() } else { sum }
 }
 
-/// What an expression comes to; a symbol that is not defined counts as 0.
+/// The sum of an expression. A symbol that is not defined counts as 0.
 #[tactic(auto, using(crate::proofs::SumLaws::sums), unfolding(crate::specs::Expressions::added))]
 pub fn sum_of(text: &[u8], symbols: &Symbols, spot: Spot, terms: &[Term]) -> Sum
     requires { length terms.now ≤ 2 ^ 32 }
@@ -59,7 +59,7 @@ pub fn sum_of(text: &[u8], symbols: &Symbols, spot: Spot, terms: &[Term]) -> Sum
     sum
 }
 
-/// A symbol is defined.
+/// Whether a symbol is defined.
 #[tactic(auto, unfolding(crate::specs::Expressions::is_defined))]
 pub fn is_defined(text: &[u8], symbols: &Symbols, span: Span) -> bool
     ensures { result ≡ is_defined text.now symbols.now span }
@@ -77,7 +77,7 @@ fn is_undefined(text: &[u8], symbols: &Symbols, term: &Term) -> bool
     }
 }
 
-/// The place of the first symbol that is not defined.
+/// The index in the text of the first symbol that is not defined.
 #[tactic(auto, unfolding(crate::specs::Expressions::place_undefined))]
 pub fn place_undefined(text: &[u8], symbols: &Symbols, terms: &[Term]) -> Option<u32>
     ensures { result ≡ place_undefined text.now symbols.now terms.now }
@@ -88,7 +88,8 @@ pub fn place_undefined(text: &[u8], symbols: &Symbols, terms: &[Term]) -> Option
     }
 }
 
-/// Where an expression begins: a minus may stand before its first term.
+/// The index in the text where an expression begins: before its first term if this is negated,
+/// since the minus is before it; 0 if there is no term.
 pub fn expression_place(terms: &[Term]) -> u32
     ensures { result ≡ expression_place terms.now }
 {

@@ -1,4 +1,4 @@
-//! The symbols that lines define, and what is refused of their definitions and of the lengths of sections.
+//! Defines the symbols of lines, and refuses their definitions and the lengths of sections.
 
 ghost use Rattle.std.specs.Prelude.{ℕ, true, List, [], ◌∷◌, ◌≡◌, ◌^◌, ◌<◌, length, Option, None};
 ghost use Rattle.std.specs.Prelude.{OnOk, IfOk};
@@ -254,7 +254,8 @@ fn take_line(
     Ok(sooner(sooner(labels, own), over(line, after)))
 }
 
-// Defines the symbols of lines, and tells the first refusal of them or of a section's length.
+// Defines the symbols of lines. Returns the first refusal of a definition or of the length of a
+// section.
 #[tactic(auto, using(crate::proofs::Rooms::rooms), unfolding(crate::specs::Layout::symbols_from, crate::specs::Layout::layout_refusal))]
 fn take_lines(
     alloc: Global,
@@ -279,14 +280,15 @@ fn take_lines(
     Ok(refused)
 }
 
-/// The symbols of lines, and the first refusal of a symbol's definition or of a section's length.
+/// The symbols of lines, and the first refusal of a definition or of the length of a section.
 #[derive(Drop)]
 pub struct Layout {
     pub symbols: Symbols,
     pub refused: Option<Refusal>,
 }
 
-/// Lays out lines: their symbols, and what is refused of them. The error is want of memory alone.
+/// Lays out lines: defines their symbols, and finds the first refusal. There are fewer than 2^32
+/// lines. Fails only with `NoMemory`.
 pub fn layout_of(alloc: Global, text: &[u8], lines: &[Line36]) -> Result<Layout, NoMemory>
     requires { length lines.now < 2 ^ 32 }
     ensures symbols { IfOk result (λ layout.
@@ -298,7 +300,7 @@ pub fn layout_of(alloc: Global, text: &[u8], lines: &[Line36]) -> Result<Layout,
     match take_lines(alloc, text, &mut symbols, lines) {
         Ok(refused) => Ok(Layout { symbols, refused }),
         Err(fault) => {
-            // Dropped by a call: so the drop is proved once for its type.
+            // A call of `drop` is proved once for its type.
             drop(symbols);
             Err(fault)
         }

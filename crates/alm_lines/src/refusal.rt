@@ -1,4 +1,4 @@
-//! Refusals: which comes first in the text, and what refuses an expression.
+//! Refusals: their order in the text, and how an expression is refused.
 
 ghost use Rattle.std.specs.Prelude.{ℕ, Bool, ◌≡◌, ◌-◌, ◌+◌, ◌%◌, ◌^◌, ◌≤◌, List, length, Option};
 ghost use Rattle.alm_lines.specs.Refusals.{code_number, precedes, sooner, refusal_at, column_of};
@@ -14,21 +14,22 @@ use alm_parse::{AlmFault, Line36, Term};
 use obj36_parts::halves::OFFSET_LIMIT;
 use obj36_parts::sections::SECTION_LIMIT;
 
-/// Why lines are not an object's.
+/// Why there is no object of some lines.
 #[derive(Clone, Copy, PartialEq, Eq)]
 pub enum Code {
-    /// A symbol, or a name of a definition, that is defined a second time.
+    /// A symbol, or the name of a definition, is defined a second time.
     E5,
-    /// A symbol that is not defined.
+    /// A symbol is not defined.
     E6,
-    /// A value that does not fit its field, or what no object can say: an expression, a link out of reach, words in a
-    /// section that may not have them, or a name of a definition that is no such label.
+    /// A value does not fit its field, or an object cannot express it: an expression, a link out of
+    /// reach, words in a section that must not have them, or the name of a definition that is not a
+    /// suitable label.
     E7,
-    /// A section, or an object, that grows too long.
+    /// A section or an object is too large.
     E8,
 }
 
-/// A code at a place of the text, in a line of a number that begins at a place.
+/// A code at an index of the text, with the number of its line and the index where that begins.
 #[derive(Clone, Copy, PartialEq, Eq)]
 pub struct Refusal {
     pub place: u64,
@@ -37,12 +38,12 @@ pub struct Refusal {
     pub code: Code,
 }
 
-/// What an expression has to fit in.
+/// The field that the value of an expression must fit.
 #[derive(Clone, Copy, PartialEq, Eq)]
 pub enum Room {
-    /// A half of a word.
+    /// Half a word: -131072 to 262143.
     Half,
-    /// The signed offset behind a pointer register.
+    /// The signed offset after the number of a pointer register: -16384 to 16383.
     Offset,
 }
 
@@ -64,7 +65,7 @@ fn precedes(a: Refusal, b: Refusal) -> bool
     a.place < b.place || (a.place == b.place && code_number(a.code) < code_number(b.code))
 }
 
-/// The first of two refusals, if there are any.
+/// The first of two refusals in the order of the text, if there are any.
 pub fn sooner(a: Option<Refusal>, b: Option<Refusal>) -> Option<Refusal>
     ensures { result ≡ sooner a b }
 {
@@ -75,7 +76,7 @@ pub fn sooner(a: Option<Refusal>, b: Option<Refusal>) -> Option<Refusal>
     }
 }
 
-/// The refusal of what stands at a place of a line.
+/// A refusal at an index of the text, in this line.
 pub fn refusal_at(line: &Line36, place: u64, code: Code) -> Refusal
     ensures { result ≡ refusal_at line.now place code }
 {
@@ -105,7 +106,7 @@ fn fault_by(code: Code, line: u32, column: u32) -> AlmFault
     }
 }
 
-/// A refusal by its line and its column.
+/// The fault of a refusal, with the number of its line and its column.
 #[tactic(auto, unfolding(crate::specs::Refusals::fault_of))]
 pub fn fault_of(refusal: Refusal) -> AlmFault
     ensures { result ≡ fault_of refusal }
@@ -113,7 +114,7 @@ pub fn fault_of(refusal: Refusal) -> AlmFault
     fault_by(refusal.code, refusal.line, column_of(refusal))
 }
 
-/// Whether a number fits.
+/// Whether a number fits a field.
 pub fn has_room(room: Room, value: Balance) -> bool
     ensures { result ≡ has_room room value }
 {
@@ -133,7 +134,8 @@ pub(crate) fn may_stand(may_move: bool, kind: Kind) -> bool
     }
 }
 
-/// Whether an object can say this, where a place of a section may or may not stand.
+/// Whether an object can express a sum in this field: the number fits, and the sum is a number or,
+/// if `may_move` allows it, a place of a section.
 #[tactic(auto, unfolding(crate::specs::Refusals::is_said))]
 pub fn is_said(room: Room, may_move: bool, sum: Sum) -> bool
     ensures { result ≡ is_said room may_move sum }
@@ -161,18 +163,18 @@ pub(crate) fn refusal_by(
     }
 }
 
-/// An expression and what it has to be.
+/// The requirements on an expression.
 #[derive(Clone, Copy)]
 pub struct Wanted {
-    /// Where the expression begins.
+    /// The index in the text where the expression begins.
     pub place: u64,
     pub room: Room,
-    /// It may be a place of a section.
+    /// Whether it may be a place of a section.
     pub may_move: bool,
 }
 
-/// What refuses an expression: its first symbol that is not defined, or else what it comes to, unless it stands on an
-/// `equ` that is refused.
+/// The refusal of an expression: E6 at its first symbol that is not defined, or otherwise E7 if its
+/// value does not meet the requirements. A value that depends on a refused `equ` is not refused.
 #[tactic(auto, unfolding(crate::specs::Refusals::expression_refusal))]
 pub fn expression_refusal(
     text: &[u8],
@@ -197,7 +199,7 @@ pub fn expression_refusal(
     )
 }
 
-/// Nothing of an expression is refused, nor an `equ` that it stands on.
+/// Whether an expression has a value: it is not refused, and it does not depend on a refused `equ`.
 #[tactic(auto, unfolding(crate::specs::Refusals::has_value))]
 pub fn has_value(
     text: &[u8],
@@ -214,7 +216,7 @@ pub fn has_value(
     place_undefined(text, symbols, terms).is_none() && !sum.unknown && is_said(room, may_move, sum)
 }
 
-/// So many words are more than a section of an object has.
+/// Whether this many words are too many for a section of an object.
 pub fn is_over_limit(words: u128) -> bool
     ensures { result ≡ is_over_limit words }
 {

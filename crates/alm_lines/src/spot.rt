@@ -1,4 +1,4 @@
-//! Where a line is.
+//! The place of a line, as a location counter for each section.
 
 ghost use Rattle.std.specs.Prelude.{ℕ, List, [], ◌∷◌, ◌++◌, ◌≡◌, ◌^◌, ◌<◌, length, IfOk};
 ghost use Rattle.alm_lines.specs.Sums.{balance, IsTerm};
@@ -15,10 +15,10 @@ use obj36_parts::sections::HEAD_WORDS;
 use std::alloc::Global;
 use std::marker::Model;
 
-/// Where a line is: the section that it belongs to, and how many words the lines above it place in each section, fewer
-/// than 2^96 - 8: there are fewer than 2^32 lines, each of fewer than 2^64 words. `inner` are the static words of the
-/// linkage section, `outer` those of a section of their own; `uses_inner` and `uses_outer` say whether a line above has
-/// entered them.
+/// The place of a line: its section, and how many words the lines above it place in each section.
+/// There are fewer than 2^96 - 8, since fewer than 2^32 lines place fewer than 2^64 words each.
+/// `inner` counts the static words of the linkage section, `outer` those of a static section.
+/// `uses_inner` and `uses_outer` say whether a `use` line above selects these sections.
 #[derive(Clone, Copy, PartialEq, Eq)]
 pub struct Spot {
     pub text: u128,
@@ -57,7 +57,7 @@ impl Model for Spot {
     } };
 }
 
-/// A number that is added once.
+/// The number 1: a section that counts once.
 const ONCE: Balance = Balance { up: 1, down: 0 };
 
 fn up(place: u128) -> Balance
@@ -67,7 +67,7 @@ fn up(place: u128) -> Balance
 }
 
 impl Spot {
-    /// Where the first line is.
+    /// The place of the first line.
     pub fn start() -> Spot
         ensures { result ≡ start }
     {
@@ -81,7 +81,7 @@ impl Spot {
         }
     }
 
-    /// How many words the lines above place in the section.
+    /// The number of words that the lines above place in the section.
     pub fn count(self) -> u128
         ensures { result ≡ count self }
     {
@@ -94,7 +94,7 @@ impl Spot {
         }
     }
 
-    /// The place in the section: static words of the linkage section begin behind its head.
+    /// The offset in the section. The static words of the linkage section begin after its head.
     pub fn place(self) -> u128
         ensures value { result ≡ place self }
         ensures bound { result < 2 ^ 96 }
@@ -108,7 +108,7 @@ impl Spot {
         }
     }
 
-    /// What a label there comes to.
+    /// The sum of a label of the line.
     pub fn here(self) -> Sum
         ensures value { result ≡ here self }
         ensures small { IsTerm result }
@@ -140,7 +140,7 @@ impl Spot {
         }
     }
 
-    /// With so many more words.
+    /// The place after `n` more words in the section.
     #[inline(always)]
     pub fn grown(self, n: u64) -> Spot
         requires { HasRoom 1 self }
@@ -165,7 +165,7 @@ impl Spot {
         }
     }
 
-    /// In another section.
+    /// The place after a `use` line that selects this section.
     pub fn entered(self, section: Section) -> Spot
         ensures value { result ≡ entered self section }
         ensures near { IsNear self result }
@@ -190,7 +190,8 @@ impl Spot {
     }
 }
 
-/// How many words a line places.
+/// The number of words that a line places. `at` is its offset in its section. Fails only with
+/// `NoMemory`.
 pub fn size_of(alloc: Global, deed: Deed, args: &[Arg], at: u128) -> Result<u64, NoMemory>
     ensures { IfOk result (λ n. n ≡ size_of deed args.now at) }
 {
@@ -213,7 +214,7 @@ fn grown_by(alloc: Global, spot: Spot, deed: Deed, args: &[Arg]) -> Result<Spot,
     Ok(spot.grown(size))
 }
 
-// Where the line below one is that enters another section, or whose words are to be counted.
+// The place of the next line, if a line selects a section, or if its words must be counted.
 #[inline(never)]
 fn below_other(alloc: Global, text: &[u8], spot: Spot, line: &Line36) -> Result<Spot, NoMemory>
     requires { HasRoom 1 spot }
@@ -231,7 +232,7 @@ fn below_other(alloc: Global, text: &[u8], spot: Spot, line: &Line36) -> Result<
     }
 }
 
-/// Where the line below is. The error is want of memory alone.
+/// The place of the next line. Fails only with `NoMemory`.
 #[inline(always)]
 #[tactic(auto, unfolding(crate::specs::Spots::below))]
 pub fn below(alloc: Global, text: &[u8], spot: Spot, line: &Line36) -> Result<Spot, NoMemory>
@@ -254,7 +255,7 @@ pub fn below(alloc: Global, text: &[u8], spot: Spot, line: &Line36) -> Result<Sp
     }
 }
 
-/// Where the end is. The error is want of memory alone.
+/// The place after the last line. Fails only with `NoMemory`.
 #[tactic(auto, using(crate::proofs::Rooms::rooms), unfolding(crate::specs::Spots::end_of))]
 pub fn end_of(alloc: Global, text: &[u8], lines: &[Line36]) -> Result<Spot, NoMemory>
     requires { length lines.now < 2 ^ 32 }

@@ -1,4 +1,4 @@
-//! What expressions come to: numbers, and how often each section counts in them.
+//! Sums of terms: numbers, and how often each section counts in them.
 
 ghost use Rattle.std.specs.Prelude.{ℕ, ◌≡◌, ◌+◌, ◌-◌, ◌%◌, ◌≤◌, ◌<◌, ◌^◌, ◌&&◌};
 ghost use Rattle.alm_lines.specs.Sums.{balance_plus, turned, is_even, is_one, is_within, half_of};
@@ -7,26 +7,27 @@ ghost use Rattle.alm_lines.specs.Sums.{sum_turned, kind_of, IsAtMost, IsTerm};
 
 use obj36_parts::Section;
 
-/// A whole number as what is added and what is taken away.
+/// An integer, as the difference of two natural numbers.
 #[derive(Clone, Copy, PartialEq, Eq)]
 pub struct Balance {
     pub up: u128,
     pub down: u128,
 }
 
-/// What an expression comes to: its number, and how often the places of each section are counted in it. `inner` are the
-/// static words of the linkage section, `outer` those of a section of their own.
+/// The sum of an expression: its number, and for each section how often its places count in the
+/// sum, less how often they are subtracted. `inner` is for the static words of the linkage section,
+/// `outer` for those of a static section.
 #[derive(Clone, Copy, PartialEq, Eq)]
 pub struct Sum {
     pub value: Balance,
     pub text: Balance,
     pub inner: Balance,
     pub outer: Balance,
-    /// It stands on the symbol of an `equ` that is refused, so that nothing is known of it.
+    /// The sum depends on the symbol of a refused `equ`, so its value is not known.
     pub unknown: bool,
 }
 
-/// What a sum is: a number, a place of a section, or what no object can say.
+/// What a sum is: a number, a place of a section, or something that an object cannot express.
 #[derive(Clone, Copy, PartialEq, Eq)]
 pub enum Kind {
     Absolute,
@@ -50,7 +51,7 @@ impl Balance {
         }
     }
 
-    /// The number with the other sign.
+    /// The negated number.
     pub fn turned(self) -> Balance
         ensures { result ≡ turned self }
     {
@@ -60,21 +61,21 @@ impl Balance {
         }
     }
 
-    /// The number is 0.
+    /// Whether the number is 0.
     pub fn is_even(self) -> bool
         ensures { result ≡ is_even self }
     {
         self.up == self.down
     }
 
-    /// The number is 1.
+    /// Whether the number is 1.
     pub fn is_one(self) -> bool
         ensures { result ≡ is_one self }
     {
         self.down < self.up && self.up - self.down == 1
     }
 
-    /// The number is from -low to high.
+    /// Whether the number is from -`low` to `high`.
     pub fn is_within(self, low: u64, high: u64) -> bool
         ensures { result ≡ is_within low high self }
     {
@@ -104,7 +105,7 @@ impl Balance {
         (up + ((1 << 15) - down)) % (1 << 15)
     }
 
-    /// The same number, of which nothing is added that is taken away again.
+    /// The same number, with the lesser of `up` and `down` reduced to 0.
     pub fn settled(self) -> Balance
         ensures { result ≡ settled self }
     {
@@ -115,7 +116,7 @@ impl Balance {
     }
 }
 
-/// A number as a sum.
+/// The sum of a number.
 pub fn absolute(n: u64) -> Sum
     ensures value { result ≡ absolute n }
     ensures small { IsTerm result }
@@ -132,7 +133,7 @@ pub fn absolute(n: u64) -> Sum
     }
 }
 
-/// What the symbol of an `equ` that is refused comes to.
+/// The sum of the symbol of a refused `equ`.
 pub fn unknown() -> Sum
     ensures value { result ≡ unknown_sum }
     ensures small { IsTerm result }
@@ -143,7 +144,7 @@ pub fn unknown() -> Sum
     }
 }
 
-// Whether all three hold.
+// Whether all three are true.
 fn all_three(first: bool, second: bool, third: bool) -> bool
     ensures { result ≡ (first && second && third) }
 {
@@ -151,7 +152,8 @@ fn all_three(first: bool, second: bool, third: bool) -> bool
 }
 
 impl Sum {
-    /// The sum of what terms come to and one term more.
+    /// The sum with one more term. The sum of the terms so far is at most 2^128 - 2^96 in each
+    /// part.
     #[tactic(auto, unfolding(crate::specs::Sums::sum_plus))]
     pub fn plus(self, term: Sum) -> Sum
         requires room { IsAtMost (2 ^ 128 - 2 ^ 96) self }
@@ -167,7 +169,7 @@ impl Sum {
         }
     }
 
-    /// The sum with the other sign.
+    /// The negated sum.
     #[tactic(auto, unfolding(crate::specs::Sums::sum_turned))]
     pub fn turned(self) -> Sum
         requires { IsTerm self }
@@ -183,7 +185,7 @@ impl Sum {
         }
     }
 
-    /// What the sum is.
+    /// What the sum is, by how often each section counts in it.
     #[tactic(auto, unfolding(crate::specs::Sums::kind_of))]
     pub fn kind(self) -> Kind
         ensures { result ≡ kind_of self }

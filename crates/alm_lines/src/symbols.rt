@@ -11,7 +11,7 @@ use m36_word::NoMemory;
 use std::alloc::Global;
 use std::marker::Model;
 
-/// Symbols with what they come to, each less than 2^96.
+/// Symbols with their sums, each part of which is less than 2^96. The model is the list of pairs.
 #[derive(Drop)]
 pub struct Symbols {
     sums: IndexMap<Name, Sum, HashSeed>,
@@ -31,7 +31,7 @@ impl Model for Symbols {
 }
 
 impl Symbols {
-    /// No symbols. Their names are hashed by a seed.
+    /// No symbols. Their names will be hashed with this seed.
     pub fn new(alloc: Global, seed: HashSeed) -> Symbols
         ensures { result ≡ [] }
     {
@@ -40,12 +40,12 @@ impl Symbols {
         }
     }
 
-    /// The seed of the hashes.
+    /// The seed of the hash table.
     pub fn seed(&self) -> HashSeed {
         *self.sums.hasher()
     }
 
-    /// What a symbol comes to, if it is defined.
+    /// The sum of a symbol. None if it is not defined.
     #[tactic(auto, using(crate::proofs::SymbolLaws::found_small))]
     pub fn find(&self, name: &Name) -> Option<Sum>
         ensures value { result ≡ sum_named name.now self.now }
@@ -54,7 +54,7 @@ impl Symbols {
         found(&self.sums, name)
     }
 
-    /// Defines a symbol, unless it is defined. Where no memory is found, nothing changes.
+    /// Defines a symbol, unless it is defined already. If memory runs out, nothing changes.
     #[tactic(auto, using(crate::proofs::SymbolLaws::defined))]
     pub fn define(&mut self, name: Name, sum: Sum) -> Result<(), NoMemory>
         requires { IsTerm sum }

@@ -21,16 +21,16 @@ use std::marker::Model;
 /// The value of an expression, as far as a word, a relocation or a refusal needs it.
 #[derive(Clone, Copy, PartialEq, Eq)]
 pub struct Value {
-    /// Its number modulo 2^18.
+    /// The number modulo 2^18.
     pub half: u32,
-    /// The place of its first symbol that is not defined.
+    /// The index in the text of its first symbol that is not defined.
     pub undefined: Option<u32>,
-    /// Its number modulo 2^15.
+    /// The number modulo 2^15.
     pub offset: u16,
     pub kind: Kind,
     pub fits_half: bool,
     pub fits_offset: bool,
-    /// It uses the symbol of an `equ` that is refused.
+    /// Whether it depends on the symbol of a refused `equ`.
     pub unknown: bool,
 }
 
@@ -77,14 +77,14 @@ fn value_by(sum: Sum, undefined: Option<u32>) -> Value
     }
 }
 
-/// A sum, and the place of the first symbol that is not defined, which counts as 0 in it.
+/// A sum, and the index in the text of the first symbol that is not defined, which counts as 0.
 #[derive(Clone, Copy)]
 pub struct Sought {
     pub sum: Sum,
     pub undefined: Option<u32>,
 }
 
-// A symbol is looked up once.
+// Looks up a symbol, once for both the sum and whether it is defined.
 #[tactic(auto, unfolding(crate::specs::Expressions::symbol_sum, crate::specs::Expressions::is_defined))]
 fn seek_symbol(text: &[u8], symbols: &Symbols, span: Span) -> Sought
     ensures sum { result.sum ≡ symbol_sum text.now symbols.now span }
@@ -139,7 +139,7 @@ fn seek_term(text: &[u8], symbols: &Symbols, spot: Spot, term: Term) -> Sought
     }
 }
 
-// In an expression of one term, as most are, a symbol is looked up once.
+// Most expressions have one term. A symbol in it is looked up once.
 fn seek(text: &[u8], symbols: &Symbols, spot: Spot, terms: &[Term]) -> Sought
     requires { length terms.now ≤ 2 ^ 32 }
     ensures sum { result.sum ≡ sum_of text.now symbols.now spot terms.now }
@@ -164,7 +164,7 @@ pub fn evaluate(text: &[u8], symbols: &Symbols, spot: Spot, terms: &[Term]) -> V
     value_by(sought.sum, sought.undefined)
 }
 
-/// The value of no terms.
+/// The value of an expression without terms.
 #[tactic(auto, using(crate::proofs::ValueLaws::no_value_is))]
 pub fn no_value() -> Value
     ensures { result ≡ value_by no_sum None }
@@ -201,7 +201,8 @@ fn is_value(room: Room, may_move: bool, value: Value) -> bool
     value.undefined.is_none() && !value.unknown && value_is_said(room, may_move, value)
 }
 
-/// Nothing is refused of an expression, whose value this is, nor of an `equ` that it uses.
+/// Whether an expression has a value: it is not refused, and it does not depend on a refused `equ`.
+/// `value` is what `evaluate` returned for it.
 #[tactic(auto, using(crate::proofs::ValueLaws::value_given))]
 pub fn is_valued(
     _text: &[u8],
@@ -225,7 +226,7 @@ fn refused_by(line: &Line36, value: Value, wanted: Wanted) -> Option<Refusal>
     refusal_by(line, value.undefined, wanted.place, said)
 }
 
-/// What is refused of an expression, whose value this is.
+/// The refusal of an expression. `value` is what `evaluate` returned for it.
 #[tactic(auto, using(crate::proofs::ValueLaws::refused_given))]
 pub fn value_refused(
     _text: &[u8],
@@ -244,7 +245,7 @@ pub fn value_refused(
     refused_by(line, value, wanted)
 }
 
-/// What the sum of an expression is, whose value this is.
+/// What the sum of an expression is. `value` is what `evaluate` returned for it.
 #[tactic(auto, using(crate::proofs::ValueLaws::kind_given))]
 pub fn kind_valued(
     _text: &[u8],

@@ -1,4 +1,5 @@
--- A label that is no symbol has a byte in the text, and so has the first number out of its range.
+-- A label that is not a symbol begins at a byte of the text, and so does the first number out of
+-- its range.
 use Rattle.std.proofs.Common.{◌≡◌, ℕ, suc, ◌<◌, ◌≤◌, Bool, true, false, cond, List, [], ◌∷◌, length, Option, Some, None, refl, arith, sym, subst}
 use Rattle.std.specs.List.{find, All}
 use Rattle.std.specs.Option.{option_or, IfSome}
@@ -6,7 +7,7 @@ use Rattle.alm_tokens.specs.declared.span.Span.{Span}
 use Rattle.alm_tokens.specs.Heads.{IsMark}
 use Rattle.alm_parse.specs.Lines.{is_no_symbol}
 
--- the first of some labels that is no symbol
+-- the first label that is not a symbol
 marks_by : (p : Span → Bool) (b : Bool) (x y : Span) (rest : Option Span) (P : Span → Type 0) → P x → (rest ≡ Some y → P y) → cond b (Some x) rest ≡ Some y → P y
 marks_by p true x y rest P h later f = let same : x ≡ y = cc in subst P same h
 marks_by p false x y rest P h later f = later f
@@ -33,7 +34,7 @@ or_inside :
 or_inside size None second one two = two
 or_inside size (Some place) second one two = one
 
--- the first of two places, where each is in the text
+-- the first of two indexes in the text
 pub first_inside :
     (size : ℕ) (first second over : Option ℕ)
     → over ≡ option_or first second → IfSome first (λ place. place < size) → IfSome second (λ place. place < size)

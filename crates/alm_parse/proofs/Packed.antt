@@ -15,6 +15,6 @@ unfolding packed
 packed_none [] none = refl
 packed_none (a ∷ bytes) none = absurd (omega (arith, none))
 
--- where nothing is left, all is packed
+-- if nothing is left, everything is packed
 pub packed_done : (words whole rest : List ℕ) → length rest ≡ 0 → words ++ packed rest ≡ whole → words ≡ whole
 packed_done words whole rest none e = sym (append-nil words) ∙ ap (λ more. words ++ more) (sym (packed_none rest none)) ∙ e

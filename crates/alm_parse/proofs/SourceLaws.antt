@@ -26,14 +26,14 @@ refuses_by code.E2 line column definition e = e
 refuses_by code.E3 line column definition e = e
 refuses_by code.E4 line column definition e = e
 
--- a refusal is told as it is
+-- a refusal is the fault of the source
 pub refuses_told : {A : Type 0} (row : Row) (refusal : Refusal) (definition : Result A AlmFault) → definition ≡ Err (fault_of row refusal) → Refuses (fault_of row refusal) definition
 refuses_told row refusal definition e = refuses_by refusal.code row.number _ definition e
 
 abbrev pub ok_lines : List Line36 → Result (List Line36) AlmFault
 ok_lines lines = Ok lines
 
--- a list with one line more at its end
+-- a list with one more line at its end
 pub line_more : (lines new : List Line36) (line : Line36) → new ≡ lines ++ line ∷ [] → length new ≡ length lines + 1
 line_more lines new line e = ap length e ∙ length-append lines (line ∷ [])
 
@@ -46,7 +46,7 @@ told_here text rows before i d refusal fault within e whole told =
     let all : read_lines text [] rows ≡ Err (fault_of (get_or rows i d) refusal) = sym whole ∙ read_row text before rows i d within ∙ ap (continued text (get_or rows i d) before (λ more. read_lines text more (drop (i + 1) rows))) e in
     subst (λ f. Refuses f (read_lines text [] rows)) (sym told) (refuses_told (get_or rows i d) refusal (read_lines text [] rows) all)
 
--- a line is the last that is read
+-- a line is the last that is parsed
 pub last_here :
     (text : List ℕ) (rows : List Row) (before new : List Line36) (i : ℕ) (d : Row) (line : Line36) → i < length rows
     → line_given text (get_or rows i d) ≡ Ok line → names_end text line.op ≡ true
@@ -73,7 +73,7 @@ with_refused : (text : List ℕ) (fault : AlmFault) → read_lines text [] (rows
 unfolding parsed
 with_refused text fault e = ap (with_text text) e
 
--- what refuses the lines refuses the source
+-- the fault of the lines is that of the source
 pub refuses_all : (text : List ℕ) (fault : AlmFault) → Refuses fault (read_lines text [] (rows_of text)) → Refuses fault (parsed text)
 refuses_all text NoMemory h = tt
 refuses_all text (E1 line column) h = with_refused text (E1 line column) h

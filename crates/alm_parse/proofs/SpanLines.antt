@@ -1,4 +1,4 @@
--- The spans of lines lie in the text.
+-- The spans of lines are within the text.
 use Rattle.std.proofs.Common.{◌≡◌, ℕ, ◌+◌, ◌<◌, ◌≤◌, Bool, true, false, cond, List, [], ◌∷◌, ◌++◌, length, map, Option, Some, None, Result, Ok, Err, refl, arith, subst, unwrap_or}
 use Rattle.std.specs.Prelude.{All, IfSome, IfOk, ⊤, slice_index}
 use Rattle.std.proofs.lemmas.List.Elements.{All-append, All-cons, All-nil}
@@ -39,7 +39,7 @@ use Rattle.alm_parse.specs.Spans.{IsSpan, TermIn, ArgIn, LineIn}
 use Rattle.alm_tokens.proofs.Widths.{pr_below, tag_below}
 use Rattle.alm_parse.proofs.SpanParts.{all_head, all_rest, all_map, PieceIn, pieces_in, expression_in, terms_in, BodyIn, body_in, body_pieces_in, HeadIn, head_in, operand_span_in, RowIn, rows_in}
 
--- what is read where nothing is refused
+-- the result if nothing is refused
 unless_ok : {A : Type 0} (r : Option Refusal) (v a : A) → unless r v ≡ Ok a → v ≡ a
 unless_ok None v a e = cc
 unless_ok (Some refusal) v a e = absurd (cc)
@@ -110,7 +110,7 @@ unfolding numbers_given
 numbers_given_in numeral text operand arguments begun e =
     args_ok (length text) _ _ arguments (all_map (PieceIn (length text)) (ArgIn (length text)) (number_arg numeral text) (members text operand) (λ piece is. tt) (members_in text operand begun)) e
 
--- pairs
+-- operands of two members
 member_terms : (text : List ℕ) (piece : Piece) → PieceIn (length text) piece → All (TermIn (length text)) (map (term_of text) (expression_pieces text piece))
 member_terms text piece is =
     let begun : piece.span.from ≤ length text = omega (arith, is.ordered, is.inside) in
@@ -198,7 +198,8 @@ unfolding characters_given
 characters_given_in text rest arguments e =
     characters_closed_in text rest (place_of text (span_at (rest.from + 1) rest.to) (slice_index text rest.from)) arguments (chosen_ok (is_character (slice_index text rest.from)) _ _ arguments e)
 
--- arguments by their operation; the operand of characters reaches to the end of the line, and no span is taken of it
+-- arguments, by the operation; no span is taken from the operand of characters, which extends to
+-- the end of the line
 abbrev pub IsFor : Operation → ℕ → Span → Type 0
 IsFor Instruction count operand = IsSpan count operand
 IsFor Names count operand = IsSpan count operand
@@ -338,13 +339,13 @@ with_text_in text (Ok lines) source all e =
     subst (λ s. All (LineIn (length text)) s.lines) same (all lines refl)
 with_text_in text (Err fault) source all e = absurd (cc)
 
--- the spans of a source that is read lie in its text
+-- the spans of a source that was parsed are within its text
 pub spans_in : (text : List ℕ) (source : Source) → parsed text ≡ Ok source → All (LineIn (length text)) source.lines
 unfolding parsed
 spans_in text source e =
     with_text_in text (read_lines text [] (rows_of text)) source (λ lines f. read_lines_in text [] (rows_of text) lines (All-nil (LineIn (length text))) (rows_in text) f) e
 
--- so do those of a source that is answered
+-- so are those of a source that is returned
 pub spans_say :
     (text : List ℕ) (r : Result Source AlmFault) → ParseSays r (parsed text) → IfOk r (λ source. All (LineIn (length text)) source.lines)
 spans_say text (Ok source) says = spans_in text source says

@@ -1,4 +1,4 @@
--- The parts of a line lie in the text.
+-- The parts of a line are within the text.
 use Rattle.std.proofs.Common.{ℕ, suc, ◌+◌, ◌-◌, ◌<◌, ◌≤◌, ◌==◌, not, Bool, true, false, cond, List, [], ◌∷◌, ◌++◌, length, take, drop, map, Option, Some, None, arith, length-drop, inl, inr}
 use Rattle.std.specs.Prelude.{slice_index, All, IfSome, option_map}
 use Rattle.std.specs.List.{position, position_or_len}
@@ -26,7 +26,7 @@ use Rattle.alm_tokens.specs.Rows.{row_at, rows_from, rows_of}
 use Rattle.alm_parse.specs.Spans.{IsSpan, TermIn}
 use Rattle.alm_tokens.proofs.Widths.{atom_small}
 
--- lists of which each member has a property
+-- lists of which each item has a property
 pub all_head : {X : Type 0} (P : X → Type 0) (x : X) (xs : List X) → All P (x ∷ xs) → P x
 all_head P x xs all = all 0 x (omega arith)
 
@@ -42,18 +42,18 @@ pub all_cond : {X : Type 0} (P : X → Type 0) (b : Bool) (xs ys : List X) → A
 all_cond P true xs ys h k = h
 all_cond P false xs ys h k = k
 
--- a span that is well put in the text
+-- a span within the text
 pub span_in : (count from to : ℕ) → from ≤ to → to ≤ count → IsSpan count (span_at from to)
 span_in count from to order fits = record { ordered = order; inside = fits }
 
--- the bytes of a span end in the text
+-- the bytes of a span end within the text
 pub slice_ends : (text : List ℕ) (span : Span) → span.from ≤ length text → span.from + length (slice_of text span) ≤ length text
 unfolding slice_of
 slice_ends text span begun =
     let count : length (take (span.to - span.from) (drop span.from text)) ≤ length text - span.from = simp (length-take, length-drop) (omega arith) in
     omega (arith, begun, count)
 
--- where they are some, the span begins before the text's end
+-- if a span has bytes, it begins before the end of the text
 pub slice_some : (text : List ℕ) (span : Span) → 0 < length (slice_of text span) → span.from + length (slice_of text span) ≤ length text
 unfolding slice_of
 slice_some text span some =
@@ -102,7 +102,7 @@ pub terms_in :
     (text : List ℕ) (count : ℕ) (pieces : List Piece) → All (PieceIn count) pieces → All (TermIn count) (map (term_of text) pieces)
 terms_in text count pieces all = all_map (PieceIn count) (TermIn count) (term_of text) pieces (λ piece is. record { place = is; number = atom_small (slice_of text piece.span) }) all
 
--- places
+-- indexes
 abbrev pub PlaceIn : List ℕ → Span → ℕ → Type 0
 PlaceIn text span i = (span.from ≤ i) × (i < length text)
 

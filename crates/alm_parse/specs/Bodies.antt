@@ -1,5 +1,5 @@
 -- The operand of an instruction, up to its modifier: a pointer register, a bar and an expression;
--- or a segment, a dollar sign, perhaps an entry, and perhaps a sign and an expression; or an
+-- or a segment, a dollar sign, optionally an entry, and optionally a sign and an expression; or an
 -- expression.
 use Rattle.std.specs.Prelude.{ℕ, ◌+◌, Bool, true, false, not, ◌&&◌, ◌||◌, ◌==◌, List, [], length}
 use Rattle.std.specs.Prelude.{slice_index, Option, Some, None, is_some}
@@ -20,11 +20,11 @@ use Rattle.alm_tokens.specs.Expressions.{expression_pieces}
 use Rattle.alm_tokens.specs.Modifiers.{pr_number}
 use Rattle.alm_tokens.specs.Bytes.{is_sign}
 
--- the first place in a span where a byte stands
+-- the index in the text of the first occurrence of a byte in a span
 unfoldable pub place_of : List ℕ → Span → ℕ → Option ℕ
 place_of text span byte = first_in (λ b. b == byte) text span
 
--- the place behind the bytes at the beginning of a span that may belong to a symbol
+-- the index after the bytes at the beginning of a span that can be part of a symbol
 abbrev pub end_by : Option ℕ → ℕ → ℕ → ℕ
 end_by (Some i) from count = from + i
 end_by None from count = from + count
@@ -34,7 +34,7 @@ symbol_end text span =
     end_by (position (λ b. not (is_name_character b)) (slice_of text span)) span.from
     (length (slice_of text span))
 
--- the parts
+-- the parts of the operand
 abbrev pub external_by : Span → ℕ → ℕ → Body
 external_by whole dollar end =
     External (span_at whole.from dollar) (span_at (dollar + 1) end) (span_at end whole.to)
@@ -54,7 +54,7 @@ body_by text whole None = body_without_bar text whole (place_of text whole 36)
 unfoldable pub body_of : List ℕ → Span → Body
 body_of text whole = body_by text whole (place_of text whole 124)
 
--- the section of a name, of those that a line may name
+-- the section with a name, among those that a source can name
 abbrev pub section_by : (Section → List ℕ) → List ℕ → Option Section
 section_by named name =
     if is_text (named Text) name
@@ -63,11 +63,11 @@ section_by named name =
     then Some Linkage
     else (if is_text (named Static) name then Some Static else None))
 
--- the own section that a segment names
+-- the section of the own object that a segment names
 unfoldable pub own_section : List ℕ → Option Section
 own_section name = section_by own_name name
 
--- the forms of the parts
+-- whether the parts have their forms
 abbrev pub is_segment : List ℕ → Bool
 is_segment bytes = is_symbol bytes || is_some (own_section bytes)
 
@@ -84,7 +84,7 @@ is_body text (External segment entry tail) =
     && is_tail (slice_of text tail)
 is_body text (Plain whole) = true
 
--- The terms. Behind an external name a sign belongs to the first of them.
+-- The terms. After an external name, the sign belongs to the first term.
 unfoldable pub tail_pieces : List ℕ → Span → List Piece
 tail_pieces text tail =
     if length (slice_of text tail) == 0

@@ -1,4 +1,4 @@
--- Texts that are placed: characters between two delimiters, four in a word.
+-- Characters between two delimiters, packed four in a word.
 use Rattle.std.specs.Prelude.{ℕ, ◌≡◌, ◌+◌, ◌^◌, ◌<◌, Bool, true, false, not, List, [], ◌∷◌, length}
 use Rattle.std.specs.Prelude.{take, slice_index, All, Option, Some, None, Result, Ok, Err}
 use Rattle.std.specs.Prelude.{if◌then◌else◌}
@@ -13,7 +13,7 @@ use Rattle.alm_tokens.specs.Bytes.{is_blank, begins_comment, is_character}
 use Rattle.alm_tokens.specs.Tokens.{slice_of, span_at, first_in}
 use Rattle.alm_parse.specs.Bodies.{place_of}
 
--- A character has nine bits, and zeros follow the last.
+-- A character has nine bits. Zeros follow the last one.
 unfoldable pub packed : List ℕ → List ℕ
 packed [] = []
 packed (a ∷ []) = of_quarters a 0 0 0 ∷ []
@@ -21,19 +21,19 @@ packed (a ∷ b ∷ []) = of_quarters a b 0 0 ∷ []
 packed (a ∷ b ∷ c ∷ []) = of_quarters a b c 0 ∷ []
 packed (a ∷ b ∷ c ∷ d ∷ rest) = of_quarters a b c d ∷ packed rest
 
--- The characters that are placed are the quarters of their words, in order.
+-- The quarters of the words of placed characters are these characters in order.
 pub record TextsComeBack : Type 0 where
   pub count : (bytes : List ℕ) → length (packed bytes) ≡ quarter_words (length bytes)
   pub text : (bytes : List ℕ) → All (λ c. c < 2 ^ 9) bytes
       → take (length bytes) (flat_map quarters_of (packed bytes)) ≡ bytes
 
--- the word of the first four, or of those that there are
+-- the word of the first four characters, or of all if there are fewer
 unfoldable pub first_word : List ℕ → ℕ
 first_word bytes =
     of_quarters (slice_index bytes 0) (slice_index bytes 1) (slice_index bytes 2)
     (slice_index bytes 3)
 
--- behind the closing delimiter only blanks stand, and perhaps a comment
+-- only blanks, and perhaps a comment, are after the closing delimiter
 abbrev pub ended_by : Option ℕ → Bool
 ended_by None = true
 ended_by (Some b) = begins_comment b
@@ -41,7 +41,7 @@ ended_by (Some b) = begins_comment b
 abbrev pub is_ended : List ℕ → Bool
 is_ended bytes = ended_by (find (λ b. not (is_blank b)) bytes)
 
--- the first byte that is no character
+-- the index of the first byte that cannot be placed
 unfoldable pub place_bad : List ℕ → Span → Option ℕ
 place_bad text span = first_in (λ b. not (is_character b)) text span
 
@@ -59,7 +59,7 @@ characters_closed text rest (Some close) =
     (is_ended (slice_of text (span_at (close + 1) rest.to)))
 characters_closed text rest None = Err (record { place = rest.from; code = E2 })
 
--- The delimiter is the first byte of what is given.
+-- The delimiter is the first byte of the operand.
 abbrev pub characters_from : List ℕ → Span → ℕ → Result (List Arg) Refusal
 characters_from text rest delimiter =
     if is_character delimiter

@@ -1,4 +1,4 @@
--- What operations do.
+-- The effects of operations.
 use Rattle.std.specs.Prelude.{ℕ, Bool, List, Option, Some, None}
 use Rattle.m36_inst.specs.Lookup.{code_named}
 use Rattle.alm_tokens.specs.Tokens.{slice_of}

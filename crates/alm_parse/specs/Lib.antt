@@ -1,7 +1,7 @@
--- Read first: Sources, whose `parsed` is the lines of a text or its first refusal, and Lines, which
--- says what one line is by its head, its operation and its operand. The other modules are the
--- tokens and the forms of operands, from bytes up; Deeds says what an operation does, and Spans
--- what holds of each line that is read.
+-- Read first: `Sources`, where `parsed` is the lines of a text or its first refusal, and `Lines`,
+-- which defines one line by its head, its operation and its operand. The other modules define the
+-- tokens and the forms of operands from bytes up. `Deeds` has the effects of operations, and
+-- `Spans` the properties of each line that was parsed.
 pub mod Refusals
 pub mod Bodies
 pub mod Operands

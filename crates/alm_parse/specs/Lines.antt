@@ -1,4 +1,4 @@
--- The lines of a source.
+-- The parsed lines of a source.
 use Rattle.std.specs.Prelude.{ℕ, Bool, not, List, [], Option, Some, None, option_map, Result, Ok}
 use Rattle.std.specs.Prelude.{Err}
 use Rattle.std.specs.List.{find}
@@ -27,8 +27,8 @@ use Rattle.alm_tokens.specs.Heads.{head_of, operand_in, delimited_in}
 use Rattle.alm_parse.specs.Operations.{operation_of}
 use Rattle.alm_parse.specs.Deeds.{deed_of}
 
--- A missing operand of an instruction is 0, and some operations have none; any other is told at the
--- operation.
+-- The refusal of a missing operand, which is reported at the operation. The operand of an
+-- instruction may be missing and is then 0. Some operations have no operand.
 abbrev pub missing : Operation → ℕ → Option Refusal
 missing Instruction at = None
 missing Bare at = None
@@ -42,7 +42,7 @@ missing Characters at = Some (record { place = at; code = E2 })
 missing Halves at = Some (record { place = at; code = E2 })
 missing Block at = Some (record { place = at; code = E2 })
 
--- what an operand says by its operation
+-- the arguments in an operand, which depend on the operation
 abbrev pub args_with : Operation → List ℕ → Span → Result (List Arg) Refusal
 args_with Instruction text operand = operand_given text operand
 args_with Names text operand = symbols_given text operand
@@ -76,7 +76,7 @@ args_by operation text op None = unless (missing operation op) []
 unfoldable pub args_of : Operation → List ℕ → ℕ → Span → Result (List Arg) Refusal
 args_of operation text op rest = args_by operation text op (operand_for operation text rest)
 
--- the first label that is no symbol
+-- the refusal of the first label that is not a symbol
 abbrev pub is_no_symbol : List ℕ → Span → Bool
 is_no_symbol text span = not (is_symbol (slice_of text span))
 
@@ -84,7 +84,7 @@ unfoldable pub label_refusal : List ℕ → List Span → Option Refusal
 label_refusal text marks =
     option_map (λ mark. told text mark.from E2) (find (is_no_symbol text) marks)
 
--- a line by its parts
+-- the line with these parts
 abbrev pub line_of : List ℕ → Row → Head → List Arg → Line36
 line_of text row head arguments =
     record {

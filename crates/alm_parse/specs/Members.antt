@@ -1,4 +1,4 @@
--- Operands that are lists: symbols, or numbers, between commas.
+-- Operands that are lists: symbols or numbers, separated by commas.
 use Rattle.std.specs.Prelude.{ℕ, List, map, None, Result}
 use Rattle.std.specs.List.{list_all}
 use Rattle.alm_tokens.specs.declared.span.Span.{Span}

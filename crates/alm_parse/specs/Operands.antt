@@ -1,4 +1,4 @@
--- The operand of an instruction: its body, and perhaps a comma and a modifier.
+-- The operand of an instruction: its body, and optionally a comma and a modifier.
 use Rattle.std.specs.Prelude.{ℕ, ◌+◌, Bool, ◌&&◌, ◌==◌, List, [], ◌∷◌, length, map, Option, Some}
 use Rattle.std.specs.Prelude.{None, Result, is_some, unwrap_or, if◌then◌else◌}
 use Rattle.std.specs.List.{list_all}
@@ -19,7 +19,7 @@ use Rattle.alm_parse.specs.Bodies.{place_of, body_of, is_body, body_pieces}
 use Rattle.m36_text.specs.Results.{unless}
 use Rattle.alm_parse.specs.Refusals.{refused}
 
--- what stands before the comma, and the tag of what stands behind it
+-- the text before the comma, and the tag of the text after it
 abbrev pub body_span : Span → Option ℕ → Span
 body_span operand (Some comma) = span_at operand.from comma
 body_span operand None = operand
@@ -28,7 +28,7 @@ abbrev pub tag_given : List ℕ → Span → Option ℕ → Option ℕ
 tag_given text operand (Some comma) = tag_of (slice_of text (span_at (comma + 1) operand.to))
 tag_given text operand None = Some 0
 
--- what an operand says
+-- the argument of an operand
 abbrev pub entry_given : List ℕ → Span → Option Span
 entry_given text span = if length (slice_of text span) == 0 then None else Some span
 

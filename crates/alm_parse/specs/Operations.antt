@@ -1,4 +1,4 @@
--- The operations: the instructions of the machine, and what directs the assembler.
+-- Operations: the instructions of the machine, and the directives of the assembler.
 use Rattle.std.specs.Prelude.{ℕ, List, codes, Option, Some, None, if◌then◌else◌}
 use Rattle.m36_inst.specs.Lookup.{code_named}
 use Rattle.alm_parse.specs.declared.operation.Operation.{Operation}
@@ -10,11 +10,11 @@ use Rattle.alm_parse.specs.declared.deed.Deed.{Deed}
 use Rattle.alm_parse.specs.declared.deed.Deed.TheVariants as deed
 use Rattle.alm_tokens.specs.Tokens.{is_text}
 
--- behind which nothing is read
+-- the operation after which the text is ignored
 abbrev pub end_name : List ℕ
 end_name = codes "end"
 
--- Each name that directs the assembler: how its operand is read, and what it does.
+-- Each directive of the assembler: how its operand is parsed, and what it does.
 unfoldable pub directive : List ℕ → Option (Operation × Deed)
 directive name =
     if is_text (codes "entry") name

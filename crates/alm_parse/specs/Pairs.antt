@@ -1,4 +1,4 @@
--- Operands of two parts between a comma, and names of sections.
+-- Operands of two members with a comma between them, and names of sections.
 use Rattle.std.specs.Prelude.{ℕ, Bool, ◌&&◌, List, [], ◌∷◌, map}
 use Rattle.std.specs.Prelude.{Option, None, is_some, Result, Err}
 use Rattle.std.specs.List.{list_all}
@@ -20,8 +20,7 @@ use Rattle.m36_text.specs.Results.{unless}
 use Rattle.alm_parse.specs.Refusals.{told, refused}
 use Rattle.alm_parse.specs.Bodies.{section_by}
 
--- An operand of two parts has two members and is read by them; one that has fewer or more is not of
--- its form.
+-- An operand of two members, parsed by `read`. An operand with fewer or more members is refused.
 abbrev pub by_two :
     (Piece → Piece → Result (List Arg) Refusal) → List ℕ → ℕ → List Piece
     → Result (List Arg) Refusal
@@ -72,11 +71,11 @@ block_of_members text at pieces = by_two (block_by text at) text at pieces
 unfoldable pub block_given : List ℕ → Span → Result (List Arg) Refusal
 block_given text operand = block_of_members text operand.from (members text operand)
 
--- the section that a name behind `use` names
+-- the section that is selected by a name after `use`
 unfoldable pub used_section : List ℕ → Option Section
 used_section name = section_by section_name name
 
--- whether it names one
+-- whether a name selects a section
 abbrev pub is_section : List ℕ → Bool
 is_section name = is_some (used_section name)
 

@@ -8,25 +8,26 @@ use Rattle.alm_parse.specs.declared.refusal.Halt.{Halt}
 use Rattle.alm_parse.specs.declared.refusal.Halt.TheVariants.{Refused, NoMemory}
 use Rattle.alm_tokens.specs.Bytes.{is_legal}
 
--- A label, an operation or an operand that is not of its form is told at the place where it begins.
--- Where the byte there is one that no source may have, that byte is told.
+-- The refusal of a label, an operation or an operand, at the index where it begins. If the byte
+-- there is one that no source can have, the code is E1.
 unfoldable pub told : List ℕ → ℕ → Code → Refusal
 told text place code =
     record { place = place; code = if is_legal (slice_index text place) then code else E1 }
 
--- An operand is refused where it is not of its form, or else for its first number out of range.
+-- The refusal of an operand: E2 if it does not have its form, otherwise E4 at its first number out
+-- of range.
 abbrev pub refused : List ℕ → ℕ → Bool → Option ℕ → Option Refusal
 refused text operand false over = Some (told text operand E2)
 refused text operand true (Some place) = Some (record { place = place; code = E4 })
 refused text operand true None = None
 
--- What a reader answers is what the definition says, where want of memory may come at any time.
+-- The result of a parser is that of the definition. It may be NoMemory whatever the text is.
 abbrev pub Reads : {A : Type 0} → Result A Halt → Result A Refusal → Type 0
 Reads (Ok value) definition = definition ≡ Ok value
 Reads (Err (Refused refusal)) definition = definition ≡ Err refusal
 Reads (Err NoMemory) definition = ⊤
 
--- A refusal speaks of a byte that there is, in a text of so many bytes.
+-- The place of a refusal is that of a byte of the text, which has `count` bytes.
 abbrev pub IsInside : ℕ → Refusal → Type 0
 IsInside count refusal = refusal.place < count
 

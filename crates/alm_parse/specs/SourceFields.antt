@@ -1,4 +1,4 @@
--- A source in its lines, with its text.
+-- A source: its text and its parsed lines.
 use Rattle.std.specs.Prelude.{ℕ, List}
 use Rattle.alm_parse.specs.declared.line.Line36.{Line36}
 

@@ -1,4 +1,4 @@
--- A whole source: its lines, or the first refusal in the order of the text.
+-- A source: its lines, or the first refusal in the order of the text.
 use Rattle.std.specs.Prelude.{ℕ, ◌+◌, ◌-◌, ◌≡◌, ⊤, Bool, false, List, [], ◌∷◌, ◌++◌, Option}
 use Rattle.std.specs.Prelude.{Some, None, Result, Ok, Err, if◌then◌else◌}
 use Rattle.m36_text.specs.Results.{and_then}
@@ -17,11 +17,11 @@ use Rattle.alm_tokens.specs.Rows.{rows_of}
 use Rattle.alm_parse.specs.Operations.{end_name}
 use Rattle.alm_parse.specs.Lines.{line_given}
 
--- the column of a place in a line that begins at a place: it counts bytes from 1
+-- the column of an index in a line that begins at `start`; it counts bytes from 1
 abbrev pub column_at : ℕ → ℕ → ℕ
 column_at start place = place - start + 1
 
--- A refusal is told by its line and its column.
+-- The fault with the code of a refusal, at a line and a column.
 abbrev pub fault_by : Code → ℕ → ℕ → AlmFault
 fault_by code.E1 line column = E1 line column
 fault_by code.E2 line column = E2 line column
@@ -31,12 +31,13 @@ fault_by code.E4 line column = E4 line column
 abbrev pub fault_of : Row → Refusal → AlmFault
 fault_of row refusal = fault_by refusal.code row.number (column_at row.span.from refusal.place)
 
--- Nothing is read behind the operation `end`.
+-- Text after the operation `end` is ignored.
 abbrev pub names_end : List ℕ → Option Span → Bool
 names_end text (Some op) = is_text end_name (slice_of text op)
 names_end text None = false
 
--- A line is read, and what follows it is what `further` gives of the lines up to it.
+-- A line is parsed, or refuses the source. The lines after it, unless it is the last, are parsed by
+-- `further`.
 abbrev pub continued : List ℕ → Row → List Line36 → (List Line36 → Result (List Line36) AlmFault)
     → Result Line36 Refusal → Result (List Line36) AlmFault
 continued text row before further (Ok line) =
@@ -54,7 +55,7 @@ with_text text read = and_then read (λ lines. Ok (record { text = text; lines =
 unfoldable pub parsed : List ℕ → Result Source AlmFault
 parsed text = with_text text (read_lines text [] (rows_of text))
 
--- What is answered is what the definition says, where want of memory may come at any time.
+-- The result of a call is that of the definition. It may be NoMemory whatever the text is.
 abbrev pub Refuses : {A : Type 0} → AlmFault → Result A AlmFault → Type 0
 Refuses NoMemory definition = ⊤
 Refuses (E1 line column) definition = definition ≡ Err (E1 line column)

@@ -1,4 +1,5 @@
--- The spans of a line lie in the text, of so many bytes, and its numbers have their widths.
+-- The spans of a line are within the text, which has `count` bytes, and its numbers within their
+-- ranges.
 use Rattle.std.specs.Prelude.{ℕ, ◌<◌, ◌≤◌, ⊤, List, Option, All, IfSome}
 use Rattle.alm_tokens.specs.declared.span.Span.{Span}
 use Rattle.alm_tokens.specs.declared.expression.Term.{Term}

@@ -11,16 +11,17 @@ use std::marker::Model;
 /// An argument of an operation.
 #[derive(Drop)]
 pub enum Arg {
-    /// A symbol, the slice that the span names.
+    /// A symbol: the text of the span.
     Symbol(Span),
-    /// A number, as the word that it is.
+    /// A number, as its word.
     Number(Word),
-    /// Characters, four in a word, with zeros behind the last.
+    /// Characters, four in each word, with zeros after the last one.
     Chars(Words),
-    /// An expression alone.
+    /// An expression.
     Plain(Expr),
-    /// The operand of an instruction: through the pointer register `pr` (0 to 7), or to the segment `seg` and perhaps
-    /// its entry `entry`, or an expression alone; with a tag of 6 bits.
+    /// The operand of an instruction: an expression, which may be relative to the pointer register
+    /// `pr` (0 to 7), or to the segment `seg` and optionally its entry `entry`. The tag of the
+    /// modifier has 6 bits.
     Operand {
         pr: Option<u8>,
         seg: Option<Span>,
@@ -55,7 +56,7 @@ impl Args {
         }
     }
 
-    // An empty list with room for so many, so that it takes no more memory than these need.
+    // An empty list with room for exactly `count` arguments.
     fn with_room(alloc: Global, count: usize) -> Result<Args, NoMemory>
         ensures { IfOk result (λ args. args ≡ []) }
     {
@@ -64,7 +65,7 @@ impl Args {
         })
     }
 
-    /// Adds an argument at the end. Where no memory is found, nothing changes.
+    /// Adds an argument at the end. If memory runs out, nothing changes.
     pub fn push(&mut self, x: Arg) -> Result<(), NoMemory>
         ensures ok { OnOk result (self.new ≡ self.old ++ x ∷ []) }
         ensures err { OnErr result (self.new ≡ self.old) }
@@ -81,21 +82,21 @@ impl Args {
     }
 }
 
-// A list with one argument more.
+// The list with one more argument.
 fn with(mut args: Args, arg: Arg) -> Result<Args, NoMemory>
     ensures { IfOk result (λ more. more ≡ args ++ arg ∷ []) }
 {
     match args.push(arg) {
         Ok(()) => Ok(args),
         Err(fault) => {
-            // Dropped by a call: so the drop is proved once for its type. So below.
+            // A call of `drop` is proved once for its type. The same holds below.
             drop(args);
             Err(fault)
         }
     }
 }
 
-// A list of one argument, with room for so many.
+// A list of one argument, with room for exactly `room` arguments.
 fn begun(alloc: Global, room: usize, arg: Arg) -> Result<Args, NoMemory>
     ensures { IfOk result (λ args. args ≡ arg ∷ []) }
 {
@@ -108,14 +109,14 @@ fn begun(alloc: Global, room: usize, arg: Arg) -> Result<Args, NoMemory>
     }
 }
 
-/// A list of one argument.
+/// A list of one argument. Fails only with `NoMemory`.
 pub fn one(alloc: Global, arg: Arg) -> Result<Args, NoMemory>
     ensures { IfOk result (λ args. args ≡ arg ∷ []) }
 {
     begun(alloc, 1, arg)
 }
 
-/// A list of two arguments.
+/// A list of two arguments. Fails only with `NoMemory`.
 pub fn two(alloc: Global, first: Arg, second: Arg) -> Result<Args, NoMemory>
     ensures { IfOk result (λ args. args ≡ first ∷ second ∷ []) }
 {

@@ -1,4 +1,4 @@
-//! The operand of an instruction, up to its modifier.
+//! Divides the operand of an instruction, up to its modifier.
 
 ghost use Rattle.std.specs.Prelude.{ℕ, ◌≡◌, ◌^◌, ◌<◌, ◌≤◌, ◌+◌, not, length, IfOk, IfSome};
 ghost use Rattle.std.specs.List.{position};
@@ -17,12 +17,13 @@ use m36_word::NoMemory;
 use obj36_parts::Section;
 use std::alloc::Global;
 
-/// What the bytes before the modifier are parted into.
+/// The parts of an operand without its modifier.
 #[derive(Clone, Copy)]
 pub enum Body {
-    /// A pointer register, and the expression behind the bar.
+    /// A pointer register, and the expression after the bar.
     Through(Span, Span),
-    /// A segment, the entry behind the dollar sign, which may be empty, and what follows it, which may be empty too.
+    /// A segment, the entry after the dollar sign, and the text after the entry. The last two may
+    /// be empty.
     External(Span, Span, Span),
     /// An expression.
     Plain(Span),
@@ -35,7 +36,7 @@ fn first_other(bytes: &[u8]) -> Option<usize>
     bytes.iter().position(|b| !is_name_character(*b))
 }
 
-/// The first place in a span where a byte stands.
+/// The index in the text of the first occurrence of a byte in a span.
 #[tactic(auto, unfolding(crate::specs::Bodies::place_of))]
 pub fn place_of(text: &[u8], span: Span, byte: u8) -> Option<u32>
     requires { length text.now < 2 ^ 32 }
@@ -46,7 +47,7 @@ pub fn place_of(text: &[u8], span: Span, byte: u8) -> Option<u32>
     Some(span.from + place as u32)
 }
 
-/// The place behind the bytes at the beginning of a span that may belong to a symbol.
+/// The index after the bytes at the beginning of a span that can be part of a symbol.
 #[tactic(auto, unfolding(crate::specs::Bodies::symbol_end))]
 fn symbol_end(text: &[u8], span: Span) -> u32
     requires { length text.now < 2 ^ 32 }
@@ -85,7 +86,7 @@ fn external(text: &[u8], whole: Span, dollar: u32) -> Body
     )
 }
 
-/// The parts of an operand without its modifier.
+/// Divides an operand without its modifier.
 #[tactic(auto, unfolding(crate::specs::Bodies::body_of))]
 pub fn body_of(text: &[u8], whole: Span) -> Body
     requires { length text.now < 2 ^ 32 }
@@ -128,7 +129,7 @@ fn section_named(bytes: &[u8]) -> Option<Section>
     None
 }
 
-/// The own section that a segment names.
+/// The section of the own object that a segment such as `*text` names. None if it names none.
 pub fn own_section(text: &[u8], segment: Span) -> Option<Section>
     ensures { result ≡ own_section (slice_of text.now segment) }
 {
@@ -153,7 +154,7 @@ fn is_tail(bytes: &[u8]) -> bool
     bytes.is_empty() || is_sign(first_byte(bytes))
 }
 
-/// Whether the parts of an operand are of their forms; its terms are looked at apart.
+/// Whether the parts of an operand have their forms. The terms of its expression are not checked.
 pub fn is_body(text: &[u8], body: Body) -> bool
     ensures { result ≡ is_body text.now body }
 {
@@ -188,7 +189,7 @@ fn tail_pieces(alloc: Global, text: &[u8], tail: Span) -> Result<Pieces, NoMemor
     expression_pieces(alloc, text, whole)
 }
 
-/// The terms of an operand, as pieces.
+/// The terms of the expression of an operand, as pieces. Fails only with `NoMemory`.
 pub fn body_pieces(alloc: Global, text: &[u8], body: Body) -> Result<Pieces, NoMemory>
     requires { length text.now < 2 ^ 32 }
     ensures value { IfOk result (λ p. p ≡ body_pieces text.now body) }

@@ -1,4 +1,4 @@
-//! Texts that are placed: characters between two delimiters.
+//! The operand of `aci`: characters between two delimiters.
 
 ghost use Rattle.std.specs.Prelude.{ℕ, ◌∷◌, ◌≡◌, ◌^◌, ◌<◌, ◌+◌, ◌==◌, not, slice_index, drop, length, Option, IfSome, IfOk, IfErr};
 ghost use Rattle.std.specs.List.{find, position};
@@ -34,7 +34,7 @@ fn word_of_four(bytes: &[u8]) -> Word
     Word::low(high + (byte_or_zero(bytes, 2) << 9) + byte_or_zero(bytes, 3))
 }
 
-// The word of the first four characters, or of those that there are.
+// The word of the first four characters, or of all if there are fewer.
 #[tactic(auto, using(crate::proofs::Packed::packed_first))]
 fn first_word(bytes: &[u8]) -> Word
     requires { 0 < length bytes.now }
@@ -98,7 +98,8 @@ fn place_bad(text: &[u8], span: Span) -> Option<u32>
     Some(span.from + place as u32)
 }
 
-/// Characters between delimiters. What is given begins with the first delimiter, and reaches to the end of the line.
+/// Parses characters between delimiters. `rest` begins with the first delimiter and extends to the
+/// end of the line.
 #[tactic(auto, unfolding(crate::specs::Characters::characters_given))]
 pub fn characters_args(alloc: Global, text: &[u8], rest: Span) -> Result<Args, Halt>
     requires text { length text.now < 2 ^ 32 }

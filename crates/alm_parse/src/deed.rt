@@ -1,28 +1,28 @@
-//! What operations do.
+//! The effects of operations.
 
-/// What an operation does.
+/// The effect of an operation.
 #[derive(Clone, Copy, PartialEq, Eq)]
 pub enum Deed {
-    /// Nothing: there is no operation, or it is `end`.
+    /// None: the line has no operation, or it is `end`.
     Nothing,
-    /// Places an instruction with this operation code and bit 27.
+    /// Places an instruction with this operation code and this bit 27.
     Instruction(u16, bool),
-    /// `entry`.
+    /// `entry`: defines names that may be called.
     Entry,
-    /// `segdef`.
+    /// `segdef`: defines names.
     Segdef,
-    /// `equ`.
+    /// `equ`: gives a symbol a value.
     Equ,
-    /// `use`.
+    /// `use`: selects a section.
     Use,
-    /// `dec`, `oct` and `aci`.
+    /// `dec`, `oct` and `aci`: place words.
     Words,
-    /// `zero`.
+    /// `zero`: places a word of two halves.
     Zero,
-    /// `bss`.
+    /// `bss`: places words of zeros, and gives a symbol their place.
     Block,
-    /// `even`.
+    /// `even`: aligns to an even offset.
     Even,
-    /// `entrybound`.
+    /// `entrybound`: sets the entry bound.
     Bound,
 }

@@ -1,4 +1,4 @@
-//! What names of operations mean: how their operands are read, and what they do.
+//! The names of operations: how their operands are parsed, and what they do.
 
 ghost use Rattle.std.specs.Prelude.{◌≡◌, Option, option_map, IfSome};
 ghost use Rattle.alm_tokens.specs.Tokens.{is_text};
@@ -9,14 +9,15 @@ use crate::deed::Deed;
 use crate::operation::Operation;
 use m36_inst::by_name;
 
-// Whether a name is this one.
+// Whether a text is this name.
 fn is_named(bytes: &[u8], name: &[u8]) -> bool
     ensures { result ≡ is_text name.now bytes.now }
 {
     bytes == name
 }
 
-// A name that directs the assembler.
+// The kind of operand and the effect of a directive of the assembler. None if this is not the name
+// of one.
 #[tactic(auto, unfolding(crate::specs::Operations::directive))]
 fn directive(bytes: &[u8]) -> Option<(Operation, Deed)>
     ensures { result ≡ directive bytes.now }
@@ -60,14 +61,14 @@ fn directive(bytes: &[u8]) -> Option<(Operation, Deed)>
     None
 }
 
-/// What there is to know of the name of an operation: how its operand is read, and what it does.
+/// The meaning of the name of an operation: how its operand is parsed, and what the operation does.
 #[derive(Clone, Copy)]
 pub struct Meaning {
     pub operation: Operation,
     pub deed: Deed,
 }
 
-/// The operation of this name; none where there is none.
+/// The meaning of the name of an operation. None if there is no operation of this name.
 #[tactic(auto, unfolding(crate::specs::Operations::operation_of, crate::specs::Deeds::deed_named))]
 pub fn meaning_of(bytes: &[u8]) -> Option<Meaning>
     ensures operation { option_map (λ meaning. meaning.operation) result ≡ operation_of bytes.now }
@@ -85,7 +86,7 @@ pub fn meaning_of(bytes: &[u8]) -> Option<Meaning>
     }
 }
 
-/// How the operand of an operation of this name is read; none where there is none.
+/// How the operand of an operation is parsed. None if there is no operation of this name.
 pub fn operation_of(bytes: &[u8]) -> Option<Operation>
     ensures { result ≡ operation_of bytes.now }
 {

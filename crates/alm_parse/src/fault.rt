@@ -1,4 +1,4 @@
-//! Why a source is refused.
+//! Why a source cannot be assembled.
 
 ghost use Rattle.std.specs.Prelude.{ℕ, ◌≡◌, ◌-◌, ◌^◌, ◌<◌, ◌+◌};
 ghost use Rattle.alm_parse.specs.Sources.{fault_by, fault_of};
@@ -9,37 +9,38 @@ use alm_tokens::rows::Row;
 use m36_word::NoMemory;
 use thiserror::Error;
 
-/// Why a source is not assembled: a code at a line and a column, both counted from 1 and the column in bytes; or no
-/// memory was found.
+/// Why a source cannot be assembled: a code with a line and a column, both counted from 1 and the
+/// column in bytes, or `NoMemory`.
 #[derive(Clone, Copy, Debug, PartialEq, Eq, Error)]
 pub enum AlmFault {
-    /// A byte that no source may have there.
+    /// A byte that no source can have there.
     #[error("E1 {0} {1}")]
     E1(u32, u32),
-    /// A label or an operand that is not of its form; or an operation that lacks its operand, or has one that it may not
-    /// have.
+    /// A label or an operand that does not have its form, or an operation that lacks its operand or
+    /// must not have one.
     #[error("E2 {0} {1}")]
     E2(u32, u32),
-    /// An operation that there is not.
+    /// There is no such operation.
     #[error("E3 {0} {1}")]
     E3(u32, u32),
-    /// A number out of its range.
+    /// A number that is out of its range.
     #[error("E4 {0} {1}")]
     E4(u32, u32),
-    /// A symbol, or a name of a definition, that is defined a second time.
+    /// A symbol, or the name of a definition, that is defined a second time.
     #[error("E5 {0} {1}")]
     E5(u32, u32),
     /// A symbol that is not defined.
     #[error("E6 {0} {1}")]
     E6(u32, u32),
-    /// A value that does not fit its field, or what no object can say: an expression, a link out of reach, words in a
-    /// section that may not have them, or a name of a definition that is no such label.
+    /// A value that does not fit its field or that an object cannot express: an expression, a link
+    /// out of reach, words in a section that must not have them, or the name of a definition that
+    /// is not a suitable label.
     #[error("E7 {0} {1}")]
     E7(u32, u32),
-    /// A section, or an object, that grows too long.
+    /// A section or an object that is too large.
     #[error("E8 {0} {1}")]
     E8(u32, u32),
-    /// No memory was found.
+    /// Out of memory.
     #[error("no memory")]
     NoMemory,
 }
@@ -63,7 +64,7 @@ fn fault_by(code: Code, line: u32, column: u32) -> AlmFault
     }
 }
 
-/// The refusal of a line, told by its number and the column.
+/// The fault with the code of a refusal, at the number of its line and its column.
 pub fn fault_of(row: Row, refusal: Refusal) -> AlmFault
     requires { refusal.place < 2 ^ 32 - 1 }
     ensures { result ≡ fault_of row refusal }

@@ -1,31 +1,38 @@
-//! The parser of assembly language: a text in, its lines with their labels, operations and operands out.
+//! The parser of assembly language: parses a text into lines with labels, operations and operands.
 //!
-//! A line is any number of labels, each with a colon behind it; then perhaps an operation and its operand; then perhaps a
-//! comment, from a quotation mark on. Blanks and tabs part these. All that stands behind the operation, up to the comment
-//! or the end of the line, is the operand. A symbol has up to 32 letters, digits, `_` and `.`, and begins with a letter or
-//! `_`. An expression is terms joined by `+` and `-`, with a minus before it allowed; a term is a decimal number up to
-//! 262143, without leading zeros, a symbol, or `*`, the current place. The operand of an instruction is an expression, or
-//! one behind a pointer register and a bar, or a segment, a dollar sign, perhaps an entry and perhaps a sign and an
-//! expression; and then perhaps a comma and a modifier. Nothing is read behind the operation `end`.
+//! A line has any number of labels, each followed by a colon, then optionally an operation with its
+//! operand, and then optionally a comment, which begins with a quotation mark. Spaces and tabs
+//! separate these. The text after the operation, up to the comment or the end of the line, is the
+//! operand. A symbol has up to 32 letters, digits, `_` and `.`, and begins with a letter or `_`. An
+//! expression is a sequence of terms joined by `+` and `-`, and may begin with a minus. A term is a
+//! decimal number up to 262143 without leading zeros, a symbol, or `*`, the current place.
 //!
-//! What [`parse`] promises, for every text of fewer than 2^32 bytes: it gives exactly the lines that the text is, by the
-//! definition in `specs/Sources.antt`, which goes down from lines to the tokens of `alm_tokens` in one word for each rule;
-//! or, where the text is not of the language, exactly its first refusal in the order of the text, and the least code where
-//! two are at one place. Want of memory alone may stand in the place of an answer. Each span of a line that is given lies
-//! in the text, each number has its width, and characters that are placed are the quarters of their words, in order.
+//! The operand of an instruction is an expression; or a pointer register, a bar and an expression;
+//! or a segment, a dollar sign, optionally an entry, and optionally a sign and an expression. A
+//! comma and a modifier may follow. Text after the operation `end` is ignored.
 //!
-//! | Code | Exactly where |
-//! |---|---|
-//! | E1 | a label, an operation or an operand begins with a byte that no source may have; or characters that are placed, or their delimiter, have a byte outside octal 40 to 176 |
-//! | E2 | a label or an operand is not of its form; an operation lacks its operand, or has one that it may not have |
-//! | E3 | there is no such operation |
-//! | E4 | a number is out of its range |
+//! For every text of fewer than 2^32 bytes, [`parse`] returns exactly the lines that the definition
+//! in `specs/Sources.antt` gives, which is made of the tokens of `alm_tokens`, with one definition
+//! for each rule. If the text is not in the language, [`parse`] returns its first refusal in the
+//! order of the text, and of two at one place that with the lesser code. It fails with `NoMemory`
+//! if memory runs out. Each span in a line is within the text, each number is within its range, and
+//! the quarters of the words of placed characters are these characters in order.
 //!
-//! A code stands at the line and the column, both counted from 1, of the byte, label, operand, operation or number that it
-//! speaks of; a missing operand stands at the operation.
+//! The codes, each with what it means exactly:
 //!
-//! Source: Multics Processor Manual AL39, "Machine instructions" and "Address modification" for the names of instructions,
-//! registers and modifiers. The language is this project's own profile of the assembler of Multics.
+//! - E1: a label, an operation or an operand begins with a byte that no source can have; or a
+//!   character to be placed, or its delimiter, is outside octal 40 to 176
+//! - E2: a label or an operand does not have its form; or an operation lacks its operand or must
+//!   not have one
+//! - E3: there is no such operation
+//! - E4: a number is out of its range
+//!
+//! A code is reported at the line and the column, both counted from 1, of the byte, label, operand,
+//! operation or number that it is about. A missing operand is reported at the operation.
+//!
+//! Source: Multics Processor Manual AL39, "Machine instructions" and "Address modification" for the
+//! names of instructions, registers and modifiers. The language is this project's own profile of
+//! the assembler of Multics.
 #![tactic(auto)]
 
 pub mod args;

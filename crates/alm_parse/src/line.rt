@@ -1,11 +1,12 @@
-//! The lines of a source.
+//! The parsed lines of a source.
 
 use crate::args::Args;
 use crate::deed::Deed;
 use alm_tokens::span::{Span, Spans};
 
-/// A line of a source: its number, counted from 1, the place where it begins, its labels in order, and its operation
-/// with what this does and is about. An operation without an operand has no arguments.
+/// A line of a source: its labels in order, its operation with its arguments and its effect, the
+/// index in the text where the line begins, and its number, counted from 1. An operation without an
+/// operand has no arguments.
 #[derive(Drop)]
 pub struct Line36 {
     pub labels: Spans,

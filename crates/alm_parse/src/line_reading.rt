@@ -1,4 +1,4 @@
-//! The lines of a source, as they are read.
+//! Parses a line of a source.
 
 ghost use Rattle.std.specs.Prelude.{ℕ, ◌≡◌, ◌^◌, ◌<◌, Option, Result, Ok, IfSome, IfOk, IfErr, length};
 ghost use Rattle.m36_text.specs.Results.{and_then};
@@ -25,7 +25,7 @@ use alm_tokens::span::{Span, bytes_of};
 use alm_tokens::tokens::is_symbol;
 use std::alloc::Global;
 
-// The refusal of an operation that may not stand without an operand.
+// The refusal of an operation that lacks its operand, if it must have one.
 fn missing(operation: Operation, at: u32) -> Option<Refusal>
     ensures value { result ≡ missing operation at }
     ensures place { IfSome result (λ refusal. refusal.place ≡ at) }
@@ -78,7 +78,8 @@ fn operand_for(operation: Operation, text: &[u8], rest: Span) -> Option<Span>
     }
 }
 
-/// The arguments of an operation that stands at `op`, in the rest of its line.
+/// The arguments of an operation. It begins at the index `op`, and `rest` is the text after it in
+/// its line.
 #[tactic(auto, unfolding(crate::specs::Lines::args_of))]
 fn args_of(
     alloc: Global,
@@ -107,7 +108,7 @@ fn is_no_symbol(text: &[u8], span: Span) -> bool
     !is_symbol(bytes_of(text, span))
 }
 
-/// The refusal of the first label that is no symbol.
+/// The refusal of the first label that is not a symbol.
 #[tactic(auto, using(crate::proofs::Inside::mark_inside), unfolding(crate::specs::Lines::label_refusal))]
 fn label_refusal(text: &[u8], labels: &[Span]) -> Option<Refusal>
     requires { All (IsMark (length text.now)) labels.now }
@@ -136,14 +137,14 @@ fn line_of(text: &[u8], row: Row, head: Head, given: Given) -> Line36
     }
 }
 
-/// What the operation of a line does, and its arguments.
+/// The arguments of the operation of a line, and its effect.
 #[derive(Drop)]
 struct Given {
     args: Args,
     deed: Deed,
 }
 
-// The arguments and the deed of a line with this head, unless it is refused.
+// The arguments and the effect of the operation of a line, or the refusal of the line.
 fn given_by(alloc: Global, text: &[u8], row: Row, head: &Head) -> Result<Given, Halt>
     requires text { length text.now < 2 ^ 32 }
     requires marks { All (IsMark (length text.now)) head.now.labels }
@@ -176,7 +177,7 @@ fn given_by(alloc: Global, text: &[u8], row: Row, head: &Head) -> Result<Given, 
     }
 }
 
-/// A line, as it is read.
+/// Parses a line, or refuses it.
 #[tactic(auto, unfolding(crate::specs::Lines::line_given))]
 pub fn read_line(alloc: Global, text: &[u8], row: Row) -> Result<Line36, Halt>
     requires { length text.now < 2 ^ 32 }
@@ -187,7 +188,7 @@ pub fn read_line(alloc: Global, text: &[u8], row: Row) -> Result<Line36, Halt>
     match given_by(alloc, text, row, &head) {
         Ok(given) => Ok(line_of(text, row, head, given)),
         Err(Halt::Refused(refusal)) => {
-            // Dropped by a call: so the drop is proved once for its type. So below.
+            // A call of `drop` is proved once for its type. The same holds below.
             drop(head);
             Err(Halt::Refused(refusal))
         }

@@ -1,4 +1,4 @@
-//! Operands that are lists between commas.
+//! Parses operands that are lists, separated by commas.
 
 ghost use Rattle.std.specs.Prelude.{ℕ, ◌≡◌, ◌^◌, ◌<◌, None, IfOk, IfErr, length, map};
 ghost use Rattle.std.specs.List.{list_all};
@@ -26,7 +26,7 @@ fn symbol_args(alloc: Global, members: &[Piece]) -> Result<Args, NoMemory>
     Ok(args)
 }
 
-// Symbols that are these members.
+// The arguments of these members, which must be symbols. `at` is the index of the operand.
 fn symbols_of(alloc: Global, text: &[u8], at: u32, members: &[Piece]) -> Result<Args, Halt>
     requires { at < length text.now }
     ensures value { Reads result
@@ -41,7 +41,7 @@ fn symbols_of(alloc: Global, text: &[u8], at: u32, members: &[Piece]) -> Result<
     Ok(symbol_args(alloc, members)?)
 }
 
-/// Symbols between commas.
+/// Parses symbols separated by commas.
 #[tactic(auto, unfolding(crate::specs::Members::symbols_given))]
 pub fn symbols_args(alloc: Global, text: &[u8], operand: Span) -> Result<Args, Halt>
     requires text { length text.now < 2 ^ 32 }
@@ -51,12 +51,12 @@ pub fn symbols_args(alloc: Global, text: &[u8], operand: Span) -> Result<Args, H
 {
     let members = members(alloc, text, operand)?;
     let given = symbols_of(alloc, text, operand.from, members.items());
-    // Dropped by a call: so the drop is proved once for its type. So below.
+    // A call of `drop` is proved once for its type. The same holds below.
     drop(members);
     given
 }
 
-/// A number, as an argument.
+/// A number as an argument.
 pub fn number_arg(numeral: Numeral, text: &[u8], member: &Piece) -> Arg
     ensures { result ≡ number_arg numeral text.now member.now }
 {
@@ -78,7 +78,7 @@ fn number_args(
     Ok(args)
 }
 
-// Numbers that are these members.
+// The arguments of these members, which must be numbers. `at` is the index of the operand.
 fn numbers_by(
     alloc: Global,
     numeral: Numeral,
@@ -98,7 +98,7 @@ fn numbers_by(
     Ok(number_args(alloc, numeral, text, members)?)
 }
 
-/// Numbers between commas.
+/// Parses numbers separated by commas.
 #[tactic(auto, unfolding(crate::specs::Members::numbers_given))]
 pub fn numbers_args(
     alloc: Global,

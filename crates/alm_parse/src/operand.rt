@@ -1,4 +1,4 @@
-//! The operand of an instruction.
+//! Parses the operand of an instruction.
 
 ghost use Rattle.std.specs.Prelude.{ℕ, ◌≡◌, ◌^◌, ◌<◌, Option, IfSome, IfOk, IfErr, length, map};
 ghost use Rattle.alm_tokens.specs.Expressions.{term_of};
@@ -27,7 +27,8 @@ fn body_span(operand: Span, comma: Option<u32>) -> Span
     }
 }
 
-// The tag of the modifier behind the comma, if there is one.
+// The tag of the modifier after the comma, and 0 if there is no comma. None if the modifier is not
+// one.
 fn tag_given(text: &[u8], operand: Span, comma: Option<u32>) -> Option<u8>
     requires text { length text.now < 2 ^ 32 }
     requires comma { IfSome comma (λ i. i < length text.now) }
@@ -84,7 +85,7 @@ fn operand_of(text: &[u8], body: Body, expr: Expr, tag: u8) -> Arg
     }
 }
 
-/// The operand of an instruction, of which there is a byte at least.
+/// Parses the operand of an instruction, which has at least one byte.
 #[tactic(auto, unfolding(crate::specs::Operands::operand_given))]
 pub fn operand_args(alloc: Global, text: &[u8], operand: Span) -> Result<Args, Halt>
     requires text { length text.now < 2 ^ 32 }

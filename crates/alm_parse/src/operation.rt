@@ -1,6 +1,6 @@
-//! The operations: the instructions, and what directs the assembler.
+//! Kinds of operands: of instructions, and of the directives of the assembler.
 
-/// What kind of operand an operation has.
+/// The kind of operand that an operation has.
 #[derive(Clone, Copy, PartialEq, Eq)]
 pub enum Operation {
     /// An instruction.
@@ -23,6 +23,6 @@ pub enum Operation {
     Block,
     /// `even` and `entrybound`, which have no operand.
     Bare,
-    /// `end`, behind which nothing is read.
+    /// `end`, after which the text is ignored.
     End,
 }

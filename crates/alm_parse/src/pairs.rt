@@ -1,4 +1,4 @@
-//! Operands of two parts, and names of sections.
+//! Parses operands of two members, and names of sections.
 
 ghost use Rattle.std.specs.Prelude.{ℕ, [], ◌∷◌, ◌≡◌, ◌≤◌, ◌^◌, ◌<◌, Option, IfSome, IfOk, IfErr, length, map};
 ghost use Rattle.alm_tokens.specs.Expressions.{expression_pieces, term_of};
@@ -20,7 +20,7 @@ use m36_word::NoMemory;
 use obj36_parts::Section;
 use std::alloc::Global;
 
-// The expression whose terms are these pieces, as an argument.
+// The expression with these terms, as an argument.
 fn plain_arg(alloc: Global, text: &[u8], pieces: &[Piece]) -> Result<Arg, NoMemory>
     requires { length pieces.now ≤ 2 ^ 32 }
     ensures { IfOk result (λ plain. plain ≡ arg.Plain (map (term_of text.now) pieces.now)) }
@@ -28,7 +28,7 @@ fn plain_arg(alloc: Global, text: &[u8], pieces: &[Piece]) -> Result<Arg, NoMemo
     Ok(Arg::Plain(expr_of(alloc, text, pieces)?))
 }
 
-// A symbol, and the expression whose terms are these pieces.
+// A symbol, and the expression with these terms. `at` is the index of the operand.
 fn value_by(
     alloc: Global,
     text: &[u8],
@@ -50,7 +50,7 @@ fn value_by(
     Ok(two(alloc, Arg::Symbol(name.span), value)?)
 }
 
-// A symbol, and the expression that a piece is.
+// A symbol and the expression in a piece. `at` is the index of the operand.
 fn value_with(alloc: Global, text: &[u8], at: u32, name: &Piece, value: Piece) -> Result<Args, Halt>
     requires text { length text.now < 2 ^ 32 }
     requires inside { at < length text.now }
@@ -60,12 +60,12 @@ fn value_with(alloc: Global, text: &[u8], at: u32, name: &Piece, value: Piece) -
 {
     let pieces = expression_pieces(alloc, text, value)?;
     let given = value_by(alloc, text, at, name, pieces.items());
-    // Dropped by a call: so the drop is proved once for its type. So below.
+    // A call of `drop` is proved once for its type. The same holds below.
     drop(pieces);
     given
 }
 
-// A symbol and an expression, if the members of an operand are these.
+// A symbol and an expression, if an operand has these two members.
 fn value_of_members(alloc: Global, text: &[u8], at: u32, members: &[Piece]) -> Result<Args, Halt>
     requires text { length text.now < 2 ^ 32 }
     requires inside { at < length text.now }
@@ -78,7 +78,7 @@ fn value_of_members(alloc: Global, text: &[u8], at: u32, members: &[Piece]) -> R
     value_with(alloc, text, at, name, *value)
 }
 
-/// A symbol and an expression.
+/// Parses a symbol and an expression.
 #[tactic(auto, unfolding(crate::specs::Pairs::value_given))]
 pub fn value_args(alloc: Global, text: &[u8], operand: Span) -> Result<Args, Halt>
     requires text { length text.now < 2 ^ 32 }
@@ -92,7 +92,7 @@ pub fn value_args(alloc: Global, text: &[u8], operand: Span) -> Result<Args, Hal
     given
 }
 
-// The two expressions whose terms are these pieces, as arguments.
+// The two expressions with these terms, as arguments.
 fn plain_args(alloc: Global, text: &[u8], left: &[Piece], right: &[Piece]) -> Result<Args, NoMemory>
     requires left { length left.now ≤ 2 ^ 32 }
     requires right { length right.now ≤ 2 ^ 32 }
@@ -111,7 +111,7 @@ fn plain_args(alloc: Global, text: &[u8], left: &[Piece], right: &[Piece]) -> Re
     }
 }
 
-// Two expressions whose terms are these pieces.
+// Two expressions with these terms. `at` is the index of the operand.
 #[tactic(auto, using(crate::proofs::Inside::first_inside))]
 fn halves_by(
     alloc: Global,
@@ -136,7 +136,7 @@ fn halves_by(
     Ok(plain_args(alloc, text, left, right)?)
 }
 
-// Two expressions: the first has these terms, and the second is a piece.
+// Two expressions: the first has these terms, and the second is in a piece.
 fn halves_behind(
     alloc: Global,
     text: &[u8],
@@ -157,7 +157,7 @@ fn halves_behind(
     given
 }
 
-// Two expressions that pieces are.
+// Two expressions in pieces.
 fn halves_with(alloc: Global, text: &[u8], at: u32, left: Piece, right: Piece) -> Result<Args, Halt>
     requires text { length text.now < 2 ^ 32 }
     requires inside { at < length text.now }
@@ -172,7 +172,7 @@ fn halves_with(alloc: Global, text: &[u8], at: u32, left: Piece, right: Piece) -
     given
 }
 
-// Two expressions, if the members of an operand are these.
+// Two expressions, if an operand has these two members.
 fn halves_of_members(alloc: Global, text: &[u8], at: u32, members: &[Piece]) -> Result<Args, Halt>
     requires text { length text.now < 2 ^ 32 }
     requires inside { at < length text.now }
@@ -185,7 +185,7 @@ fn halves_of_members(alloc: Global, text: &[u8], at: u32, members: &[Piece]) -> 
     halves_with(alloc, text, at, *left, *right)
 }
 
-/// Two expressions.
+/// Parses two expressions.
 #[tactic(auto, unfolding(crate::specs::Pairs::halves_given))]
 pub fn halves_args(alloc: Global, text: &[u8], operand: Span) -> Result<Args, Halt>
     requires text { length text.now < 2 ^ 32 }
@@ -199,7 +199,7 @@ pub fn halves_args(alloc: Global, text: &[u8], operand: Span) -> Result<Args, Ha
     given
 }
 
-// A symbol and a number, if the members of an operand are these.
+// A symbol and a number, if an operand has these two members.
 fn block_of_members(alloc: Global, text: &[u8], at: u32, members: &[Piece]) -> Result<Args, Halt>
     requires { at < length text.now }
     ensures value { Reads result (block_of_members text.now at members.now) }
@@ -217,7 +217,7 @@ fn block_of_members(alloc: Global, text: &[u8], at: u32, members: &[Piece]) -> R
     Ok(two(alloc, Arg::Symbol(name.span), count)?)
 }
 
-/// A symbol and a number.
+/// Parses a symbol and a number.
 #[tactic(auto, unfolding(crate::specs::Pairs::block_given))]
 pub fn block_args(alloc: Global, text: &[u8], operand: Span) -> Result<Args, Halt>
     requires text { length text.now < 2 ^ 32 }
@@ -231,7 +231,7 @@ pub fn block_args(alloc: Global, text: &[u8], operand: Span) -> Result<Args, Hal
     given
 }
 
-/// The section that a name behind `use` names.
+/// The section that is selected by this name after `use`. None if there is no such section.
 #[tactic(auto, unfolding(crate::specs::Pairs::used_section))]
 pub fn used_section(bytes: &[u8]) -> Option<Section>
     ensures { result ≡ used_section bytes.now }
@@ -248,7 +248,7 @@ pub fn used_section(bytes: &[u8]) -> Option<Section>
     None
 }
 
-/// The name of a section.
+/// Parses the name of a section.
 #[tactic(auto, unfolding(crate::specs::Pairs::section_given))]
 pub fn section_args(alloc: Global, text: &[u8], operand: Span) -> Result<Args, Halt>
     requires { operand.from < length text.now }

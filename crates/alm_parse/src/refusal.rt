@@ -7,28 +7,28 @@ ghost use Rattle.alm_parse.specs.declared.refusal.Halt.TheVariants as halt;
 use alm_tokens::bytes::is_legal;
 use m36_word::NoMemory;
 
-/// What is wrong with a source that is not of the language.
+/// What is wrong with a source that is not in the language.
 #[derive(Clone, Copy)]
 pub enum Code {
-    /// A byte that no source may have there.
+    /// A byte that no source can have there.
     E1,
-    /// A label or an operand that is not of its form; or an operation that lacks its operand, or has one that it may not
-    /// have.
+    /// A label or an operand that does not have its form, or an operation that lacks its operand or
+    /// must not have one.
     E2,
-    /// An operation that there is not.
+    /// There is no such operation.
     E3,
-    /// A number out of its range.
+    /// A number that is out of its range.
     E4,
 }
 
-/// A code, and the place in the text, counted from 0, of what it speaks of.
+/// A code, and the index in the text, counted from 0, of what it is about.
 #[derive(Clone, Copy)]
 pub struct Refusal {
     pub place: u32,
     pub code: Code,
 }
 
-/// Why a part of a source is not read.
+/// Why a part of a source could not be parsed.
 #[derive(Clone, Copy)]
 pub enum Halt {
     Refused(Refusal),
@@ -51,7 +51,7 @@ impl From<NoMemory> for Halt {
     }
 }
 
-/// The byte at a place of a text; 0 behind its end.
+/// The byte at an index of a text, and 0 past the end.
 pub fn byte_at(text: &[u8], place: u32) -> u8
     ensures { result ≡ slice_index text.now place }
 {
@@ -59,8 +59,8 @@ pub fn byte_at(text: &[u8], place: u32) -> u8
     if place < text.len() { text[place] } else { 0 }
 }
 
-/// The refusal of a token that begins at a place: where the byte there is one that no source may have, it is that byte
-/// that is refused.
+/// The refusal of a token that begins at an index. If the byte there is one that no source can
+/// have, the code is E1.
 #[tactic(auto, unfolding(crate::specs::Refusals::told))]
 pub fn told(text: &[u8], place: u32, code: Code) -> Refusal
     ensures value { result ≡ told text.now place code }
@@ -76,7 +76,8 @@ pub fn told(text: &[u8], place: u32, code: Code) -> Refusal
     }
 }
 
-/// The refusal of an operand: that it is not of its form, or else its first number out of range, if it has one.
+/// The refusal of an operand: E2 if it does not have its form, and otherwise E4 at its first number
+/// out of range, if it has one.
 pub fn refused(text: &[u8], operand: u32, form: bool, over: Option<u32>) -> Option<Refusal>
     requires inside { operand < length text.now }
     requires over { IfSome over (λ place. place < length text.now) }

@@ -54,7 +54,8 @@ impl Lines {
     }
 }
 
-/// A source in its lines, fewer than 2^32, with a copy of its text, of which the spans of the lines speak.
+/// The lines of a source, fewer than 2^32, with a copy of its text, to which the spans of the lines
+/// refer.
 #[derive(Drop)]
 pub struct Lines36 {
     text: Text,
@@ -73,14 +74,15 @@ impl Model for Lines36 {
 }
 
 impl Lines36 {
-    /// The text.
+    /// The text of the source.
     pub fn text(&self) -> &[u8]
         ensures { result.now ≡ self.now.text }
     {
         self.text.bytes()
     }
 
-    /// The lines in order, up to the one whose operation is `end`, or else all. Empty lines are among them.
+    /// The lines in order, including empty ones, up to the line with the operation `end` or to the
+    /// last.
     pub fn lines(&self) -> &[Line36]
         ensures value { result.now ≡ self.now.lines }
         ensures count { length self.now.lines < 2 ^ 32 }
@@ -135,8 +137,9 @@ fn read_source(alloc: Global, text: &[u8]) -> Result<Lines36, AlmFault>
     Ok(Lines36 { text, lines })
 }
 
-/// Reads a source. It is refused exactly where it is not of the language, with the first of the codes E1 to E4 in the
-/// order of the text, and the least of them at one place; or where no memory is found.
+/// Parses a source. It is refused exactly if it is not in the language, with the first of the codes
+/// E1 to E4 in the order of the text, and the least of them at one place. It may fail with
+/// `NoMemory` whatever the text is.
 #[tactic(auto, using(crate::proofs::SpanLines::spans_say))]
 pub fn parse(alloc: Global, text: &[u8]) -> Result<Lines36, AlmFault>
     requires { length text.now < 2 ^ 32 }

@@ -1,4 +1,4 @@
--- Pieces of a text, byte by byte.
+-- A text divided into pieces, byte by byte.
 use Rattle.std.proofs.Common.{◌≡◌, ℕ, ◌+◌, ◌<◌, ◌≤◌, ◌==◌, Bool, true, false, cond, List, [], ◌∷◌, length, drop, get_or, refl, drop-cons, add-one, ◌++◌, ap, ◌∙◌}
 use Rattle.std.proofs.lemmas.List.{length-append}
 use Rattle.std.proofs.Math.ListN.{drop_of_length-le}
@@ -6,7 +6,7 @@ use Rattle.alm_tokens.specs.declared.pieces.Parter.{Parter}
 use Rattle.alm_tokens.specs.declared.pieces.Piece.{Piece}
 use Rattle.alm_tokens.specs.Pieces.{parts, piece_at, cut}
 
--- by whether the next byte parts
+-- the cases of whether the next byte separates pieces
 cut_step :
     (parter : Parter) (minus : Bool) (from at : ℕ) (bytes : List ℕ) (i : ℕ) → i < length bytes
     → cut parter minus from at (drop i bytes)
@@ -14,7 +14,7 @@ cut_step :
 unfolding cut
 cut_step parter minus from at bytes i within = rw (add-one i, drop-cons bytes i 0) refl
 
--- at a byte that parts, a piece ends
+-- at a byte that separates, a piece ends
 pub cut_ends :
     (parter : Parter) (minus : Bool) (from at : ℕ) (bytes : List ℕ) (i : ℕ) → i < length bytes
     → parts parter (get_or bytes i 0) ≡ true
@@ -22,7 +22,7 @@ pub cut_ends :
 cut_ends parter minus from at bytes i within e =
     cut_step parter minus from at bytes i within ∙ ap (λ parted. cond parted (piece_at minus from at ∷ cut parter (get_or bytes i 0 == 45) (at + 1) (at + 1) (drop (i + 1) bytes)) (cut parter minus from (at + 1) (drop (i + 1) bytes))) e
 
--- at any other it goes on
+-- at any other byte the piece goes on
 pub cut_goes_on :
     (parter : Parter) (minus : Bool) (from at : ℕ) (bytes : List ℕ) (i : ℕ) → i < length bytes
     → parts parter (get_or bytes i 0) ≡ false

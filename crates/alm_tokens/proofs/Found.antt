@@ -1,4 +1,4 @@
--- What is found passes, and a number over the limit has a byte in the text.
+-- An item that is found passes the test, and a number over the limit has a byte in the text.
 use Rattle.std.proofs.Common.{◌≡◌, ℕ, ◌-◌, ◌<◌, ◌≤◌, Bool, true, false, cond, List, [], ◌∷◌, length, take, drop, Option, Some, refl, arith, length-drop, subst}
 use Rattle.std.specs.List.{find}
 use Rattle.std.proofs.lemmas.Bool.{false≢true}
@@ -12,7 +12,7 @@ use Rattle.alm_tokens.specs.Tokens.{slice_of, is_over}
 use Rattle.alm_tokens.specs.Numerals.{read_as}
 use Rattle.alm_tokens.specs.Lists.{is_out_at}
 
--- what is found passes
+-- an item that is found passes the test
 found_by : {X : Type 0} (p : X → Bool) (b : Bool) (x y : X) (rest : Option X) → p x ≡ b → (rest ≡ Some y → p y ≡ true) → cond b (Some x) rest ≡ Some y → p y ≡ true
 found_by p true x y rest e later f = let same : x ≡ y = cc in subst (λ z. p z ≡ true) same e
 found_by p false x y rest e later f = later f
@@ -21,14 +21,14 @@ pub found_passes : {X : Type 0} (p : X → Bool) (xs : List X) (y : X) → find 
 found_passes p [] y e = absurd (cc)
 found_passes p (x ∷ xs) y e = found_by p (p x) x y (find p xs) refl (λ f. found_passes p xs y f) e
 
--- what names a byte begins before the text's end
+-- a nonempty span begins before the end of the text
 pub slice_inside : (text : List ℕ) (span : Span) → 0 < length (slice_of text span) → span.from < length text
 unfolding slice_of
 slice_inside text span some =
     let count : length (take (span.to - span.from) (drop span.from text)) ≤ length text - span.from = simp (length-take, length-drop) (omega arith) in
     omega (arith, some, count)
 
--- a text without a byte is no number
+-- an empty text is not a number
 pub out_some : (numeral : Numeral) (bytes : List ℕ) → is_over (read_as numeral bytes) ≡ true → 0 < length bytes
 unfolding number_read
 out_some Decimal [] e = absurd (false≢true e)

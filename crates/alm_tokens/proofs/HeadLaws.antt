@@ -1,4 +1,4 @@
--- A line, byte by byte.
+-- A line divided into tokens, byte by byte.
 use Rattle.std.proofs.Common.{◌≡◌, ℕ, ◌+◌, ◌<◌, ◌≤◌, ◌==◌, true, false, cond, List, [], ◌∷◌, ◌++◌, length, drop, get_or, refl, sym, ap, ◌∙◌, drop-cons, add-one, subst}
 use Rattle.std.specs.List.{All}
 use Rattle.std.proofs.lemmas.List.Elements.{All-append, All-cons, All-nil}
@@ -50,7 +50,7 @@ pub head_end :
 unfolding head_from
 head_end marks from at bytes i past = rw (drop_of_length-le bytes past) refl
 
--- a label more
+-- one more label
 pub marks_more :
     (count : ℕ) (marks new : List Span) (from at : ℕ) → All (IsMark count) marks → from ≤ at → at < count
     → new ≡ marks ++ span_at from at ∷ [] → All (IsMark count) new

@@ -1,10 +1,10 @@
--- The word of a negative number is read as that number.
+-- The word of a negative number means this number.
 use Rattle.std.proofs.Common.{ℕ, zero, suc, ◌≡◌, ◌+◌, ◌-◌, ◌*◌, ◌%◌, ◌^◌, ◌≤◌, pos, neg_ℤ, refl, arith}
 use Rattle.std.proofs.lemmas.Int.{ints}
 use Rattle.m36_word.specs.Signed.{signed}
 use Rattle.alm_tokens.specs.Numerals.{NegativesMean}
 
--- a word from half of the range on, and the magnitude with which it makes up the whole range
+-- a word of at least half the range, and the magnitude that complements it to the range
 complement : (half v m : ℕ) → half ≤ v → m + v ≡ 2 * half → signed half v ≡ neg_ℤ (pos m)
 unfolding signed
 complement half v m high e = grind (arith, ints)

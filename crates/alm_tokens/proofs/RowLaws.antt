@@ -1,4 +1,4 @@
--- Lines of a text, byte by byte.
+-- A text divided into lines, byte by byte.
 use Rattle.std.proofs.Common.{◌≡◌, ℕ, ◌+◌, ◌<◌, ◌≤◌, ◌==◌, true, false, cond, List, [], ◌∷◌, length, drop, get_or, refl, arith, drop-cons, add-one, ◌++◌, sym, ap, ◌∙◌, append-nil}
 use Rattle.std.proofs.lemmas.List.{length-append}
 use Rattle.std.proofs.lemmas.Bool.Decides.{nat_tests}
@@ -27,7 +27,7 @@ rows_last number from at text i past = rw (drop_of_length-le text past) refl
 same : (m n : ℕ) → m ≡ n → (m == n) ≡ true
 same m n e = grind (arith, nat_tests)
 
--- where nothing stands behind the last line feed, all lines are there
+-- if no text follows the last line feed, all lines are found
 pub rows_done :
     (rows whole : List Row) (number from at : ℕ) (text : List ℕ) (i : ℕ) → length text ≤ i → from ≡ at
     → rows ++ rows_from number from at (drop i text) ≡ whole → rows ≡ whole

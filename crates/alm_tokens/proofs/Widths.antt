@@ -1,4 +1,4 @@
--- The numbers of a line have their widths.
+-- The numbers of a line are within their ranges.
 use Rattle.std.proofs.Common.{◌≡◌, ℕ, ◌+◌, ◌-◌, ◌<◌, ◌≤◌, ◌&&◌, ◌==◌, Bool, true, false, cond, List, [], ◌∷◌, length, take, Option, Some, None, Ok, Err, refl, arith, leb}
 use Rattle.std.specs.Prelude.{IfSome, option_map, slice_index, nat_lt}
 use Rattle.std.proofs.lemmas.Bool.{and_parts, leb-true, ltb-true}

@@ -1,4 +1,4 @@
--- Expressions: terms joined by + and -. A minus may stand before the first term.
+-- Expressions: terms joined by + and -. The first term may follow a minus.
 use Rattle.std.specs.Prelude.{ℕ, ◌+◌, ◌≤◌, ⊤, Bool, not, ◌||◌, List, codes}
 use Rattle.std.specs.Prelude.{if◌then◌else◌}
 use Rattle.alm_tokens.specs.declared.pieces.Parter.TheVariants.{Sign}
@@ -11,7 +11,7 @@ use Rattle.alm_tokens.specs.Tokens.{most_number}
 use Rattle.alm_tokens.specs.Numerals.{is_number, is_negative}
 use Rattle.alm_tokens.specs.Pieces.{pieces_of, piece_at}
 
--- A term is a number, a symbol, or *, the current place.
+-- A term is a number, a symbol, or *, which is the current place.
 abbrev pub is_here : List ℕ → Bool
 is_here bytes = is_text (codes "*") bytes
 
@@ -21,8 +21,7 @@ is_term bytes = is_here bytes || is_number bytes || is_symbol bytes
 abbrev pub is_term_at : List ℕ → Piece → Bool
 is_term_at text piece = is_term (slice_of text piece.span)
 
--- The terms as pieces: behind a minus that stands before the whole the first term has
--- the other sign.
+-- The terms, as pieces. A minus at the beginning of the expression negates the first term.
 unfoldable pub signed_start : List ℕ → Piece → Piece
 signed_start text whole =
     if is_negative (slice_of text whole.span)
@@ -32,7 +31,7 @@ signed_start text whole =
 unfoldable pub expression_pieces : List ℕ → Piece → List Piece
 expression_pieces text whole = pieces_of Sign text (signed_start text whole)
 
--- what a piece says as a term
+-- the term in a piece
 unfoldable pub atom_of : List ℕ → Atom
 atom_of bytes =
     if is_here bytes
@@ -43,7 +42,7 @@ abbrev pub term_of : List ℕ → Piece → Term
 term_of text piece =
     record { what = atom_of (slice_of text piece.span); span = piece.span; minus = piece.minus }
 
--- a number is within the limit
+-- a number in a term is within the limit
 abbrev pub IsSmall : Atom → Type 0
 IsSmall (Number n) = n ≤ most_number
 IsSmall Symbol = ⊤

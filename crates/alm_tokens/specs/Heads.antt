@@ -1,5 +1,5 @@
--- The labels and the operation of a line, and where its operand stands. Blanks and tabs part
--- tokens, a colon ends a label, and a quotation mark begins a comment.
+-- The labels, the operation and the operand of a line. Blanks and tabs separate tokens, a colon
+-- ends a label, and a quotation mark begins a comment.
 use Rattle.std.specs.Prelude.{ℕ, ◌+◌, ◌<◌, ◌≤◌, Bool, not, ◌==◌, List, [], ◌∷◌, ◌++◌, slice_index}
 use Rattle.std.specs.Prelude.{Option, Some, None, if◌then◌else◌}
 use Rattle.alm_tokens.specs.declared.span.Span.{Span}
@@ -9,8 +9,8 @@ use Rattle.alm_tokens.specs.declared.head.Head.{Head}
 use Rattle.alm_tokens.specs.Bytes.{is_blank, begins_comment}
 use Rattle.alm_tokens.specs.Tokens.{slice_of, span_at, first_in}
 
--- What a byte does to the tokens before the operand: `fresh` says that no byte of the token stands
--- before it.
+-- The effect of a byte on the tokens before the operand. `fresh` is true if the token has no byte
+-- yet.
 abbrev pub turn_of : ℕ → Bool → Turn
 turn_of b fresh =
     if b == 58
@@ -25,14 +25,15 @@ token from to = if from == to then None else Some (span_at from to)
 abbrev pub head_at : List Span → ℕ → ℕ → Head
 head_at marks from at = record { labels = marks; op = token from at }
 
--- what the line is behind a label, behind a blank, where the tokens end, and behind a byte of the token
+-- the head after a label, after a blank, at the end of the tokens, and after a byte of a token
 abbrev pub head_by : Turn → Head → Head → Head → Head → Head
 head_by Label label skip stop go = label
 head_by Skip label skip stop go = skip
 head_by Stop label skip stop go = stop
 head_by Go label skip stop go = go
 
--- The labels so far, the place where the token begins, and the place of the next byte.
+-- The head of the rest of a line, given the labels so far, the index where the token begins, and
+-- the index of the next byte.
 unfoldable pub head_from : List Span → ℕ → ℕ → List ℕ → Head
 head_from marks from at [] = head_at marks from at
 head_from marks from at (b ∷ rest) =
@@ -44,11 +45,11 @@ head_from marks from at (b ∷ rest) =
 unfoldable pub head_of : List ℕ → Span → Head
 head_of text line = head_from [] line.from line.from (slice_of text line)
 
--- An operand begins with the first byte that is no blank,
+-- The operand begins with the first byte that is not blank.
 unfoldable pub operand_start : List ℕ → Span → Option ℕ
 operand_start text rest = first_in (λ b. not (is_blank b)) text rest
 
--- and ends behind the last byte that is no blank, before a comment.
+-- The operand ends after the last byte that is not blank and is before the comment.
 unfoldable pub end_from : ℕ → ℕ → List ℕ → ℕ
 end_from end at [] = end
 end_from end at (b ∷ rest) =
@@ -64,7 +65,7 @@ operand_by text rest (Some from) = token from (operand_end text (span_at from re
 unfoldable pub operand_in : List ℕ → Span → Option Span
 operand_in text rest = operand_by text rest (operand_start text rest)
 
--- Where characters are delimited, a quotation mark begins a comment only right behind the
+-- In the operand of delimited characters, a quotation mark begins a comment only directly after the
 -- operation.
 abbrev pub delimited_by : Span → Option ℕ → Option Span
 delimited_by rest None = None
@@ -76,12 +77,12 @@ delimited_in text rest =
     then None
     else delimited_by rest (operand_start text rest)
 
--- A label ends before a byte that there is, in a text of so many bytes, and the operation
--- has a byte.
+-- The span of a label, which ends before a byte of the text. The text has `count` bytes.
 pub record IsMark (count : ℕ) (span : Span) : Type 0 where
   pub ordered : span.from ≤ span.to
   pub inside : span.to < count
 
+-- The span of an operation, which has at least one byte. The text has `count` bytes.
 pub record IsToken (count : ℕ) (span : Span) : Type 0 where
   pub some : span.from < span.to
   pub inside : span.to ≤ count

@@ -1,6 +1,6 @@
--- From bytes up: what a token is, the pieces and the terms of an operand, the names of registers
--- and modifiers, the numbers of words, lists; Heads, which parts a line into labels, operation and
--- operand; and Rows, which parts a text into lines.
+-- From bytes up: the tokens, the pieces and terms of an operand, the names of registers and
+-- modifiers, the numbers of words, and lists. `Heads` divides a line into labels, operation and
+-- operand, and `Rows` divides a text into lines.
 pub mod Bytes
 pub mod Tokens
 pub mod Pieces

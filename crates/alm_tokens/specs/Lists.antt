@@ -1,4 +1,4 @@
--- The members of lists: symbols, or numbers, between commas.
+-- Operands that are lists: symbols or numbers, separated by commas.
 use Rattle.std.specs.Prelude.{ℕ, Bool, false, List, Option, option_map}
 use Rattle.std.specs.List.{find}
 use Rattle.alm_tokens.specs.declared.span.Span.{Span}
@@ -18,7 +18,7 @@ is_symbol_at text member = is_symbol (slice_of text member.span)
 abbrev pub is_written_at : Numeral → List ℕ → Piece → Bool
 is_written_at numeral text member = is_written numeral (slice_of text member.span)
 
--- the place of the first number out of its range
+-- the place of the first number that is out of its range
 abbrev pub is_out_at : Numeral → List ℕ → Piece → Bool
 is_out_at numeral text member = is_over (read_as numeral (slice_of text member.span))
 

@@ -1,7 +1,8 @@
--- The names of registers and modifiers. Multics Processor Manual AL39, "Address modification": the
--- tag of a register then indirect modification is the register's and 20 (octal), that of an
--- indirect then register modification the register's and 60; 44, 51, 53, 54 and 56 are those of
--- indirect then tally. The rows below have the same tags in base 16.
+-- The names of registers and modifiers. Source: Multics Processor Manual AL39, "Address
+-- modification". The tag of a register then indirect modification is that of the register plus 20
+-- (octal). The tag of an indirect then register modification is that of the register plus 60. The
+-- tags 44, 51, 53, 54 and 56 are those of indirect then tally modifications. The rows below have
+-- the same tags in base 16.
 use Rattle.std.specs.Prelude.{ℕ, ◌+◌, ◌-◌, ◌&&◌, ◌==◌, List, [], ◌∷◌, length, take, slice_index}
 use Rattle.std.specs.Prelude.{codes, Option, Some, None, option_map, if◌then◌else◌}
 use Rattle.std.specs.Option.{option_or}
@@ -16,13 +17,13 @@ pub record NumberedName : Type 0 where
 abbrev pub numbered : List ℕ → ℕ → NumberedName
 numbered name number = record { name = name; number = number }
 
--- the number of the first row that has the name
+-- the number of the first row that has a name
 abbrev pub number_beside : List NumberedName → List ℕ → Option ℕ
 number_beside [] bytes = None
 number_beside (row ∷ rows) bytes =
     if is_text row.name bytes then Some row.number else number_beside rows bytes
 
--- x0 to x7, and the digits alone, are the index registers
+-- index registers: x0 to x7, or the digit alone
 abbrev pub after_x : List ℕ → List ℕ
 after_x [] = []
 after_x (b ∷ rest) = if b == 120 then rest else b ∷ rest
@@ -66,11 +67,11 @@ pr_name bytes = number_beside pointer_registers bytes
 unfoldable pub pr_number : List ℕ → Option ℕ
 pr_number bytes = option_or (pr_digit bytes) (pr_name bytes)
 
--- the tag of *, which is indirect without a register
+-- the tag of *, indirect modification without a register
 abbrev pub star_tag : ℕ
 star_tag = 0x10
 
--- the tag of * before a register, without the register
+-- the tag of * before a register, without the number of the register
 abbrev pub first_tag : ℕ
 first_tag = 0x30
 
@@ -88,7 +89,7 @@ single_tags =
 unfoldable pub single_tag : List ℕ → Option ℕ
 single_tag bytes = number_beside single_tags bytes
 
--- * before a register, and * behind one
+-- * before a register; * after a register
 abbrev pub indirect_first : List ℕ → Option ℕ
 indirect_first [] = None
 indirect_first (b ∷ rest) =

@@ -1,4 +1,4 @@
--- The numbers of words.
+-- Numbers that a word can hold.
 use Rattle.std.specs.Prelude.{ℕ, ◌≡◌, ◌≤◌, ◌-◌, ◌%◌, ◌^◌, Bool, true, false, ◌&&◌, List, [], ◌∷◌}
 use Rattle.std.specs.Prelude.{pos, neg_ℤ, slice_index, Result, if◌then◌else◌}
 use Rattle.m36_word.specs.Signed.{signed}
@@ -20,7 +20,8 @@ unsigned (b ∷ rest) = if is_sign b then rest else b ∷ rest
 abbrev pub greatest_word : ℕ
 greatest_word = 68719476735
 
--- A number of a decimal word is from -2^35 to 2^36 - 1; of an octal word it is below 2^36.
+-- The magnitude of a number. A decimal number is from -2^35 to 2^36 - 1, an octal one is below
+-- 2^36.
 abbrev pub read_as : Numeral → List ℕ → Result ℕ NumberFault
 read_as Decimal bytes =
     if is_negative bytes
@@ -29,7 +30,7 @@ read_as Decimal bytes =
 read_as Octal bytes = number_read 8 bytes greatest_word
 read_as Small bytes = small_read bytes
 
--- an octal number may have leading zeros
+-- whether there is no redundant leading zero; octal numbers may have them
 abbrev pub has_its_zeros : Numeral → List ℕ → Bool
 has_its_zeros Decimal bytes = has_no_leading_zero (unsigned bytes)
 has_its_zeros Octal bytes = true
@@ -38,11 +39,11 @@ has_its_zeros Small bytes = has_no_leading_zero bytes
 abbrev pub is_written : Numeral → List ℕ → Bool
 is_written numeral bytes = has_digits (read_as numeral bytes) && has_its_zeros numeral bytes
 
--- whether a text is a number of an expression, within the limit or not
+-- whether a text has the form of a number in an expression, within the limit or not
 unfoldable pub is_number : List ℕ → Bool
 is_number bytes = is_written Small bytes
 
--- the word of a number, a negative one as its complement
+-- the word of a number; a negative one is in two's complement
 abbrev pub signed_word : Bool → ℕ → ℕ
 signed_word negative magnitude = (if negative then 2 ^ 36 - magnitude else magnitude) % 2 ^ 36
 
@@ -51,6 +52,6 @@ word_as Decimal bytes = signed_word (is_negative bytes) (value_of (read_as Decim
 word_as Octal bytes = signed_word false (value_of (read_as Octal bytes))
 word_as Small bytes = signed_word false (value_of (read_as Small bytes))
 
--- The word of a negative number of the range of a word is that number, in two's complement.
+-- The word of a negative number from -2^35 on is this number in two's complement.
 abbrev pub NegativesMean : Type 0
 NegativesMean = (m : ℕ) → m ≤ 2 ^ 35 → signed (2 ^ 35) (signed_word true m) ≡ neg_ℤ (pos m)

@@ -1,4 +1,4 @@
--- Texts in pieces, parted by commas or by signs.
+-- Texts divided into pieces at commas or at signs.
 use Rattle.std.specs.Prelude.{ℕ, ◌+◌, Bool, ◌==◌, List, [], ◌∷◌, if◌then◌else◌}
 use Rattle.alm_tokens.specs.declared.pieces.Parter.{Parter}
 use Rattle.alm_tokens.specs.declared.pieces.Parter.TheVariants.{Comma, Sign}
@@ -13,8 +13,8 @@ parts Sign b = is_sign b
 abbrev pub piece_at : Bool → ℕ → ℕ → Piece
 piece_at minus from at = record { span = record { from = from; to = at }; minus = minus }
 
--- The pieces of a text whose next byte stands at place `at`, where the piece that it belongs to
--- began at place `from`, and `minus` says whether the byte before that piece is a minus.
+-- The pieces of the rest of a text, whose next byte is at index `at`. The piece of that byte began
+-- at index `from`, and `minus` says whether the byte before the piece is a minus.
 unfoldable pub cut : Parter → Bool → ℕ → ℕ → List ℕ → List Piece
 cut parter minus from at [] = piece_at minus from at ∷ []
 cut parter minus from at (b ∷ rest) =

@@ -1,5 +1,5 @@
--- A text in lines. A line ends with a line feed, which the last may lack; behind the last line feed
--- there is no line unless something stands there.
+-- A text divided into lines. A line ends with a line feed, which the last one may lack. Text after
+-- the last line feed is a line only if it is not empty.
 use Rattle.std.specs.Prelude.{ℕ, ◌+◌, ◌==◌, List, [], ◌∷◌, if◌then◌else◌}
 use Rattle.alm_tokens.specs.declared.rows.Row.{Row}
 use Rattle.alm_tokens.specs.Tokens.{span_at}
@@ -7,8 +7,8 @@ use Rattle.alm_tokens.specs.Tokens.{span_at}
 abbrev pub row_at : ℕ → ℕ → ℕ → Row
 row_at number from at = record { span = span_at from at; number = number }
 
--- the lines of a text whose next byte stands at place `at`, in the line of this number, which began
--- at place `from`
+-- The lines of the rest of a text, whose next byte is at index `at`. The line of that byte has this
+-- number and began at index `from`.
 unfoldable pub rows_from : ℕ → ℕ → ℕ → List ℕ → List Row
 rows_from number from at [] = if from == at then [] else row_at number from at ∷ []
 rows_from number from at (b ∷ rest) =

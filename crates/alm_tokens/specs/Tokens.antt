@@ -1,4 +1,4 @@
--- Tokens: the bytes that a span names, symbols and numbers.
+-- Tokens: the bytes of a span, symbols, and numbers.
 use Rattle.std.specs.Prelude.{ℕ, ◌+◌, ◌-◌, Bool, true, false, ◌&&◌, List, take, drop, slice_index}
 use Rattle.std.specs.Prelude.{Option, option_map, Result, Ok, Err}
 use Rattle.std.specs.List.{position}
@@ -15,11 +15,11 @@ use Rattle.alm_tokens.specs.Bytes.{begins_symbol}
 abbrev pub span_at : ℕ → ℕ → Span
 span_at from to = record { from = from; to = to }
 
--- the bytes of a text that a span names
+-- the bytes of a span of a text
 unfoldable pub slice_of : List ℕ → Span → List ℕ
 slice_of text span = take (span.to - span.from) (drop span.from text)
 
--- the place of the first byte in a span that is so
+-- the index of the first byte in a span that passes a test
 abbrev pub first_in : (ℕ → Bool) → List ℕ → Span → Option ℕ
 first_in is_so text span = option_map (λ i. span.from + i) (position is_so (slice_of text span))
 
@@ -27,8 +27,8 @@ first_in is_so text span = option_map (λ i. span.from + i) (position is_so (sli
 unfoldable pub is_symbol : List ℕ → Bool
 is_symbol bytes = is_name bytes && begins_symbol (slice_index bytes 0)
 
--- A text read as a number: whether it has digits alone, whether the number is over the limit, and
--- the number.
+-- The result of parsing a text as a number: whether it has only digits, whether it is over the
+-- limit, and the number.
 abbrev pub has_digits : Result ℕ NumberFault → Bool
 has_digits (Ok v) = true
 has_digits (Err T2) = true
@@ -42,7 +42,7 @@ is_over (Err (T1 place)) = false
 abbrev pub value_of : Result ℕ NumberFault → ℕ
 value_of read = result_unwrap_or read 0
 
--- the greatest number of an expression, and of words of zeros
+-- the greatest number in an expression, and of the words of `bss`
 abbrev pub most_number : ℕ
 most_number = 262143
 

@@ -1,39 +1,40 @@
-//! Bytes by class.
+//! Classes of bytes.
 
 ghost use Rattle.std.specs.Prelude.{◌≡◌};
 ghost use Rattle.alm_tokens.specs.Bytes.{is_blank, begins_symbol, is_sign, is_character, is_legal};
 
 use m36_text::{is_letter, is_name_character};
 
-/// A blank or a tab.
+/// Whether a byte is a space or a tab.
 pub fn is_blank(byte: u8) -> bool
     ensures { result ≡ is_blank byte }
 {
     matches!(byte, b' ' | b'\t')
 }
 
-/// What a symbol begins with: a letter or `_`.
+/// Whether a byte can begin a symbol: a letter or `_`.
 pub fn begins_symbol(byte: u8) -> bool
     ensures { result ≡ begins_symbol byte }
 {
     is_letter(byte) || byte == b'_'
 }
 
-/// A sign: `+` or `-`.
+/// Whether a byte is `+` or `-`.
 pub fn is_sign(byte: u8) -> bool
     ensures { result ≡ is_sign byte }
 {
     matches!(byte, b'+' | b'-')
 }
 
-/// A character of a text that is placed: octal 40 to 176.
+/// Whether a byte can be placed by `aci`: octal 40 to 176.
 pub fn is_character(byte: u8) -> bool
     ensures { result ≡ is_character byte }
 {
     matches!(byte, 0o40..=0o176)
 }
 
-/// A byte that a source may have outside comments and texts that are placed, up to its operation `end`.
+/// Whether a source can have this byte outside comments and outside the characters of `aci`, up to
+/// its operation `end`.
 #[tactic(auto, unfolding(crate::specs::Bytes::is_legal))]
 pub fn is_legal(byte: u8) -> bool
     ensures { result ≡ is_legal byte }

@@ -1,4 +1,4 @@
-//! Expressions: terms joined by signs.
+//! Expressions: terms joined by `+` and `-`.
 
 ghost use Rattle.std.specs.Prelude.{ℕ, List, [], ◌∷◌, ◌++◌, ◌≡◌, ◌^◌, ◌<◌, ◌≤◌, length, map, OnOk, OnErr, IfOk};
 ghost use Rattle.std.specs.List.{list_all};
@@ -12,8 +12,8 @@ use m36_word::NoMemory;
 use std::alloc::Global;
 use std::marker::Model;
 
-/// What a term is: a number up to 262143, a symbol, which is the slice that the term's span names, or `*`, the current
-/// place.
+/// A term without its sign: a number of at most 262143, a symbol, which is the text of the term's
+/// span, or `*`, which is the current place.
 #[derive(Clone, Copy, PartialEq, Eq)]
 pub enum Atom {
     Number(u32),
@@ -21,8 +21,8 @@ pub enum Atom {
     Here,
 }
 
-/// A term of an expression, and whether it is taken away. The span is that of the number, symbol or `*`, without its
-/// sign.
+/// A term of an expression, and whether it is subtracted. The span is that of the number, symbol or
+/// `*`, without its sign.
 #[derive(Clone, Copy, PartialEq, Eq)]
 pub struct Term {
     pub what: Atom,
@@ -30,7 +30,8 @@ pub struct Term {
     pub minus: bool,
 }
 
-/// An expression: a list of at most 2^32 terms that grows at its end. An empty one is 0.
+/// An expression: a list of at most 2^32 terms that grows at its end. The value of an empty one is
+/// 0.
 #[derive(Drop)]
 pub struct Expr {
     items: Vec<Term>,
@@ -57,7 +58,7 @@ impl Expr {
         }
     }
 
-    // An empty list with room for so many terms, so that it takes no more memory than these need.
+    // An empty list with room for exactly `count` terms.
     fn with_room(alloc: Global, count: usize) -> Result<Expr, NoMemory>
         ensures { IfOk result (λ e. e ≡ []) }
     {
@@ -66,7 +67,7 @@ impl Expr {
         })
     }
 
-    /// Adds a term at the end. Where no memory is found, nothing changes.
+    /// Adds a term at the end. If memory runs out, nothing changes.
     pub fn push(&mut self, x: Term) -> Result<(), NoMemory>
         requires { length self.old < 2 ^ 32 }
         ensures ok { OnOk result (self.new ≡ self.old ++ x ∷ []) }
@@ -111,7 +112,7 @@ pub fn are_terms(text: &[u8], pieces: &[Piece]) -> bool
     pieces.iter().all(|piece| is_term_at(text, piece))
 }
 
-// An expression may begin with a minus.
+// A minus at the beginning of an expression is not part of the first term, and negates it.
 #[tactic(auto, unfolding(crate::specs::Expressions::signed_start))]
 fn signed_start(text: &[u8], whole: Piece) -> Piece
     requires { length text.now < 2 ^ 32 }
@@ -130,7 +131,7 @@ fn signed_start(text: &[u8], whole: Piece) -> Piece
     }
 }
 
-/// The terms of an expression as pieces, where a minus may stand before the whole.
+/// The terms of an expression, as pieces. The expression may begin with a minus.
 #[tactic(auto, unfolding(crate::specs::Expressions::expression_pieces))]
 pub fn expression_pieces(alloc: Global, text: &[u8], whole: Piece) -> Result<Pieces, NoMemory>
     requires { length text.now < 2 ^ 32 }
@@ -167,7 +168,7 @@ fn term_of(text: &[u8], piece: &Piece) -> Term
     }
 }
 
-/// The expression whose terms are these pieces, at most 2^32.
+/// The expression with these terms, of which there are at most 2^32. Fails only with `NoMemory`.
 pub fn expr_of(alloc: Global, text: &[u8], pieces: &[Piece]) -> Result<Expr, NoMemory>
     requires { length pieces.now ≤ 2 ^ 32 }
     ensures { IfOk result (λ e. e ≡ map (term_of text.now) pieces.now) }

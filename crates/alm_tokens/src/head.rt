@@ -1,4 +1,4 @@
-//! The labels and the operation of a line, and where its operand stands.
+//! Finds the labels, the operation and the operand of a line.
 
 ghost use Rattle.std.specs.Prelude.{ℕ, ◌≡◌, ◌^◌, ◌<◌, ◌≤◌, ◌==◌, not, Bool, Option, Some, None, option_map, IfSome, IfOk, length};
 ghost use Rattle.std.specs.List.{All, position};
@@ -10,27 +10,27 @@ use crate::span::{Span, Spans, bytes_of, first_byte};
 use m36_word::NoMemory;
 use std::alloc::Global;
 
-/// What a byte of a line does to the tokens before the operand.
+/// The effect of a byte on the tokens before the operand.
 #[derive(Clone, Copy)]
 pub enum Turn {
-    /// The token that ends before it is a label.
+    /// The byte is the colon after a label.
     Label,
-    /// It parts tokens.
+    /// The byte is a blank before a token.
     Skip,
-    /// It ends the last of them.
+    /// The byte follows the operation, and no more tokens are looked for.
     Stop,
-    /// It belongs to the token.
+    /// The byte belongs to a token.
     Go,
 }
 
-/// The labels of a line, and its operation.
+/// The labels of a line, and its operation, if it has one.
 #[derive(Drop)]
 pub struct Head {
     pub labels: Spans,
     pub op: Option<Span>,
 }
 
-// `fresh` says that no byte of the token stands before this one.
+// The effect of a byte. `fresh` is true if the token has no byte yet.
 fn turn_of(byte: u8, fresh: bool) -> Turn
     ensures { result ≡ turn_of byte fresh }
 {
@@ -57,7 +57,7 @@ fn token(from: u32, to: u32) -> Option<Span>
     }
 }
 
-/// The labels and the operation of a line.
+/// The labels and the operation of a line. Fails only with `NoMemory`.
 #[tactic(auto, using(crate::proofs::HeadLaws::heads), unfolding(crate::specs::Heads::head_of))]
 pub fn head_of(alloc: Global, text: &[u8], line: Span) -> Result<Head, NoMemory>
     requires { length text.now < 2 ^ 32 }
@@ -94,7 +94,7 @@ fn first_no_blank(bytes: &[u8]) -> Option<usize>
     bytes.iter().position(|b| !is_blank(*b))
 }
 
-/// The place of the first byte that is no blank.
+/// The index of the first byte that is not blank.
 #[tactic(auto, unfolding(crate::specs::Heads::operand_start))]
 fn operand_start(text: &[u8], rest: Span) -> Option<u32>
     requires { length text.now < 2 ^ 32 }
@@ -105,7 +105,7 @@ fn operand_start(text: &[u8], rest: Span) -> Option<u32>
     Some(rest.from + place as u32)
 }
 
-/// The place behind the last byte that is no blank, before a comment.
+/// The index after the last byte that is not blank and is before the comment.
 #[tactic(auto, using(crate::proofs::HeadLaws::ends))]
 fn operand_end(text: &[u8], rest: Span) -> u32
     requires { length text.now < 2 ^ 32 }
@@ -125,7 +125,7 @@ fn operand_end(text: &[u8], rest: Span) -> u32
     end
 }
 
-/// The operand in the rest of a line, up to its comment; none where no byte stands there.
+/// The operand in the rest of a line, up to its comment. None if there are only blanks.
 #[tactic(auto, unfolding(crate::specs::Heads::operand_in))]
 pub fn operand_in(text: &[u8], rest: Span) -> Option<Span>
     requires { length text.now < 2 ^ 32 }
@@ -137,8 +137,8 @@ pub fn operand_in(text: &[u8], rest: Span) -> Option<Span>
     token(from, to)
 }
 
-/// The characters with their delimiters in the rest of a line; none where no byte stands there, or where the rest
-/// begins with a comment.
+/// The delimited characters in the rest of a line, with their delimiters, up to the end of the
+/// line. None if the rest has only blanks, or begins with a quotation mark, which begins a comment.
 #[tactic(auto, unfolding(crate::specs::Heads::delimited_in))]
 pub fn delimited_in(text: &[u8], rest: Span) -> Option<Span>
     requires { length text.now < 2 ^ 32 }

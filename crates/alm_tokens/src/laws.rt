@@ -1,8 +1,8 @@
-//! What holds of all numbers of words, as the contract of a function that does nothing.
+//! A law about all numbers of words, as the contract of a function that does nothing.
 
 ghost use Rattle.alm_tokens.specs.Numerals.{NegativesMean};
 
-/// The word of a negative number, from -2^35 on, is that number in two's complement.
+/// The word of a negative number from -2^35 on is this number in two's complement.
 pub fn numeral_law()
     ensures { NegativesMean }
 {}

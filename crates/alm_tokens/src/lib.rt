@@ -1,19 +1,21 @@
-//! The tokens of assembly language: what stands in one line of a source, told from its bytes up.
+//! The tokens of assembly language: how the bytes of one line of a source are divided.
 //!
-//! A line is any number of labels, each with a colon behind it; then perhaps an operation and its operand; then perhaps a
-//! comment, from a quotation mark on. Blanks and tabs part these. A symbol is a name of up to 32 letters, digits, `_` and
-//! `.` that begins with a letter or `_`. An expression is terms joined by `+` and `-`, with a minus before it allowed; a
-//! term is a decimal number up to 262143, without leading zeros, a symbol, or `*`, the current place. Lists have commas
-//! between their members.
+//! A line has any number of labels, each followed by a colon, then optionally an operation with its
+//! operand, and then optionally a comment, which begins with a quotation mark. Spaces and tabs
+//! separate these. A symbol is a name of up to 32 letters, digits, `_` and `.` that begins with a
+//! letter or `_`. An expression is a sequence of terms joined by `+` and `-`, and may begin with a
+//! minus. A term is a decimal number up to 262143 without leading zeros, a symbol, or `*`, the
+//! current place. The members of a list are separated by commas.
 //!
-//! What is promised, for every text of fewer than 2^32 bytes: each call gives exactly what `specs/` has under its name. A
-//! text is parted into exactly its lines, a line into its labels, its operation and its operand, and an operand into its
-//! members or its terms, each told by its place; and what is a symbol, a number, a register or a modifier is decided as
-//! defined. Each place that is told of what lies in the text lies in it, each number has its width, and the word of a negative
-//! number is that number in two's complement. Errors are want of memory alone.
+//! For every text of fewer than 2^32 bytes, each call returns exactly the definition of the same
+//! name in `specs/`: the lines of a text, the labels, operation and operand of a line, and the
+//! members or terms of an operand, each by its place in the text, and whether a text is a symbol, a
+//! number, a register or a modifier. Each place that is returned for a part of the text is within
+//! the text. Each number is within its range, and the word of a negative number is this number in
+//! two's complement. The only error is `NoMemory`.
 //!
-//! Source: Multics Processor Manual AL39, "Address modification" for the names of registers and modifiers. The rest is this
-//! project's own profile of the assembler of Multics.
+//! Source: Multics Processor Manual AL39, "Address modification" for the names of registers and
+//! modifiers. The rest is this project's own profile of the assembler of Multics.
 #![tactic(auto)]
 
 pub mod bytes;

@@ -1,4 +1,4 @@
-//! The members of lists: symbols, or numbers, between commas.
+//! Operands that are lists: symbols or numbers, separated by commas.
 
 ghost use Rattle.std.specs.Prelude.{ℕ, ◌≡◌, ◌^◌, ◌<◌, IfSome, IfOk, length};
 ghost use Rattle.std.specs.List.{list_all, find};
@@ -12,7 +12,7 @@ use crate::tokens::is_symbol;
 use m36_word::NoMemory;
 use std::alloc::Global;
 
-/// The members of a list.
+/// The members of a list. There is at least one, perhaps empty. Fails only with `NoMemory`.
 #[tactic(auto, unfolding(crate::specs::Lists::members))]
 pub fn members(alloc: Global, text: &[u8], operand: Span) -> Result<Pieces, NoMemory>
     requires { length text.now < 2 ^ 32 }
@@ -39,14 +39,14 @@ pub fn are_symbols(text: &[u8], members: &[Piece]) -> bool
     members.iter().all(|member| is_symbol_at(text, member))
 }
 
-/// Whether a member is a number that is written so.
+/// Whether a member has the form of this kind of number.
 pub fn is_written_at(numeral: Numeral, text: &[u8], member: &Piece) -> bool
     ensures { result ≡ is_written_at numeral text.now member.now }
 {
     is_written(numeral, bytes_of(text, member.span))
 }
 
-/// Whether each member is a number that is written so.
+/// Whether each member has the form of this kind of number.
 pub fn are_written(numeral: Numeral, text: &[u8], members: &[Piece]) -> bool
     ensures { result ≡ list_all (is_written_at numeral text.now) members.now }
 {

@@ -6,7 +6,7 @@ ghost use Rattle.alm_tokens.specs.Modifiers.{after_x, register_of, pr_digit, pr_
 
 use m36_text::{is_text, octal_in};
 
-/// The value of a text that is one octal digit.
+/// Parses a text that is one octal digit.
 fn octal_digit(bytes: &[u8]) -> Option<u8>
     ensures value { result ≡ octal_in 1 bytes.now }
     ensures below { IfSome result (λ n. n < 8) }
@@ -24,7 +24,8 @@ fn after_x(bytes: &[u8]) -> &[u8]
     }
 }
 
-/// The tag of a register that modifies an address: `n` is none, and a digit alone is an index register.
+/// The tag of a register that modifies an address, 0 to 15. `n` is no register, and a digit alone
+/// is an index register.
 #[tactic(auto, unfolding(crate::specs::Modifiers::register_of))]
 pub fn register_of(bytes: &[u8]) -> Option<u8>
     ensures value { result ≡ register_of bytes.now }
@@ -100,7 +101,7 @@ fn pr_name(bytes: &[u8]) -> Option<u8>
     None
 }
 
-/// The number of a pointer register: `pr0` to `pr7`, or one of the eight names.
+/// The number of a pointer register: `pr0` to `pr7`, or one of the eight names `ap` to `sb`.
 #[tactic(auto, unfolding(crate::specs::Modifiers::pr_number))]
 pub fn pr_number(bytes: &[u8]) -> Option<u8>
     ensures value { result ≡ pr_number bytes.now }
@@ -166,7 +167,7 @@ fn indirect_last(bytes: &[u8]) -> Option<u8>
     Some(0o20 + register)
 }
 
-/// The tag that a modifier stands for.
+/// The tag of a modifier, six bits. None if the text is not a modifier.
 #[tactic(auto, unfolding(crate::specs::Modifiers::tag_of))]
 pub fn tag_of(bytes: &[u8]) -> Option<u8>
     ensures value { result ≡ tag_of bytes.now }

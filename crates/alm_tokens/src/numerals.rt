@@ -1,4 +1,4 @@
-//! The numbers of words.
+//! Numbers that a word can hold.
 
 ghost use Rattle.std.specs.Prelude.{ℕ, ◌≡◌, ◌≤◌, ◌^◌, ◌<◌, IfOk, length, slice_index};
 ghost use Rattle.alm_tokens.specs.Numerals.{is_negative, unsigned, greatest_word, read_as, is_written, is_number, signed_word, word_as};
@@ -10,18 +10,18 @@ use crate::tokens::{has_digits, is_over, read_small};
 use m36_text::{NumberFault, has_no_leading_zero, read_decimal, read_octal};
 use m36_word::Word;
 
-/// How a number is written.
+/// The form and range of a number.
 #[derive(Clone, Copy)]
 pub enum Numeral {
-    /// In decimal, perhaps with a sign; from -2^35 to 2^36 - 1.
+    /// Decimal without redundant leading zeros, with an optional sign; from -2^35 to 2^36 - 1.
     Decimal,
-    /// In octal; below 2^36.
+    /// Octal, without a sign; below 2^36.
     Octal,
-    /// In decimal, up to 262143.
+    /// Decimal without redundant leading zeros or a sign; up to 262143.
     Small,
 }
 
-/// The greatest number of a word.
+/// The greatest number of a word, 2^36 - 1.
 const GREATEST_WORD: u64 = 0o777777777777;
 
 fn is_negative(bytes: &[u8]) -> bool
@@ -39,7 +39,7 @@ fn unsigned(bytes: &[u8]) -> &[u8]
     }
 }
 
-/// A number without its sign, as it is read.
+/// The magnitude of a number, or why it has none.
 pub fn read_as(numeral: Numeral, bytes: &[u8]) -> Result<u64, NumberFault>
     ensures value { result ≡ read_as numeral bytes.now }
     ensures bound { IfOk result (λ v. v ≤ greatest_word) }
@@ -57,7 +57,7 @@ pub fn read_as(numeral: Numeral, bytes: &[u8]) -> Result<u64, NumberFault>
     }
 }
 
-/// Whether a text is a number that is written so, within its range or not.
+/// Whether a text has the form of this kind of number, within its range or not.
 pub fn is_written(numeral: Numeral, bytes: &[u8]) -> bool
     ensures { result ≡ is_written numeral bytes.now }
 {
@@ -71,7 +71,7 @@ pub fn is_written(numeral: Numeral, bytes: &[u8]) -> bool
     }
 }
 
-/// Whether a text is a number of an expression, within the limit or not.
+/// Whether a text has the form of a number in an expression, within the range or not.
 #[tactic(auto, unfolding(crate::specs::Numerals::is_number))]
 pub fn is_number(bytes: &[u8]) -> bool
     ensures { result ≡ is_number bytes.now }
@@ -79,7 +79,7 @@ pub fn is_number(bytes: &[u8]) -> bool
     is_written(Numeral::Small, bytes)
 }
 
-/// Whether a text is a number out of its range.
+/// Whether a text is a number out of the range of its kind.
 pub fn is_out(numeral: Numeral, bytes: &[u8]) -> bool
     ensures { result ≡ is_over (read_as numeral bytes.now) }
 {
@@ -108,7 +108,8 @@ fn value_of(read: Result<u64, NumberFault>) -> u64
     }
 }
 
-/// The word of a number.
+/// The word of a number; a negative number is in two's complement. A text that is not such a number
+/// counts as 0.
 pub fn word_as(numeral: Numeral, bytes: &[u8]) -> Word
     ensures { result ≡ word_as numeral bytes.now }
 {

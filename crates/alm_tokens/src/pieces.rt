@@ -1,4 +1,5 @@
-//! Texts in pieces: the members of a list between commas, and the terms of an expression between signs.
+//! Divides a text into pieces: the members of a list at commas, and the terms of an expression at
+//! signs.
 
 ghost use Rattle.std.specs.Prelude.{ℕ, List, [], ◌∷◌, ◌++◌, ◌≡◌, ◌^◌, ◌<◌, ◌≤◌, length, OnOk, OnErr, IfOk};
 ghost use Rattle.alm_tokens.specs.Pieces.{parts, pieces_of};
@@ -9,7 +10,7 @@ use m36_word::NoMemory;
 use std::alloc::Global;
 use std::marker::Model;
 
-/// What parts the pieces of a text.
+/// The bytes that separate pieces.
 #[derive(Clone, Copy)]
 pub enum Parter {
     Comma,
@@ -48,7 +49,7 @@ impl Pieces {
         }
     }
 
-    /// Adds a piece at the end. Where no memory is found, nothing changes.
+    /// Adds a piece at the end. If memory runs out, nothing changes.
     pub fn push(&mut self, x: Piece) -> Result<(), NoMemory>
         ensures ok { OnOk result (self.new ≡ self.old ++ x ∷ []) }
         ensures err { OnErr result (self.new ≡ self.old) }
@@ -74,7 +75,7 @@ fn parts(parter: Parter, byte: u8) -> bool
     }
 }
 
-// Adds the pieces of what a piece names to no pieces.
+// Adds the pieces of the text of `whole` to an empty list.
 #[tactic(auto, using(crate::proofs::Cuts::cuts), unfolding(crate::specs::Pieces::pieces_of))]
 fn push_pieces(
     pieces: &mut Pieces,
@@ -107,8 +108,8 @@ fn push_pieces(
     })
 }
 
-/// The pieces of what a piece names. They are parted by commas, or by signs; the first of them has the minus of the
-/// whole. There is one at least.
+/// The pieces of the text of `whole`, which commas or signs separate. There is at least one. The
+/// first has the minus of `whole`. Fails only with `NoMemory`.
 pub fn pieces_of(
     alloc: Global,
     parter: Parter,
@@ -123,7 +124,7 @@ pub fn pieces_of(
     match push_pieces(&mut pieces, parter, text, whole) {
         Ok(()) => Ok(pieces),
         Err(fault) => {
-            // Dropped by a call: so the drop is proved once for its type.
+            // A call of `drop` is proved once for its type.
             drop(pieces);
             Err(fault)
         }

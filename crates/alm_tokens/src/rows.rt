@@ -1,4 +1,4 @@
-//! A text in lines.
+//! Divides a text into lines.
 
 ghost use Rattle.std.specs.Prelude.{ℕ, List, [], ◌∷◌, ◌++◌, ◌≡◌, ◌^◌, ◌<◌, ◌≤◌, length, OnOk, OnErr, IfOk};
 ghost use Rattle.alm_tokens.specs.Rows.{rows_of};
@@ -40,7 +40,7 @@ impl Rows {
         }
     }
 
-    /// Adds a line at the end. Where no memory is found, nothing changes.
+    /// Adds a line at the end. If memory runs out, nothing changes.
     pub fn push(&mut self, x: Row) -> Result<(), NoMemory>
         ensures ok { OnOk result (self.new ≡ self.old ++ x ∷ []) }
         ensures err { OnErr result (self.new ≡ self.old) }
@@ -57,7 +57,7 @@ impl Rows {
     }
 }
 
-/// The lines of a text. The last may lack its line feed.
+/// The lines of a text. The last one may lack its line feed. Fails only with `NoMemory`.
 #[tactic(auto, using(crate::proofs::RowLaws::row_steps), unfolding(crate::specs::Rows::rows_of))]
 pub fn rows_of(alloc: Global, text: &[u8]) -> Result<Rows, NoMemory>
     requires { length text.now < 2 ^ 32 }

@@ -7,14 +7,14 @@ use m36_word::NoMemory;
 use std::alloc::Global;
 use std::marker::Model;
 
-/// The bytes of a text from place `from` up to place `to`, which is not among them. Places count from 0.
+/// The bytes of a text from index `from` to before index `to`, counted from 0.
 #[derive(Clone, Copy, PartialEq, Eq)]
 pub struct Span {
     pub from: u32,
     pub to: u32,
 }
 
-/// The bytes that a span names. A span that reaches past the text names what stands there of it.
+/// The bytes of a span, as far as the text has them.
 #[tactic(auto, using(crate::proofs::Slices::slices))]
 pub fn bytes_of(text: &[u8], span: Span) -> &[u8]
     ensures value { result.now ≡ slice_of text.now span }
@@ -33,7 +33,7 @@ pub fn bytes_of(text: &[u8], span: Span) -> &[u8]
     }
 }
 
-/// The first byte of a text; 0 where it is empty.
+/// The first byte of a text, and 0 if it is empty.
 pub fn first_byte(bytes: &[u8]) -> u8
     ensures value { result ≡ slice_index bytes.now 0 }
     ensures some { 0 < result → 0 < length bytes.now }
@@ -69,7 +69,7 @@ impl Spans {
         }
     }
 
-    /// Adds a span at the end. Where no memory is found, nothing changes.
+    /// Adds a span at the end. If memory runs out, nothing changes.
     pub fn push(&mut self, x: Span) -> Result<(), NoMemory>
         ensures ok { OnOk result (self.new ≡ self.old ++ x ∷ []) }
         ensures err { OnErr result (self.new ≡ self.old) }

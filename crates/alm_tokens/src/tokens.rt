@@ -8,10 +8,11 @@ use crate::bytes::begins_symbol;
 use crate::span::first_byte;
 use m36_text::{NumberFault, is_name, read_decimal};
 
-/// The greatest number of an expression.
+/// The greatest number in an expression.
 const MOST: u64 = 262_143;
 
-/// Whether a text is a symbol: at most 32 letters, digits, `_` and `.`, of which the first is a letter or `_`.
+/// Whether a text is a symbol: 1 to 32 letters, digits, `_` and `.`, the first of which is a letter
+/// or `_`.
 #[tactic(auto, unfolding(crate::specs::Tokens::is_symbol))]
 pub fn is_symbol(bytes: &[u8]) -> bool
     ensures { result ≡ is_symbol bytes.now }
@@ -19,7 +20,7 @@ pub fn is_symbol(bytes: &[u8]) -> bool
     is_name(bytes) && begins_symbol(first_byte(bytes))
 }
 
-/// Whether a text that was read as a number has digits alone.
+/// Whether a text has only digits, given the result of parsing it as a number.
 pub fn has_digits(read: Result<u64, NumberFault>) -> bool
     ensures { result ≡ has_digits read }
 {
@@ -29,7 +30,7 @@ pub fn has_digits(read: Result<u64, NumberFault>) -> bool
     }
 }
 
-/// Whether a text that was read as a number is one over the limit.
+/// Whether a text is a number over the limit, given the result of parsing it as a number.
 pub fn is_over(read: Result<u64, NumberFault>) -> bool
     ensures { result ≡ is_over read }
 {
@@ -39,7 +40,7 @@ pub fn is_over(read: Result<u64, NumberFault>) -> bool
     }
 }
 
-/// A decimal number of an expression.
+/// Parses a decimal number of an expression: at most 262143.
 pub fn read_small(bytes: &[u8]) -> Result<u64, NumberFault>
     ensures value { result ≡ small_read bytes.now }
     ensures bound { IfOk result (λ v. v ≤ most_number) }

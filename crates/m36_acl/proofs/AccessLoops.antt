@@ -1,4 +1,4 @@
--- Steps of the loops that write of the segments of a catalog.
+-- Steps of the loops that make the lines of the segments of a catalog.
 use Rattle.std.proofs.Common.{ℕ, ◌≡◌, ◌+◌, ◌≤◌, List, [], ◌∷◌, ◌++◌, length, drop, map, Some, refl, sym, ap, ◌∙◌, append_assoc}
 use Rattle.std.specs.Prelude.{slice_get}
 use Rattle.std.proofs.lemmas.List.{at_drop_more, at_drop_all, append-nil}

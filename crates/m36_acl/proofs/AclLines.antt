@@ -8,6 +8,6 @@ pick_none true b = refl
 pick_none false true = refl
 pick_none false false = refl
 
--- a word alone is no line
+-- a single word is not a line
 pub no_words : (word : List ℕ) → line_named word [] ≡ None
 no_words word = pick_none (is_text (codes "segment") word) (is_text (codes "term") word)

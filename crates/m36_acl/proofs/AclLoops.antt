@@ -31,7 +31,7 @@ told_on (fault.C1 n) r next e = ap (λ (s : Read). and_then s next) e
 told_on (fault.C2 n) r next e = ap (λ (s : Read). and_then s next) e
 told_on fault.NoMemory r next e = tt
 
--- a line that has one
+-- a line that has a code
 pub line_told : (n : ℕ) (above : Lists) (rest line behind : List ℕ) (total : Read) (told : AclFault)
     → lines_of rest ≡ Some line ∷ lines_of behind → Told told (line_behind n above (line_given (Some line)))
     → lists_from n above (lines_given rest) ≡ total → Told told total

@@ -1,4 +1,4 @@
--- Lists that are read have each segment once, and each term once below it.
+-- Lists that were parsed have each segment once, and each term once for its segment.
 use Rattle.std.proofs.Common.{ℕ, ◌≡◌, ◌+◌, ◌-◌, Bool, true, false, cond, ◌||◌, List, [], ◌∷◌, ◌++◌, length, get_or, nat_le, slice_get, slice_set, Option, Some, None, Ok, Err, refl, sym, ap, subst, ◌∙◌, arith, length-append}
 use Rattle.std.specs.List.{list_any}
 use Rattle.std.proofs.lemmas.Bool.{leb-false}
@@ -98,7 +98,7 @@ line_once n above None next told are = absurd (cc)
 line_once n above (Some (Segment given)) next told are = segment_by n above given (has_segment above given) next refl told are
 line_once n above (Some (Term term)) next told are = term_of_last n above (last_of above) term next refl told are
 
--- what went on came of a step that went on
+-- if the whole succeeds, so does the first step
 went : (r : Read) (goes : Lists → Read) (lists : Lists) → and_then r goes ≡ Ok lists → (next : Lists) × (r ≡ Ok next) × (goes next ≡ Ok lists)
 went (Ok next) goes lists e = (next, refl, e)
 went (Err told) goes lists e = absurd (cc)

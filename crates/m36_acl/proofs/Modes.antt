@@ -1,4 +1,4 @@
--- Modes that are written and read back.
+-- Modes that are printed and parsed.
 use Rattle.std.proofs.Common.{true, false, refl}
 use Rattle.m36_dir.specs.BootLine.{mode_of}
 use Rattle.m36_acl.specs.AccessText.{ModesComeBack}

@@ -8,7 +8,7 @@ three_and_more : (person project tag : List ℕ) (more : List (List ℕ)) → 0 
 three_and_more person project tag [] some = absurd (omega arith)
 three_and_more person project tag (next ∷ more) some = refl
 
--- behind a third point there is a fourth part
+-- after a third point there is a fourth part
 pub four_parts : (text person project tag rest : List ℕ) → parts_of text ≡ person ∷ project ∷ tag ∷ parts_of rest
     → components_of text ≡ None
 unfolding components_of

@@ -22,7 +22,7 @@ pub found : (given : Entry) (keys : List Entry) (lists : Lists) → keys ≡ pla
     → list_any (same_place given) keys ≡ has_segment lists given
 found given keys lists e = ap (λ (ks : List Entry). list_any (same_place given) ks) e ∙ among given lists
 
--- one more behind them
+-- one more at the end
 one_more : (given : Entry) (keys new : List Entry) (lists more : Lists) (s : AclSegmentFields) → keys ≡ places_of lists
     → given ≡ entry s.dir s.name → has_segment lists given ≡ false
     → new ≡ cond (list_any (same_place given) keys) keys (keys ++ given ∷ [])
@@ -34,7 +34,7 @@ one_more given keys new lists more s are is fresh grown longer =
     ∙ sym (map-append (λ (t : AclSegmentFields). entry t.dir t.name) lists (s ∷ []))
     ∙ ap places_of (sym longer)
 
--- the same where it was put
+-- a segment that was inserted in the table, and the lists
 pub place_put : (keys new : List Entry) (items held more now : Lists) (s : AclSegmentFields) (given : Entry)
     → keys ≡ places_of items → held ≡ items
     → more ≡ held ++ s ∷ [] → given ≡ entry s.dir s.name
@@ -44,7 +44,7 @@ place_put keys new items held more now s given are stays put is grown view fresh
     one_more given keys new items more s are is (ap (λ (ps : Lists). has_segment ps given) view ∙ fresh) grown
     (put ∙ ap (λ (ps : Lists). ps ++ s ∷ []) stays)
 
--- another one at a place, with the same directory and name
+-- replacing a segment by one with the same directory and name
 pub places_kept : (lists : Lists) (i : ℕ) (old new : AclSegmentFields) → old ≡ get_or lists i old
     → new.dir ≡ old.dir → new.name ≡ old.name → places_of (slice_set lists i new) ≡ places_of lists
 places_kept [] i old new was d n = refl

@@ -12,7 +12,7 @@ use Rattle.m36_acl.specs.AccessLists.{Lists}
 use Rattle.m36_acl.specs.Granted.{names, granted_to, granted, GrantsOne}
 use Rattle.m36_acl.proofs.Places.{at_place}
 
--- the element at a place, and those behind it
+-- the element at an index, and those after it
 drop_at : {X : Type 0} (xs : List X) (i : ℕ) (x : X) → slice_get xs i ≡ Some x → drop i xs ≡ x ∷ drop (i + 1) xs
 drop_at {X} xs i x e =
     drop_more xs i x (slice_get_within xs i x e) ∙ ap (λ (y : X). y ∷ drop (i + 1) xs) (get_or_from_slice_get xs i x x e)
@@ -46,7 +46,7 @@ known_never catalog given i total le so_far =
 
 -- ---- rights, segment after segment
 
--- a list of which the first elements are changed
+-- a list whose first elements are changed
 abbrev pub partly : {X : Type 0} → (X → X) → ℕ → List X → List X
 partly g i xs = map g (take i xs) ++ drop i xs
 
@@ -58,7 +58,7 @@ seam : {X : Type 0} (xs : List X) (x : X) (ys : List X) → slice_get (xs ++ x �
 seam [] x ys = refl
 seam (y ∷ xs) x ys = seam xs x ys
 
--- the front of such a list, the next element and those behind it
+-- the front of such a list, the next element and those after it
 partly_at : {X : Type 0} (g : X → X) (i : ℕ) (xs : List X) (x : X) → i < length xs
     → partly g i xs ≡ map g (take i xs) ++ get_or xs i x ∷ drop (i + 1) xs
 partly_at {X} g i xs x lt = ap (λ (ys : List X). map g (take i xs) ++ ys) (drop_more xs i x lt)
@@ -92,7 +92,7 @@ partly_whole {X} g i xs le =
     ap (λ (ys : List X). map g ys ++ drop i xs) (take_all i xs le)
     ∙ at_drop_all (λ (ys : List X). map g xs ++ ys) xs i le ∙ append-nil (map g xs)
 
--- a catalog of which the first segments have got their rights
+-- a catalog whose first segments have their rights
 abbrev pub granted_up_to : Lists → List ℕ → ℕ → CatalogFields → CatalogFields
 granted_up_to lists user i catalog =
     record catalog { segments = partly (granted_to lists user catalog.directories) i catalog.segments }
@@ -117,7 +117,7 @@ unfolding granted
 grant_done lists user old now i le e =
     e ∙ ap (λ (ss : List SegmentFields). record old { segments = ss }) (partly_whole (granted_to lists user old.directories) i old.segments le)
 
--- as many segments as before
+-- the number of segments does not change
 pub grant_count : (lists : Lists) (user : List ℕ) (old now : CatalogFields) (i : ℕ) → now ≡ granted_up_to lists user i old
     → length now.segments ≡ length old.segments
 grant_count lists user old now i e =

@@ -1,10 +1,10 @@
--- The lines of access lists, each read by itself.
+-- The lines of access lists, each parsed by itself.
 --
 --     segment DIR NAME
 --     term TERM MODE
 --
--- The words of a line are parted by single spaces. DIR and NAME are as in a boot text. MODE is so
--- too, but without the letter p: one or more of r, e and w in this order, or `null`.
+-- Single spaces separate the words of a line. DIR and NAME are as in a boot text. MODE is as in a
+-- boot text, but without the letter p: one or more of r, e and w in this order, or `null`.
 use Rattle.std.specs.Prelude.{ℕ, if◌then◌else◌, List, [], ◌∷◌, codes, Option, Some, None}
 use Rattle.std.specs.Prelude.{option_map, option_and_then}
 use Rattle.m36_text.specs.Texts.{is_text}
@@ -27,7 +27,7 @@ unprivileged mode = if mode.privileged then None else Some mode
 unfoldable pub rights_of : List ℕ → Option Mode
 rights_of word = option_and_then unprivileged (mode_of word)
 
--- ---- what stands behind the first word of a line
+-- ---- the words after the first word of a line
 
 abbrev pub entry_read : Option (List ℕ) → Option (List ℕ) → Option Entry
 entry_read (Some dir) (Some name) = Some (entry dir name)

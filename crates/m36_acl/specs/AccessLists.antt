@@ -1,10 +1,10 @@
--- The access lists that a text writes out, or why it does not.
+-- The access lists that a text describes, or the fault of the text.
 --
---     C1   the line is not of its form, no `segment` line stands above a `term`, or 16 terms stand
---          below the segment already
---     C2   the segment stands already, or the term below the same segment
+--     C1   the line is not of its form, or a `term` line is above all `segment` lines, or 16 terms
+--          of the segment are above it
+--     C2   an earlier line names the segment, or the list of the segment has the term already
 --
--- The least line that has a code is told, and C1 where a line has both.
+-- Reported is the first line that has a code; if both codes apply to it, C1.
 use Rattle.std.specs.Prelude.{ℕ, ◌≡◌, ◌+◌, ◌-◌, ◌≤◌, Bool, true, nat_le, if◌then◌else◌, List, []}
 use Rattle.std.specs.Prelude.{◌∷◌, ◌++◌, length, map, slice_set, All}
 use Rattle.std.specs.Prelude.{Option, Some, None, Result, Ok, Err}
@@ -22,7 +22,7 @@ use Rattle.m36_acl.specs.AccessLine.{Line, Segment, Term, line_given}
 abbrev pub Lists : Type 0
 Lists = List AclSegmentFields
 
--- what lines come to: lists, or a code at its line
+-- The result of lines: lists, or a code with its line.
 abbrev pub Read : Type 0
 Read = Result (List AclSegmentFields) AclFault
 
@@ -34,7 +34,7 @@ is_of given segment = is_entry given (entry segment.dir segment.name)
 abbrev pub has_segment : Lists → Entry → Bool
 has_segment lists given = list_any (is_of given) lists
 
--- the segments of lists, by their directories and names
+-- the directory and name of each segment
 abbrev pub places_of : Lists → List Entry
 places_of lists = map (λ s. entry s.dir s.name) lists
 
@@ -47,7 +47,7 @@ segment_behind line above given =
 
 -- ---- a `term` line, which belongs to the last segment
 
--- at most so many stand below a segment
+-- the most terms of a segment
 abbrev pub most_terms : ℕ
 most_terms = 16
 
@@ -71,7 +71,7 @@ line_behind line above None = Err (fault.C1 line)
 line_behind line above (Some (Segment given)) = segment_behind line above given
 line_behind line above (Some (Term term)) = term_behind line above (last_of above) term
 
--- lines behind some others, of which the first has this number
+-- the result of lines, of which the first has the number `line`, after lines that gave `above`
 unfoldable pub lists_from : ℕ → Lists → List (Option Line) → Read
 lists_from line above [] = Ok above
 lists_from line above (given ∷ lines) =
@@ -83,9 +83,9 @@ lines_given text = map line_given (lines_of text)
 unfoldable pub lists_of : List ℕ → Read
 lists_of text = lists_from 1 [] (lines_given text)
 
--- ---- answers
+-- ---- results
 
--- What a call answers, where want of memory may come at any time.
+-- The result of a call that parses. It may be NoMemory whatever the text is.
 abbrev pub Told : AclFault → Read → Type 0
 Told fault.NoMemory definition = Unit {0}
 Told told definition = definition ≡ Err told
@@ -94,7 +94,7 @@ abbrev pub ReadSays : Read → Read → Type 0
 ReadSays (Ok lists) definition = definition ≡ Ok lists
 ReadSays (Err told) definition = Told told definition
 
--- A line made these of the lists above it, or is told of.
+-- A line changes the lists to `new`, or its code is the result.
 abbrev pub Takes : {A : Type 0} → Lists → Result A AclFault → Read → Type 0
 Takes new (Ok done) definition = definition ≡ Ok new
 Takes new (Err told) definition = Told told definition
@@ -104,16 +104,16 @@ Takes new (Err told) definition = Told told definition
 abbrev pub same_term : TermFields → TermFields → Bool
 same_term a b = is_text a.text b.text
 
--- The terms of a segment stand once each, and are no more than may stand below it.
+-- The list of a segment has each term once, and at most 16 terms.
 pub record HasTermsOnce (s : AclSegmentFields) : Type 0 where
   pub once : are_distinct_by same_term s.terms ≡ true
   pub few : length s.terms ≤ most_terms
 
--- The segments stand once each, and so do the terms of each of them.
+-- Each segment occurs once, and each term occurs once in the list of its segment.
 pub record AreListsOnce (lists : Lists) : Type 0 where
   pub segments : are_distinct_by is_entry (places_of lists) ≡ true
   pub terms : All HasTermsOnce lists
 
--- Lists that are read have each segment once, and each term once below it.
+-- Lists that were parsed have each segment once, and each term once for its segment.
 abbrev pub ListsOnce : Type 0
 ListsOnce = (text : List ℕ) (lists : Lists) → lists_of text ≡ Ok lists → AreListsOnce lists

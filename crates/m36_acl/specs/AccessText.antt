@@ -1,7 +1,7 @@
--- What is written of access lists, of each segment of a catalog.
+-- Lines about the rights of a user, for each segment of a catalog.
 --
---     DIR NAME MODE TERM        what a user may do with it
---     denied DIR NAME TERM      behind a run that ended for want of a right to it
+--     DIR NAME MODE TERM        what the user may do with the segment
+--     denied DIR NAME TERM      after a run that ended because the user lacks a right to it
 --
 -- MODE has the letters r, e and w, or is `null`. TERM is the term that decides, or `none`.
 use Rattle.std.specs.Prelude.{ℕ, ◌≡◌, Bool, true, false, List, [], ◌∷◌, ◌++◌, map, codes, slice_get}
@@ -16,7 +16,7 @@ use Rattle.m36_acl.specs.AccessLists.{Lists}
 use Rattle.m36_acl.specs.Policy.{terms_of, decided}
 use Rattle.m36_acl.specs.Granted.{name_of, decision_on}
 
--- the letters of the rights to read, execute and write
+-- the letters of the rights to read, execute and write, or `null` if there are none
 abbrev pub mode_text : Bool → Bool → Bool → List ℕ
 mode_text false false false = codes "null"
 mode_text true false false = codes "r"
@@ -30,7 +30,7 @@ mode_text true true true = codes "rew"
 abbrev pub mode_of : Decision → List ℕ
 mode_of d = mode_text d.readable d.executable d.writable
 
--- A mode that is written is the one that is read of a line.
+-- A mode that is printed is parsed as that mode.
 abbrev pub ModesComeBack : Type 0
 ModesComeBack =
     (readable executable writable : Bool)
@@ -61,7 +61,7 @@ deciding lists user directories s =
 
 -- ---- lines
 
--- a text behind a blank
+-- a text, a space and a word
 abbrev pub and_then : List ℕ → List ℕ → List ℕ
 and_then text word = (text ++ codes " ") ++ word
 
@@ -78,7 +78,7 @@ denied_line lists user directories s =
     (and_then (and_then (and_then (codes "denied") (directory_in directories s)) (name_of s))
     (deciding lists user directories s))
 
--- ---- of all segments, in their order
+-- ---- for all segments, in their order
 
 unfoldable pub access_from : Lists → List ℕ → List (List ℕ) → List SegmentFields → List ℕ
 access_from lists user directories [] = []

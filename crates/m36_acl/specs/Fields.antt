@@ -7,7 +7,7 @@ pub record TermFields : Type 0 where
   pub executable : Bool
   pub writable : Bool
 
--- a `segment` line with its number, from 1 on, and the terms of the lines behind it
+-- a `segment` line with its number, counted from 1, and the terms of the lines after it
 pub record AclSegmentFields : Type 0 where
   pub line : ℕ
   pub dir : List ℕ

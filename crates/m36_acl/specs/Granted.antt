@@ -1,4 +1,4 @@
--- What access lists give a user in a catalog.
+-- The rights that access lists give a user to the segments of a catalog.
 use Rattle.std.specs.Prelude.{ℕ, ◌≡◌, Bool, not, List, [], map, find, slice_get, slice_set, Option}
 use Rattle.std.specs.Prelude.{unwrap_or, option_map, IfSome}
 use Rattle.std.specs.List.{list_any}
@@ -10,13 +10,13 @@ use Rattle.m36_acl.specs.Fields.{AclSegmentFields}
 use Rattle.m36_acl.specs.AccessLists.{Lists}
 use Rattle.m36_acl.specs.Policy.{policy}
 
--- ---- the segments of a catalog, as the lines of its boot text name them
+-- ---- segments of a catalog, named as in the boot text
 
--- not one of its further names
+-- the first name of a segment, which is that of its segment line
 abbrev pub name_of : SegmentFields → List ℕ
 name_of s = unwrap_or (slice_get s.names 0) []
 
--- ---- C3: a segment that no segment line of the boot text has
+-- ---- C3: a `segment` line that names no segment of the catalog
 
 abbrev pub names : CatalogFields → AclSegmentFields → SegmentFields → Bool
 names catalog given s =
@@ -25,7 +25,7 @@ names catalog given s =
 abbrev pub is_known : CatalogFields → AclSegmentFields → Bool
 is_known catalog given = list_any (names catalog given) catalog.segments
 
--- the first `segment` line of a segment that is not in the catalog
+-- the first `segment` line that names no segment of the catalog
 unfoldable pub first_unknown : CatalogFields → Lists → Option ℕ
 first_unknown catalog lists =
     option_map (λ given. given.line) (find (λ given. not (is_known catalog given)) lists)
@@ -39,8 +39,9 @@ decision_on lists user directories s = policy lists (directory_in directories s)
 abbrev pub by_decision : SegmentFields → Decision → SegmentFields
 by_decision s d = with_rights s d.readable d.executable d.writable
 
--- Each segment may be read, executed and written as the lists give it to the user, whatever its
--- mode in the boot text; all else stays, its right to be privileged too.
+-- Each segment gets exactly the rights to read, execute and write that the lists give the user,
+-- whatever its mode in the boot text is. Nothing else changes, in particular not the right to be
+-- privileged.
 abbrev pub granted_to : Lists → List ℕ → List (List ℕ) → SegmentFields → SegmentFields
 granted_to lists user directories s = by_decision s (decision_on lists user directories s)
 
@@ -50,7 +51,7 @@ granted lists user catalog =
       segments = map (granted_to lists user catalog.directories) catalog.segments;
     }
 
--- One segment of a catalog gets its rights.
+-- Segment i of a catalog gets its rights.
 abbrev pub GrantsOne : Lists → List ℕ → CatalogFields → CatalogFields → ℕ → Type 0
 GrantsOne lists user old new i =
     IfSome (slice_get old.segments i)

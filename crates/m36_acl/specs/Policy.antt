@@ -13,7 +13,7 @@ abbrev pub terms_in : Option AclSegmentFields → List TermFields
 terms_in None = []
 terms_in (Some segment) = segment.terms
 
--- the terms of a segment; none where no `segment` line has it
+-- the access list of a segment; empty if no `segment` line names it
 unfoldable pub terms_of : Lists → List ℕ → List ℕ → List TermFields
 terms_of lists dir name = terms_in (find (is_of (entry dir name)) lists)
 
@@ -22,7 +22,7 @@ terms_of lists dir name = terms_in (find (is_of (entry dir name)) lists)
 abbrev pub nothing : Decision
 nothing = record { readable = false; executable = false; writable = false; term = None }
 
--- the rights of a term, and its place
+-- the rights of a term, with its index
 abbrev pub rights_by : ℕ → Option TermFields → Decision
 rights_by place None = nothing
 rights_by place (Some term) =
@@ -37,8 +37,8 @@ abbrev pub decided_at : List TermFields → Option ℕ → Decision
 decided_at terms None = nothing
 decided_at terms (Some place) = rights_by place (slice_get terms place)
 
--- The mode of the first term that matches, with the place of that term; where none matches no right
--- and no term.
+-- The mode of the first term that matches the user, with the index of that term. If none matches,
+-- no right and no term.
 unfoldable pub decided : List TermFields → List ℕ → Decision
 decided terms user = decided_at terms (position (λ term. matches term.text user) terms)
 
@@ -50,7 +50,7 @@ policy lists dir name user = decided (terms_of lists dir name) user
 abbrev pub NoneMatches : List TermFields → List ℕ → Type 0
 NoneMatches terms user = All (λ term. matches term.text user ≡ false) terms
 
--- The term at a place gives the rights, and is the first that matches.
+-- The term at this index gives the rights, and is the first that matches.
 pub record IsFirst
     (terms : List TermFields) (user : List ℕ) (d : Decision) (place : ℕ) : Type 0 where
   pub term : TermFields
@@ -63,7 +63,7 @@ abbrev pub IsRight : List TermFields → List ℕ → Decision → Option ℕ �
 IsRight terms user d None = NoneMatches terms user × (d ≡ nothing)
 IsRight terms user d (Some place) = IsFirst terms user d place
 
--- The first term that matches decides, and where none does there is no right.
+-- The first term that matches decides. If none matches, there is no right.
 abbrev pub FirstMatchDecides : Type 0
 FirstMatchDecides = (lists : Lists) (dir name user : List ℕ) →
     IsRight (terms_of lists dir name) user (policy lists dir name user)

@@ -1,9 +1,9 @@
--- Users, and whom the terms of an access list match.
+-- Users, and which users the terms of an access list match.
 --
 --     Person.Project.tag     Person and Project 1 to 32 characters of `A-Z a-z 0-9 _`, tag one
 --                            character of `a-z`
 --
--- A term is as a user, but any of its three components may be `*`.
+-- A term has the form of a user, but each of its three components may be `*`.
 use Rattle.std.specs.Prelude.{ℕ, ◌+◌, ◌*◌, Bool, false, ◌&&◌, ◌||◌, ◌==◌, if◌then◌else◌, List, []}
 use Rattle.std.specs.Prelude.{◌∷◌, codes, Option, Some, None}
 use Rattle.std.specs.List.{slice_split}
@@ -16,7 +16,7 @@ pub record Components : Type 0 where
   pub project : List ℕ
   pub tag : List ℕ
 
--- what the points of a text part
+-- the parts of a text that points separate
 abbrev pub parts_of : List ℕ → List (List ℕ)
 parts_of text = slice_split (λ c. c == 46) text
 
@@ -34,7 +34,7 @@ components_of text = three_of (parts_of text)
 abbrev pub is_component_character : ℕ → Bool
 is_component_character c = is_word_character c
 
--- the most characters of one
+-- the most characters of a person or a project
 abbrev pub component_limit : ℕ
 component_limit = 32
 
@@ -65,7 +65,7 @@ user_limit = 2 * component_limit + 3
 unfoldable pub is_user : List ℕ → Bool
 is_user text = have_form_of_user (components_of text)
 
--- in a term, each may be `*`
+-- in a term, each component may be `*`
 abbrev pub may_be_component : List ℕ → Bool
 may_be_component text = is_any text || is_component text
 
@@ -83,13 +83,13 @@ have_form_of_term (Some t) = are_of_term t
 unfoldable pub is_term : List ℕ → Bool
 is_term text = have_form_of_term (components_of text)
 
--- a user, seen as its text
+-- the user with this text, if it is one; its model is the text
 abbrev pub user_of : List ℕ → Option (List ℕ)
 user_of text = if is_user text then Some text else None
 
 -- ---- matching
 
--- `*`, or equal
+-- a component of a term that is `*` or equal to that of the user
 abbrev pub admits : List ℕ → List ℕ → Bool
 admits component given = is_any component || is_text component given
 
@@ -98,6 +98,6 @@ all_admit (Some t) (Some u) =
     admits t.person u.person && admits t.project u.project && admits t.tag u.tag
 all_admit _ _ = false
 
--- A term matches a user where each of its components is `*` or that of the user.
+-- A term matches a user if each of its components is `*` or equal to that of the user.
 unfoldable pub matches : List ℕ → List ℕ → Bool
 matches term user = all_admit (components_of term) (components_of user)

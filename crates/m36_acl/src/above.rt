@@ -1,4 +1,4 @@
-//! The `segment` lines above a line, each with the terms behind it.
+//! The `segment` lines above a line, each with its terms.
 
 ghost use Rattle.std.specs.Prelude.{[], ◌∷◌, ◌++◌, ◌≡◌, ◌≤◌, ◌<◌, ◌-◌, false, length, slice_set, IfSome, OnOk, option_map};
 ghost use Rattle.std.specs.Vec.{vec_len, vec_capacity};
@@ -19,7 +19,7 @@ use std::alloc::Global;
 use std::hash::{Hash, Hasher};
 use std::marker::Model;
 
-/// A segment by its directory and its name. It is seen as these two.
+/// A segment, by its directory and its name. Its model is the record of these two.
 #[derive(PartialEq, Eq, Drop)]
 pub(crate) struct Place {
     dir: ArrayVec<u8, 64>,
@@ -47,8 +47,8 @@ impl Hash for Place {
     }
 }
 
-/// Segments in the order of their lines, each with its terms, and a table of their directories and names. They are seen
-/// as the segments.
+/// Segments in the order of their lines, each with its terms, and a hash table of their directories
+/// and names. The model is the list of the segments.
 #[derive(Drop)]
 pub(crate) struct Above {
     segments: Vec<AclSegment>,
@@ -68,7 +68,7 @@ impl Model for Above {
 }
 
 impl Place {
-    /// The segment of a name in a directory.
+    /// The segment with this name in this directory.
     pub(crate) fn new(dir: &[u8], name: Name) -> Place
         requires { length dir.now ≤ directory_limit }
         ensures { result ≡ entry dir.now name }
@@ -81,7 +81,7 @@ impl Place {
     }
 }
 
-// Adds a segment where there is room for it.
+// Adds a segment; the vector has room for it.
 fn put(segments: &mut Vec<AclSegment>, segment: AclSegment)
     requires { vec_len segments.old < vec_capacity segments.old }
     ensures { segments.new.items ≡ segments.old.items ++ segment ∷ [] }
@@ -106,7 +106,7 @@ fn push_to_last(segments: &mut Vec<AclSegment>, term: Term) -> Result<(), NoMemo
 }
 
 impl Above {
-    /// No segments. Their names are hashed by a seed.
+    /// No segments. Their names will be hashed with this seed.
     pub(crate) fn new(alloc: Global, seed: HashSeed) -> Above
         ensures { result ≡ [] }
     {
@@ -116,14 +116,14 @@ impl Above {
         }
     }
 
-    /// Whether a segment is among them.
+    /// Whether a segment is in the list.
     pub(crate) fn has(&self, place: &Place) -> bool
         ensures { result ≡ has_segment self.now place.now }
     {
         self.places.contains(place)
     }
 
-    /// Adds a segment that is not among them.
+    /// Adds a segment that is not in the list.
     pub(crate) fn add(&mut self, place: Place, segment: AclSegment) -> Result<(), NoMemory>
         requires place { place ≡ entry segment.dir segment.name }
         requires fresh { has_segment self.old place ≡ false }
@@ -135,14 +135,14 @@ impl Above {
         Ok(())
     }
 
-    /// The terms of the last one; None where there is none.
+    /// The terms of the last segment. None if there is no segment.
     pub(crate) fn last_terms(&self) -> Option<&[Term]>
         ensures { option_map (λ t. t.now) result ≡ option_map (λ s. s.terms) (last_of self.now) }
     {
         Some(self.segments.last()?.terms())
     }
 
-    /// Adds a term to the last one.
+    /// Adds a term to the last segment.
     pub(crate) fn add_to_last(&mut self, term: Term) -> Result<(), NoMemory>
         requires { 1 ≤ length self.old }
         ensures { OnOk result (IfSome (last_of self.old) (λ last.
@@ -151,7 +151,7 @@ impl Above {
         push_to_last(&mut self.segments, term)
     }
 
-    /// The segments.
+    /// The segments in the order of their lines.
     pub(crate) fn into_segments(self) -> Vec<AclSegment>
         ensures { result.items ≡ self }
     {

@@ -20,7 +20,8 @@ use m36_word::NoMemory;
 use std::alloc::Global;
 use std::marker::Model;
 
-/// Access lists. They are seen as the segments in the order of their lines, each with its terms.
+/// Access lists. The model is the list of the segments in the order of their lines, each with its
+/// terms.
 #[derive(Drop)]
 pub struct Acl {
     segments: Vec<AclSegment>,
@@ -36,8 +37,8 @@ impl Model for Acl {
 }
 
 impl Acl {
-    /// The lists that a text writes out. The error is the first line that has a code, counted from 1, with its least
-    /// code, or want of memory. The text has fewer than 2^32 bytes.
+    /// Parses access lists. The error is the first line that has a code, counted from 1, with the
+    /// least code of that line, or `NoMemory`. The text has fewer than 2^32 bytes.
     #[tactic(auto, unfolding(crate::specs::AccessLists::lists_of))]
     pub fn read(alloc: Global, text: &[u8]) -> Result<Acl, AclFault>
         requires { length text.now < 2 ^ 32 }
@@ -47,22 +48,23 @@ impl Acl {
         Ok(Acl { segments })
     }
 
-    /// The `segment` lines in their order.
+    /// The segments of the `segment` lines, in the order of the lines.
     pub fn segments(&self) -> &[AclSegment]
         ensures { result.now ≡ self.now }
     {
         self.segments.as_slice()
     }
 
-    /// The list of a segment, in the order of its lines; empty where no `segment` line has the segment.
+    /// The access list of a segment, in the order of its lines. Empty if no `segment` line names
+    /// the segment.
     pub fn terms(&self, dir: &[u8], name: &[u8]) -> &[Term]
         ensures { result.now ≡ terms_of self.now dir.now name.now }
     {
         terms_in(self.segments(), dir, name)
     }
 
-    /// What a user may do with a segment: the mode of the first matching term in its list, with the place of that term;
-    /// no right and no term where none matches.
+    /// What a user may do with a segment: the mode of the first term in its list that matches the
+    /// user, with the index of that term. If no term matches, there is no right and no term.
     #[tactic(auto, unfolding(crate::specs::Policy::policy))]
     pub fn mode_for(&self, dir: &[u8], name: &[u8], user: &User) -> Decision
         ensures { result ≡ policy self.now dir.now name.now user.now }
@@ -70,31 +72,34 @@ impl Acl {
         decided(self.terms(dir, name), user)
     }
 
-    /// The number of the first `segment` line whose segment is not in a catalog by its directory and its first name, which
-    /// are those of its segment line in the boot text.
+    /// The number of the first `segment` line that names no segment of the catalog. A segment
+    /// counts by its directory and its first name, which are those of its segment line in the boot
+    /// text.
     pub fn first_unknown(&self, catalog: &Catalog) -> Option<u32>
         ensures { result ≡ first_unknown catalog.now self.now }
     {
         first_unknown(self.segments(), catalog)
     }
 
-    /// What a user may do with a segment of a catalog, counted from 0: `mode_for` of its directory and its first name.
+    /// What a user may do with segment `i` of a catalog, counted from 0: `mode_for` of its
+    /// directory and its first name.
     pub fn decision_on(&self, catalog: &Catalog, i: usize, user: &User) -> Decision
         requires { i < length catalog.now.segments }
-        ensures { IfSome (slice_get catalog.now.segments i) (λ s. result ≡ decision_on self.now user.now catalog.now.directories s) }
+        ensures { IfSome (slice_get catalog.now.segments i)
+            (λ s. result ≡ decision_on self.now user.now catalog.now.directories s) }
     {
         decision_on(self, catalog, catalog.segment(i), user)
     }
 
-    /// Gives each segment of a catalog the rights that the lists give to a user. All else of the catalog stays.
+    /// Gives each segment of a catalog the rights of a user. Nothing else in the catalog changes.
     pub fn grant(&self, catalog: &mut Catalog, user: &User)
         ensures { catalog.new ≡ granted self.now user.now catalog.old }
     {
         grant_all(self, catalog, user);
     }
 
-    /// What a user may do with each segment of a catalog: `DIR NAME MODE TERM`, a line for each, where TERM is the term that
-    /// decides, or `none`. The error is want of memory alone.
+    /// What a user may do with each segment of a catalog: a line `DIR NAME MODE TERM` for each,
+    /// where TERM is the term that decides, or `none`. Fails only with `NoMemory`.
     pub fn access_text(
         &self,
         alloc: Global,
@@ -106,8 +111,8 @@ impl Acl {
         access_text(alloc, self, catalog, user)
     }
 
-    /// `denied DIR NAME TERM` for each segment of a catalog: what is told of a user whose run ended for want of a right to
-    /// it. The error is want of memory alone.
+    /// A line `denied DIR NAME TERM` for each segment of a catalog. It is printed if the run of the
+    /// user ends because he lacks a right to that segment. Fails only with `NoMemory`.
     pub fn denied_lines(
         &self,
         alloc: Global,

@@ -1,4 +1,4 @@
-//! Lines for the segments of a catalog.
+//! Lines about the segments of a catalog.
 
 ghost use Rattle.std.specs.Prelude.{◌≡◌, ◌++◌, ◌∷◌, [], None, Some, MatchOption, slice_get, OnOk};
 
@@ -7,8 +7,8 @@ use m36_word::NoMemory;
 use std::alloc::Global;
 use std::marker::Model;
 
-/// What is told of a user who lacks a right to a segment: a line for each segment of a catalog, or for none. It is seen as
-/// these lines.
+/// The lines that report that a user lacks a right to a segment: one for each segment of a catalog,
+/// or none. The model is the list of these lines.
 #[derive(Drop)]
 pub struct DeniedLines {
     items: Vec<Text>,
@@ -40,9 +40,10 @@ impl DeniedLines {
         Ok(())
     }
 
-    /// The line of a segment, counted from 0; None where there is no such line.
+    /// The line of segment `i`, counted from 0. None if there is no such line.
     pub fn line(&self, i: usize) -> Option<&[u8]>
-        ensures { MatchOption result (slice_get self.now i ≡ None) (λ line. slice_get self.now i ≡ Some line.now) }
+        ensures { MatchOption result (slice_get self.now i ≡ None)
+            (λ line. slice_get self.now i ≡ Some line.now) }
     {
         match self.items.get(i) {
             Some(line) => Some(line.bytes()),

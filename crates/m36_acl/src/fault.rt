@@ -1,4 +1,4 @@
-//! Why a text gives no access lists.
+//! Why a text cannot be parsed as access lists.
 
 use m36_word::NoMemory;
 use thiserror::Error;
@@ -6,13 +6,15 @@ use thiserror::Error;
 /// The first line of a text that has a code, counted from 1, with the least code of that line.
 #[derive(Clone, Copy, Debug, PartialEq, Eq, Error)]
 pub enum AclFault {
-    /// The line is not of its form, no `segment` line stands above a `term`, or it is the 17th `term` of a segment.
+    /// The line is not of its form, or it is a `term` line above all `segment` lines, or the 17th
+    /// `term` line of a segment.
     #[error("C1 {0}")]
     C1(u32),
-    /// The segment stands a second time, or the term below one segment.
+    /// The segment was named by an earlier line, or the term occurs earlier in the list of the
+    /// segment.
     #[error("C2 {0}")]
     C2(u32),
-    /// No memory was found.
+    /// Out of memory.
     #[error("no memory")]
     NoMemory,
 }

@@ -1,4 +1,4 @@
-//! What stands behind the first word of a line of access lists; None where it is not of its form.
+//! Parses what follows the first word of a line of access lists. None if it is not of its form.
 
 ghost use Rattle.std.specs.Prelude.{◌≡◌, ◌≤◌, length, None, Some, IfSome, MatchOption};
 ghost use Rattle.m36_text.specs.Lines.{words_of};
@@ -26,7 +26,7 @@ pub(crate) fn entry_of(given: &[u8]) -> Option<(&[u8], Name)>
     }
 }
 
-// A mode of a boot text without the letter p.
+// Parses a mode as in a boot text, but without the letter p.
 #[tactic(auto, unfolding(crate::specs::AccessLine::rights_of))]
 fn rights_of(word: &[u8]) -> Option<Mode>
     ensures { result ≡ rights_of word.now }

@@ -1,4 +1,4 @@
-//! What access lists give a user in a catalog.
+//! The rights that access lists give a user to the segments of a catalog.
 
 ghost use Rattle.std.specs.Prelude.{◌≡◌, ◌<◌, length};
 ghost use Rattle.m36_dir.specs.IsCatalog.{IsSegment};
@@ -10,7 +10,7 @@ use crate::segment::AclSegment;
 use crate::user::User;
 use m36_dir::{Catalog, Segment};
 
-/// The first name of a segment, which its line in the boot text has.
+/// The first name of a segment, which is that of its line in the boot text.
 pub(crate) fn name_of(segment: &Segment) -> &[u8]
     ensures { result.now ≡ name_of segment.now }
 {
@@ -20,7 +20,7 @@ pub(crate) fn name_of(segment: &Segment) -> &[u8]
     }
 }
 
-// Whether a `segment` line is that of a segment of a catalog.
+// Whether a `segment` line names this segment of a catalog.
 fn names(catalog: &Catalog, given: &AclSegment, segment: &Segment) -> bool
     requires { IsSegment (length catalog.now.directories) segment.now }
     ensures { result ≡ names catalog.now given.now segment.now }
@@ -28,7 +28,7 @@ fn names(catalog: &Catalog, given: &AclSegment, segment: &Segment) -> bool
     catalog.directory(segment.dir) == given.dir.bytes() && name_of(segment) == given.name.bytes()
 }
 
-// Whether a `segment` line is that of some segment of a catalog.
+// Whether a `segment` line names any segment of a catalog.
 #[tactic(auto, using(crate::proofs::Rights::known_here, crate::proofs::Rights::known_later, crate::proofs::Rights::known_never))]
 fn is_known(catalog: &Catalog, given: &AclSegment) -> bool
     ensures { result ≡ is_known catalog.now given.now }
@@ -41,7 +41,7 @@ fn is_known(catalog: &Catalog, given: &AclSegment) -> bool
     false
 }
 
-/// The number of the first `segment` line whose segment is not in a catalog.
+/// The number of the first `segment` line that names no segment of a catalog.
 #[tactic(auto, unfolding(crate::specs::Granted::first_unknown))]
 pub(crate) fn first_unknown(lists: &[AclSegment], catalog: &Catalog) -> Option<u32>
     ensures { result ≡ first_unknown catalog.now lists.now }
@@ -64,7 +64,7 @@ pub(crate) fn decision_on(
     lists.mode_for(catalog.directory(segment.dir), name_of(segment), user)
 }
 
-// Gives a segment of a catalog the rights that the lists give to a user.
+// Gives segment `i` of a catalog the rights of a user.
 fn grant_one(lists: &Acl, catalog: &mut Catalog, i: usize, user: &User)
     requires { i < length catalog.old.segments }
     ensures { GrantsOne lists.now user.now catalog.old catalog.new i }
@@ -73,7 +73,7 @@ fn grant_one(lists: &Acl, catalog: &mut Catalog, i: usize, user: &User)
     catalog.set_rights(i, decision.readable, decision.executable, decision.writable);
 }
 
-/// Gives each segment of a catalog the rights that the lists give to a user.
+/// Gives each segment of a catalog the rights of a user.
 #[tactic(auto, using(crate::proofs::Rights::grant_more, crate::proofs::Rights::grant_done, crate::proofs::Rights::grant_count))]
 pub(crate) fn grant_all(lists: &Acl, catalog: &mut Catalog, user: &User)
     ensures { catalog.new ≡ granted lists.now user.now catalog.old }

@@ -1,12 +1,13 @@
-//! What holds of all access lists.
+//! Laws that hold for all access lists.
 
 ghost use Rattle.m36_acl.specs.AccessLists.{ListsOnce};
 ghost use Rattle.m36_acl.specs.AccessText.{ModesComeBack};
 ghost use Rattle.m36_acl.specs.Policy.{FirstMatchDecides};
 
-/// The first term of a segment's list that matches a user decides: none before it matches, and the rights are its. Where
-/// none matches, or the segment has no list, there is no right. A mode that is written is the one that is read of a line.
-/// Lists that are read have each segment once, and below it each term once and at most 16 of them.
+/// The first term in the list of a segment that matches a user decides: its rights are those of the
+/// user. If no term matches, or the segment has no list, the user has no right. A mode that is
+/// printed is parsed as that mode. In access lists that were parsed, each segment occurs once, and
+/// the list of each has at most 16 terms, each once.
 pub fn policy_laws()
     ensures first { FirstMatchDecides }
     ensures modes { ModesComeBack }

@@ -1,25 +1,26 @@
-//! Access control lists: what a user may do with a segment, read from a text.
+//! Access control lists: what each user may do with a segment, parsed from a text.
 //!
 //! ```text
-//! segment DIR NAME      any number, each with
-//! term TERM MODE        none to 16 of these behind it
+//! segment DIR NAME      any number of these, each followed by
+//! term TERM MODE        0 to 16 of these
 //! ```
 //!
-//! A user is `Person.Project.tag`. A term is so too, but any of its components may be `*`; it matches a user where each
-//! component is `*` or that of the user.
+//! A user is `Person.Project.tag`. A term has the same form, but each of its components may be `*`.
+//! A term matches a user if each of its components is `*` or equal to that of the user.
 //!
-//! What is promised: `Acl::read` gives the lists that a text writes out, or C1 or C2 at the first line that has a code,
-//! the least of that line; want of memory alone may stand in the place of either. Lists that are read have each segment
-//! once, and each term once below it. `mode_for` gives a user the mode of the first matching term in the list of a
-//! segment, and tells which term that is; where none matches, or the segment has no list, it gives no right and no
-//! term. A mode that is written is the one that is read of a line. `grant` gives the segments of a catalog these rights
-//! and changes nothing else, and `first_unknown` tells the first line whose segment the catalog does not have.
-//! `User::read` takes a text exactly where it is of the form of a user.
+//! `Acl::read` returns the lists that a text describes, or the first line that has a code, C1 or
+//! C2, with the least code of that line. It fails with `NoMemory` if memory runs out. In lists that
+//! were read, each segment occurs once, and each term once in the list of its segment. `mode_for`
+//! returns the mode of the first term in the list of a segment that matches a user, and which term
+//! that is. If no term matches, or the segment has no list, it returns no right and no term. A mode
+//! that is printed is parsed as the same mode. `grant` gives the segments of a catalog these rights
+//! and changes nothing else. `first_unknown` returns the first line whose segment is not in the
+//! catalog. `User::read` accepts exactly the texts that have the form of a user.
 //!
-//! Not promised: that a user is who he says.
+//! Users are not authenticated.
 //!
-//! Source: access control lists, their terms and their order are those of the Multics Programmers' Manual AG91 (access
-//! control); the text that writes them out is this project's own.
+//! Source: access control lists, their terms and their order are those of the Multics Programmers'
+//! Manual AG91 (access control). The format of the text is this project's own.
 #![tactic(auto)]
 
 mod above;

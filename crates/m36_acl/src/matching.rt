@@ -7,14 +7,16 @@ ghost use Rattle.m36_acl.specs.Users.{are_of_user, is_user, may_be_component, ma
 
 use m36_text::{is_digit, is_letter, place_of};
 
-// The most characters of a person or a project.
+// The maximal number of characters of a person or a project.
 const LONGEST_COMPONENT: usize = 32;
 
-// What stands before the first point, and what stands behind it.
+// The text before the first point, and the text after it.
 #[tactic(auto, using(m36_text::proofs::Splitting::splitting))]
 fn first_part(text: &[u8]) -> (&[u8], Option<&[u8]>)
-    ensures parts { MatchOption result.1 (parts_of text.now ≡ result.0.now ∷ []) (λ rest. parts_of text.now ≡ result.0.now ∷ parts_of rest.now) }
-    ensures lengths { MatchOption result.1 (length text.now ≡ length result.0.now) (λ rest. length text.now ≡ length result.0.now + 1 + length rest.now) }
+    ensures parts { MatchOption result.1 (parts_of text.now ≡ result.0.now ∷ [])
+        (λ rest. parts_of text.now ≡ result.0.now ∷ parts_of rest.now) }
+    ensures lengths { MatchOption result.1 (length text.now ≡ length result.0.now)
+        (λ rest. length text.now ≡ length result.0.now + 1 + length rest.now) }
 {
     match place_of(text, b'.') {
         Some(point) => (&text[..point], Some(&text[point + 1..])),
@@ -22,11 +24,14 @@ fn first_part(text: &[u8]) -> (&[u8], Option<&[u8]>)
     }
 }
 
-// Person, project and tag; none where there are more or fewer parts.
+// Person, project and tag. None if the text does not have exactly three parts.
 #[tactic(auto, unfolding(crate::specs::Users::components_of), using(crate::proofs::Parts::four_parts))]
 fn components_of(text: &[u8]) -> Option<(&[u8], &[u8], &[u8])>
-    ensures parts { MatchOption result (components_of text.now ≡ None) (λ c. components_of text.now ≡ Some (record { person = c.0.now; project = c.1.now; tag = c.2.now })) }
-    ensures lengths { IfSome result (λ c. length text.now ≡ length c.0.now + length c.1.now + length c.2.now + 2) }
+    ensures parts { MatchOption result (components_of text.now ≡ None)
+        (λ c. components_of text.now
+        ≡ Some (record { person = c.0.now; project = c.1.now; tag = c.2.now })) }
+    ensures lengths { IfSome result
+        (λ c. length text.now ≡ length c.0.now + length c.1.now + length c.2.now + 2) }
 {
     let (person, rest) = first_part(text);
     let (project, rest) = first_part(rest?);
@@ -88,10 +93,12 @@ fn is_any(text: &[u8]) -> bool
     text == b"*".as_slice()
 }
 
-// Whether components are those of a user.
+// Whether these are components of a user.
 fn have_form_of_user(person: &[u8], project: &[u8], tag: &[u8]) -> bool
-    ensures value { result ≡ are_of_user (record { person = person.now; project = project.now; tag = tag.now }) }
-    ensures fits { result ≡ true → length person.now + length project.now + length tag.now ≤ 2 * component_limit + 1 }
+    ensures value { result
+        ≡ are_of_user (record { person = person.now; project = project.now; tag = tag.now }) }
+    ensures fits { result ≡ true
+        → length person.now + length project.now + length tag.now ≤ 2 * component_limit + 1 }
 {
     if !is_component(person) {
         return false;
@@ -134,10 +141,12 @@ fn is_any_or_tag(text: &[u8]) -> bool
     is_tag(text)
 }
 
-// Whether components are those of a term.
+// Whether these are components of a term.
 fn have_form_of_term(person: &[u8], project: &[u8], tag: &[u8]) -> bool
-    ensures value { result ≡ are_of_term (record { person = person.now; project = project.now; tag = tag.now }) }
-    ensures fits { result ≡ true → length person.now + length project.now + length tag.now ≤ 2 * component_limit + 1 }
+    ensures value { result
+        ≡ are_of_term (record { person = person.now; project = project.now; tag = tag.now }) }
+    ensures fits { result ≡ true
+        → length person.now + length project.now + length tag.now ≤ 2 * component_limit + 1 }
 {
     if !is_any_or_component(person) {
         return false;

@@ -11,8 +11,8 @@ use crate::matching::matches;
 use crate::segment::{AclSegment, Term};
 use crate::user::User;
 
-/// What a user may do with a segment, and the term that says so: its place in the list of the segment, counted from 0.
-/// Where no term matches there is none, and no right.
+/// What a user may do with a segment, and the term that decides it, by its index in the list of the
+/// segment, counted from 0. If no term matches, there is no term and no right.
 #[derive(Clone, Copy, PartialEq, Eq)]
 pub struct Decision {
     pub term: Option<usize>,
@@ -21,21 +21,21 @@ pub struct Decision {
     pub writable: bool,
 }
 
-// Whether a `segment` line is that of a name in a directory.
+// Whether a `segment` line has this directory and this name.
 fn is_of(segment: &AclSegment, dir: &[u8], name: &[u8]) -> bool
     ensures { result ≡ is_of (entry dir.now name.now) segment.now }
 {
     segment.dir.bytes() == dir && segment.name.bytes() == name
 }
 
-// The `segment` line of a name in a directory among some.
+// The `segment` line with this directory and this name.
 fn line_of<'a>(segments: &'a [AclSegment], dir: &[u8], name: &[u8]) -> Option<&'a AclSegment>
     ensures { option_copied result ≡ find (is_of (entry dir.now name.now)) segments.now }
 {
     segments.iter().find(|segment| is_of(segment, dir, name))
 }
 
-/// The list of a segment among some; empty where none is of the segment.
+/// The access list of a segment. Empty if no `segment` line names it.
 #[tactic(auto, unfolding(crate::specs::Policy::terms_of))]
 pub(crate) fn terms_in<'a>(segments: &'a [AclSegment], dir: &[u8], name: &[u8]) -> &'a [Term]
     ensures { result.now ≡ terms_of segments.now dir.now name.now }
@@ -68,7 +68,7 @@ fn rights_by(place: usize, term: &Term) -> Decision
     }
 }
 
-/// The place of the first term that matches, counted from 0.
+/// The index of the first term that matches the user, counted from 0.
 pub(crate) fn first_match(terms: &[Term], user: &User) -> Option<usize>
     ensures value { result ≡ position (λ term. matches term.text user.now) terms.now }
     ensures within { IfSome result (λ place. place < length terms.now) }
@@ -78,7 +78,7 @@ pub(crate) fn first_match(terms: &[Term], user: &User) -> Option<usize>
         .position(|term| matches(term.bytes(), user.bytes()))
 }
 
-/// The rights of the first term that matches.
+/// The rights by the first term that matches the user.
 #[tactic(auto, unfolding(crate::specs::Policy::decided))]
 pub(crate) fn decided(terms: &[Term], user: &User) -> Decision
     ensures { result ≡ decided terms.now user.now }

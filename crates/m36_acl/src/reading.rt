@@ -1,4 +1,4 @@
-//! The lines of access lists in turn, up to the first that has a code.
+//! Parses the lines of access lists in order, up to the first that has a code.
 
 ghost use Rattle.std.specs.Prelude.{◌≡◌, ◌<◌, ◌≤◌, ◌^◌, length, Some, Ok, IfOk, IfErr, option_map};
 ghost use Rattle.m36_text.specs.Lines.{words_of, last_of};
@@ -14,10 +14,10 @@ use crate::segment::{AclSegment, Term};
 use m36_text::{HashSeed, Name, first_line, first_word};
 use std::alloc::Global;
 
-// The most terms of a list.
+// The maximal number of terms of a list.
 const MOST_TERMS: usize = 16;
 
-// A `segment` line behind the lines above it.
+// Adds the segment of a `segment` line. C2 if an earlier line names it.
 fn add_segment(
     alloc: Global,
     above: &mut Above,
@@ -43,7 +43,8 @@ fn has_term(terms: &[Term], text: &[u8]) -> bool
     terms.iter().any(|term| term.bytes() == text)
 }
 
-// A `term` line behind the lines above it.
+// Adds a term to the last segment. C1 if there is no segment or its list is full, C2 if the list
+// has the term.
 fn add_term(above: &mut Above, number: u32, term: Term) -> Result<(), AclFault>
     ensures { Takes above.new result (term_behind number above.old (last_of above.old) term) }
 {
@@ -60,7 +61,7 @@ fn add_term(above: &mut Above, number: u32, term: Term) -> Result<(), AclFault>
     Ok(())
 }
 
-// What stands behind the word `segment`.
+// Parses a `segment` line from its second word on, and adds its segment.
 fn segment_line(alloc: Global, above: &mut Above, number: u32, given: &[u8]) -> Result<(), AclFault>
     ensures { Takes above.new result
         (line_behind number above.old (option_map Segment (entry_of (words_of given.now)))) }
@@ -71,7 +72,7 @@ fn segment_line(alloc: Global, above: &mut Above, number: u32, given: &[u8]) -> 
     }
 }
 
-// What stands behind the word `term`.
+// Parses a `term` line from its second word on, and adds its term.
 fn term_line(above: &mut Above, number: u32, given: &[u8]) -> Result<(), AclFault>
     ensures { Takes above.new result
         (line_behind number above.old (option_map TermLine (term_of (words_of given.now)))) }
@@ -82,7 +83,7 @@ fn term_line(above: &mut Above, number: u32, given: &[u8]) -> Result<(), AclFaul
     }
 }
 
-// A line behind the lines above it.
+// Parses a line, and adds what it has to the segments of the lines above it.
 #[tactic(auto, unfolding(crate::specs::AccessLine::line_given), using(crate::proofs::AclLines::no_words))]
 fn add_line(alloc: Global, above: &mut Above, number: u32, line: &[u8]) -> Result<(), AclFault>
     ensures { Takes above.new result (line_behind number above.old (line_given (Some line.now))) }
@@ -100,7 +101,8 @@ fn add_line(alloc: Global, above: &mut Above, number: u32, line: &[u8]) -> Resul
     Err(AclFault::C1(number))
 }
 
-/// The segments of a text, each with its terms; else the first code.
+/// The segments of a text, each with its terms. The error is the first line that has a code, or
+/// `NoMemory`.
 #[tactic(auto, unfolding(crate::specs::AccessLists::lists_of))]
 pub(crate) fn segments_in(alloc: Global, text: &[u8]) -> Result<Vec<AclSegment>, AclFault>
     requires { length text.now < 2 ^ 32 }

@@ -1,4 +1,4 @@
-//! Segments of access lists, and their terms.
+//! Segments with access lists, and the terms of these.
 
 ghost use Rattle.std.specs.Prelude.{◌≡◌, ◌≤◌, length, IfOk, OnOk};
 ghost use Rattle.m36_dir.specs.BootOrder.{entry};
@@ -15,7 +15,8 @@ use m36_word::NoMemory;
 use std::alloc::Global;
 use std::marker::Model;
 
-/// A term of a list: whom it matches, and what he may do. It is seen as its fields.
+/// A term of an access list: which users it matches, and what they may do. Its model is the record
+/// of its fields.
 #[derive(Drop)]
 pub struct Term {
     text: ArrayVec<u8, 67>,
@@ -31,7 +32,7 @@ impl Model for Term {
 }
 
 impl Term {
-    // A term of a text and a mode, of which the right to be privileged is not looked at.
+    // A term of this text and this mode. Whether the mode is privileged is ignored.
     pub(crate) fn new(text: &[u8], mode: Mode) -> Term
         requires { length text.now ≤ user_limit }
         ensures { result ≡ term_with text.now mode }
@@ -42,7 +43,7 @@ impl Term {
         }
     }
 
-    /// The term as it is written, without its mode: at most 67 bytes.
+    /// The text of the term, without its mode: at most 67 bytes.
     pub fn bytes(&self) -> &[u8]
         ensures value { result.now ≡ self.now.text }
         ensures fits { length self.now.text ≤ user_limit }
@@ -50,21 +51,21 @@ impl Term {
         self.text.as_slice()
     }
 
-    /// Whether it gives the right to read.
+    /// Whether the term gives the right to read.
     pub fn readable(&self) -> bool
         ensures { result ≡ self.now.readable }
     {
         self.mode.readable
     }
 
-    /// Whether it gives the right to execute.
+    /// Whether the term gives the right to execute.
     pub fn executable(&self) -> bool
         ensures { result ≡ self.now.executable }
     {
         self.mode.executable
     }
 
-    /// Whether it gives the right to write.
+    /// Whether the term gives the right to write.
     pub fn writable(&self) -> bool
         ensures { result ≡ self.now.writable }
     {
@@ -72,7 +73,7 @@ impl Term {
     }
 }
 
-/// A `segment` line, with the terms of the lines behind it. It is seen as its fields.
+/// A `segment` line and the terms of the lines after it. Its model is the record of its fields.
 #[derive(Drop)]
 pub struct AclSegment {
     /// The directory of the segment.
@@ -110,7 +111,7 @@ impl AclSegment {
         })
     }
 
-    // Adds a term behind the others.
+    // Adds a term at the end of the list.
     pub(crate) fn push(&mut self, term: Term) -> Result<(), NoMemory>
         ensures ok { OnOk result (self.new ≡ with_term self.old term) }
         ensures dir { self.new.dir ≡ self.old.dir }

@@ -7,8 +7,9 @@ use crate::matching::is_user;
 use arrayvec::ArrayVec;
 use std::marker::Model;
 
-/// A user: `Person.Project.tag`, where Person and Project have 1 to 32 letters, digits and `_`, and the tag is a small
-/// letter. It is seen as its text, and takes no memory.
+/// A user: `Person.Project.tag`, where Person and Project are 1 to 32 letters, digits and `_`, and
+/// the tag is a lower-case letter. The text is held in place, so nothing is allocated. The model is
+/// the text.
 #[derive(Drop)]
 pub struct User {
     text: ArrayVec<u8, 67>,
@@ -22,7 +23,7 @@ impl Model for User {
     ghost view = { λ u. u.text.items };
 }
 
-// The same bytes, which are few.
+// A copy of at most 67 bytes.
 pub(crate) fn kept(text: &[u8]) -> ArrayVec<u8, 67>
     requires { length text.now ≤ user_limit }
     ensures { result.items ≡ text.now }
@@ -35,7 +36,7 @@ pub(crate) fn kept(text: &[u8]) -> ArrayVec<u8, 67>
 }
 
 impl User {
-    /// The user of a text; None exactly where it is not of the form of a user.
+    /// Parses a user. None exactly if the text does not have the form of a user.
     pub fn read(t: &[u8]) -> Option<User>
         ensures { result ≡ user_of t.now }
     {

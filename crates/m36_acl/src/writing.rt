@@ -1,4 +1,4 @@
-//! What is written of access lists.
+//! Lines about the rights of a user.
 
 ghost use Rattle.std.specs.Prelude.{◌≡◌, ◌++◌, ◌∷◌, [], length, IfOk, OnOk};
 ghost use Rattle.m36_dir.specs.Catalog.{directory_in};
@@ -17,7 +17,7 @@ use m36_outside::Text;
 use m36_word::NoMemory;
 use std::alloc::Global;
 
-// The letters of the rights to read, execute and write.
+// The letters of the rights to read, execute and write, or `null` if there are none.
 fn mode_text(readable: bool, executable: bool, writable: bool) -> &'static str
     ensures { result.now ≡ mode_text readable executable writable }
 {
@@ -33,7 +33,7 @@ fn mode_text(readable: bool, executable: bool, writable: bool) -> &'static str
     }
 }
 
-// The term of a list that decides for a user.
+// The first term of a list that matches a user, which decides; `none` if none matches.
 #[tactic(auto, unfolding(crate::specs::AccessText::deciding_in, crate::specs::Policy::decided))]
 fn deciding_in<'a>(terms: &'a [Term], user: &User) -> &'a [u8]
     ensures { result.now ≡ deciding_in terms.now user.now }
@@ -52,7 +52,7 @@ fn directory_of<'a>(catalog: &'a Catalog, segment: &Segment) -> &'a [u8]
     catalog.directory(segment.dir)
 }
 
-// The term that decides what a user may do with a segment of a catalog.
+// The term that decides what a user may do with a segment of a catalog, or `none`.
 fn deciding<'a>(lists: &'a Acl, catalog: &Catalog, segment: &Segment, user: &User) -> &'a [u8]
     requires { IsSegment (length catalog.now.directories) segment.now }
     ensures { result.now ≡ deciding lists.now user.now catalog.now.directories segment.now }
@@ -63,7 +63,7 @@ fn deciding<'a>(lists: &'a Acl, catalog: &Catalog, segment: &Segment, user: &Use
     )
 }
 
-// Adds a blank and a word.
+// Adds a space and a word.
 fn append_word(line: &mut Text, word: &[u8]) -> Result<(), NoMemory>
     ensures { OnOk result (line.new ≡ and_then line.old word.now) }
 {
@@ -81,7 +81,8 @@ fn access_line(
     user: &User,
 ) -> Result<Text, NoMemory>
     requires { IsSegment (length catalog.now.directories) segment.now }
-    ensures { IfOk result (λ line. line ≡ access_line lists.now user.now catalog.now.directories segment.now) }
+    ensures { IfOk result
+        (λ line. line ≡ access_line lists.now user.now catalog.now.directories segment.now) }
 {
     let decision = decision_on(lists, catalog, segment, user);
     let mode = mode_text(decision.readable, decision.executable, decision.writable);
@@ -102,7 +103,8 @@ fn denied_line(
     user: &User,
 ) -> Result<Text, NoMemory>
     requires { IsSegment (length catalog.now.directories) segment.now }
-    ensures { IfOk result (λ line. line ≡ denied_line lists.now user.now catalog.now.directories segment.now) }
+    ensures { IfOk result
+        (λ line. line ≡ denied_line lists.now user.now catalog.now.directories segment.now) }
 {
     let mut line = Text::from_bytes(alloc, b"denied")?;
     append_word(&mut line, directory_of(catalog, segment))?;
@@ -112,7 +114,7 @@ fn denied_line(
     Ok(line)
 }
 
-/// What a user may do with each segment of a catalog, a line for each.
+/// What a user may do with each segment of a catalog, one line each.
 #[tactic(auto, using(crate::proofs::AccessLoops::texts))]
 pub(crate) fn access_text(
     alloc: Global,
@@ -130,7 +132,8 @@ pub(crate) fn access_text(
     Ok(text)
 }
 
-/// The line behind a run that ended for want of a right, for each segment of a catalog.
+/// For each segment of a catalog, the line that is printed if a run ends because the user lacks a
+/// right to it.
 #[tactic(auto, using(crate::proofs::AccessLoops::lines))]
 pub(crate) fn denied_lines(
     alloc: Global,

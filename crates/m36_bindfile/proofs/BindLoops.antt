@@ -9,7 +9,7 @@ use Rattle.m36_bindfile.specs.declared.fault.BindFault.{BindFault}
 use Rattle.m36_bindfile.specs.declared.fault.BindFault.TheVariants as fault
 use Rattle.m36_bindfile.specs.BindFile.{line_given, lines_given, gives_object, has_object, lines_from, in_order, read_on, is_cut}
 
--- ---- a line that asks for an object
+-- ---- an `object` line
 
 object_line_first : (rest line behind : List ℕ) → open_lines_of rest ≡ line ∷ open_lines_of behind
     → has_object rest ≡ (gives_object (line_given (Some line)) || has_object behind)
@@ -82,7 +82,7 @@ line_cut above number total rest e cut at so_far =
     sym so_far ∙ ap (λ (ls : List (Option (List ℕ))). lines_from above (map line_given ls)) e ∙ cut_rest above rest cut
     ∙ ap (λ (n : ℕ). Err (fault.B1 n)) (sym at)
 
--- each line above took a byte at least
+-- each line above has at least one byte
 
 pub few_more : (above next : List BindLine) (one : BindLine) (a b t : ℕ) → next ≡ above ++ one ∷ [] → b < a → length above + a ≤ t → length next + b ≤ t
 few_more above next one a b t e lt le =

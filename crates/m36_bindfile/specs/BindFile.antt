@@ -1,14 +1,14 @@
--- Bind files: which objects are bound, in which order, and which of their names are kept.
+-- Bind files: which objects are bound, in which order, and which of their names are retained.
 --
---     version 2       perhaps, and then the first line
---     object NAME     one at least
---     retain NAME     any number
+--     version 2       optional; only as the first line
+--     object NAME     one or more
+--     retain NAME     any number, after the objects
 --
--- Each line ends with a line feed, and its words are parted by single spaces. NAME is that of a
--- file: 1 to 32 characters of `A-Z a-z 0-9 _ .`, the first of which is no point. B1 is the first
--- other line, or one that is out of order or lacks its line feed; of a file without an `object`
--- line it is told at line 1, before any other; a last `object` line that lacks its line
--- feed counts there.
+-- Each line ends with a line feed, and single spaces separate its words. NAME is that of a file: 1
+-- to 32 characters of `A-Z a-z 0-9 _ .`, the first of which is not a point. B1 is reported at the
+-- first line that has no form, is out of order or lacks its line feed. If the file has no `object`
+-- line, B1 is reported at line 1 before any other. For this, a last `object` line that lacks its
+-- line feed counts.
 use Rattle.std.specs.Prelude.{ℕ, ◌≡◌, ◌+◌, Bool, true, false, if◌then◌else◌, List, []}
 use Rattle.std.specs.Prelude.{◌∷◌, ◌++◌, length, map, codes, Option, Some, None, Result}
 use Rattle.std.specs.Prelude.{Ok, Err}
@@ -22,7 +22,7 @@ use Rattle.m36_bindfile.specs.declared.line.BindLine.TheVariants as line
 use Rattle.m36_bindfile.specs.declared.fault.BindFault.{BindFault}
 use Rattle.m36_bindfile.specs.declared.fault.BindFault.TheVariants as fault
 
--- ---- lines by themselves
+-- ---- each line by itself
 
 abbrev pub object_line : List ℕ → Option BindLine
 object_line name = if is_file_name name then Some (line.Object name) else None
@@ -62,8 +62,8 @@ is_version line.Version = true
 is_version (line.Object name) = false
 is_version (line.Retain name) = false
 
--- which line may stand behind another: objects behind the version or an object, retained names
--- behind an object or a retained name
+-- Which line may follow which: an object the version or an object, a retained name an object or a
+-- retained name.
 abbrev pub may_follow : BindLine → BindLine → Bool
 may_follow line.Version next = is_object next
 may_follow (line.Object name) line.Version = false
@@ -73,7 +73,7 @@ may_follow (line.Retain name) line.Version = false
 may_follow (line.Retain name) (line.Object other) = false
 may_follow (line.Retain name) (line.Retain other) = true
 
--- which line may stand first
+-- which line may be the first
 abbrev pub may_begin : BindLine → Bool
 may_begin line.Version = true
 may_begin (line.Object name) = true
@@ -83,7 +83,7 @@ abbrev pub is_in_order_behind : Option BindLine → BindLine → Bool
 is_in_order_behind None next = may_begin next
 is_in_order_behind (Some above) next = may_follow above next
 
--- a line that is of its form and in order behind another
+-- a line that has a form and may follow the line above it
 abbrev pub in_order : Option BindLine → Option BindLine → Option BindLine
 in_order above None = None
 in_order above (Some next) = if is_in_order_behind above next then Some next else None
@@ -95,7 +95,7 @@ abbrev pub read_on : Result (List BindLine) BindFault → (BindLine
 read_on otherwise next None = otherwise
 read_on otherwise next (Some line) = next line
 
--- the lines behind some others, up to the first that is of no form or out of order
+-- the lines after those above, or B1 at the first that has no form or is out of order
 unfoldable pub lines_from : List BindLine → List (Option BindLine)
     → Result (List BindLine) BindFault
 lines_from above [] = Ok above
@@ -103,7 +103,7 @@ lines_from above (given ∷ more) =
     read_on (Err (fault.B1 (length above + 1))) (λ next. lines_from (above ++ next ∷ []) more)
     (in_order (last_of above) given)
 
--- whether something stands behind the last line feed
+-- whether the text goes on after its last line feed
 abbrev pub is_cut : List ℕ → Bool
 is_cut [] = false
 is_cut (b ∷ rest) = true
@@ -112,22 +112,22 @@ abbrev pub gives_object : Option BindLine → Bool
 gives_object None = false
 gives_object (Some next) = is_object next
 
--- whether a line asks for an object, also a last one that lacks its line feed
+-- whether a line is an `object` line, including a last line that lacks its line feed
 unfoldable pub has_object : List ℕ → Bool
 has_object text = list_any (λ line. gives_object (line_given (Some line))) (open_lines_of text)
 
--- the lines of a bind file, or B1
+-- the lines of a bind file, or B1 with a line number
 unfoldable pub bind_lines : List ℕ → Result (List BindLine) BindFault
 bind_lines text = if has_object text then lines_from [] (lines_given text) else Err (fault.B1 1)
 
--- ---- what the lines say
+-- ---- the meaning of the lines
 
 abbrev pub retained_in : BindLine → List (List ℕ)
 retained_in line.Version = []
 retained_in (line.Object name) = []
 retained_in (line.Retain name) = name ∷ []
 
--- names, with that of one more component, unless it is among them
+-- names, with that of one more component, unless they have it
 abbrev pub with_component : List (List ℕ) → BindLine → List (List ℕ)
 with_component names line.Version = names
 with_component names (line.Object name) = with_once (are_same name) names name
@@ -137,7 +137,7 @@ unfoldable pub with_components : List (List ℕ) → List BindLine → List (Lis
 with_components names [] = names
 with_components names (next ∷ lines) = with_components (with_component names next) lines
 
--- the components, each once, in the order in which they first stand
+-- the components, each once, in the order in which they first occur
 abbrev pub component_names : List BindLine → List (List ℕ)
 component_names lines = with_components [] lines
 
@@ -146,13 +146,13 @@ unfoldable pub retained_names : List BindLine → List (List ℕ)
 retained_names [] = []
 retained_names (next ∷ lines) = retained_in next ++ retained_names lines
 
--- whether version 2 is asked for
+-- whether a line is the `version 2` line
 unfoldable pub asks_newer : List BindLine → Bool
 asks_newer lines = list_any is_version lines
 
--- ---- answers
+-- ---- results
 
--- What a call answers, where want of memory may come at any time.
+-- The result of a call that parses. It may be NoMemory whatever the text is.
 abbrev pub Refuses : {A : Type 0} → BindFault → Result A BindFault → Type 0
 Refuses fault.NoMemory definition = Unit {0}
 Refuses told definition = definition ≡ Err told

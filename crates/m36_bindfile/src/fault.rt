@@ -1,27 +1,29 @@
-//! Why nothing is bound.
+//! Why a bind file or its components cannot be bound.
 
 use m36_word::NoMemory;
 use thiserror::Error;
 
-/// The code with which a bind file is refused, and its line, counted from 1.
+/// The code with which a bind file is refused, and the number of a line, counted from 1.
 #[derive(Clone, Copy, Debug, PartialEq, Eq, Error)]
 pub enum BindFault {
-    /// The line is of no form, or out of order, or lacks its line feed; or there is no `object` line.
+    /// The line has no form, is out of order, or lacks its line feed; or no line is an `object`
+    /// line.
     #[error("B1 {0}")]
     B1(u32),
-    /// The object is not among those that are given.
+    /// The object of the line is not among those given to the binder.
     #[error("B2 {0}")]
     B2(u32),
-    /// The name stands twice, or two objects define it.
+    /// The line repeats the name of an earlier line of its kind, or two components define the name.
     #[error("B3 {0}")]
     B3(u32),
-    /// The bound object is too large, or a part of a word does not fit its place; the line is 0.
+    /// A section or the bound object is too large, or a relocated part of a word does not fit. The
+    /// number is 0.
     #[error("B4 {0}")]
     B4(u32),
-    /// No object defines the name.
+    /// No component defines the retained name.
     #[error("B5 {0}")]
     B5(u32),
-    /// No memory was found.
+    /// Out of memory.
     #[error("no memory")]
     NoMemory,
 }

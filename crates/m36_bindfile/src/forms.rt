@@ -1,5 +1,5 @@
-//! The lines of a bind file, each read by its form. A line is given without its line feed; None is a line that is not of
-//! its form.
+//! Parses each line of a bind file by itself. A line is given without its line feed. None is a line
+//! that has no form.
 
 ghost use Rattle.std.specs.Prelude.{◌≡◌, Some};
 ghost use Rattle.m36_text.specs.Lines.{words_of, last_of};
@@ -53,7 +53,7 @@ fn two_words(word: &[u8], given: &[u8]) -> Option<BindLine>
     None
 }
 
-// A line of a bind file.
+// Parses a line of a bind file.
 #[tactic(auto, unfolding(crate::specs::BindFile::line_given))]
 fn read_line(text: &[u8]) -> Option<BindLine>
     ensures { result ≡ line_given (Some text.now) }
@@ -68,7 +68,7 @@ fn is_object(line: &BindLine) -> bool
     matches!(line, BindLine::Object(_))
 }
 
-/// Whether a line asks for an object.
+/// Whether a line is an `object` line.
 pub(crate) fn gives_object(text: &[u8]) -> bool
     ensures { result ≡ gives_object (line_given (Some text.now)) }
 {
@@ -105,7 +105,7 @@ fn is_in_order(above: &[BindLine], next: &BindLine) -> bool
     }
 }
 
-/// The line, where it is of its form and in order behind those above.
+/// The parsed line, if it has a form and may follow the lines above.
 pub(crate) fn line_behind(above: &BindLines, text: &[u8]) -> Option<BindLine>
     ensures { result ≡ in_order (last_of above.now) (line_given (Some text.now)) }
 {

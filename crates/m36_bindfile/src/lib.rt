@@ -1,17 +1,18 @@
-//! Bind files: which objects are bound, in which order, and which of their names are kept.
+//! Bind files: which objects are bound, in which order, and which of their names are retained.
 //!
 //! ```text
-//! version 2       perhaps, and then the first line
-//! object NAME     one at least
-//! retain NAME     any number
+//! version 2       optional; only as the first line
+//! object NAME     one or more
+//! retain NAME     any number, after the objects
 //! ```
 //!
-//! What is promised: `read_lines` gives exactly the lines that a text is, and `components` the names of its `object` lines,
-//! each once, in the order in which they first stand; else B1 at the first line that is of no form or out of order, or at
-//! line 1 where there is no `object` line; want of memory may come at any time. `BindFault` has the codes of the binder too.
+//! `read_lines` returns exactly the lines of a text. `components` returns the names of its `object`
+//! lines, each once, in the order in which they first occur. Both fail with B1 at the first line
+//! that has no form, is out of order or lacks its line feed, at line 1 if there is no `object`
+//! line, and with `NoMemory` if memory runs out. `BindFault` has the codes of the binder too.
 //!
-//! Source: bind files are this project's own; what is bound, and how, follows the binder of the Multics Programmers'
-//! Manual.
+//! Source: bind files are this project's own. What is bound, and how, follows the binder of the
+//! Multics Programmers' Manual.
 #![tactic(auto)]
 
 pub mod fault;

@@ -7,18 +7,18 @@ use m36_word::NoMemory;
 use std::alloc::Global;
 use std::marker::Model;
 
-/// A line of a bind file.
+/// A parsed line of a bind file.
 #[derive(Drop)]
 pub enum BindLine {
     /// The bound object has version 2.
     Version,
-    /// The object of this name is bound behind those above.
+    /// The object with this name is the next component.
     Object(Name),
     /// The bound object defines this name.
     Retain(Name),
 }
 
-/// A list of lines that grows at its end.
+/// A list of lines that grows at its end. Its model is the list.
 #[derive(Drop)]
 pub struct BindLines {
     items: Vec<BindLine>,
@@ -43,7 +43,7 @@ impl BindLines {
         }
     }
 
-    /// Adds a line at the end. Where no memory is found, nothing changes.
+    /// Adds a line at the end. If memory runs out, nothing changes.
     pub fn push(&mut self, x: BindLine) -> Result<(), NoMemory>
         ensures ok { OnOk result (self.new ≡ self.old ++ x ∷ []) }
         ensures err { OnErr result (self.new ≡ self.old) }

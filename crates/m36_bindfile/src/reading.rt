@@ -1,4 +1,4 @@
-//! The lines of a bind file in turn, up to the first that is of no form or out of order.
+//! Parses the lines of a bind file in order, up to the first that has no form or is out of order.
 
 ghost use Rattle.std.specs.Prelude.{◌≡◌, ◌+◌, ◌++◌, ◌<◌, ◌≤◌, ◌^◌, [], length, IfOk, OnOk};
 ghost use Rattle.m36_bindfile.specs.BindFile.{lines_given, lines_from, is_cut, has_object, bind_lines, with_component, component_names, names_by, BindSays};
@@ -13,7 +13,7 @@ use m36_text::{HashSeed, Name, Names, first_line, first_open_line};
 use m36_word::NoMemory;
 use std::alloc::Global;
 
-// Whether a line asks for an object.
+// Whether a line is an `object` line. A last line that lacks its line feed counts.
 #[tactic(auto, using(crate::proofs::BindLoops::object_found, crate::proofs::BindLoops::object_more, crate::proofs::BindLoops::object_none))]
 fn has_object(text: &[u8]) -> bool
     ensures { result ≡ has_object text.now }
@@ -28,7 +28,7 @@ fn has_object(text: &[u8]) -> bool
     false
 }
 
-// The number of the line behind these.
+// The number of the line after these.
 fn number_behind(above: &BindLines) -> u32
     requires { length above.now + 1 < 2 ^ 32 }
     ensures { result ≡ length above.now + 1 }
@@ -36,14 +36,15 @@ fn number_behind(above: &BindLines) -> u32
     above.items().len() as u32 + 1
 }
 
-// Whether something stands behind the last line feed.
+// Whether the text has a last line that lacks its line feed.
 fn is_cut(rest: &[u8]) -> bool
     ensures { result ≡ is_cut rest.now }
 {
     !rest.is_empty()
 }
 
-// The lines of a text.
+// The parsed lines of a text, or B1 at the first line that has no form, is out of order or lacks
+// its line feed.
 fn lines_in(alloc: Global, text: &[u8]) -> Result<BindLines, BindFault>
     requires { length text.now < 2 ^ 32 }
     ensures says { BindSays result (lines_from [] (lines_given text.now)) }
@@ -65,7 +66,8 @@ fn lines_in(alloc: Global, text: &[u8]) -> Result<BindLines, BindFault>
     }
 }
 
-/// The lines of a bind file, no more than it has bytes, or B1 at its line. The text has fewer than 2^32 bytes.
+/// The lines of a bind file, or B1 with a line number. There are at most as many lines as the text
+/// has bytes. The text has fewer than 2^32 bytes.
 #[tactic(auto, unfolding(crate::specs::BindFile::bind_lines))]
 pub fn read_lines(alloc: Global, text: &[u8]) -> Result<BindLines, BindFault>
     requires { length text.now < 2 ^ 32 }
@@ -79,7 +81,7 @@ pub fn read_lines(alloc: Global, text: &[u8]) -> Result<BindLines, BindFault>
     }
 }
 
-// Adds a name, unless it is among them.
+// Adds a name, unless the list has it.
 fn add_name(
     names: &mut Names,
     seen: &mut IndexSet<Name, HashSeed>,
@@ -110,7 +112,7 @@ fn add_component(
     }
 }
 
-// The names of the components, which are hashed by a seed.
+// The names of the components, each once. They are hashed with this seed.
 #[tactic(auto, unfolding(crate::specs::BindFile::with_components))]
 fn names_in(alloc: Global, seed: HashSeed, lines: &[BindLine]) -> Result<Names, NoMemory>
     ensures { IfOk result (λ names. names ≡ component_names lines.now) }
@@ -125,8 +127,8 @@ fn names_in(alloc: Global, seed: HashSeed, lines: &[BindLine]) -> Result<Names, 
     Ok(names)
 }
 
-/// The names of the components of a bind file, each once, in the order in which they first stand, or B1 at its line. The
-/// text has fewer than 2^32 bytes.
+/// The names of the components of a bind file, each once, in the order in which they first occur,
+/// or B1 with a line number. The text has fewer than 2^32 bytes.
 pub fn components(alloc: Global, text: &[u8]) -> Result<Names, BindFault>
     requires { length text.now < 2 ^ 32 }
     ensures says { BindSays result (names_by (bind_lines text.now)) }

@@ -1,4 +1,4 @@
--- Lines of which none has a code.
+-- Lines that all have no code.
 use Rattle.std.proofs.Common.{ℕ, ◌≡◌, ◌+◌, ◌<◌, ◌≤◌, Bool, true, false, cond, List, [], ◌∷◌, ◌++◌, length, Option, Some, None, refl, ap, ◌∙◌, arith}
 use Rattle.std.specs.Prelude.{not, count_by}
 use Rattle.std.proofs.lemmas.Bool.{leb-false, not-false}
@@ -10,7 +10,7 @@ use Rattle.m36_dir.specs.declared.boot_code.BootCode.TheVariants.{D1, D2, D3, D4
 use Rattle.m36_dir.specs.BootOrder.{is_segment, is_library, is_in_order_behind, stands_twice, names_no_directory, has_wrong_brackets, is_too_many, code_of, code_at_end, codes_from, names_at_end, names_with, has_directory}
 use Rattle.m36_dir.specs.Catalog.{names_behind}
 
--- ---- none is told
+-- ---- none has a code
 
 abbrev pub Clean : List BootLine → List BootLine → List BootLine → Type 0
 Clean all above [] = code_at_end (last_of above) ≡ None
@@ -31,7 +31,7 @@ clean_from all above (Some l ∷ more) n e =
     let h = told_none n (code_of all above l) (codes_from all (above ++ l ∷ []) more) e in
     (h.0, clean_from all (above ++ l ∷ []) more (n + 1) h.1)
 
--- ---- what each test says of a line that has no code
+-- ---- what each test gives for a line that has no code
 
 pub record Passed (follows twice astray wrong many : Bool) : Type 0 where
   pub order : follows ≡ true
@@ -69,7 +69,7 @@ counted_here : (b : Bool) (count limit : ℕ) → (b ≡ true → count < limit)
 counted_here true count limit room few = let h = room refl in omega arith
 counted_here false count limit room few = omega arith
 
--- lines of which each finds room for one more of its kind
+-- lines each of which leaves room for one more of its kind
 counted : (q : BootLine → Bool) (limit : ℕ) (all : List BootLine)
     → ((above : List BootLine) (l : BootLine) → code_of all above l ≡ None → q l ≡ true → count_by q above < limit)
     → (above lines : List BootLine) → Clean all above lines → count_by q above ≤ limit

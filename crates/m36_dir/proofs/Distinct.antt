@@ -1,4 +1,4 @@
--- Lists in which each stands once.
+-- Lists without repeated items.
 use Rattle.std.proofs.Common.{◌≡◌, Bool, true, false, not, ◌&&◌, List, [], ◌∷◌, ◌++◌, refl, ap, ◌∙◌}
 use Rattle.std.specs.List.{list_any}
 use Rattle.std.proofs.lemmas.Bool.{and_parts, and_from, not-true, or_parts, or_from}
@@ -7,7 +7,7 @@ use Rattle.std.proofs.lemmas.List.Folds.{list_any-append}
 use Rattle.m36_text.specs.Once.{are_distinct_by}
 use Rattle.m36_dir.specs.BootOrder.{Entry, is_entry}
 
--- one more behind them, which is the same as none of them
+-- one more at the end, which is the same as none of them
 pub distinct_more : {A : Type 0} (same : A → A → Bool) → ((x y : A) → same x y ≡ same y x) → (xs : List A) (x : A)
     → are_distinct_by same xs ≡ true → list_any (same x) xs ≡ false → are_distinct_by same (xs ++ x ∷ []) ≡ true
 distinct_more same symm [] x once none = refl
@@ -21,6 +21,6 @@ distinct_more same symm (first ∷ xs) x once none =
     and_from (not (list_any (same first) (xs ++ x ∷ []))) (are_distinct_by same (xs ++ x ∷ [])) (ap not fresh)
     (distinct_more same symm xs x parts.1 others.1)
 
--- names in directories are the same both ways round
+-- equality of names in directories is symmetric
 pub entry_symm : (a b : Entry) → is_entry a b ≡ is_entry b a
 entry_symm a b = λ i. nat_list_eq_equiv.symm b.dir a.dir i && nat_list_eq_equiv.symm b.name a.name i

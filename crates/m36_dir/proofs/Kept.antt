@@ -1,4 +1,4 @@
--- A catalog that is read is one.
+-- A catalog that was read has the invariant of catalogs.
 use Rattle.std.proofs.Common.{ℕ, ◌≡◌, ◌+◌, ◌<◌, ◌≤◌, Bool, true, false, cond, List, [], ◌∷◌, ◌++◌, length, Option, Some, None, Ok, refl, sym, ap, subst, ◌∙◌, ⊎_elim, arith, length-append}
 use Rattle.std.specs.Prelude.{not, ◌||◌, nat_le, nat_eq, count_by, slice_get, All, unwrap_or}
 use Rattle.std.specs.List.{list_any, position_or_len}
@@ -34,7 +34,7 @@ itself (x ∷ a) = and_from (nat_eq x x) (is_text a a) (eq-eqb x x refl) (itself
 
 -- ---- directories
 
--- what passes a test among directories passes it among more
+-- a directory that passes a test is still there if more are added
 dirs_kept_if : (b : Bool) (p : List ℕ → Bool) (dirs : List (List ℕ)) (dir : List ℕ) → list_any p dirs ≡ true
     → list_any p (cond b dirs (dirs ++ dir ∷ [])) ≡ true
 dirs_kept_if true p dirs dir has = has

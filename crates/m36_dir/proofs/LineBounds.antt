@@ -1,4 +1,4 @@
--- The numbers of lines that are of their form.
+-- Bounds of the numbers in lines that have a form.
 use Rattle.std.proofs.Common.{ℕ, ◌≡◌, ◌<◌, ◌≤◌, Bool, true, false, cond, List, [], ◌∷◌, length, map, Option, Some, None, Result, Ok, Err, refl, ap, subst, arith}
 use Rattle.std.specs.Prelude.{nat_le, nat_eq, option_map, codes}
 use Rattle.std.specs.List.{position}

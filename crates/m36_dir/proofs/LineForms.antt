@@ -13,7 +13,7 @@ pick_none false false false false true f = refl
 pick_none false false false false false true = refl
 pick_none false false false false false false = refl
 
--- a word alone is no line
+-- a single word is not a line
 pub no_words : (word : List ℕ) → line_named word [] ≡ None
 no_words word =
     pick_none (is_text (codes "frames") word) (is_text (codes "work") word) (is_text (codes "library") word)

@@ -11,7 +11,7 @@ use Rattle.m36_dir.specs.Fields.{SegmentFields}
 use Rattle.m36_dir.specs.BootOrder.{directory_at_end, directory_behind, names_at_end, names_with, entries_from, entries_of_line, is_entry, Entry}
 use Rattle.m36_dir.specs.Catalog.{directories_from, with_directory_of, names_behind, segments_in, segment_of, libraries_in, library_of}
 
--- What goes on over a list with a state, by one step a time, gives the same from each step on.
+-- A fold over a list, taken up at any step, gives the same result.
 gone_on :
     {S X R : Type 0} (go : S → List X → R) (step : S → X → S)
     → ((s : S) (x : X) (xs : List X) → go s (x ∷ xs) ≡ go (step s x) xs)
@@ -41,7 +41,7 @@ unfolding directory_at_end
 directory_all dir total lines i le so_far =
     sym (at_drop_all (λ (ls : List BootLine). directory_at_end dir ls) lines i le) ∙ so_far
 
--- ---- the names that stand last
+-- ---- the number of names at the end
 
 names_law : (n : ℕ) (l : BootLine) (lines : List BootLine) → names_at_end n (l ∷ lines) ≡ names_at_end (names_with n l) lines
 unfolding names_at_end
@@ -178,7 +178,7 @@ unfolding segments_in
 segments_all dirs segments total lines i le so_far =
     sym (append-nil segments) ∙ sym (at_drop_all (λ (ls : List BootLine). segments ++ segments_in dirs ls) lines i le) ∙ so_far
 
--- the lines behind one
+-- the lines after one
 pub lines_behind : (lines : List BootLine) (i : ℕ) → take (length lines - i) (drop i lines) ≡ drop i lines
 lines_behind lines i = ap (λ n. take n (drop i lines)) (sym (length-drop i lines)) ∙ take-length (drop i lines)
 

@@ -1,4 +1,4 @@
--- No name stands twice in a directory of a catalog.
+-- No name occurs twice in a directory of a catalog.
 use Rattle.std.proofs.Common.{ℕ, ◌≡◌, true, List, [], ◌∷◌, ◌++◌, None, refl, sym, ap, ◌∙◌, append_assoc}
 use Rattle.std.proofs.lemmas.List.{append-nil}
 use Rattle.m36_text.specs.Once.{are_distinct_by}
@@ -21,7 +21,7 @@ entries_more dir (x ∷ above) l =
     ap (λ (es : List Entry). entries_of_line dir x ++ es) (entries_more (directory_behind dir x) above l)
     ∙ sym (append_assoc (entries_of_line dir x) (entries_from (directory_behind dir x) above) (entries_of_line (directory_at_end (directory_behind dir x) above) l))
 
--- no name stands twice in what lines put there
+-- no name occurs twice among those that lines put there
 abbrev AreOnce : List BootLine → Type 0
 AreOnce lines = are_distinct_by is_entry (entries_from [] lines) ≡ true
 

@@ -33,7 +33,7 @@ own_directory dirs dir has =
     ∙ ap (λ (o : Option (List ℕ)). unwrap_or o []) (sym (find_at (is_text dir) dirs))
     ∙ first_same dirs dir has
 
--- ---- names stand right behind a segment line or a name
+-- ---- names that follow a segment line or a name directly
 
 at_end : (above : List BootLine) (l : BootLine) → slice_get (above ++ l ∷ []) (length above) ≡ Some l
 at_end [] l = refl
@@ -62,8 +62,8 @@ none_behind all above l (line.Start start ∷ lines) neither clean = refl
 
 -- ---- the names
 
--- those that lines put into directories, where the first of them stand behind a segment line with
--- this directory
+-- the names that lines put into directories, if the directory of the last segment line above is
+-- `dir`
 abbrev AreNames : List (List ℕ) → List ℕ → List BootLine → Type 0
 AreNames dirs dir lines =
     map (entry dir) (names_behind lines) ++ entries_in dirs (segments_in dirs lines) ≡ entries_from dir lines

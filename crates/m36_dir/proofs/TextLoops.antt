@@ -176,7 +176,7 @@ pub few_kept : (text rest : List ℕ) → length (lines_of text) < length text �
 unfolding FewLines
 few_kept text rest few = inr few
 
--- ---- what reading tells
+-- ---- the result of reading
 
 told_fault : (code : BootCode) (n : ℕ) (text : List ℕ) → first_code text ≡ Some (n, code) → Told (fault_at n code) (catalog_of text)
 unfolding catalog_of
@@ -210,7 +210,7 @@ read_code text rest line behind above seen n code fault e same told is so_far =
     (sym so_far ∙ ap (λ (ls : List BootLine). first_told n (codes_from (all_lines text) ls (lines_given rest))) (sym same)
     ∙ told_line (all_lines text) seen rest line behind n code e told)
 
--- what is behind the last whole line has one
+-- what follows the last whole line has one
 pub read_rest : (text rest : List ℕ) (above seen : List BootLine) (n : ℕ) (code : BootCode) (fault : CatalogFault)
     → lines_of rest ≡ cut_line rest → seen ≡ above
     → Some code ≡ code_of_rest seen rest
@@ -245,7 +245,7 @@ pub read_all : (text rest : List ℕ) (above : List BootLine) → lines_of rest 
 read_all text rest above e so_far =
     sym (append-nil above) ∙ ap (λ (ls : List BootLine). above ++ ls) (sym (all_cut rest e)) ∙ so_far
 
--- a line has none
+-- a line has no code
 pub read_more : (text rest line behind : List ℕ) (above seen next : List BootLine) (l : BootLine) (n : ℕ)
     → lines_of rest ≡ Some line ∷ lines_of behind → seen ≡ above
     → Judges (all_lines text) seen (line_given (Some line)) (Ok l) → next ≡ above ++ l ∷ []
@@ -271,7 +271,7 @@ read_count text rest line behind n e so_far =
     let one : length (lines_of rest) ≡ length (lines_of behind) + 1 = ap length e ∙ sym (add-one (length (lines_of behind))) in
     omega arith
 
--- the catalog of lines of which none has a code
+-- the catalog of lines that all have no code
 pub read_catalog : (text : List ℕ) (lines : List BootLine) (catalog : CatalogFields) → lines ≡ all_lines text
     → first_code text ≡ None → catalog ≡ catalog_in lines → catalog_of text ≡ Ok catalog
 unfolding catalog_of

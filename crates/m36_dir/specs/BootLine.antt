@@ -1,4 +1,4 @@
--- The lines of a boot text, each read by itself.
+-- The lines of a boot text, each parsed by itself.
 --
 --     frames N                                  N decimal, 1 to 8192
 --     work DIR
@@ -7,9 +7,9 @@
 --     name NAME
 --     start RING NAME$ENTRY
 --
--- The words of a line are parted by single spaces. MODE is one or more of the letters r, e, w and p
--- in this order, or `null`. DIR is 1 to 64 characters of `A-Z a-z 0-9 _ . >`; NAME, FILE and ENTRY
--- are names of files.
+-- Single spaces separate the words of a line. MODE is one or more of the letters r, e, w and p in
+-- this order, or `null`. DIR is 1 to 64 characters of `A-Z a-z 0-9 _ . >`. NAME, FILE and ENTRY are
+-- names of files.
 use Rattle.std.specs.Prelude.{ℕ, ◌+◌, Bool, true, false, ◌||◌, ◌==◌, if◌then◌else◌, List, [], ◌∷◌}
 use Rattle.std.specs.Prelude.{take, drop, codes, Option, Some, None, option_map}
 use Rattle.std.specs.List.{position}
@@ -28,7 +28,7 @@ use Rattle.m36_dir.specs.declared.boot_line.Brackets.{Brackets}
 abbrev pub is_directory_character : ℕ → Bool
 is_directory_character c = is_name_character c || (c == 62)
 
--- the most characters of a directory
+-- the most characters of the name of a directory
 abbrev pub directory_limit : ℕ
 directory_limit = 64
 
@@ -48,7 +48,7 @@ kind_of word =
     else if is_text (codes "data") word then Some Plain
     else None
 
--- whether letters begin with this one, and those behind it
+-- whether letters begin with a certain one (`stands`), and the letters that are left
 pub record Taken : Type 0 where
   pub stands : Bool
   pub rest : List ℕ
@@ -59,7 +59,7 @@ taken letter (c ∷ letters) =
     if c == letter then record { stands = true; rest = letters }
     else record { stands = false; rest = c ∷ letters }
 
--- where no letter is left
+-- the mode, if no letter is left
 abbrev pub whole : Mode → List ℕ → Option Mode
 whole mode [] = Some mode
 whole mode (c ∷ letters) = None
@@ -85,9 +85,9 @@ mode_of [] = None
 mode_of (c ∷ word) =
     if is_text (codes "null") (c ∷ word) then Some no_mode else mode_of_letters (c ∷ word)
 
--- ---- what stands behind the first word of a line
+-- ---- the words after the first word of a line
 
--- at most so many pageable frames
+-- the most pageable frames
 abbrev pub most_frames : ℕ
 most_frames = 8192
 
@@ -107,7 +107,7 @@ abbrev pub name_line : List (List ℕ) → Option BootLine
 name_line (name ∷ []) = option_map line.Name (name_of name)
 name_line _ = None
 
--- NAME and ENTRY stand before and behind the first dollar sign, and neither has another
+-- NAME and ENTRY are before and after the first dollar sign; neither contains another one.
 abbrev pub start_read : Option ℕ → Option (List ℕ) → Option (List ℕ) → Option BootLine
 start_read (Some ring) (Some name) (Some entry) =
     Some (line.Start (record { name = name; entry = entry; ring = ring }))

@@ -1,14 +1,14 @@
 -- Which lines of a boot text may follow which, and the code of each line by the lines above it.
 --
---     D1   the line is not of its form, or not in its order
---     D2   a name stands a second time in one directory
---     D3   no segment line of the text, anywhere in it, has the directory of a `work` or `library`
---          line
---     D4   not R1 <= R2 <= R3, or a gate that may not be executed, or with R2 = R3
+--     D1   the line has the form of no kind of line, or is out of order
+--     D2   a name occurs a second time in one directory
+--     D3   the directory of a `work` or `library` line is in no segment line of the text, above or
+--          below it
+--     D4   not R1 <= R2 <= R3, or a gate that may not be executed, or a gate with R2 = R3
 --     D5   a 513th segment, an eighth further name, or a 17th library
---     D6   the text ends without `start`: behind its last line
+--     D6   the text ends without `start`; the number is one more than that of the last line
 --
--- The least line that has a code is told, and its least code.
+-- Reported is the first line that has a code, with the least of its codes.
 use Rattle.std.specs.Prelude.{ℕ, ◌≡◌, ◌+◌, ◌-◌, Bool, true, false, not, ◌&&◌, ◌||◌, nat_eq, nat_le}
 use Rattle.std.specs.Prelude.{if◌then◌else◌, List, [], ◌∷◌, ◌++◌, count_by}
 use Rattle.std.specs.Prelude.{map, Option, Some, None, Result, Ok, Err}
@@ -63,7 +63,7 @@ may_follow above (line.Segment given) = is_work_or_library above || is_segment_o
 may_follow above (line.Name name) = is_segment_or_name above
 may_follow above (line.Start start) = is_work_or_library above || is_segment_or_name above
 
--- the text begins with `frames`
+-- The first line is `frames`. Each later line may follow the one above it.
 abbrev pub is_in_order_behind : Option BootLine → BootLine → Bool
 is_in_order_behind None next = is_frames next
 is_in_order_behind (Some above) next = may_follow above next
@@ -95,7 +95,7 @@ entries_of_line dir (line.Segment given) = entry given.dir given.name ∷ []
 entries_of_line dir (line.Name name) = entry dir name ∷ []
 entries_of_line dir _ = []
 
--- what lines put into directories, the first of them behind a segment line with this directory
+-- the names that lines put into directories; `dir` is the directory of the last segment line above
 unfoldable pub entries_from : List ℕ → List BootLine → List Entry
 entries_from dir [] = []
 entries_from dir (next ∷ lines) =
@@ -143,7 +143,7 @@ has_wrong_brackets _ = false
 
 -- ---- counts: D5
 
--- the further names that stand right above: none behind a segment line
+-- The number of `name` lines directly above, since the last line of another kind.
 abbrev pub names_with : ℕ → BootLine → ℕ
 names_with n (line.Name name) = n + 1
 names_with n _ = 0
@@ -152,7 +152,7 @@ unfoldable pub names_at_end : ℕ → List BootLine → ℕ
 names_at_end n [] = n
 names_at_end n (next ∷ lines) = names_at_end (names_with n next) lines
 
--- at most so many segments, names of a segment with its first, and libraries
+-- The most segments; the most names of a segment, including its first; the most libraries.
 abbrev pub most_segments : ℕ
 most_segments = 512
 
@@ -170,7 +170,7 @@ is_too_many above _ = false
 
 -- ---- the code of a line
 
--- by all lines of the text that are of their form, and those above
+-- The code of a line, by all lines of the text that are of a form (for D3), and by the lines above.
 unfoldable pub code_of : List BootLine → List BootLine → BootLine → Option BootCode
 code_of all above next =
     first_met (
@@ -190,7 +190,7 @@ abbrev pub with_line : List BootLine → Option BootLine → List BootLine
 with_line above None = above
 with_line above (Some next) = above ++ next ∷ []
 
--- The text ends behind its start line.
+-- whether the last line is the start line, which must end the text
 abbrev pub ends : Option BootLine → Bool
 ends None = false
 ends (Some last) = is_start last
@@ -198,12 +198,12 @@ ends (Some last) = is_start last
 abbrev pub code_at_end : Option BootLine → Option BootCode
 code_at_end last = if ends last then None else Some D6
 
--- The code behind the last whole line: of a line that lacks its line feed, or of the end.
+-- The code of what follows the last whole line: of a line that lacks its line feed, or of the end.
 abbrev pub code_of_rest : List BootLine → List ℕ → Option BootCode
 code_of_rest above [] = code_at_end (last_of above)
 code_of_rest above (c ∷ rest) = Some D1
 
--- A line that has no code; else its code.
+-- The result is a line without a code, or the code of the line.
 abbrev pub Judges : List BootLine → List BootLine → Option BootLine → Result BootLine BootCode
     → Type 0
 Judges all above given (Ok next) = (given ≡ Some next) × (code_of all above next ≡ None)
@@ -217,13 +217,13 @@ codes_from all above (next ∷ lines) =
 
 -- ---- the text
 
--- each line read by itself, and those that are of their form
+-- each line parsed by itself; those that have a form
 unfoldable pub lines_given : List ℕ → List (Option BootLine)
 lines_given text = map line_given (lines_of text)
 
 unfoldable pub all_lines : List ℕ → List BootLine
 all_lines text = those_read (lines_given text)
 
--- the first line that has a code, counted from 1, and its code
+-- the first line that has a code, counted from 1, with its code
 unfoldable pub first_code : List ℕ → Option (ℕ × BootCode)
 first_code text = first_told 1 (codes_from (all_lines text) [] (lines_given text))

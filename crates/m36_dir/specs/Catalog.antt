@@ -1,4 +1,4 @@
--- The catalog that a boot text writes out, or why it does not.
+-- The catalog that a boot text describes, or the fault of the text.
 use Rattle.std.specs.Prelude.{ℕ, ◌≡◌, Bool, ◌&&◌, nat_eq, List, [], ◌∷◌, ◌++◌}
 use Rattle.std.specs.Prelude.{position, slice_get, slice_set, Option, Some, unwrap_or, option_map, Result}
 use Rattle.std.specs.Prelude.{Ok, Err, IfSome}
@@ -17,7 +17,7 @@ use Rattle.m36_dir.specs.StartFields.{StartFields}
 use Rattle.m36_dir.specs.BootOrder.{all_lines, first_code}
 use Rattle.m36_text.specs.Lines.{last_of}
 
--- A catalog. Directories are told by their numbers, from 0 on.
+-- A catalog. Directories are referred to by their numbers, counted from 0.
 pub record CatalogFields : Type 0 where
   pub frames : ℕ
   pub directories : List (List ℕ)
@@ -26,7 +26,7 @@ pub record CatalogFields : Type 0 where
   pub segments : List SegmentFields
   pub start : StartFields
 
--- ---- directories, in the order of the segment lines that first have them
+-- ---- directories, in the order in which segment lines first have them
 
 abbrev pub with_directory : List (List ℕ) → List ℕ → List (List ℕ)
 with_directory dirs dir = with_once (is_text dir) dirs dir
@@ -42,13 +42,13 @@ directories_from dirs (next ∷ lines) = directories_from (with_directory_of dir
 unfoldable pub number_in : List (List ℕ) → List ℕ → ℕ
 number_in dirs dir = unwrap_or (position (is_text dir) dirs) 0
 
--- the directory of a segment, by its number
+-- the name of the directory of a segment
 abbrev pub directory_in : List (List ℕ) → SegmentFields → List ℕ
 directory_in dirs segment = unwrap_or (slice_get dirs segment.dir) []
 
 -- ---- segments
 
--- the further names that the lines right behind a segment line give
+-- the further names in the `name` lines directly after a segment line
 unfoldable pub names_behind : List BootLine → List (List ℕ)
 names_behind (line.Name name ∷ lines) = name ∷ names_behind lines
 names_behind _ = []
@@ -66,7 +66,7 @@ segment_with dirs given names =
       r3 = given.r3;
     }
 
--- the segment of a line, with the lines behind it
+-- the segment of a line, if it is a segment line; `behind` are the lines after it
 abbrev pub segment_of : List (List ℕ) → BootLine → List BootLine → List SegmentFields
 segment_of dirs (line.Segment given) behind = segment_with dirs given (names_behind behind) ∷ []
 segment_of dirs _ behind = []
@@ -101,7 +101,7 @@ abbrev pub start_of : Option BootLine → StartFields
 start_of (Some (line.Start start)) = start
 start_of _ = no_start
 
--- what lines of which none has a code say
+-- the catalog of lines that all have no code
 unfoldable pub catalog_in : List BootLine → CatalogFields
 catalog_in lines =
     let dirs = directories_from [] lines in
@@ -131,7 +131,7 @@ catalog_by told catalog =
 unfoldable pub catalog_of : List ℕ → Result CatalogFields CatalogFault
 catalog_of text = catalog_by (first_code text) (catalog_in (all_lines text))
 
--- What reading a boot text answers, where want of memory may come at any time.
+-- The result of reading a boot text. It may be NoMemory whatever the text is.
 abbrev pub Told : CatalogFault → Result CatalogFields CatalogFault → Type 0
 Told fault.NoMemory definition = Unit {0}
 Told told definition = definition ≡ Err told
@@ -145,15 +145,15 @@ ReadSays (Err told) definition = Told told definition
 abbrev pub has_name : List ℕ → SegmentFields → Bool
 has_name name segment = list_any (is_text name) segment.names
 
--- whether a segment stands in a directory under a name
+-- whether a segment has a name in a directory
 abbrev pub stands_as : ℕ → List ℕ → SegmentFields → Bool
 stands_as dir name segment = nat_eq segment.dir dir && has_name name segment
 
--- the segment of a directory that has a name, if there is one
+-- the number of the segment of a directory that has a name, if there is one
 unfoldable pub found : CatalogFields → ℕ → List ℕ → Option ℕ
 found catalog dir name = position (λ s. stands_as dir name s) catalog.segments
 
--- A segment may be read, executed and written, or not, as is given; all else stays.
+-- Sets the rights to read, execute and write a segment. Nothing else changes.
 abbrev pub with_rights : SegmentFields → Bool → Bool → Bool → SegmentFields
 with_rights s readable executable writable =
     record s {

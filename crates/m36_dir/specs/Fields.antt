@@ -1,4 +1,4 @@
--- The fields of a segment, and of a segment line.
+-- The fields of a segment in a catalog, and those of a segment line.
 use Rattle.std.specs.Prelude.{ℕ, List}
 use Rattle.m36_dir.specs.declared.segment.SegKind.{SegKind}
 use Rattle.m36_dir.specs.declared.segment.Mode.{Mode}

@@ -1,4 +1,4 @@
--- What holds of every catalog, whatever rights are set.
+-- The invariant of catalogs, whatever rights are set.
 use Rattle.std.specs.Prelude.{ℕ, ◌≡◌, ◌<◌, ◌≤◌, true, List, [], Ok, length, map, All}
 use Rattle.std.specs.List.{flat_map}
 use Rattle.m36_text.specs.Once.{are_distinct_by}
@@ -8,7 +8,7 @@ use Rattle.m36_dir.specs.BootOrder.{Entry, entry, is_entry, entries_from, all_li
 use Rattle.m36_dir.specs.BootOrder.{most_segments, most_names, most_libraries}
 use Rattle.m36_dir.specs.Catalog.{CatalogFields, directory_in, catalog_of}
 
--- a segment where there are so many directories
+-- a segment of a catalog with this many directories
 pub record IsSegment (directories : ℕ) (s : SegmentFields) : Type 0 where
   pub named : 1 ≤ length s.names
   pub names : length s.names ≤ most_names
@@ -27,22 +27,22 @@ pub record IsCatalog (c : CatalogFields) : Type 0 where
   pub each_library : All (λ d. d < length c.directories) c.libraries
   pub each_segment : All (IsSegment (length c.directories)) c.segments
 
--- A text that is read gives such a catalog.
+-- A text that is parsed without a fault yields a catalog with the invariant.
 abbrev pub ReadsIntoCatalogs : Type 0
 ReadsIntoCatalogs = (text : List ℕ) (c : CatalogFields) → catalog_of text ≡ Ok c → IsCatalog c
 
--- the names of segments, each in the directory of its segment
+-- the names of segments, each with the directory of its segment
 abbrev pub entries_in : List (List ℕ) → List SegmentFields → List Entry
 entries_in dirs segments =
     flat_map (λ (s : SegmentFields). map (entry (directory_in dirs s)) s.names) segments
 
--- The names of the catalog that is read are those that the lines of the text put into directories.
+-- The names of a catalog that was read are those that the lines of the text put into directories.
 abbrev pub NamesStand : Type 0
 NamesStand =
     (text : List ℕ) (c : CatalogFields) → catalog_of text ≡ Ok c
     → entries_in c.directories c.segments ≡ entries_from [] (all_lines text)
 
--- No name of the catalog that is read stands twice in a directory.
+-- No name of a catalog that was read occurs twice in a directory.
 abbrev pub NamesOnce : Type 0
 NamesOnce =
     (text : List ℕ) (c : CatalogFields) → catalog_of text ≡ Ok c

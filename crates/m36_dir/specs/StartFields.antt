@@ -1,4 +1,4 @@
--- Where a machine starts: the fields of `Start`.
+-- The fields of `Start`: the place where the machine starts.
 use Rattle.std.specs.Prelude.{ℕ, List}
 
 pub record StartFields : Type 0 where

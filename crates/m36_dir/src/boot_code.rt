@@ -1,11 +1,11 @@
-//! The codes of the lines of a boot text.
+//! The codes with which lines of a boot text are refused.
 
 ghost use Rattle.std.specs.Prelude.{◌≡◌};
 ghost use Rattle.m36_dir.specs.Catalog.{fault_at};
 
 use crate::fault::CatalogFault;
 
-// A code without its line.
+// A code without the number of its line.
 #[derive(Clone, Copy)]
 pub(crate) enum BootCode {
     D1,
@@ -16,7 +16,7 @@ pub(crate) enum BootCode {
     D6,
 }
 
-// The fault of a code at a line.
+// The fault with this code at this line.
 pub(crate) fn fault_at(line: u32, code: BootCode) -> CatalogFault
     ensures { result ≡ fault_at line code }
 {

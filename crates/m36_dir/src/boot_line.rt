@@ -1,11 +1,11 @@
-//! The lines of a boot text, as they are read.
+//! Parsed lines of a boot text.
 
 use crate::directory::Directory;
 use crate::segment::{Mode, SegKind, Start};
 use m36_text::Name;
 use std::marker::Model;
 
-// What a segment line says. It is seen as its fields.
+// The contents of a segment line. Its model is the record of its fields.
 #[derive(Drop)]
 pub(crate) struct SegmentLine {
     pub(crate) dir: Directory,
@@ -30,7 +30,7 @@ impl Model for SegmentLine {
     ghost invariant = { λ s. (s.r1 < 8) × (s.r2 < 8) × (s.r3 < 8) };
 }
 
-// The ends of ring brackets.
+// The ends of the three ring brackets, each below 8.
 #[derive(Clone, Copy)]
 pub(crate) struct Brackets {
     pub(crate) r1: u8,
@@ -38,17 +38,17 @@ pub(crate) struct Brackets {
     pub(crate) r3: u8,
 }
 
-// A line that is of its form.
+// A line that has the form of one of the kinds of lines.
 #[derive(Drop)]
 pub(crate) enum BootLine {
-    // How many pageable frames, 1 to 8192.
+    // The number of pageable frames, 1 to 8192.
     Frames(u32),
     // The working directory.
     Work(Directory),
-    // A directory that is searched.
+    // A directory that is searched after the working directory and earlier libraries.
     Library(Directory),
     Segment(SegmentLine),
-    // A further name of the segment above.
+    // A further name of the segment in the lines above.
     Name(Name),
     Start(Start),
 }

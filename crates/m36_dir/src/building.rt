@@ -1,4 +1,4 @@
-//! What the lines of a boot text say, where none of them has a code.
+//! Makes a catalog of the lines of a boot text, if no line has a code.
 
 ghost use Rattle.std.specs.Prelude.{ℕ, ◌≡◌, ◌+◌, ◌≤◌, ◌<◌, [], ◌∷◌, ◌++◌, IfOk, IfSome, OnOk, length, drop, slice_get, option_map};
 ghost use Rattle.std.specs.List.{list_any, position};
@@ -37,7 +37,7 @@ fn add_directory(dirs: &mut Vec<Directory>, line: &BootLine) -> Result<(), NoMem
     }
 }
 
-/// The directories of the segment lines, each once, in the order in which they first come.
+/// The directories of the segment lines, each once, in the order in which they first occur.
 pub(crate) fn directories_in(alloc: Global, lines: &[BootLine]) -> Result<Vec<Directory>, NoMemory>
     ensures { IfOk result (λ dirs. dirs.items ≡ directories_from [] lines.now) }
 {
@@ -55,7 +55,7 @@ fn place_of(dirs: &[Directory], dir: &[u8]) -> Option<usize>
     dirs.iter().position(|other| other.bytes() == dir)
 }
 
-/// The number of a directory, from 0 on; 0 too where it is not among them.
+/// The number of a directory, counted from 0; also 0 if it is not in the list.
 #[tactic(auto, unfolding(crate::specs::Catalog::number_in))]
 pub(crate) fn number_in(dirs: &[Directory], dir: &[u8]) -> u16
     requires { length dirs.now ≤ most_segments }
@@ -69,7 +69,7 @@ pub(crate) fn number_in(dirs: &[Directory], dir: &[u8]) -> u16
 
 // ---- segments
 
-// Adds the names of the lines that stand first.
+// Adds the names of the `name` lines at the beginning of these lines, up to the first other line.
 fn add_names(names: &mut Names, lines: &[BootLine]) -> Result<(), NoMemory>
     ensures { OnOk result (names.new ≡ names.old ++ names_behind lines.now) }
 {
@@ -82,7 +82,7 @@ fn add_names(names: &mut Names, lines: &[BootLine]) -> Result<(), NoMemory>
     Ok(())
 }
 
-// A segment by its line and those behind it.
+// The segment of a segment line. `behind` are the lines after it, which may give further names.
 fn segment_with(
     alloc: Global,
     dirs: &[Directory],
@@ -115,7 +115,8 @@ fn add_segment(
     behind: &[BootLine],
 ) -> Result<(), NoMemory>
     requires { length dirs.now ≤ most_segments }
-    ensures { OnOk result (segments.new.items ≡ segments.old.items ++ segment_of dirs.now line.now behind.now) }
+    ensures { OnOk result
+        (segments.new.items ≡ segments.old.items ++ segment_of dirs.now line.now behind.now) }
 {
     match line {
         BootLine::Segment(given) => {
@@ -158,7 +159,8 @@ fn add_library(
     line: &BootLine,
 ) -> Result<(), NoMemory>
     requires { length dirs.now ≤ most_segments }
-    ensures { OnOk result (libraries.new.items ≡ libraries.old.items ++ library_of dirs.now line.now) }
+    ensures { OnOk result
+        (libraries.new.items ≡ libraries.old.items ++ library_of dirs.now line.now) }
 {
     match line {
         BootLine::Library(dir) => {
@@ -185,7 +187,7 @@ pub(crate) fn libraries_in(
     Ok(libraries)
 }
 
-/// The number of pageable frames, by the first line.
+/// The number of pageable frames, which is in the first line.
 pub(crate) fn frames_of(line: Option<&BootLine>) -> u32
     ensures { result ≡ frames_of (option_map (λ l. l.now) line.entry) }
 {
@@ -195,7 +197,7 @@ pub(crate) fn frames_of(line: Option<&BootLine>) -> u32
     }
 }
 
-/// The working directory, by the second line.
+/// The working directory, which is in the second line.
 pub(crate) fn work_of(lines: &[BootLine]) -> &[u8]
     ensures { result.now ≡ work_of (slice_get lines.now 1) }
 {
@@ -215,7 +217,7 @@ fn no_start() -> Start
     }
 }
 
-/// Where the machine starts, by the last line.
+/// The place where the machine starts, which is in the last line.
 pub(crate) fn start_of(lines: &[BootLine]) -> Start
     ensures { result ≡ start_of (last_of lines.now) }
 {

@@ -21,10 +21,12 @@ use m36_word::NoMemory;
 use std::alloc::Global;
 use std::marker::Model;
 
-/// A catalog. It is seen as its fields, with the directories by their names, in the order of their numbers.
+/// A catalog. Its model is the record of its fields, with the names of the directories in the order
+/// of their numbers.
 ///
-/// It has 1 to 8,192 pageable frames, 1 to 512 segments and at most 16 libraries; the working directory, each library and
-/// the directory of each segment are numbers of directories that it has.
+/// A catalog has 1 to 8,192 pageable frames, 1 to 512 segments and at most 16 libraries. The
+/// working directory, each library, and the directory of each segment are numbers of its
+/// directories.
 #[derive(Drop)]
 pub struct Catalog {
     directories: Vec<Directory>,
@@ -47,7 +49,7 @@ impl Model for Catalog {
     ghost invariant = { λ c. IsCatalog (record { frames = c.frames; directories = c.directories.items; work = c.work; libraries = c.libraries.items; segments = c.segments.items; start = c.start }) };
 }
 
-// What lines of which none has a code say. The seed is that of their text.
+// The catalog of lines that all have no code. The seed is that of their text.
 #[tactic(auto, unfolding(crate::specs::Catalog::catalog_in))]
 fn catalog_in(alloc: Global, seed: HashSeed, lines: &[BootLine]) -> Result<Catalog, NoMemory>
     requires { IsCatalog (catalog_in lines.now) }
@@ -85,8 +87,8 @@ fn is_at(segment: &Segment, dir: u16, name: &[u8]) -> bool
 }
 
 impl Catalog {
-    /// The catalog that a boot text writes out. The error is the first line that has a code, counted from 1, with its
-    /// least code, or want of memory.
+    /// Parses a boot text. The error is the first line that has a code, counted from 1, with the
+    /// least code of that line, or `NoMemory`. The text has fewer than 2^32 bytes.
     #[tactic(auto, using(crate::proofs::TextLoops::read_catalog))]
     pub fn read(alloc: Global, text: &[u8]) -> Result<Catalog, CatalogFault>
         requires { length text.now < 2 ^ 32 }
@@ -96,12 +98,12 @@ impl Catalog {
         Ok(catalog_in(alloc, HashSeed::of(text), &lines)?)
     }
 
-    /// The seed of tables whose keys are names of the text.
+    /// The seed for hash tables whose keys are names in the boot text.
     pub fn seed(&self) -> HashSeed {
         self.seed
     }
 
-    /// How many segments there are.
+    /// The number of segments.
     pub fn count(&self) -> usize
         ensures value { result ≡ length self.now.segments }
         ensures some { 1 ≤ result }
@@ -110,7 +112,7 @@ impl Catalog {
         self.segments.len()
     }
 
-    /// A segment, counted from 0.
+    /// Segment `i`, counted from 0.
     pub fn segment(&self, i: usize) -> &Segment
         requires { i < length self.now.segments }
         ensures value { slice_get self.now.segments i ≡ Some result.now }
@@ -119,7 +121,8 @@ impl Catalog {
         &self.segments[i]
     }
 
-    /// The segment of a directory that has a name; None exactly where none has it.
+    /// The number of the segment, counted from 0, that has a name in a directory. None exactly if
+    /// no segment has it.
     #[tactic(auto, unfolding(crate::specs::Catalog::found))]
     pub fn find(&self, dir: u16, name: &[u8]) -> Option<usize>
         ensures value { result ≡ found self.now dir name.now }
@@ -130,7 +133,7 @@ impl Catalog {
             .position(|segment| is_at(segment, dir, name))
     }
 
-    /// The name of a directory by its number.
+    /// The name of a directory, by its number.
     pub fn directory(&self, d: u16) -> &[u8]
         requires { d < length self.now.directories }
         ensures { slice_get self.now.directories d ≡ Some result.now }
@@ -155,7 +158,7 @@ impl Catalog {
         self.libraries.as_slice()
     }
 
-    /// How many pageable frames there are.
+    /// The number of pageable frames.
     pub fn frames(&self) -> u32
         ensures value { result ≡ self.now.frames }
         ensures some { 1 ≤ result }
@@ -171,7 +174,8 @@ impl Catalog {
         &self.start
     }
 
-    /// Sets whether a segment may be read, executed and written. All else stays, its right to be privileged too.
+    /// Sets whether a segment may be read, executed and written. Nothing else changes, in
+    /// particular not the right to be privileged.
     pub fn set_rights(&mut self, i: usize, readable: bool, executable: bool, writable: bool)
         requires { i < length self.old.segments }
         ensures { SetsRights self.old self.new i readable executable writable }

@@ -7,7 +7,8 @@ ghost use Rattle.m36_dir.specs.BootLine.{directory_limit};
 use arrayvec::ArrayVec;
 use std::marker::Model;
 
-// A text of at most 64 bytes, seen as a list of numbers. It takes no memory.
+// The name of a directory: at most 64 bytes. It holds them in place and allocates nothing. Its
+// model is the list of its bytes.
 #[derive(Drop)]
 pub(crate) struct Directory {
     items: ArrayVec<u8, 64>,
@@ -22,7 +23,7 @@ impl Model for Directory {
 }
 
 impl Directory {
-    // None exactly where there are more than 64 bytes.
+    // None exactly if there are more than 64 bytes.
     pub(crate) fn new(text: &[u8]) -> Option<Directory>
         ensures { SomeIff result (length text.now ≤ directory_limit) text.now }
     {
@@ -40,7 +41,7 @@ impl Directory {
         self.items.as_slice()
     }
 
-    // The same again.
+    // A copy of the name.
     pub(crate) fn copied(&self) -> Directory
         ensures { result ≡ self.now }
     {

@@ -1,4 +1,4 @@
-//! Why a boot text gives no catalog.
+//! Why a boot text has no catalog.
 
 use m36_word::NoMemory;
 use thiserror::Error;
@@ -6,25 +6,26 @@ use thiserror::Error;
 /// The first line of a boot text that has a code, counted from 1, with the least code of that line.
 #[derive(Clone, Copy, Debug, PartialEq, Eq, Error)]
 pub enum CatalogFault {
-    /// The line is not of its form, or not in its order.
+    /// The line does not have the form of any kind of line, or is out of order.
     #[error("D1 {0}")]
     D1(u32),
-    /// A name stands a second time in one directory.
+    /// A name occurs a second time in one directory.
     #[error("D2 {0}")]
     D2(u32),
-    /// No segment line of the text has the directory of a `work` or `library` line.
+    /// The directory of a `work` or `library` line is in no segment line of the text.
     #[error("D3 {0}")]
     D3(u32),
-    /// The ring brackets are not in order, or a gate may not be executed or is called from no outer ring.
+    /// The ring brackets are not in order, or a gate may not be executed or has R2 = R3, so that no
+    /// outer ring may call it.
     #[error("D4 {0}")]
     D4(u32),
     /// A 513th segment, an eighth further name, or a 17th library.
     #[error("D5 {0}")]
     D5(u32),
-    /// The text ends without a `start` line; the line behind the last one.
+    /// The text ends without a `start` line. The number is one more than that of the last line.
     #[error("D6 {0}")]
     D6(u32),
-    /// No memory was found.
+    /// Out of memory.
     #[error("no memory")]
     NoMemory,
 }

@@ -1,5 +1,5 @@
-//! The lines of a boot text, each read by its form. A line is given without its line feed; None is a line that is not of
-//! its form.
+//! Parses each line of a boot text by itself. A line is given without its line feed. None is a line
+//! that has the form of no kind of line.
 
 ghost use Rattle.std.specs.Prelude.{ℕ, ◌≡◌, ◌+◌, ◌<◌, length, drop, Some, IfSome};
 ghost use Rattle.m36_text.specs.Lines.{words_of};
@@ -11,10 +11,10 @@ use crate::segment::Start;
 use crate::words::{directory_of, kind_of, mode_of, name_of};
 use m36_text::{decimal_in, first_word, octal_in, only_word, place_of};
 
-// The most pageable frames.
+// The maximal number of pageable frames.
 const MOST_FRAMES: u64 = 8192;
 
-// A ring is one octal digit.
+// A ring, which is one octal digit.
 fn ring_of(word: &[u8]) -> Option<u8>
     ensures value { result ≡ octal_in 1 word.now }
     ensures bound { IfSome result (λ ring. ring < 8) }
@@ -52,7 +52,7 @@ fn name_line(given: &[u8]) -> Option<BootLine>
     Some(BootLine::Name(name_of(only_word(given)?)?))
 }
 
-// What stands behind a place of a text.
+// The text after the byte at this index.
 #[tactic(auto, using(m36_text::proofs::Splitting::rest_whole))]
 fn behind(text: &[u8], place: usize) -> &[u8]
     requires { place < length text.now }
@@ -137,7 +137,7 @@ fn line_named(word: &[u8], given: &[u8]) -> Option<BootLine>
     None
 }
 
-/// A line of a boot text.
+/// Parses a line of a boot text.
 #[tactic(auto, unfolding(crate::specs::BootLine::line_given), using(crate::proofs::LineForms::no_words))]
 pub(crate) fn read_line(text: &[u8]) -> Option<BootLine>
     ensures { result ≡ line_given (Some text.now) }

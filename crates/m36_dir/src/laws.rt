@@ -1,10 +1,11 @@
-//! What holds of every boot text.
+//! Laws that hold for every boot text.
 
 ghost use Rattle.m36_dir.specs.IsCatalog.{ReadsIntoCatalogs, NamesStand, NamesOnce};
 
-/// A text that is read gives a catalog as `IsCatalog` says: 1 to 8,192 frames, 1 to 512 segments, each with 1 to 8 names
-/// and its ring brackets in order, at most 16 libraries, and no number of a directory that is not there.
-/// Its names are those that the lines of the text put into directories, and none stands twice in a directory.
+/// A text that is parsed yields a catalog as `IsCatalog` defines it: 1 to 8,192 frames, 1 to 512
+/// segments, each with 1 to 8 names and its ring brackets in order, at most 16 libraries, and only
+/// numbers of existing directories. Its names are those that the lines of the text put into
+/// directories. No name occurs twice in a directory.
 pub fn catalog_laws()
     ensures catalogs { ReadsIntoCatalogs }
     ensures names { NamesStand }

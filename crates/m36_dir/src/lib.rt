@@ -1,13 +1,15 @@
-//! The catalog of a booted machine: its directories, segments and libraries, and where it starts, read from a boot text.
+//! The catalog of a booted machine, parsed from a boot text: directories, segments, libraries, and
+//! the place where the machine starts.
 //!
-//! What is promised: `Catalog::read` gives the one catalog that a text writes out, or the code of the first line of the
-//! text that has one, the least of that line; want of memory alone may stand in the place of either. A catalog that was
-//! read keeps what `Catalog` says of itself, and no name stands twice in a directory of it. `find` gives the segment of a
-//! directory that has a name, and none exactly where there is none. `is_directory`, `name_of` and `mode_of` read words that
-//! other texts than boot texts have too.
+//! `Catalog::read` returns the one catalog that a text describes, or the first line of the text
+//! that has a code, with the least code of that line. It fails with `NoMemory` if memory runs out.
+//! Each catalog has the invariant that `Catalog` states. In a catalog that was read, no name occurs
+//! twice in a directory. `find` returns the segment of a directory that has a name, and None
+//! exactly if there is none. `is_directory`, `name_of` and `mode_of` parse words that other texts
+//! have as well.
 //!
-//! Source: the boot text is this project's own; directories, names and search are those of the Multics Programmers'
-//! Manual AG91 (storage system), ring brackets those of AL39.
+//! Source: the boot text is this project's own. Directories, names and search are those of the
+//! Multics Programmers' Manual AG91 (storage system), ring brackets those of AL39.
 #![tactic(auto)]
 
 mod boot_code;

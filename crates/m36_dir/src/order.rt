@@ -1,4 +1,5 @@
-//! The order of the lines of a boot text, and the code of a line by those above it.
+//! The order of the lines of a boot text, and the code of a line, which depends on the lines above
+//! it.
 
 ghost use Rattle.std.specs.Prelude.{ℕ, ◌≡◌, ◌+◌, ◌<◌, ◌≤◌, ◌^◌, [], Some, count_by};
 ghost use Rattle.std.specs.List.{list_any};
@@ -12,13 +13,13 @@ use crate::forms::read_line;
 use crate::segment::SegKind;
 use m36_text::first_line;
 
-// The most segments of a catalog.
+// The maximal number of segments of a catalog.
 const MOST_SEGMENTS: usize = 512;
 
-// The most names that a segment has beside the first.
+// The maximal number of names that a segment has besides the first.
 const MOST_FURTHER_NAMES: usize = 7;
 
-// The most libraries.
+// The maximal number of libraries.
 const MOST_LIBRARIES: usize = 16;
 
 fn is_frames(line: &BootLine) -> bool
@@ -82,7 +83,7 @@ fn directory_behind<'a>(dir: &'a [u8], line: &'a BootLine) -> &'a [u8]
     }
 }
 
-// The directory of the last segment line.
+// The directory of the last segment line; empty if there is none.
 fn last_directory(lines: &[BootLine]) -> &[u8]
     ensures { result.now ≡ directory_at_end [] lines.now }
 {
@@ -93,9 +94,11 @@ fn last_directory(lines: &[BootLine]) -> &[u8]
     dir
 }
 
-// Whether a line behind a segment line of a directory puts a name into a directory.
+// Whether a line puts this name into this directory. `behind` is the directory of the last segment
+// line above it.
 fn puts(behind: &[u8], line: &BootLine, dir: &[u8], name: &[u8]) -> bool
-    ensures { result ≡ list_any (is_entry (entry dir.now name.now)) (entries_of_line behind.now line.now) }
+    ensures { result ≡ list_any (is_entry (entry dir.now name.now))
+        (entries_of_line behind.now line.now) }
 {
     match line {
         BootLine::Segment(given) => given.dir.bytes() == dir && given.name.bytes() == name,
@@ -104,7 +107,7 @@ fn puts(behind: &[u8], line: &BootLine, dir: &[u8], name: &[u8]) -> bool
     }
 }
 
-// Whether lines put a name into a directory.
+// Whether one of the lines puts this name into this directory.
 #[tactic(auto, unfolding(crate::specs::BootOrder::has_entry), using(crate::proofs::LineLoops::entry_found, crate::proofs::LineLoops::entry_more, crate::proofs::LineLoops::entry_all))]
 fn has_entry(lines: &[BootLine], dir: &[u8], name: &[u8]) -> bool
     ensures { result ≡ has_entry lines.now dir.now name.now }
@@ -148,7 +151,7 @@ fn is_line_in_directory(dir: &[u8], line: &[u8]) -> bool
     }
 }
 
-// Whether a segment line of the text has a directory.
+// Whether a segment line of the text has this directory.
 #[tactic(auto, using(crate::proofs::TextLoops::text_found, crate::proofs::TextLoops::text_more, crate::proofs::TextLoops::text_all))]
 fn has_directory(text: &[u8], dir: &[u8]) -> bool
     ensures { result ≡ has_directory (all_lines text.now) dir.now }
@@ -173,7 +176,8 @@ fn names_no_directory(text: &[u8], line: &BootLine) -> bool
     }
 }
 
-// Whether a segment is said to be a gate and cannot be one.
+// Whether a segment is declared a gate but cannot be one: it may not be executed, or no outer ring
+// may call it.
 fn is_no_gate(given: &SegmentLine) -> bool
     ensures { result ≡ is_no_gate given.now.kind given.now }
 {
@@ -209,7 +213,7 @@ fn names_with(names: usize, line: &BootLine) -> usize
     }
 }
 
-// The further names that stand last.
+// The number of `name` lines at the end of these lines.
 #[tactic(auto, using(crate::proofs::LineLoops::names_more, crate::proofs::LineLoops::names_all))]
 fn names_at_end(lines: &[BootLine]) -> usize
     ensures { result ≡ names_at_end 0 lines.now }
@@ -244,7 +248,7 @@ fn is_too_many(above: &[BootLine], line: &BootLine) -> bool
     }
 }
 
-/// The code of a line of a text, by the lines above it; None where it has none.
+/// The code of a line of a text, which depends on the lines above it. None if it has none.
 #[tactic(auto, unfolding(crate::specs::BootOrder::code_of, m36_text::specs::Lines::first_met))]
 pub(crate) fn code_of(text: &[u8], above: &[BootLine], line: &BootLine) -> Option<BootCode>
     ensures { result ≡ code_of (all_lines text.now) above.now line.now }

@@ -1,4 +1,4 @@
-//! The lines of a boot text in turn, up to the first that has a code.
+//! Parses the lines of a boot text in order, up to the first that has a code.
 
 ghost use Rattle.std.specs.Prelude.{◌≡◌, ◌<◌, ◌^◌, [], ◌∷◌, ◌++◌, length, Some, None, IfOk, IfErr, OnOk};
 ghost use Rattle.m36_dir.specs.BootLine.{line_given};
@@ -15,7 +15,7 @@ use m36_text::first_line;
 use m36_word::NoMemory;
 use std::alloc::Global;
 
-// A line that is of its form and has no code; else the code.
+// The parsed line, or its code.
 fn judged(text: &[u8], above: &[BootLine], line: &[u8]) -> Result<BootLine, BootCode>
     ensures { Judges (all_lines text.now) above.now (line_given (Some line.now)) result }
 {
@@ -28,7 +28,8 @@ fn judged(text: &[u8], above: &[BootLine], line: &[u8]) -> Result<BootLine, Boot
     }
 }
 
-// The code behind the last whole line: of a line that lacks its line feed, or of the end.
+// The code of what follows the last whole line: D1 for a line that lacks its line feed, D6 for the
+// end of a text that has no `start` line.
 fn code_of_rest(above: &[BootLine], rest: &[u8]) -> Option<BootCode>
     ensures { result ≡ code_of_rest above.now rest.now }
 {
@@ -49,7 +50,8 @@ fn add(lines: &mut Vec<BootLine>, line: BootLine) -> Result<(), NoMemory>
     Ok(())
 }
 
-/// All lines of a text of which none has a code; else the first code.
+/// All lines of a text, parsed, if none has a code. Otherwise the first line that has one, with its
+/// code, or `NoMemory`.
 pub(crate) fn lines_of(alloc: Global, text: &[u8]) -> Result<Vec<BootLine>, CatalogFault>
     requires { length text.now < 2 ^ 32 }
     ensures lines { IfOk result (λ lines. lines.items ≡ all_lines text.now) }

@@ -1,22 +1,22 @@
-//! Segments, and where the machine starts.
+//! Segments, and the place where the machine starts.
 
 ghost use Rattle.std.specs.Prelude.{◌≡◌};
 
 use m36_text::{Name, Names};
 use std::marker::Model;
 
-/// What the file of a segment holds.
+/// What the file of a segment contains.
 #[derive(Clone, Copy, PartialEq, Eq)]
 pub enum SegKind {
     /// An object segment.
     Object,
-    /// An object segment that outer rings may call at its entries.
+    /// An object segment that outer rings may call at its entry points.
     Gate,
-    /// Words of no form.
+    /// Data: words without a prescribed form.
     Plain,
 }
 
-/// What may be done with the words of a segment, within its ring brackets.
+/// The access that a segment allows within its ring brackets.
 #[derive(Clone, Copy, PartialEq, Eq)]
 pub struct Mode {
     pub readable: bool,
@@ -25,18 +25,18 @@ pub struct Mode {
     pub privileged: bool,
 }
 
-/// A segment. It is seen as its fields.
+/// A segment. Its model is the record of its fields.
 #[derive(Drop)]
 pub struct Segment {
-    /// Its names in its directory; in a catalog 1 to 8.
+    /// The names of the segment in its directory; 1 to 8 in a catalog.
     pub names: Names,
-    /// The file that has its words.
+    /// The name of the file with its words.
     pub file: Name,
     /// The number of its directory.
     pub dir: u16,
     pub kind: SegKind,
     pub mode: Mode,
-    /// The ends of its ring brackets, each below 8.
+    /// The ends of its ring brackets R1, R2 and R3, each below 8.
     pub r1: u8,
     pub r2: u8,
     pub r3: u8,
@@ -53,10 +53,11 @@ impl Model for Segment {
     ghost invariant = { λ s. (s.r1 < 8) × (s.r2 < 8) × (s.r3 < 8) };
 }
 
-/// Where the machine starts: at an entry of a segment, in a ring. It is seen as its fields.
+/// The place where the machine starts: an entry of a segment, and a ring. Its model is the record
+/// of its fields.
 #[derive(Drop)]
 pub struct Start {
-    /// The name by which the segment is searched.
+    /// The name of the segment, which is looked up by the search.
     pub name: Name,
     pub entry: Name,
     /// Below 8.
@@ -75,7 +76,7 @@ impl Model for Start {
 }
 
 impl Start {
-    // The same again.
+    // A copy.
     pub(crate) fn copied(&self) -> Start
         ensures { result ≡ self.now }
     {

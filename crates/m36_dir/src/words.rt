@@ -1,4 +1,4 @@
-//! The words of a line of a boot text. None is a word that is not of its form.
+//! The words of a line of a boot text. None is a word that does not have the expected form.
 
 ghost use Rattle.std.specs.Prelude.{◌≡◌, ◌≤◌, true, length};
 ghost use Rattle.std.specs.List.{list_all};
@@ -8,7 +8,7 @@ use crate::directory::Directory;
 use crate::segment::{Mode, SegKind};
 use m36_text::{Name, is_file_name, is_name_character};
 
-// The most characters of a directory.
+// The maximal number of characters of the name of a directory.
 const LONGEST_DIRECTORY: usize = 64;
 
 fn is_directory_character(c: u8) -> bool
@@ -23,7 +23,7 @@ fn has_directory_characters(word: &[u8]) -> bool
     word.iter().all(|c| is_directory_character(*c))
 }
 
-/// Whether a word is of the form of a directory: 1 to 64 letters, digits, `_`, `.` and `>`.
+/// Whether a word is the name of a directory: 1 to 64 letters, digits, `_`, `.` and `>`.
 pub fn is_directory(word: &[u8]) -> bool
     ensures value { result ≡ is_directory word.now }
     ensures fits { result ≡ true → length word.now ≤ directory_limit }
@@ -34,7 +34,7 @@ pub fn is_directory(word: &[u8]) -> bool
     has_directory_characters(word)
 }
 
-// A directory.
+// Parses the name of a directory.
 pub(crate) fn directory_of(word: &[u8]) -> Option<Directory>
     ensures { result ≡ directory_of word.now }
 {
@@ -45,7 +45,7 @@ pub(crate) fn directory_of(word: &[u8]) -> Option<Directory>
     }
 }
 
-/// The name of a segment, an entry or a file; None where the word is none.
+/// Parses the name of a segment, an entry or a file. None if the word is not one.
 pub fn name_of(word: &[u8]) -> Option<Name>
     ensures { result ≡ name_of word.now }
 {
@@ -56,7 +56,7 @@ pub fn name_of(word: &[u8]) -> Option<Name>
     }
 }
 
-// The kind of a segment.
+// Parses the kind of a segment.
 pub(crate) fn kind_of(word: &[u8]) -> Option<SegKind>
     ensures { result ≡ kind_of word.now }
 {
@@ -72,7 +72,7 @@ pub(crate) fn kind_of(word: &[u8]) -> Option<SegKind>
     None
 }
 
-// Whether letters begin with this one, and those behind it.
+// Whether the letters begin with this one, and if so the letters after it; otherwise all letters.
 fn taken(letter: u8, letters: &[u8]) -> (bool, &[u8])
     ensures stands { result.0 ≡ (taken letter letters.now).stands }
     ensures rest { result.1.now ≡ (taken letter letters.now).rest }
@@ -101,8 +101,8 @@ fn mode_of_letters(letters: &[u8]) -> Option<Mode>
     })
 }
 
-/// The mode of a segment: one or more of the letters r, e, w and p in this order, or `null`; None where the word is
-/// neither.
+/// Parses the mode of a segment: one or more of the letters r, e, w and p in this order, or `null`.
+/// None if the word is neither.
 #[tactic(auto, unfolding(crate::specs::BootLine::mode_of))]
 pub fn mode_of(word: &[u8]) -> Option<Mode>
     ensures { result ≡ mode_of word.now }

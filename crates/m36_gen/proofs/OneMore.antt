@@ -12,12 +12,12 @@ use Rattle.m36_gen.specs.Sources.{source_text, stop_text}
 use Rattle.m36_gen.specs.BootText.{program_line, program_lines}
 use Rattle.m36_gen.specs.Folder.{file, source_file, source_files, sources_of}
 
--- where the sequence stands behind the draws of a program
+-- the state of the generator after the draws of a program
 pub state_moved : (seed i state new : ℕ) → state ≡ state_at seed i → new ≡ behind_draws state → new ≡ state_at seed (i + 1)
 unfolding state_at
 state_moved seed i state new is moved = moved ∙ ap behind_draws is ∙ rw add-one refl
 
--- the source of a program behind those of the programs before it
+-- the source of a program after those of the programs before it
 pub source_added : (seed i state : ℕ) (old new : List File) → old ≡ source_files seed i → state ≡ state_at seed i
     → new ≡ old ++ file (source_name i) (source_text i (draws_from state)) ∷ [] → new ≡ source_files seed (i + 1)
 unfolding source_files source_file
@@ -27,7 +27,7 @@ source_added seed i state old new is at added =
     ∙ ap (λ (x : ℕ). source_files seed i ++ file (source_name i) (source_text i (draws_from x)) ∷ []) at
     ∙ sym (map-range_with_len_more (source_file seed) 0 i i (omega arith))
 
--- the line of a program behind those of the programs before it
+-- the line of a program after those of the programs before it
 pub range_more : (i : ℕ) → range_with_len 0 (i + 1) ≡ range_with_len 0 i ++ i ∷ []
 range_more i =
     sym (map-id (range_with_len 0 (i + 1)))
@@ -61,7 +61,7 @@ pub at_seed : (seed state : ℕ) → state ≡ seed → state ≡ state_at seed 
 unfolding state_at
 at_seed seed state is = is
 
--- the gate's source behind those of the programs
+-- the gate's source after those of the programs
 pub all_sources : (seed : ℕ) (old new : List File) (content : List ℕ) → old ≡ source_files seed 64 → content ≡ stop_text
     → new ≡ old ++ file (codes "stop_.alm") content ∷ [] → new ≡ sources_of seed
 unfolding sources_of

@@ -1,4 +1,4 @@
--- Parts that are put one after another.
+-- Parts that are joined.
 use Rattle.std.proofs.Common.{◌≡◌, ℕ, List, ◌++◌, append_assoc}
 use Rattle.std.specs.Prelude.{codes}
 use Rattle.m36_text.specs.Digits.{decimal_text}

@@ -2,27 +2,27 @@
 use Rattle.std.specs.Prelude.{ℕ, zero, suc, ◌+◌, ◌*◌, ◌/◌, ◌%◌, ◌^◌}
 use Rattle.m36_gen.specs.declared.draws.Draws.{Draws}
 
--- A draw moves the sequence on, and gives its upper bits.
+-- The next state of the generator. A draw is the upper 31 bits of the new state.
 unfoldable pub next : ℕ → ℕ
 next x = (6364136223846793005 * x + 1442695040888963407) % 2 ^ 64
 
 abbrev pub drawn : ℕ → ℕ
 drawn x = x / 2 ^ 33
 
--- where the sequence stands behind the three draws of a source
+-- the state after the three draws of a program
 abbrev pub behind_draws : ℕ → ℕ
 behind_draws x = next (next (next x))
 
--- the offsets in the data, behind which the words of a source stand, are below this
+-- each offset is below this
 abbrev pub offset_bound : ℕ
 offset_bound = 65536
 
--- a source goes round at most so often, and leaves a word each time
+-- the most rounds of a loop; each round stores one word
 abbrev pub most_words : ℕ
 most_words = 200
 
--- Three draws make a source: what its loop adds, how often it goes round, and where in the data its
--- words stand.
+-- The three draws of a program: what its loop adds, the number of rounds, and the offset of its
+-- words in the data.
 unfoldable pub draws_from : ℕ → Draws
 draws_from x = record {
   add = drawn (next x) % 1000;
@@ -30,7 +30,7 @@ draws_from x = record {
   offset = drawn (behind_draws x) % offset_bound;
 }
 
--- where the sequence of a seed stands before source i
+-- the state of the generator of a seed before the draws of program i
 unfoldable pub state_at : ℕ → ℕ → ℕ
 state_at seed zero = seed
 state_at seed (suc i) = behind_draws (state_at seed i)

@@ -13,18 +13,19 @@ use Rattle.m36_gen.specs.BootText.{boot_text}
 abbrev pub file : List ℕ → List ℕ → File
 file name content = record { name = name; content = content }
 
--- the source of program i, which the three draws behind those of the programs before it make
+-- the source of program i, made by three draws after those of the programs before it
 unfoldable pub source_file : ℕ → ℕ → File
 source_file seed i = file (source_name i) (source_text i (draws_from (state_at seed i)))
 
 unfoldable pub source_files : ℕ → ℕ → List File
 source_files seed count = map (source_file seed) (range_with_len 0 count)
 
--- Each program leaves its words from one behind its offset on.
+-- The number of words of the data, enough for the words of each program: the first is at its offset
+-- plus 1.
 unfoldable pub data_words : ℕ
 data_words = offset_bound + 256
 
--- The words that a program leaves lie in the data.
+-- The last word that a program stores is within the data.
 abbrev pub DataHoldsAll : Type 0
 DataHoldsAll = (x : ℕ) → (draws_from x).offset + (draws_from x).count < data_words
 
@@ -35,7 +36,7 @@ unfoldable pub sources_of : ℕ → List File
 sources_of seed =
     source_files seed program_count ++ file (source_of_object gate_name) stop_text ∷ []
 
--- the files beside the sources, which are the same for each seed
+-- the files that are the same for each seed
 unfoldable pub other_files : List File
 other_files =
     file data_name (packed (zeros data_words)) ∷ file boot_name boot_text ∷ []

@@ -1,10 +1,10 @@
--- Lines, and the names of the segments whose programs follow one another.
+-- Lines, and the names of the segments of the programs.
 use Rattle.std.specs.Prelude.{ℕ, List, ◌++◌, codes}
 use Rattle.m36_text.specs.Digits.{decimal_text}
 use Rattle.m36_text.specs.FileNames.{source_of_object}
 use Rattle.m36_text.specs.Lines.{as_line}
 
--- a text as a line, by a word that stays closed where many lines stand in a row
+-- A text with its line feed. Unlike `as_line` it is not unfolded where many lines are joined.
 unfoldable pub line : List ℕ → List ℕ
 line text = as_line text
 
@@ -12,11 +12,11 @@ line text = as_line text
 unfoldable pub numbered : List ℕ → ℕ → List ℕ → List ℕ
 numbered before n behind = line (before ++ decimal_text n ++ behind)
 
--- how many programs there are
+-- the number of programs
 abbrev pub program_count : ℕ
 program_count = 64
 
--- the segment of the data, and that of the gate
+-- the name of the data segment; the name of the gate's segment
 abbrev pub data_name : List ℕ
 data_name = codes "d_"
 

@@ -1,24 +1,24 @@
--- The sources of a seed: programs, of which each goes on to the next and the last calls
--- the gate, and the gate, which stops.
+-- The sources of a seed: the programs, each of which goes on to the next, and the gate, which stops
+-- the machine. The last program calls the gate.
 use Rattle.std.specs.Prelude.{ℕ, ◌+◌, ◌-◌, nat_eq, if◌then◌else◌, List, ◌++◌, codes}
 use Rattle.m36_gen.specs.declared.draws.Draws.{Draws}
 use Rattle.m36_gen.specs.Lines.{line, numbered, program_count, segment_name, data_name, gate_name}
 
--- The entry, by which the linkage section of the segment is found.
+-- The entry, which loads the pointer to the linkage section of the segment.
 unfoldable pub entry_lines : List ℕ
 entry_lines =
     line (codes " entry start")
     ++ line (codes "start: epaq 0,ic")
     ++ line (codes " lprp4 pr7|22,*au")
 
--- The loop adds to X1 as often as X2 counts,
+-- The beginning of the loop, which adds to X1. X2 counts the rounds that are left.
 unfoldable pub adding_lines : Draws → List ℕ
 adding_lines draws =
     numbered (codes " epp1 " ++ data_name ++ codes "$+") draws.offset (codes "")
     ++ numbered (codes " eax2 ") draws.count (codes "")
     ++ numbered (codes "loop: eax1 ") draws.add (codes ",x1")
 
--- and leaves each sum in the data.
+-- The end of the loop, which stores each sum in the data.
 unfoldable pub storing_lines : List ℕ
 storing_lines =
     line (codes " stx1 pr1|0,x2")
@@ -28,7 +28,7 @@ storing_lines =
 unfoldable pub loop_lines : Draws → List ℕ
 loop_lines draws = adding_lines draws ++ storing_lines
 
--- what follows the loop: the next program, or the gate behind the last
+-- the line after the loop: a transfer to the next program, or after the last one a call of the gate
 unfoldable pub following_line : ℕ → List ℕ
 following_line i =
     if nat_eq i (program_count - 1) then line (codes " call6 " ++ gate_name ++ codes "$stop")

@@ -9,7 +9,7 @@ use m36_outside::Text;
 use m36_word::NoMemory;
 use std::alloc::Global;
 
-// A segment, whose file has its name, with its kind, its mode and its brackets.
+// Adds the line of a segment whose file has the same name. `has` is its kind, mode and brackets.
 #[tactic(auto, using(crate::proofs::Parts::segment_put))]
 fn put_segment(text: &mut Text, name: &[u8], has: &[u8]) -> Result<(), NoMemory>
     ensures { OnOk result (text.new ≡ text.old ++ segment_line name.now has.now) }
@@ -39,7 +39,7 @@ fn put_programs(text: &mut Text, count: u64) -> Result<(), NoMemory>
     Ok(())
 }
 
-/// The boot text.
+/// The boot text, which is the same for each seed.
 #[tactic(auto, unfolding(crate::specs::BootText::boot_text))]
 pub fn boot_text(alloc: Global) -> Result<Text, NoMemory>
     ensures { IfOk result (λ text. text ≡ boot_text) }

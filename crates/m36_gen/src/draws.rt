@@ -3,24 +3,24 @@
 ghost use Rattle.std.specs.Prelude.{ℕ, ◌≡◌, ◌+◌, ◌*◌, ◌/◌, ◌%◌, ◌^◌, ◌<◌, ◌≤◌};
 ghost use Rattle.m36_gen.specs.Draws.{next, drawn, draws_from, behind_draws};
 
-/// What three draws make of a source.
+/// The three numbers that are drawn for one program.
 #[derive(Clone, Copy, Debug, PartialEq, Eq)]
 pub struct Draws {
-    /// What its loop adds: below 1,000.
+    /// What the loop adds in each round: below 1,000.
     pub add: u64,
-    /// How often it goes round: 1 to 200.
+    /// The number of rounds of the loop: 1 to 200.
     pub count: u64,
-    /// Where in the data its words stand, from the word behind it on: below 2^16.
+    /// The word of the data segment before the first one that the program stores: below 2^16.
     pub offset: u64,
 }
 
-/// A sequence of draws.
+/// A generator of draws.
 #[derive(Drop)]
 pub struct Sequence {
     state: u64,
 }
 
-// The state behind one more draw.
+// The state after one more draw.
 #[tactic(auto, unfolding(crate::specs::Draws::next))]
 fn next(state: u64) -> u64
     ensures { result ≡ next state }
@@ -29,7 +29,7 @@ fn next(state: u64) -> u64
 }
 
 impl Sequence {
-    /// The sequence of a seed.
+    /// The generator of a seed.
     pub fn new(seed: u64) -> Sequence
         ensures { result.state ≡ seed }
     {
@@ -45,7 +45,7 @@ impl Sequence {
         self.state >> 33
     }
 
-    /// Three draws, of one source.
+    /// Three draws, for one program.
     #[tactic(auto, unfolding(crate::specs::Draws::draws_from))]
     pub fn draws(&mut self) -> Draws
         ensures state { self.new.state ≡ behind_draws self.old.state }

@@ -8,7 +8,7 @@ use m36_word::NoMemory;
 use std::alloc::Global;
 use std::marker::Model;
 
-/// A file, by its name and all that it has.
+/// A file, with its name and its whole content.
 #[derive(Drop)]
 pub struct File {
     pub name: Name,
@@ -40,7 +40,7 @@ impl Files {
         }
     }
 
-    /// Adds a file at the end. Where no memory is found, nothing changes.
+    /// Adds a file at the end. If memory runs out, nothing changes.
     pub fn push(&mut self, x: File) -> Result<(), NoMemory>
         ensures ok { OnOk result (self.new ≡ self.old ++ x ∷ []) }
         ensures err { OnErr result (self.new ≡ self.old) }

@@ -1,14 +1,18 @@
-//! The generator: a folder with a system to boot, made from a seed.
+//! The generator: it makes the files of a bootable folder from a seed.
 //!
-//! [`make`] gives the files of a seed: the sources of 64 programs, each of which adds to an index register in a loop, leaves
-//! the sums in a data segment, and goes on to the next; a gate of ring 0 that stops; the words of the data, all zero; and the boot
-//! text. The seed draws what each program adds, how often, and where its words stand. The same seed makes the same files.
+//! [`make`] returns the sources of 64 programs, the source of a gate of ring 0 that stops the
+//! machine, the words of a data segment, all zero, and the boot text. Each program adds to an index
+//! register in a loop, stores the sums in the data segment, and goes on to the next program. The
+//! seed draws what each program adds, how often, and where in the data it stores. The same seed
+//! makes the same files.
 //!
-//! What is proved: the files are exactly those that `specs/Folder.antt` defines, with each byte a function of the seed, and the
-//! only error is want of memory. The words that a program leaves lie in the data.
+//! It is proved that the files are exactly those that `specs/Folder.antt` defines as a function of
+//! the seed, that the only error is `NoMemory`, and that all words that a program stores are within
+//! the data segment.
 //!
-//! Source: the generator of draws is the linear congruential one of Knuth's MMIX (The Art of Computer Programming, volume 2,
-//! section 3.3.4), of which the upper 31 bits are taken; the programs are this project's own.
+//! Source: the draws are made by the linear congruential generator of Knuth's MMIX (The Art of
+//! Computer Programming, volume 2, section 3.3.4), of which the upper 31 bits are used. The
+//! programs are this project's own.
 #![tactic(auto)]
 
 mod catalog;

@@ -1,4 +1,4 @@
-//! Lines put at the end of a text, and names of segments.
+//! Lines at the end of a text, and names of segments.
 
 ghost use Rattle.std.specs.Prelude.{ℕ, ◌≡◌, ◌≤◌, [], ◌∷◌, ◌++◌, length, OnOk};
 ghost use Rattle.m36_text.specs.Texts.{name_limit};
@@ -9,7 +9,7 @@ use m36_outside::Text;
 use m36_text::{Name, decimal};
 use m36_word::NoMemory;
 
-/// Puts a line.
+/// Adds a line: these bytes and a line feed.
 #[tactic(auto, unfolding(crate::specs::Lines::line))]
 pub fn put_line(text: &mut Text, bytes: &[u8]) -> Result<(), NoMemory>
     ensures { OnOk result (text.new ≡ text.old ++ line bytes.now) }
@@ -18,7 +18,7 @@ pub fn put_line(text: &mut Text, bytes: &[u8]) -> Result<(), NoMemory>
     text.push(b'\n')
 }
 
-/// Puts a line with a number in it.
+/// Adds a line with a number in decimal between two texts.
 #[tactic(auto, using(crate::proofs::Parts::numbered_put))]
 pub fn put_numbered(text: &mut Text, before: &[u8], n: u64, behind: &[u8]) -> Result<(), NoMemory>
     ensures { OnOk result (text.new ≡ text.old ++ numbered before.now n behind.now) }
@@ -28,7 +28,7 @@ pub fn put_numbered(text: &mut Text, before: &[u8], n: u64, behind: &[u8]) -> Re
     put_line(text, behind)
 }
 
-/// Puts a line with a name in it.
+/// Adds a line with a name between two texts.
 #[tactic(auto, using(crate::proofs::Parts::named_put))]
 pub fn put_named(text: &mut Text, before: &[u8], name: &[u8], behind: &[u8]) -> Result<(), NoMemory>
     ensures { OnOk result (text.new ≡ text.old ++ line (before.now ++ name.now ++ behind.now)) }
@@ -38,7 +38,7 @@ pub fn put_named(text: &mut Text, before: &[u8], name: &[u8], behind: &[u8]) -> 
     put_line(text, behind)
 }
 
-/// A name of at most 32 bytes.
+/// The name with these bytes, of which there are at most 32.
 pub fn name_of(bytes: &[u8]) -> Name
     requires { length bytes.now ≤ name_limit }
     ensures { result ≡ bytes.now }

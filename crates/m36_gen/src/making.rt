@@ -1,4 +1,4 @@
-//! The files of a seed.
+//! The files that a seed makes.
 
 ghost use Rattle.std.specs.Prelude.{ℕ, ◌≡◌, ◌<◌, ◌≤◌, ◌++◌, [], ◌∷◌, length, IfOk, OnOk};
 ghost use Rattle.m36_text.specs.Packing.{packed};
@@ -18,7 +18,7 @@ use m36_text::pack;
 use m36_word::{NoMemory, Word, Words};
 use std::alloc::Global;
 
-// How many words the data has.
+// The number of words of the data segment.
 #[tactic(auto, unfolding(crate::specs::Folder::data_words))]
 fn data_words() -> u64
     ensures { result ≡ data_words }
@@ -47,7 +47,8 @@ fn packed_data(alloc: Global) -> Result<Text, NoMemory>
 // Adds the source of program `i`.
 fn add_source(alloc: Global, files: &mut Files, i: u64, draws: Draws) -> Result<(), NoMemory>
     requires { i < program_count }
-    ensures { OnOk result (files.new ≡ files.old ++ file (source_name i) (source_text i draws) ∷ []) }
+    ensures { OnOk result
+        (files.new ≡ files.old ++ file (source_name i) (source_text i draws) ∷ []) }
 {
     let content = source(alloc, i, draws)?;
     files.push(File {
@@ -56,7 +57,7 @@ fn add_source(alloc: Global, files: &mut Files, i: u64, draws: Draws) -> Result<
     })
 }
 
-// Adds a file of a name of at most 32 bytes.
+// Adds a file with a name of at most 32 bytes.
 fn add_file(files: &mut Files, name: &[u8], content: Text) -> Result<(), NoMemory>
     requires { length name.now ≤ name_limit }
     ensures { OnOk result (files.new ≡ files.old ++ file name.now content ∷ []) }
@@ -67,7 +68,7 @@ fn add_file(files: &mut Files, name: &[u8], content: Text) -> Result<(), NoMemor
     })
 }
 
-// The sources of the first programs.
+// The sources of the first `count` programs.
 #[tactic(auto, using(crate::proofs::OneMore::of_sources))]
 fn program_sources(alloc: Global, seed: u64, count: u64) -> Result<Files, NoMemory>
     requires { count ≤ program_count }
@@ -82,7 +83,8 @@ fn program_sources(alloc: Global, seed: u64, count: u64) -> Result<Files, NoMemo
     Ok(files)
 }
 
-/// The sources that a seed makes: those of 64 programs, and that of the gate. The error is want of memory alone.
+/// The sources that a seed makes: those of 64 programs, and then that of the gate. Fails only with
+/// `NoMemory`.
 pub fn sources(alloc: Global, seed: u64) -> Result<Files, NoMemory>
     ensures { IfOk result (λ files. files ≡ sources_of seed) }
 {
@@ -92,7 +94,8 @@ pub fn sources(alloc: Global, seed: u64) -> Result<Files, NoMemory>
     Ok(files)
 }
 
-/// Adds the files beside the sources: the data and the boot text. The error is want of memory alone.
+/// Adds the files that are the same for each seed: the data and the boot text. Fails only with
+/// `NoMemory`.
 #[tactic(auto, unfolding(crate::specs::Folder::other_files))]
 pub fn add_others(alloc: Global, files: &mut Files) -> Result<(), NoMemory>
     ensures { OnOk result (files.new ≡ files.old ++ other_files) }
@@ -103,8 +106,8 @@ pub fn add_others(alloc: Global, files: &mut Files) -> Result<(), NoMemory>
     add_file(files, b"boot", text)
 }
 
-/// The files of the folder that a seed makes: the sources, the data and the boot text, in this order. The error is want of
-/// memory alone.
+/// The files of the folder that a seed makes: the sources, the data and the boot text, in this
+/// order. Fails only with `NoMemory`.
 #[tactic(auto, unfolding(crate::specs::Folder::files_of))]
 pub fn make(alloc: Global, seed: u64) -> Result<Files, NoMemory>
     ensures { IfOk result (λ files. files ≡ files_of seed) }

@@ -11,7 +11,7 @@ use m36_outside::Text;
 use m36_word::NoMemory;
 use std::alloc::Global;
 
-/// How many programs there are.
+/// The number of programs.
 pub const PROGRAMS: u64 = 64;
 
 #[tactic(auto, unfolding(crate::specs::Sources::entry_lines), using(crate::proofs::Parts::together))]
@@ -60,7 +60,7 @@ fn put_following(text: &mut Text, i: u64) -> Result<(), NoMemory>
     }
 }
 
-/// The source of program `i`.
+/// The source of program `i`, counted from 0.
 #[tactic(auto, unfolding(crate::specs::Sources::source_text))]
 pub fn source(alloc: Global, i: u64, draws: Draws) -> Result<Text, NoMemory>
     requires { i < program_count }
@@ -82,7 +82,7 @@ fn put_stop(text: &mut Text) -> Result<(), NoMemory>
     put_line(text, b" entrybound")
 }
 
-/// The source of the gate that stops.
+/// The source of the gate that stops the machine.
 #[tactic(auto, unfolding(crate::specs::Sources::stop_text))]
 pub fn stop_source(alloc: Global) -> Result<Text, NoMemory>
     ensures { IfOk result (λ text. text ≡ stop_text) }

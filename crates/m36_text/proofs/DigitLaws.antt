@@ -43,7 +43,7 @@ pub octal_ascii : (places v : ℕ) → IsAscii (octal_text places v)
 unfolding octal_text
 octal_ascii places v = characters_ascii 8 (digits 8 places v) (omega arith) (digits_below 8 places v (omega arith))
 
--- one more digit before those that stand at the end of the buffer
+-- one more digit before those at the end of the buffer
 pub octal_written : (place v left : ℕ) (bytes : List ℕ) → length bytes ≡ 22 → place < 22 → left ≡ v / 8 ^ place
     → drop (22 - place) bytes ≡ octal_text place v
     → drop (22 - (place + 1)) (set bytes (21 - place) (48 + left % 8)) ≡ octal_text (place + 1) v
@@ -76,7 +76,7 @@ unfolding decimal_text
 decimal_ascii zero = characters_ascii 10 (0 ∷ []) (omega arith) (omega arith, tt)
 decimal_ascii (suc v) = characters_ascii 10 (digits_of 10 (suc v)) (omega arith) (all_below_base_digits_of 10 (suc v) (omega arith))
 
--- one more digit before those that stand at the end of the buffer
+-- one more digit before those at the end of the buffer
 pub decimal_written : (start left v : ℕ) (bytes : List ℕ) → length bytes ≡ 20 → start ≤ 20 → 1 ≤ start → 0 < left
     → map character (digits_of 10 left) ++ drop start bytes ≡ decimal_text v
     → map character (digits_of 10 (left / 10)) ++ drop (start - 1) (set bytes (start - 1) (48 + left % 10)) ≡ decimal_text v

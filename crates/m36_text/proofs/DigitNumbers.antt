@@ -1,4 +1,4 @@
--- The digits of a number, and the number of digits, are inverse.
+-- `digits` and `number_from_digits` are inverse.
 use Rattle.std.proofs.Common.{ℕ, zero, suc, ◌≡◌, ◌+◌, ◌*◌, ◌/◌, ◌%◌, ◌^◌, ◌<◌, List, [], ◌∷◌, length, refl, arith}
 use Rattle.std.specs.Int.Digits.{AllBelowBase, number_from_digits, number_from_digits_after}
 use Rattle.std.proofs.lemmas.Int.Digits.{number_lt}
@@ -7,13 +7,13 @@ use Rattle.std.proofs.Math.Nat.{pow-zero, pow-suc, mod-eq_of_lt, mod-one, one-le
 use lib.Arith.{mod-mul}
 use Rattle.m36_text.specs.Digits.{digits}
 
--- what stands before the digits counts by their places
+-- the digits before these count by their places
 number_after_is : (base n : ℕ) (ds : List ℕ) → number_from_digits_after base n ds ≡ n * base ^ length ds + number_from_digits base ds
 number_after_is base n [] = rw (pow-zero base) (omega arith)
 number_after_is base n (d ∷ ds) =
     rw (number_after_is base (n * base + d) ds, number_after_is base (0 * base + d) ds, pow-suc base (length ds)) (omega arith)
 
--- the number of its digits is what they hold of a number
+-- the number of a number's last digits is the remainder by their power
 number_digits_after : (base places n v : ℕ) → 0 < base
     → number_from_digits_after base n (digits base places v) ≡ n * base ^ places + v % base ^ places
 unfolding digits

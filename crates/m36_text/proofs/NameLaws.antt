@@ -1,4 +1,4 @@
--- The name of a source without its end is that of its object.
+-- Removing the suffix from the name of a source yields the name of its object.
 use Rattle.std.proofs.Common.{◌≡◌, ◌-◌, ◌++◌, length, take, ap, ◌∙◌, arith, length-append}
 use Rattle.std.proofs.Math.Seq.{take-length}
 use Rattle.std.proofs.lemmas.List.{take-append-le}

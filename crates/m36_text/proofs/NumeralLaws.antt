@@ -1,4 +1,4 @@
--- Texts that were written are read as the number that they were written for.
+-- The text of a number is parsed as that number.
 use Rattle.std.proofs.Common.{ℕ, zero, suc, ◌≡◌, ◌≢◌, ◌+◌, ◌-◌, ◌<◌, ◌≤◌, Bool, true, not, leb, ltb, List, [], ◌∷◌, length, map, get_or, None, Some, Ok, refl, ap, ◌∙◌, arith}
 use Rattle.std.specs.List.{position_or_len}
 use Rattle.std.specs.Int.Digits.{AllBelowBase, number_from_digits, digits_of}
@@ -35,7 +35,7 @@ number_back : (base : ℕ) (ds : List ℕ) → number_of base (map character ds)
 unfolding number_of
 number_back base ds = ap (number_from_digits base) (digits_back ds)
 
--- a text of digits is read as its number
+-- a text of digits is parsed as its number
 read_back : (base : ℕ) (ds : List ℕ) (max : ℕ) → 0 < length ds → AllBelowBase base ds → number_from_digits base ds ≤ max
     → number_read base (map character ds) max ≡ Ok (number_from_digits base ds)
 unfolding number_read

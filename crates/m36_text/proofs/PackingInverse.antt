@@ -12,7 +12,7 @@ use Rattle.m36_text.proofs.DigitLaws.{length_digits}
 use Rattle.m36_text.proofs.DigitNumbers.{number_of_digits, digits_of_number}
 use Rattle.m36_text.proofs.PackingLaws.{bits_more, words_more}
 
--- behind whole groups there is nothing, or a last word whose four spare bits are zero
+-- after the whole groups comes nothing, or a last word whose four spare bits are zero
 abbrev IsWhole : List ℕ → Type 0
 IsWhole bytes = (length bytes % 9 ≡ 0) ⊎ ((length bytes % 9 ≡ 5) × (get_or bytes (length bytes - 1) 0 % 16 ≡ 0))
 
@@ -20,7 +20,7 @@ record IsPacked (bytes words : List ℕ) : Type 0 where
   whole : IsWhole bytes
   read : words_of (length bytes / 9) bytes ≡ words
 
--- what `unpacked` answers
+-- the cases of `unpacked`
 
 unpacks : (bytes words : List ℕ) → IsPacked bytes words → unpacked bytes ≡ Ok words
 unfolding unpacked
@@ -53,7 +53,7 @@ is_packed bytes words e =
       read = all.1;
     }
 
--- what was packed
+-- unpacking what was packed
 
 last_word_is : (bytes : List ℕ) → 0 < length bytes → last_word bytes ≡ bits_of bytes / 2 ^ 4 ∷ []
 last_word_is [] some = absurd (omega arith)
@@ -105,7 +105,7 @@ packs (even ∷ odd ∷ words) below =
 pub unpacks_what_was_packed : UnpacksWhatWasPacked
 unpacks_what_was_packed words below = unpacks (packed words) words (packs words (recursion_from_All (λ word. word < 2 ^ 36) words below))
 
--- what is unpacked
+-- packing what was unpacked
 
 rest_whole : (bytes : List ℕ) → 9 ≤ length bytes → IsWhole bytes → IsWhole (drop 9 bytes)
 rest_whole bytes long whole =
@@ -136,7 +136,7 @@ digits_of_bits : (bytes : List ℕ) (n : ℕ) → length bytes ≡ n → AllBelo
 unfolding bits_of
 digits_of_bits bytes n long below = ap (λ k. digits 256 k (number_from_digits 256 bytes)) (sym long) ∙ digits_of_number 256 bytes below
 
--- the spare bits are the last of the number
+-- the spare bits are the last four bits of the number
 spare_bits : (bytes : List ℕ) → length bytes ≡ 5 → bits_of bytes % 16 ≡ get_or bytes 4 0 % 16
 spare_bits bytes five =
     let split : bits_of bytes ≡ bits_of (take 4 bytes) * 256 + get_or bytes 4 0 =

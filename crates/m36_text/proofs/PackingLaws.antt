@@ -14,7 +14,7 @@ packed_pair [] long = absurd (omega arith)
 packed_pair (word ∷ []) long = absurd (omega arith)
 packed_pair (even ∷ odd ∷ words) long = refl
 
--- a last word alone, and none
+-- a last single word, and none
 pub packed_one : (words : List ℕ) → length words ≡ 1 → packed words ≡ digits 256 5 (get_or words 0 0 * 16)
 unfolding packed
 packed_one [] one = absurd (omega arith)

@@ -1,4 +1,4 @@
--- Digits read one by one.
+-- Digits, read one by one.
 use Rattle.std.proofs.Common.{ℕ, ◌≡◌, ◌+◌, ◌-◌, ◌*◌, ◌^◌, ◌<◌, ◌≤◌, min, Bool, true, not, List, [], length, map, take, get_or, None, Some, leb, ltb, refl, sym, ◌∙◌, inl, inr, arith}
 use Rattle.std.specs.List.{position_or_len}
 use Rattle.std.proofs.lemmas.Bool.{cases_lt, and_parts, leb-true, lt-ltb, not-false, cond-true}
@@ -36,7 +36,7 @@ is_within base byte e =
     let high : byte ≤ 47 + base = leb-true byte (47 + base) both.1 in
     (leb-true 48 byte both.0, omega (arith, high))
 
--- where no byte is other than a digit, each is one
+-- if no byte is other than a digit, each byte is one
 pub all_digits : (base : ℕ) (text : List ℕ) (k : ℕ) → first_other base text ≡ None → k < length text
     → (48 ≤ get_or text k 0) × (get_or text k 0 < 48 + base)
 unfolding first_other
@@ -47,7 +47,7 @@ all_digits base text k none within =
       | inr found ↦ absurd (some≢none (sym (cond-true (ltb (position_or_len other text) (length text)) (Some (position_or_len other text)) None (lt-ltb (position_or_len other text) (length text) (omega arith))) ∙ none))
     ]
 
--- so many octal digits fit a number of 64 bits
+-- a number of this many octal digits fits 64 bits
 pub octal_fits : (places : ℕ) → places ≤ 21 → (1 ≤ 8 ^ places) × (8 ^ places < 2 ^ 64)
 octal_fits places few =
     let most : 8 ^ places ≤ 8 ^ 21 = pow-le-pow_right {n = 8} (omega arith) {i = places} {j = 21} few in

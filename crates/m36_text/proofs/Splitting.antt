@@ -1,4 +1,4 @@
--- Texts in parts, lines and words.
+-- Texts split into lines, and lines into words.
 use Rattle.std.proofs.Common.{◌≡◌, ℕ, ◌+◌, ◌-◌, ◌<◌, ◌≤◌, ◌==◌, Bool, true, false, cond, List, [], ◌∷◌, length, take, drop, Some, None, refl, sym, ap, ◌∙◌, arith, length-drop}
 use Rattle.std.specs.List.{slice_split, position, position_or_len}
 use Rattle.std.proofs.lemmas.Bool.{ltb-true, ltb-false}
@@ -9,7 +9,7 @@ use Rattle.std.proofs.Math.Seq.{take-length}
 use Rattle.std.proofs.Math.Dec.{ltb}
 use Rattle.m36_text.specs.Lines.{cut_line, ended, lines_of, open_rest, open_ended, open_lines_of, words_of, HasMore}
 
--- a slice to its end is what is dropped before it
+-- a slice up to the end is what `drop` leaves
 pub rest_whole : (xs : List ℕ) (i : ℕ) → take (length xs - i) (drop i xs) ≡ drop i xs
 rest_whole xs i = ap (λ n. take n (drop i xs)) (sym (length-drop i xs)) ∙ take-length (drop i xs)
 
@@ -17,7 +17,7 @@ pub cond_none : {A : Type 0} (b : Bool) (x : A) → cond b (Some x) None ≡ Non
 cond_none true x h = cc
 cond_none false x h = refl
 
--- at the first place where a byte passes, the text is split
+-- a text is split at the first byte that passes
 pub split_there :
     (p : ℕ → Bool) (xs : List ℕ) (i : ℕ)
     → position p xs ≡ Some i
@@ -26,7 +26,7 @@ split_there p xs i found =
     let at = cond_some (ltb (position_or_len p xs) (length xs)) (position_or_len p xs) i found in
     slice_split_first p xs 0 (ltb-true _ _ at.0) ∙ ap (λ k. take k xs ∷ slice_split p (drop (k + 1) xs)) at.1 ∙ ap (λ r. take i xs ∷ slice_split p r) (sym (rest_whole xs (i + 1)))
 
--- where none passes, the text is one part
+-- a text in which no byte passes is one part
 pub split_nowhere : (p : ℕ → Bool) (xs : List ℕ) → position p xs ≡ None → slice_split p xs ≡ xs ∷ []
 split_nowhere p xs none =
     let past : length xs ≤ position_or_len p xs = ltb-false _ _ (cond_none (ltb (position_or_len p xs) (length xs)) (position_or_len p xs) none) in
@@ -34,7 +34,7 @@ split_nowhere p xs none =
 
 pub ruleset splitting = (split_there, split_nowhere)
 
--- there is a part at least
+-- there is at least one part
 pub ended_line : (line : List ℕ) (parts : List (List ℕ)) → 0 < length parts → ended (line ∷ parts) ≡ Some line ∷ ended parts
 ended_line line [] some = absurd (omega arith)
 ended_line line (next ∷ parts) some = refl
@@ -59,7 +59,7 @@ pub open_line : (line : List ℕ) (parts : List (List ℕ)) → 0 < length parts
 open_line line [] some = absurd (omega arith)
 open_line line (next ∷ parts) some = refl
 
--- a text that begins with a line, where the last line may lack its line feed
+-- a text that begins with a line, if the last line may lack its line feed
 pub open_lines_first :
     (text line rest : List ℕ)
     → slice_split (λ b. b == 10) text ≡ line ∷ slice_split (λ b. b == 10) rest
@@ -93,12 +93,12 @@ parts_some : (parts : List (List ℕ)) (line word : List ℕ) (words : List (Lis
 parts_some [] line word words some e = absurd (omega arith)
 parts_some (next ∷ parts) line word words some e = record { first = word; second = next; others = parts; are = e }
 
--- behind a space there is a word, perhaps an empty one
+-- after a space there is a word, perhaps an empty one
 pub has_more : (line word rest : List ℕ) → words_of line ≡ word ∷ words_of rest → HasMore (words_of line)
 unfolding words_of
 has_more line word rest e = parts_some (words_of rest) line word (words_of line) (omega (arith, length-slice_split (λ b. b == 32) rest)) e
 
--- a line has one word at least
+-- a line has at least one word
 pub words_some : (line : List ℕ) → 0 < length (words_of line)
 unfolding words_of
 words_some line = omega (arith, length-slice_split (λ b. b == 32) line)

@@ -1,27 +1,27 @@
--- The first line of which something is told, line after line.
+-- The first line that has a result, line by line.
 use Rattle.std.proofs.Common.{ℕ, ◌≡◌, ◌+◌, List, [], ◌∷◌, ◌++◌, Option, Some, None, refl}
 use Rattle.m36_text.specs.Lines.{first_told}
 
--- of no line
+-- for no line
 pub nothing_told : {A : Type 0} (n : ℕ) (lines : List (Option A)) → lines ≡ [] → first_told n lines ≡ None
 unfolding first_told
 nothing_told n lines e = rw e
 
--- of the first line
+-- for the first line
 pub told_here :
     {A : Type 0} (n : ℕ) (lines more : List (Option A)) (told : A)
     → lines ≡ Some told ∷ more → first_told n lines ≡ Some (n, told)
 unfolding first_told
 told_here n lines more told e = rw e
 
--- of a later line
+-- for a later line
 pub told_later :
     {A : Type 0} (n : ℕ) (lines more : List (Option A))
     → lines ≡ None ∷ more → first_told n lines ≡ first_told (n + 1) more
 unfolding first_told
 told_later n lines more e = rw e
 
--- what is told of the first lines is the first of all lines
+-- a result in the first lines is the first of all lines
 pub told_earlier :
     {A : Type 0} (n : ℕ) (lines more : List (Option A)) (told : ℕ × A)
     → first_told n lines ≡ Some told → first_told n (lines ++ more) ≡ Some told

@@ -1,34 +1,33 @@
--- Numbers written in digits.
+-- Digits of numbers, and numbers written as texts.
 use Rattle.std.specs.Prelude.{ℕ, zero, suc, ◌+◌, ◌-◌, ◌/◌, ◌%◌, ◌^◌, Bool, ◌&&◌, nat_le, List, []}
 use Rattle.std.specs.Prelude.{◌∷◌, map}
 use Rattle.std.specs.Int.Digits.{digits_of}
 
--- so many digits of a number in a base, the most significant first
+-- the last `places` digits of a number in a base, the most significant first
 unfoldable pub digits : ℕ → ℕ → ℕ → List ℕ
 digits base zero v = []
 digits base (suc places) v = v / base ^ places % base ∷ digits base places v
 
--- The digits 0 to 9 are the characters 60 to 71 (octal): the character of 0, and that of a digit.
+-- The digits 0 to 9 are the characters 60 to 71 (octal).
 abbrev pub zero_character : ℕ
 zero_character = 48
 
 abbrev pub character : ℕ → ℕ
 character digit = zero_character + digit
 
--- whether a character is a digit of a base up to ten: one of so many, from that of 0 on
+-- whether a character is one of the first `base` digits, for a base of at most ten
 abbrev pub is_digit : ℕ → ℕ → Bool
 is_digit base c = nat_le zero_character c && nat_le c (47 + base)
 
--- the digit that a character is
+-- the value of a digit character
 abbrev pub digit_of : ℕ → ℕ
 digit_of c = c - zero_character
 
--- a number in octal, with so many places
+-- a number in octal, as its last `places` digits
 unfoldable pub octal_text : ℕ → ℕ → List ℕ
 octal_text places v = map character (digits 8 places v)
 
--- how many octal digits a word has, how many a half of it, how many the number of a segment, and
--- how many the address of a core word
+-- How many octal digits a word has, a half word, a segment number, and the address of a core word.
 abbrev pub word_digits : ℕ
 word_digits = 12
 
@@ -41,7 +40,7 @@ segment_digits = 5
 abbrev pub core_word_digits : ℕ
 core_word_digits = 8
 
--- a word in octal, and a half of one or another number of 18 bits
+-- a word in octal; a half word or another number of 18 bits in octal
 abbrev pub word_text : ℕ → List ℕ
 word_text w = octal_text word_digits w
 

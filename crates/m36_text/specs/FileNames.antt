@@ -1,28 +1,28 @@
 -- Names of the files of a folder.
 use Rattle.std.specs.Prelude.{◌≡◌, ℕ, ◌-◌, List, ◌++◌, length, take, codes}
 
--- what the name of a source has behind that of its object
+-- the suffix that the name of a source adds to that of its object
 abbrev pub source_suffix : List ℕ
 source_suffix = codes ".alm"
 
--- the name of the source of an object, and that of the object of a source
+-- the name of the source of an object; the name of the object of a source
 abbrev pub source_of_object : List ℕ → List ℕ
 source_of_object object = object ++ source_suffix
 
 abbrev pub object_of_source : List ℕ → List ℕ
 object_of_source source = take (length source - length source_suffix) source
 
--- The object of the source of an object is that object.
+-- Removing the suffix from the name of an object's source yields the name of the object.
 abbrev pub SourceNames : Type 0
 SourceNames = (object : List ℕ) → object_of_source (source_of_object object) ≡ object
 
--- what the name of the bind file of an object has there
+-- the suffix that the name of a bind file adds to that of its object
 abbrev pub bindfile_suffix : List ℕ
 bindfile_suffix = codes ".bind"
 
 abbrev pub bindfile_of_object : List ℕ → List ℕ
 bindfile_of_object object = object ++ bindfile_suffix
 
--- the boot text
+-- the name of the boot text
 abbrev pub boot_name : List ℕ
 boot_name = codes "boot"

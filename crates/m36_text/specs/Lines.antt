@@ -1,19 +1,19 @@
--- The lines of a text, the words of a line, and the first line of which something is told; and a
--- text as a line.
+-- The lines of a text, the words of a line, and the first line for which a function has a result.
 use Rattle.std.specs.Prelude.{ℕ, ◌≡◌, ◌+◌, ◌-◌, ◌==◌, Bool, if◌then◌else◌, List, [], ◌∷◌, ◌++◌}
 use Rattle.std.specs.Prelude.{length, filter_map, Option, Some, None, slice_get, unwrap_or}
 use Rattle.std.specs.List.{slice_split, join_with_byte}
 
--- a text as a line
+-- a text with its line feed
 abbrev pub as_line : List ℕ → List ℕ
 as_line text = text ++ 10 ∷ []
 
--- A line ends with its line feed. What stands behind the last line feed is a line too, if it is
--- anything, but one without its line feed: none stands for it, since it is of no form.
+-- A line ends with its line feed. Nonempty text after the last line feed is a line too, but one
+-- that lacks its line feed. It is given as None, since no form of line allows it.
 abbrev pub cut_line : List ℕ → List (Option (List ℕ))
 cut_line [] = []
 cut_line (b ∷ rest) = None ∷ []
 
+-- the lines, by the parts that the line feeds separate
 abbrev pub ended : List (List ℕ) → List (Option (List ℕ))
 ended [] = []
 ended (rest ∷ []) = cut_line rest
@@ -22,11 +22,11 @@ ended (line ∷ next ∷ parts) = Some line ∷ ended (next ∷ parts)
 unfoldable pub lines_of : List ℕ → List (Option (List ℕ))
 lines_of text = ended (slice_split (λ b. b == 10) text)
 
--- line n, counted from 1; none where it is missing or lacks its line feed
+-- line n, counted from 1; None if it is missing or lacks its line feed
 abbrev pub line_at : List (Option (List ℕ)) → ℕ → Option (List ℕ)
 line_at lines n = unwrap_or (slice_get lines (n - 1)) None
 
--- The lines of a text whose last one may lack its line feed.
+-- The lines of a text whose last line may lack its line feed.
 abbrev pub open_rest : List ℕ → List (List ℕ)
 open_rest [] = []
 open_rest (b ∷ rest) = (b ∷ rest) ∷ []
@@ -39,7 +39,7 @@ open_ended (line ∷ next ∷ parts) = line ∷ open_ended (next ∷ parts)
 unfoldable pub open_lines_of : List ℕ → List (List ℕ)
 open_lines_of text = open_ended (slice_split (λ b. b == 10) text)
 
--- The words of a line are parted by single spaces.
+-- Single spaces separate the words of a line.
 unfoldable pub words_of : List ℕ → List (List ℕ)
 words_of line = slice_split (λ b. b == 32) line
 
@@ -47,40 +47,40 @@ words_of line = slice_split (λ b. b == 32) line
 abbrev pub joined_by_spaces : List (List ℕ) → List ℕ
 joined_by_spaces words = join_with_byte 32 words
 
--- What a line says, by its words. One that lacks its line feed is of no form, and says what is
--- given for that.
+-- The meaning of a line, by its words. A line that lacks its line feed has the meaning
+-- `of_no_form`.
 abbrev pub by_words : {A : Type 0} → (List (List ℕ) → A) → A → Option (List ℕ) → A
 by_words says of_no_form (Some line) = says (words_of line)
 by_words says of_no_form None = of_no_form
 
--- what words say, by the first of them and those behind it
+-- the meaning of words, by the first word and those after it; None if there is no word
 abbrev pub by_first_word : {A : Type 0} → (List ℕ → List (List ℕ) → Option A) → List (List ℕ)
     → Option A
 by_first_word says [] = None
 by_first_word says (word ∷ given) = says word given
 
--- A line has two words at least.
+-- There are at least two words.
 pub record HasMore (words : List (List ℕ)) : Type 0 where
   pub first : List ℕ
   pub second : List ℕ
   pub others : List (List ℕ)
   pub are : words ≡ first ∷ second ∷ others
 
--- those of some lines that are there, or of what they mean
+-- the results that are not None, in order
 abbrev pub those_read : {A : Type 0} → List (Option A) → List A
 those_read lines = filter_map (λ next. next) lines
 
--- the last of some lines, or of what they mean
+-- the last item of a list; None if the list is empty
 abbrev pub last_of : {A : Type 0} → List A → Option A
 last_of lines = slice_get lines (length lines - 1)
 
--- The first line of which something is told, with its number, where the first of these is line n.
+-- The first line that has a result, with its number. The first line of the list has the number n.
 unfoldable pub first_told : {A : Type 0} → ℕ → List (Option A) → Option (ℕ × A)
 first_told n [] = None
 first_told n (Some told ∷ lines) = Some (n, told)
 first_told n (None ∷ lines) = first_told (n + 1) lines
 
--- The least of what is told of one line: the first test that is met.
+-- The result of the first test that holds.
 unfoldable pub first_met : {A : Type 0} → List (Bool × A) → Option A
 first_met [] = None
 first_met (test ∷ tests) = if test.0 then Some test.1 else first_met tests

@@ -1,4 +1,4 @@
--- The numbers of the lines that are read.
+-- Numbers in lines that are parsed.
 use Rattle.std.specs.Prelude.{ℕ, ◌-◌, ◌^◌, Bool, ◌||◌, not, ◌==◌, nat_le, if◌then◌else◌, List}
 use Rattle.std.specs.Prelude.{length, slice_index, Option, Some, None}
 use Rattle.std.specs.Result.{result_ok}
@@ -6,13 +6,13 @@ use Rattle.m36_text.specs.Digits.{zero_character, word_digits, half_digits, segm
 use Rattle.m36_text.specs.Digits.{core_word_digits}
 use Rattle.m36_text.specs.Reading.{number_read}
 
--- exactly so many octal digits
+-- a number written in exactly `places` octal digits
 unfoldable pub octal_in : ℕ → List ℕ → Option ℕ
 octal_in places text =
     if length text == places then result_ok (number_read 8 text (8 ^ places - 1)) else None
 
--- exactly the digits of a word, of the number of a segment, of the number of a word in it, and of
--- the address of a core word
+-- A number with exactly the digits of a word, of a segment number, of the number of a word in a
+-- segment, and of the address of a core word.
 abbrev pub octal_word_in : List ℕ → Option ℕ
 octal_word_in = octal_in word_digits
 
@@ -29,20 +29,20 @@ abbrev pub at_least : ℕ → Option ℕ → Option ℕ
 at_least least None = None
 at_least least (Some n) = if nat_le least n then Some n else None
 
--- a number from one to another, of any count of decimal digits
+-- a number from `least` to `most`, written in any number of decimal digits
 unfoldable pub decimal_in : ℕ → ℕ → List ℕ → Option ℕ
 decimal_in least most text = at_least least (result_ok (number_read 10 text most))
 
--- what `decimal_in` gives, of at most so many digits
+-- as `decimal_in`, with at most `digits` digits
 unfoldable pub short_decimal_in : ℕ → ℕ → ℕ → List ℕ → Option ℕ
 short_decimal_in digits least most text =
     if nat_le (length text) digits then decimal_in least most text else None
 
--- no zero leads, but that of the number 0
+-- no leading zero, except in the number 0 itself
 abbrev pub has_no_leading_zero : List ℕ → Bool
 has_no_leading_zero text = (length text == 1) || not (slice_index text 0 == zero_character)
 
--- what `decimal_in` gives, without a leading zero
+-- as `decimal_in`, without a redundant leading zero
 unfoldable pub plain_decimal_in : ℕ → ℕ → List ℕ → Option ℕ
 plain_decimal_in least most text =
     if has_no_leading_zero text then decimal_in least most text else None

@@ -1,16 +1,16 @@
--- Lists in which nothing stands twice.
+-- Lists without repeated items.
 use Rattle.std.specs.Prelude.{Bool, true, not, ◌&&◌, if◌then◌else◌, List, [], ◌∷◌, ◌++◌}
 use Rattle.std.specs.List.{list_any}
 
--- a list with one more at its end, unless it has it
+-- a list with an item added at its end, unless `has` says that the list has it
 abbrev pub with_unless : {A : Type 0} → Bool → List A → A → List A
 with_unless has list next = if has then list else list ++ next ∷ []
 
--- the same, where a test tells which it is
+-- a list with an item added at its end, unless an item of the list passes the test
 abbrev pub with_once : {A : Type 0} → (A → Bool) → List A → A → List A
 with_once is_it list next = with_unless (list_any is_it list) list next
 
--- whether no two of a list are the same
+-- no two items of a list are the same
 abbrev pub are_distinct_by : {A : Type 0} → (A → A → Bool) → List A → Bool
 are_distinct_by same [] = true
 are_distinct_by same (first ∷ others) =

@@ -9,20 +9,19 @@ use Rattle.m36_text.specs.Digits.{digits}
 use Rattle.m36_text.specs.declared.packing.PackFault.{PackFault}
 use Rattle.m36_text.specs.declared.packing.PackFault.TheVariants.{T3, T4, NoMemory}
 
--- Words go in order, the most significant bit first: two words are 72 bits, which fill nine bytes,
--- and a last word alone is 36 bits and four zero bits, which fill five.
+-- Packs words in order, the most significant bit first. Two words are 72 bits and fill nine bytes.
+-- A last single word is 36 bits and four zero bits, and fills five bytes.
 unfoldable pub packed : List ℕ → List ℕ
 packed [] = []
 packed (last ∷ []) = digits 256 5 (last * 2 ^ 4)
 packed (even ∷ odd ∷ words) =
     digits 256 9 (number_of (record { even = even; odd = odd })) ++ packed words
 
--- the number that bytes write, the most significant first
+-- the number that bytes represent, the most significant first
 unfoldable pub bits_of : List ℕ → ℕ
 bits_of bytes = number_from_digits 256 bytes
 
--- the words of so many groups of nine bytes, and then those of what is left, of which only five
--- bytes are a word
+-- the words of whole groups of nine bytes, and then the word of the bytes that are left, if any
 abbrev pub last_word : List ℕ → List ℕ
 last_word [] = []
 last_word (byte ∷ bytes) = bits_of (byte ∷ bytes) / 2 ^ 4 ∷ []
@@ -32,8 +31,8 @@ words_of zero bytes = last_word bytes
 words_of (suc groups) bytes = bits_of (take 9 bytes) / 2 ^ 36 ∷ bits_of (take 9 bytes) % 2 ^ 36
     ∷ words_of groups (drop 9 bytes)
 
--- Bytes as words: T3 with their count, where it is no count of packed words; T4 with the place of
--- the last byte, where the last four bits behind a word alone are not zero.
+-- Bytes unpacked into words. T3 with the number of bytes if no words are packed into that many. T4
+-- with the index of the last byte if the four bits after a single last word are not zero.
 unfoldable pub unpacked : List ℕ → Result (List ℕ) PackFault
 unpacked bytes =
     if nat_eq (length bytes % 9) 0 then Ok (words_of (length bytes / 9) bytes)
@@ -42,30 +41,30 @@ unpacked bytes =
     then Ok (words_of (length bytes / 9) bytes) else Err (T4 (length bytes - 1)))
     else Err (T3 (length bytes)))
 
--- What a call that unpacks answers, where want of memory may come at any time.
+-- The result of a call that unpacks. It may be NoMemory whatever the bytes are.
 abbrev pub UnpackSays : Result (List ℕ) PackFault → Result (List ℕ) PackFault → Type 0
 UnpackSays (Ok words) definition = definition ≡ Ok words
 UnpackSays (Err (T3 count)) definition = definition ≡ Err (T3 count)
 UnpackSays (Err (T4 place)) definition = definition ≡ Err (T4 place)
 UnpackSays (Err NoMemory) definition = Unit {0}
 
--- what a fault tells of so many bytes
+-- The number or index in a fault agrees with a count of bytes.
 abbrev pub IsOfCount : ℕ → PackFault → Type 0
 IsOfCount count (T3 given) = given ≡ count
 IsOfCount count (T4 place) = place + 1 ≡ count
 IsOfCount count NoMemory = Unit {0}
 
--- Words that were packed are unpacked as themselves.
+-- Unpacking packed words yields the same words.
 abbrev pub UnpacksWhatWasPacked : Type 0
 UnpacksWhatWasPacked =
     (words : List ℕ) → All (λ word. word < 2 ^ 36) words → unpacked (packed words) ≡ Ok words
 
--- Bytes that give words are those that the words are packed into.
+-- If bytes unpack into words, packing the words yields the same bytes.
 abbrev pub PacksWhatWasUnpacked : Type 0
 PacksWhatWasUnpacked = (bytes words : List ℕ) → All (λ byte. byte < 2 ^ 8) bytes
     → unpacked bytes ≡ Ok words → packed words ≡ bytes
 
--- What bytes give are words.
+-- Bytes unpack into numbers below 2^36.
 abbrev pub UnpacksIntoWords : Type 0
 UnpacksIntoWords = (bytes words : List ℕ) → All (λ byte. byte < 2 ^ 8) bytes
     → unpacked bytes ≡ Ok words → All (λ word. word < 2 ^ 36) words

@@ -1,4 +1,4 @@
--- Texts of digits read as numbers.
+-- Parsing of numbers.
 use Rattle.std.specs.Prelude.{ℕ, ◌^◌, ◌<◌, ◌≤◌, ◌≡◌, ◌≢◌, not, nat_le, if◌then◌else◌}
 use Rattle.std.specs.Prelude.{List, [], ◌∷◌, map, length, slice_index, Option, Some, None, Result}
 use Rattle.std.specs.Prelude.{Ok, Err}
@@ -8,16 +8,16 @@ use Rattle.m36_text.specs.Digits.{is_digit, digit_of, octal_text, decimal_text, 
 use Rattle.m36_text.specs.declared.reading.NumberFault.{NumberFault}
 use Rattle.m36_text.specs.declared.reading.NumberFault.TheVariants.{T1, T2}
 
--- the place of the first byte that is no digit
+-- the index of the first byte that is not a digit
 unfoldable pub first_other : ℕ → List ℕ → Option ℕ
 first_other base text = position (λ byte. not (is_digit base byte)) text
 
--- the number that digits write
+-- the number that digits represent
 unfoldable pub number_of : ℕ → List ℕ → ℕ
 number_of base text = number_from_digits base (map digit_of text)
 
--- a text as a number of at most max: T1 with the place of the first byte that is no digit, and with
--- 0 where there is no byte; T2 where all are digits and the number is over max
+-- A text parsed as a number of at most `max`. T1 with the index of the first byte that is not a
+-- digit, or 0 for an empty text. T2 if all bytes are digits and the number is over `max`.
 abbrev pub judged : Option ℕ → ℕ → ℕ → Result ℕ NumberFault
 judged (Some place) v max = Err (T1 place)
 judged None v max = if nat_le v max then Ok v else Err T2
@@ -27,21 +27,21 @@ number_read base [] max = Err (T1 0)
 number_read base (byte ∷ text) max =
     judged (first_other base (byte ∷ text)) (number_of base (byte ∷ text)) max
 
--- what a fault tells lies within a text of so many bytes
+-- the index in a fault is at most `count`
 abbrev pub IsWithin : ℕ → NumberFault → Type 0
 IsWithin count (T1 place) = place ≤ count
 IsWithin count T2 = Unit {0}
 
--- A number that was written in octal, in places enough for it, is read as itself.
+-- The octal text of a number, with enough places for it, is parsed as that number.
 abbrev pub ReadsOctal : Type 0
 ReadsOctal = (places v max : ℕ) → 1 ≤ places → v < 8 ^ places → v ≤ max
     → number_read 8 (octal_text places v) max ≡ Ok v
 
--- A number that was written in decimal is read as itself.
+-- The decimal text of a number is parsed as that number.
 abbrev pub ReadsDecimal : Type 0
 ReadsDecimal = (v max : ℕ) → v ≤ max → number_read 10 (decimal_text v) max ≡ Ok v
 
--- Octal texts have their places.
+-- An octal text has `places` digits.
 abbrev pub HasPlaces : Type 0
 HasPlaces = (places v : ℕ) → length (octal_text places v) ≡ places
 

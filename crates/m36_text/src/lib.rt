@@ -1,18 +1,19 @@
-//! Texts of the simulator: numbers in octal and decimal, lines and words, words of core packed into bytes, and names.
+//! Texts: numbers in octal and decimal, lines and their words, names, and words of core packed into
+//! bytes.
 //!
-//! What is promised: a number is written in exactly the digits that its clause names, and a text is read as a number
-//! exactly where all its bytes are digits and the number is within the limit; packing and unpacking are inverse; the
-//! lines of a text, the words of a line, and the texts that are names are exactly those of the definitions.
-//! Only `pack`, `unpack` and `Names` take memory.
+//! A number is written in exactly the digits that the contract names. A text is read as a number
+//! exactly if all its bytes are digits and the number is within the limit. Packing and unpacking
+//! are inverse to each other. The lines of a text, the words of a line, and the texts that are
+//! names are exactly those of the definitions. Only `pack`, `unpack`, `HashSeed::of_words` and
+//! `Names` allocate memory.
 //!
-//! A digit is told once, in `specs/Digits.antt`, for every base up to ten.
+//! `specs/Digits.antt` defines digits once, for every base up to ten. `specs/Lines.antt`,
+//! `specs/Numbers.antt` and `specs/Texts.antt` define a line, a word, the forms of numbers and a
+//! name, for every kind of file. `specs/FileNames.antt` has the names of files that several crates
+//! use, and `specs/Once.antt` has lists without repeated items.
 //!
-//! `specs/Lines.antt`, `specs/Numbers.antt` and `specs/Texts.antt` say what a line, a word, a number of a form and a name
-//! are, for every kind of file. `specs/FileNames.antt` has the names of files that several crates know, and
-//! `specs/Once.antt` has lists in which nothing stands twice.
-//!
-//! Source: Multics Processor Manual AL39, "Number representation" (octal words of twelve digits); the packing of 36-bit
-//! words into bytes, most significant bit first, is this project's own.
+//! Source: Multics Processor Manual AL39, "Number representation" (octal words of twelve digits).
+//! The packing of 36-bit words into bytes, most significant bit first, is this project's own.
 #![tactic(auto)]
 
 pub mod lines;

@@ -4,12 +4,12 @@ ghost use Rattle.std.specs.Prelude.{ℕ, ◌≡◌, ◌==◌, List, [], ◌∷�
 ghost use Rattle.std.specs.List.{position, slice_split};
 ghost use Rattle.m36_text.specs.Lines.{lines_of, open_lines_of, cut_line, words_of, HasMore};
 
-/// The first place of a byte in a text, counted from 0.
+/// The index of the first occurrence of a byte in a text, counted from 0.
 pub fn place_of(text: &[u8], byte: u8) -> Option<usize>
     ensures place { result ≡ position (λ b. b == byte) text.now }
     ensures within { IfSome result (λ i. i < length text.now) }
 {
-    // A loop of its own, and not `position`, proves in less time.
+    // A loop takes less time to prove than a call of `position`.
     for place in 0..text.len() {
         let here = text[place];
         if here == byte {
@@ -19,10 +19,13 @@ pub fn place_of(text: &[u8], byte: u8) -> Option<usize>
     None
 }
 
-// A text up to a byte, and what stands behind it; none where the byte does not stand in the text.
+// The text before the first occurrence of a byte, and the text after it. None if the byte does not
+// occur.
 #[tactic(auto, using(crate::proofs::Splitting::splitting))]
 fn split_first(text: &[u8], byte: u8) -> Option<(&[u8], &[u8])>
-    ensures parts { MatchOption result (slice_split (λ b. b == byte) text.now ≡ text.now ∷ []) (λ parts. slice_split (λ b. b == byte) text.now ≡ parts.0.now ∷ slice_split (λ b. b == byte) parts.1.now) }
+    ensures parts { MatchOption result (slice_split (λ b. b == byte) text.now ≡ text.now ∷ [])
+        (λ parts. slice_split (λ b. b == byte) text.now
+        ≡ parts.0.now ∷ slice_split (λ b. b == byte) parts.1.now) }
     ensures shorter { IfSome result (λ parts. length parts.1.now < length text.now) }
 {
     match place_of(text, byte) {
@@ -31,20 +34,23 @@ fn split_first(text: &[u8], byte: u8) -> Option<(&[u8], &[u8])>
     }
 }
 
-/// The first line of a text, and what stands behind its line feed; none where no line feed is there.
+/// The first line of a text without its line feed, and the text after the line feed. None if the
+/// text has no line feed.
 #[tactic(auto, using(crate::proofs::Splitting::lining))]
 pub fn first_line(text: &[u8]) -> Option<(&[u8], &[u8])>
-    ensures line { MatchOption result (lines_of text.now ≡ cut_line text.now) (λ parts. lines_of text.now ≡ Some parts.0.now ∷ lines_of parts.1.now) }
+    ensures line { MatchOption result (lines_of text.now ≡ cut_line text.now)
+        (λ parts. lines_of text.now ≡ Some parts.0.now ∷ lines_of parts.1.now) }
     ensures shorter { IfSome result (λ parts. length parts.1.now < length text.now) }
 {
     split_first(text, b'\n')
 }
 
-/// The first line of a text whose last line may lack its line feed, and what stands behind it; none where the text is
-/// empty.
+/// The first line of a text, and the text after it. The last line may lack its line feed. None if
+/// the text is empty.
 #[tactic(auto, using(crate::proofs::Splitting::open_lining))]
 pub fn first_open_line(text: &[u8]) -> Option<(&[u8], &[u8])>
-    ensures line { MatchOption result (open_lines_of text.now ≡ []) (λ parts. open_lines_of text.now ≡ parts.0.now ∷ open_lines_of parts.1.now) }
+    ensures line { MatchOption result (open_lines_of text.now ≡ [])
+        (λ parts. open_lines_of text.now ≡ parts.0.now ∷ open_lines_of parts.1.now) }
     ensures shorter { IfSome result (λ parts. length parts.1.now < length text.now) }
 {
     if text.is_empty() {
@@ -56,10 +62,12 @@ pub fn first_open_line(text: &[u8]) -> Option<(&[u8], &[u8])>
     }
 }
 
-/// The first word of a line, and what stands behind the space after it.
+/// The first word of a line, and the text after the space that ends it; None there if no space
+/// follows.
 #[tactic(auto, unfolding(crate::specs::Lines::words_of))]
 pub fn first_word(line: &[u8]) -> (&[u8], Option<&[u8]>)
-    ensures { MatchOption result.1 (words_of line.now ≡ result.0.now ∷ []) (λ rest. words_of line.now ≡ result.0.now ∷ words_of rest.now) }
+    ensures { MatchOption result.1 (words_of line.now ≡ result.0.now ∷ [])
+        (λ rest. words_of line.now ≡ result.0.now ∷ words_of rest.now) }
 {
     match split_first(line, b' ') {
         Some((word, rest)) => (word, Some(rest)),
@@ -67,10 +75,11 @@ pub fn first_word(line: &[u8]) -> (&[u8], Option<&[u8]>)
     }
 }
 
-/// The only word of a line; none where the line has more.
+/// The only word of a line. None if the line has more words.
 #[tactic(auto, using(crate::proofs::Splitting::has_more))]
 pub fn only_word(line: &[u8]) -> Option<&[u8]>
-    ensures { MatchOption result (HasMore (words_of line.now)) (λ word. words_of line.now ≡ word.now ∷ []) }
+    ensures { MatchOption result (HasMore (words_of line.now))
+        (λ word. words_of line.now ≡ word.now ∷ []) }
 {
     let (word, rest) = first_word(line);
     match rest {

@@ -15,7 +15,8 @@ use std::alloc::Global;
 use std::hash::{Hash, Hasher};
 use std::marker::Model;
 
-/// A name of at most 32 bytes, seen as a list of numbers. It takes no memory.
+/// A name of at most 32 bytes. It holds them in place and allocates nothing. Its model is the list
+/// of its bytes.
 #[derive(PartialEq, Eq, PartialOrd, Ord, Default, Debug, Drop)]
 pub struct Name {
     items: ArrayVec<u8, 32>,
@@ -44,7 +45,8 @@ impl Hash for Name {
     }
 }
 
-// A length, and then these bytes, as one number.
+// Shifts each byte in turn into the low end of `length`. At most seven bytes follow the whole words
+// of a name, so its length remains in the top bits.
 fn last_word(length: u64, bytes: &[u8]) -> u64
     ensures { result ≡ fold with_low_byte length bytes.now }
 {
@@ -54,7 +56,7 @@ fn last_word(length: u64, bytes: &[u8]) -> u64
 }
 
 impl Name {
-    /// The name of these bytes; None exactly where there are more than 32.
+    /// The name with these bytes. None exactly if there are more than 32.
     pub fn new(t: &[u8]) -> Option<Name>
         ensures { SomeIff result (length t.now ≤ name_limit) t.now }
     {
@@ -73,7 +75,7 @@ impl Name {
         self.items.as_slice()
     }
 
-    /// The same name again.
+    /// A copy of the name.
     pub fn copied(&self) -> Name
         ensures { result ≡ self.now }
     {
@@ -84,7 +86,8 @@ impl Name {
     }
 }
 
-/// A list of names that grows at its end, seen as a list of lists of numbers.
+/// A list of names that grows at its end. Its model is the list of the names, each as a list of
+/// bytes.
 #[derive(Drop)]
 pub struct Names {
     items: Vec<Name>,
@@ -108,7 +111,7 @@ impl Names {
         }
     }
 
-    /// Adds a name at the end. Where no memory is found, nothing changes.
+    /// Adds a name at the end. If memory runs out, nothing changes.
     pub fn push(&mut self, x: Name) -> Result<(), NoMemory>
         ensures ok { OnOk result (self.new ≡ self.old ++ x ∷ []) }
         ensures err { OnErr result (self.new ≡ self.old) }
@@ -125,7 +128,8 @@ impl Names {
     }
 }
 
-/// The law of the names of sources: a source whose name is that of an object's source is the source of that object.
+/// A law about the names of sources: if the suffix of a source is removed from the name of an
+/// object's source, the result is the name of the object.
 #[tactic(auto, using(crate::proofs::NameLaws::source_names))]
 pub fn name_laws()
     ensures { SourceNames }

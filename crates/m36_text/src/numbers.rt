@@ -1,11 +1,11 @@
-//! The numbers of the lines that are read: none where a text is not of its form.
+//! Numbers in lines that are parsed. The result is None if the text does not have the form.
 
 ghost use Rattle.std.specs.Prelude.{ℕ, ◌≡◌, ◌^◌, ◌<◌, ◌≤◌, IfSome};
 ghost use Rattle.m36_text.specs.Numbers.{octal_in, decimal_in, short_decimal_in, has_no_leading_zero, plain_decimal_in};
 
 use crate::reading::{read_decimal, read_octal};
 
-/// The number that exactly so many octal digits write.
+/// The number written in exactly `places` octal digits.
 #[tactic(auto, unfolding(crate::specs::Numbers::octal_in), using(crate::proofs::ReadingLaws::octal_fits))]
 pub fn octal_in(text: &[u8], places: u32) -> Option<u64>
     requires { places ≤ 21 }
@@ -18,7 +18,8 @@ pub fn octal_in(text: &[u8], places: u32) -> Option<u64>
     read_octal(text, 8u64.pow(places) - 1).ok()
 }
 
-/// The number that decimal digits write, from `least` to `most`. Leading zeros are allowed.
+/// The number written in decimal digits, if it is from `least` to `most`. Leading zeros are
+/// allowed.
 #[tactic(auto, unfolding(crate::specs::Numbers::decimal_in))]
 pub fn decimal_in(text: &[u8], least: u64, most: u64) -> Option<u64>
     ensures value { result ≡ decimal_in least most text.now }
@@ -31,7 +32,8 @@ pub fn decimal_in(text: &[u8], least: u64, most: u64) -> Option<u64>
     }
 }
 
-/// The number that at most so many decimal digits write, from `least` to `most`. Leading zeros are allowed.
+/// The number written in at most `digits` decimal digits, if it is from `least` to `most`. Leading
+/// zeros are allowed.
 #[tactic(auto, unfolding(crate::specs::Numbers::short_decimal_in))]
 pub fn short_decimal_in(text: &[u8], digits: usize, least: u64, most: u64) -> Option<u64>
     ensures value { result ≡ short_decimal_in digits least most text.now }
@@ -44,7 +46,8 @@ pub fn short_decimal_in(text: &[u8], digits: usize, least: u64, most: u64) -> Op
     decimal_in(text, least, most)
 }
 
-/// Whether a text is one character, or does not begin with a zero.
+/// Whether a text has no redundant leading zero: it is one character, or it does not begin with
+/// `0`.
 pub fn has_no_leading_zero(text: &[u8]) -> bool
     ensures { result ≡ has_no_leading_zero text.now }
 {
@@ -55,7 +58,8 @@ pub fn has_no_leading_zero(text: &[u8]) -> bool
     }
 }
 
-/// The number that decimal digits write, from `least` to `most`, without a leading zero but for the number 0.
+/// The number written in decimal digits, if it is from `least` to `most`. No leading zero is
+/// allowed, except in the number 0 itself.
 #[tactic(auto, unfolding(crate::specs::Numbers::plain_decimal_in))]
 pub fn plain_decimal_in(text: &[u8], least: u64, most: u64) -> Option<u64>
     ensures value { result ≡ plain_decimal_in least most text.now }

@@ -6,13 +6,14 @@ ghost use Rattle.m36_text.specs.Digits.{octal_text, decimal_text};
 use arrayvec::ArrayString;
 use std::str;
 
-/// The most octal digits of a number of 64 bits.
+/// The most octal digits that a number of 64 bits can need.
 const OCTAL_PLACES: usize = 22;
 
-/// The most decimal digits of a number of 64 bits.
+/// The most decimal digits that a number of 64 bits can need.
 const DECIMAL_PLACES: usize = 20;
 
-/// A number in octal, with so many places: at most 22, and enough for the number.
+/// A number in octal, with leading zeros up to `places` digits. `places` is at most 22 and must be
+/// enough for the number.
 pub fn octal(v: u64, places: u32) -> ArrayString<22>
     requires places { places ≤ 22 }
     requires fits { v < 8 ^ places }
@@ -35,7 +36,7 @@ pub fn decimal(v: u64) -> ArrayString<20>
     text_of(&bytes[start..])
 }
 
-// The digits stand at the end.
+// The digits are the last `places` bytes of the buffer.
 #[tactic(auto, using(crate::proofs::DigitLaws::length_octal, crate::proofs::DigitLaws::octal_ascii))]
 fn octal_bytes(v: u64, places: u32) -> [u8; 22]
     requires { places ≤ 22 }
@@ -52,7 +53,7 @@ fn octal_bytes(v: u64, places: u32) -> [u8; 22]
     bytes
 }
 
-// Writes the digits at the end, and returns where they begin.
+// Writes the digits at the end of the buffer and returns the index of the first one.
 #[tactic(auto, using(crate::proofs::DigitLaws::decimal_ascii))]
 fn put_decimal(v: u64, bytes: &mut [u8; 20]) -> usize
     ensures within { result ≤ 20 }

@@ -1,4 +1,4 @@
-//! Words packed into bytes.
+//! Packing words into bytes, and unpacking them.
 
 ghost use Rattle.std.specs.Prelude.{ℕ, ◌≡◌, ◌+◌, ◌-◌, ◌*◌, ◌/◌, ◌%◌, ◌^◌, ◌<◌, ◌≤◌, ◌⊎◌, List, [], ◌∷◌, ◌++◌, length, drop, IfOk, IfErr, OnOk};
 ghost use Rattle.m36_text.specs.Digits.{digits};
@@ -9,14 +9,16 @@ use m36_outside::Text;
 use m36_word::{NoMemory, Pair, Word, Words};
 use std::alloc::Global;
 
-/// Why bytes are not unpacked.
+/// Why bytes could not be unpacked.
 #[derive(Clone, Copy, PartialEq, Eq)]
 pub enum PackFault {
-    /// The count of the bytes, which is that of no packed words: modulo 9 it is neither 0 nor 5.
+    /// The number of bytes is not that of packed words: modulo 9 it is neither 0 nor 5. Has that
+    /// number.
     T3(usize),
-    /// The place of the last byte, counted from 0, whose last four bits are behind the last word and not zero.
+    /// The last four bits, which follow a last single word, are not zero. Has the index of the last
+    /// byte, counted from 0.
     T4(usize),
-    /// No memory was found.
+    /// Out of memory.
     NoMemory,
 }
 
@@ -28,8 +30,8 @@ impl From<NoMemory> for PackFault {
     }
 }
 
-/// The words as bytes, in order and the most significant bit first; an odd count of words is followed by four zero
-/// bits. The error is want of memory alone.
+/// Packs the words in order, most significant bit first. An odd number of words is followed by four
+/// zero bits. Fails only with `NoMemory`.
 pub fn pack(alloc: Global, w: &[Word]) -> Result<Text, NoMemory>
     ensures { IfOk result (λ text. text ≡ packed w.now) }
 {
@@ -97,8 +99,8 @@ fn five_bytes(bits: u64) -> [u8; 5]
     ]
 }
 
-/// The words of packed bytes. The error is T3 exactly where the count of the bytes modulo 9 is neither 0 nor 5, T4
-/// exactly where it is 5 and the last four bits are not zero, or want of memory.
+/// Unpacks bytes into words. The error is T3 exactly if the number of bytes modulo 9 is neither 0
+/// nor 5, T4 exactly if it is 5 and the last four bits are not zero, and otherwise `NoMemory`.
 #[tactic(auto, unfolding(crate::specs::Packing::unpacked))]
 pub fn unpack(alloc: Global, t: &[u8]) -> Result<Words, PackFault>
     ensures says { UnpackSays result (unpacked t.now) }
@@ -141,7 +143,7 @@ fn push_last(words: &mut Words, bytes: &[u8]) -> Result<(), NoMemory>
     words.push(Word::low((number(bytes) / 16) as u64))
 }
 
-// The words of the first nine bytes.
+// Adds the two words that are packed in the first nine bytes.
 fn push_group(words: &mut Words, bytes: &[u8]) -> Result<(), NoMemory>
     requires { 9 ≤ length bytes.now }
     ensures { OnOk result (words.new ++ words_of (length (drop 9 bytes.now) / 9) (drop 9 bytes.now)
@@ -161,7 +163,7 @@ fn push_pair(words: &mut Words, bits: u128) -> Result<(), NoMemory>
     Ok(())
 }
 
-// The number that bytes write, the most significant first.
+// The number that the bytes represent, the most significant byte first.
 #[tactic(auto, using(crate::proofs::PackingLaws::bits_none, crate::proofs::PackingLaws::bits_more, crate::proofs::PackingLaws::fits_more))]
 fn number(bytes: &[u8]) -> u128
     requires { length bytes.now ≤ 9 }
@@ -175,8 +177,8 @@ fn number(bytes: &[u8]) -> u128
     value
 }
 
-/// The laws of packing: packed words are unpacked as themselves; bytes that are unpacked give words, and those are
-/// packed into the same bytes.
+/// The laws of packing. Unpacking packed words yields those words. If bytes can be unpacked, the
+/// results are 36-bit words, and packing these yields the same bytes.
 pub fn packing_laws()
     ensures unpack { UnpacksWhatWasPacked }
     ensures pack { PacksWhatWasUnpacked }

@@ -1,19 +1,20 @@
-//! Texts read as numbers.
+//! Parsing of numbers.
 
 ghost use Rattle.std.specs.Prelude.{ℕ, ◌≡◌, ◌+◌, ◌-◌, ◌^◌, ◌<◌, ◌≤◌, length, min, None, IfOk, IfErr, IfSome};
 ghost use Rattle.m36_text.specs.Digits.{is_digit};
 ghost use Rattle.m36_text.specs.Reading.{first_other, number_of, number_read, IsWithin, ReadsOctal, ReadsDecimal, HasPlaces, HasNoLeadingZero};
 
-/// Why a text is not read as a number.
+/// Why a text could not be parsed as a number.
 #[derive(Clone, Copy, PartialEq, Eq)]
 pub enum NumberFault {
-    /// The place of the first byte that is no digit, counted from 0; 0 too where there is no byte.
+    /// The text is empty or has a byte that is not a digit. Has the index of the first such byte,
+    /// counted from 0, or 0 for an empty text.
     T1(usize),
-    /// All bytes are digits, and the number is over the limit.
+    /// All bytes are digits, but the number is over the limit.
     T2,
 }
 
-/// Whether a byte is a digit of a base up to ten.
+/// Whether a byte is a digit of a base of at most ten.
 pub fn is_digit(base: u8, byte: u8) -> bool
     requires { base ≤ 10 }
     ensures { result ≡ is_digit base byte }
@@ -21,7 +22,7 @@ pub fn is_digit(base: u8, byte: u8) -> bool
     b'0' <= byte && byte < b'0' + base
 }
 
-/// The number that octal digits write, at most `max`.
+/// The number written in octal digits, at most `max`. Leading zeros are allowed.
 pub fn read_octal(t: &[u8], max: u64) -> Result<u64, NumberFault>
     ensures value { result ≡ number_read 8 t.now max }
     ensures bound { IfOk result (λ v. v ≤ max) }
@@ -30,7 +31,7 @@ pub fn read_octal(t: &[u8], max: u64) -> Result<u64, NumberFault>
     read_number(8, t, max)
 }
 
-/// The number that decimal digits write, at most `max`. Leading zeros are allowed.
+/// The number written in decimal digits, at most `max`. Leading zeros are allowed.
 pub fn read_decimal(t: &[u8], max: u64) -> Result<u64, NumberFault>
     ensures value { result ≡ number_read 10 t.now max }
     ensures bound { IfOk result (λ v. v ≤ max) }
@@ -61,7 +62,8 @@ fn read_number(base: u8, t: &[u8], max: u64) -> Result<u64, NumberFault>
     }
 }
 
-// The place of the first byte that is no digit. A loop of its own, and not `position`, proves in less time.
+// The index of the first byte that is not a digit. A loop takes less time to prove than a call of
+// `position`.
 fn place_of_other(base: u8, t: &[u8]) -> Option<usize>
     requires { (1 ≤ base) × (base ≤ 10) }
     ensures value { result ≡ first_other base t.now }
@@ -75,7 +77,7 @@ fn place_of_other(base: u8, t: &[u8]) -> Option<usize>
     None
 }
 
-// The number that digits write, or `cap` where it is that or more.
+// The number that the digits represent, or `cap` if it is `cap` or more.
 fn capped_value(base: u8, t: &[u8], cap: u128) -> u128
     requires base { (1 ≤ base) × (base ≤ 10) }
     requires cap { cap ≤ 2 ^ 64 }
@@ -89,7 +91,8 @@ fn capped_value(base: u8, t: &[u8], cap: u128) -> u128
     value
 }
 
-/// The laws of written numbers: a number that was written is read as itself, an octal text has its places, and the
+/// The laws of numerals. The octal text of a number, if it has enough places, and the decimal text
+/// of a number are parsed as that number. An octal text has as many digits as its places say. The
 /// decimal text of a number other than zero does not begin with a zero.
 #[tactic(auto, using(crate::proofs::NumeralLaws::reads_octal, crate::proofs::NumeralLaws::reads_decimal, crate::proofs::DigitLaws::length_octal, crate::proofs::NumeralLaws::has_no_leading_zero))]
 pub fn numeral_laws()

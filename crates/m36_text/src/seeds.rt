@@ -1,8 +1,8 @@
 //! The seeds of hash tables.
 //!
-//! A table whose keys come from an input hashes them by SipHash with a seed, which is the SHA-512/256
-//! digest of that whole input. Whoever writes an input knows its seed only once the last byte is
-//! chosen, and each change of a key changes the seed. So no input can be made whose keys collide.
+//! A table whose keys come from an input hashes them by SipHash with a seed: the SHA-512/256 digest
+//! of that input. Keys that collide under one seed need not collide under another. The author of an
+//! input knows its seed only once its last byte is chosen, and a change of a key changes the seed.
 
 ghost use Rattle.std.specs.Prelude.{◌≡◌, ◌++◌, IfOk};
 ghost use Rattle.m36_text.specs.Packing.{packed};
@@ -14,7 +14,8 @@ use sha2::{Digest, Sha512_256};
 use std::alloc::Global;
 use std::hash::{BuildHasher, DefaultHasher, Hasher};
 
-/// The seed of the tables of one input. It makes their hashers.
+/// The seed of the hash tables of one input. As a `BuildHasher` it makes hashers that have already
+/// read the digest.
 #[derive(Clone, Copy)]
 pub struct HashSeed {
     hasher: DefaultHasher,
@@ -22,14 +23,15 @@ pub struct HashSeed {
 }
 
 impl HashSeed {
-    /// The seed of an input.
+    /// The seed of an input, given as all its bytes.
     pub fn of(input: &[u8]) -> HashSeed
         ensures { result ≡ seed_of input.now }
     {
         HashSeed::with(Sha512_256::digest(input))
     }
 
-    /// The seed of a list of words, as that of the file that they are packed into.
+    /// The seed of a list of words: that of the bytes into which `pack` packs them. Fails only with
+    /// `NoMemory`.
     pub fn of_words(alloc: Global, words: &[Word]) -> Result<HashSeed, NoMemory>
         ensures { IfOk result (λ seed. seed ≡ seed_of (packed words.now)) }
     {
@@ -39,7 +41,7 @@ impl HashSeed {
         Ok(seed)
     }
 
-    /// The seed of two inputs, by their seeds.
+    /// The seed of two inputs together, made of the digests of both in this order.
     pub fn joined(&self, other: &HashSeed) -> HashSeed
         ensures { result ≡ seed_of (self.now.digest ++ other.now.digest) }
     {

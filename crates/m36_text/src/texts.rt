@@ -1,4 +1,4 @@
-//! Texts that are the same, and names.
+//! Comparison of texts, and the characters of names.
 
 ghost use Rattle.std.specs.Prelude.{ℕ, ◌≡◌, ◌≤◌, true, length};
 ghost use Rattle.std.specs.List.{list_all};
@@ -9,21 +9,21 @@ use crate::reading::is_digit;
 /// The most characters of a name.
 pub const LONGEST_NAME: usize = 32;
 
-/// Whether a text is this one.
+/// Whether `text` is exactly `name`.
 pub fn is_text(name: &[u8], text: &[u8]) -> bool
     ensures { result ≡ is_text name.now text.now }
 {
     text == name
 }
 
-/// The letters, small and capital.
+/// Whether a byte is an ASCII letter, lower or upper case.
 pub fn is_letter(byte: u8) -> bool
     ensures { result ≡ is_letter byte }
 {
     matches!(byte, b'A'..=b'Z' | b'a'..=b'z')
 }
 
-/// The characters of a name: letters, digits, `_` and `.`.
+/// Whether a byte can occur in a name: a letter, a digit, `_` or `.`.
 pub fn is_name_character(byte: u8) -> bool
     ensures { result ≡ is_name_character byte }
 {

@@ -1,4 +1,4 @@
--- What the map of a list tells, and where it cuts the list.
+-- The map of a list, and the sections into which it divides the list.
 use Rattle.std.proofs.Common.{ℕ, suc, ◌≡◌, ◌+◌, ◌-◌, ◌^◌, ◌<◌, ◌≤◌, Bool, true, false, cond, eqb, List, [], ◌++◌, length, get_or, take, drop, refl, sym, ap, ◌∙◌, append_assoc, arith}
 use Rattle.std.specs.Prelude.{slice_index}
 use Rattle.std.proofs.lemmas.Bool.{cond-true, cond-false, eq-eqb, ne_eqb}
@@ -92,7 +92,7 @@ cut newer words t d k st s y m b e f told =
       symbol = symbol_from newer words st s y m statics f told.version told.statics;
     }
 
--- ---- what the heads of sections tell
+-- ---- the heads of sections
 
 pub first_is : (words statics rest : List ℕ) (ls : List LinkFields) (x : ℕ) → from_linkage words ≡ linkage_part statics ls x ++ rest → 8 + length statics < 2 ^ 18 → told_first words ≡ 8 + length statics
 unfolding told_first link_start linkage_part

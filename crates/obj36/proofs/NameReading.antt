@@ -1,4 +1,4 @@
--- A name that is spelled is read.
+-- A name that was encoded is decoded as itself.
 use Rattle.std.proofs.Common.{ℕ, zero, suc, ◌≡◌, ◌+◌, ◌-◌, ◌*◌, ◌/◌, ◌%◌, ◌^◌, ◌<◌, ◌≤◌, Bool, true, false, ◌&&◌, ◌||◌, leb, List, [], ◌∷◌, ◌++◌, length, get_or, refl, sym, ap, ◌∙◌, subst, append_assoc, arith}
 use Rattle.std.specs.Prelude.{min}
 use Rattle.std.specs.List.{list_any, list_all}
@@ -64,7 +64,7 @@ part_is name g j (suc (suc zero)) lt = third_part (unit_of name (4 * j)) (unit_o
 part_is name g j (suc (suc (suc zero))) lt = fourth_part (unit_of name (4 * j)) (unit_of name (4 * j + 1)) (unit_of name (4 * j + 2)) (unit_of name (4 * j + 3)) (small_unit name g (4 * j)) (small_unit name g (4 * j + 1)) (small_unit name g (4 * j + 2)) (small_unit name g (4 * j + 3))
 part_is name g j (suc (suc (suc (suc r)))) lt = absurd (omega arith)
 
--- ---- where a name is spelled, its parts are
+-- ---- the parts of a name that was encoded
 
 word_from : (name : List ℕ) (j count k : ℕ) (rest : List ℕ) → k < count → get_or (name_words_from name j count ++ rest) k 0 ≡ name_word name (j + k)
 unfolding name_words_from

@@ -1,4 +1,4 @@
--- What is read is the object of the list.
+-- The result of reading is the object of the list.
 use Rattle.std.proofs.Common.{ℕ, ◌≡◌, Bool, true, false, cond, ◌&&◌, List, Option, Some, None, Ok, Err, refl, sym, ap, subst, ◌∙◌}
 use Rattle.std.proofs.lemmas.Bool.{cond-true, cond-false, and_parts, and_from, and_left, and_right}
 use Rattle.obj36_parts.specs.Names.{same}
@@ -44,12 +44,12 @@ own_value words written parts b e t f alike =
     (and_from (is_well_formed (parts_of words)) (same (words_of (parts_of words)) words) (ap is_well_formed (sym e) ∙ t.formed)
     (ap (λ (p : PartsFields). same (words_of p) words) (sym e) ∙ ap (λ (ws : List ℕ). same ws words) (sym t.spelled) ∙ sym f ∙ alike)))
 
--- by whether the list is the one that stands for its parts
+-- the cases of whether the list encodes its parts
 pub value_by : (words written : List ℕ) (parts : PartsFields) (b : Bool) → parts ≡ parts_of words → Stands parts written → b ≡ same written words → cond b (Some parts) None ≡ value_of words
 value_by words written parts true e t f = own_value words written parts true e t f refl
 value_by words written parts false e t f = other_value words written parts false e t f refl
 
--- the value of a list that stands for one
+-- the parts of a list that encodes some
 stands_value : (words : List ℕ) (p : PartsFields) → Stands p words → Some p ≡ value_of words
 stands_value words p s =
     own_value words (words_of p) p true (sym (stands_back p words s)) (record { formed = s.formed; spelled = refl })

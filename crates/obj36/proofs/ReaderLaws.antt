@@ -1,4 +1,4 @@
--- What reading a list says.
+-- The result of reading a list.
 use Rattle.std.proofs.Common.{ℕ, zero, suc, ◌≡◌, ◌+◌, ◌-◌, ◌*◌, ◌^◌, ◌<◌, ◌≤◌, Bool, true, false, cond, eqb, List, length, take, drop, Option, Some, None, Err, refl, sym, ap, ◌∙◌, arith}
 use Rattle.std.proofs.lemmas.List.{length-take, length-drop}
 use Rattle.obj36_parts.specs.PartsFields.{PartsFields}
@@ -11,7 +11,7 @@ use Rattle.obj36.specs.Faults.{from_outline, outline_fault, fault_behind_map, fi
 use Rattle.obj36_parts.proofs.Formed.{is_formed}
 use Rattle.obj36.proofs.ReadingBack.{outline_back, values_apart}
 
--- ---- the parts that are read have short lists
+-- ---- the parts that are decoded have short lists
 
 definitions_few : (words : List ℕ) (at count : ℕ) → length (definitions_in words at count) ≡ count
 unfolding definitions_in
@@ -68,7 +68,7 @@ short_parts words lt = record {
   relocations = omega (arith, relocations_few (from_symbol words) 1 (told_count words (from_symbol words) 0), count_few words (from_symbol words) 0);
 }
 
--- ---- what is told before anything is read
+-- ---- the fault that is found before the parts are decoded
 
 pub outline_stands : (words : List ℕ) (f : ObjectFault) → Some f ≡ outline_fault words → (p : PartsFields) → Stands p words → ⊥
 outline_stands words f e p s =
@@ -84,7 +84,7 @@ pub behind_first : (words : List ℕ) (f : ObjectFault) → None ≡ outline_fau
 unfolding first_fault
 behind_first words f none e = e ∙ ap (λ (o : Option ObjectFault). from_outline o (fault_behind_map words)) none
 
--- ---- what is said
+-- ---- the result
 
 pub refused : (words : List ℕ) (f : ObjectFault) → f ≡ first_fault words → IsFound words None → ReadSays words (Err f)
 refused words (O1 place) e none = record { first = sym e; stands_for_none = none }

@@ -1,4 +1,4 @@
--- What was spelled is read again, so no two values share a list.
+-- Parts that were encoded are decoded as themselves, so different parts have different lists.
 use Rattle.std.proofs.Common.{ℕ, ◌≡◌, ◌+◌, ◌*◌, ◌^◌, ◌<◌, ◌≤◌, Bool, true, false, cond, ◌||◌, eqb, List, [], ◌∷◌, ◌++◌, length, None, refl, sym, ap, ◌∙◌, append_assoc, arith}
 use Rattle.std.specs.Prelude.{slice_index}
 use Rattle.std.specs.List.{list_any, list_all}
@@ -61,7 +61,7 @@ names_place : (ds : List Named) (ls : List LinkFields) → length ((head ds ls +
 names_place ds ls =
     omega (arith, length-append (head ds ls ++ definition_words (names ds ls) (base ds ls) ds 2) (expression_words (names ds ls) (base ds ls) ls), expressions_place ds ls, length-expression_words (names ds ls) (base ds ls) ls)
 
--- each name that is used is read
+-- each name that is used is decoded
 used_read : (ds : List Named) (ls : List LinkFields) (tail : List ℕ) → length (definition_part ds ls) ≤ 2 ^ 18 → (x : List ℕ) → list_any (same x) (definition_names ds ++ all_link_names ls) ≡ true → IsGood x
     → IsRead (definition_part ds ls ++ tail) (place_of x (names ds ls) (base ds ls)) (2 ^ 18) x
 unfolding names_length
@@ -106,7 +106,7 @@ links_read version ds ls tail words statics after linkage e small f good =
     (from_expressions ds ls tail) (expressions_place ds ls) (f ∙ from_links statics ls (2 + 2 * length ds) after) (links_place statics ls)
     (links_stand version all (names ds ls) (base ds ls) ls read good)
 
--- what the head of a definition section tells
+-- the head of a definition section
 counts_here : (ds : List Named) (ls : List LinkFields) (tail : List ℕ) → slice_index (definition_part ds ls ++ tail) 0 ≡ joined (place_if_any (length ds) 2) (length ds)
 unfolding definition_part
 counts_here ds ls tail = refl
@@ -164,7 +164,7 @@ is_mapped p f =
     let bound : p.entry_bound < 2 ^ 18 = omega (arith, f.bound, front_length p) in
     mapped (is_newer p) (front_of p) (length p.text) (length (definition_section p)) (length (linkage_section p)) (length (outer_statics p)) (length (symbol_section p)) p.entry_bound (front_length p) small bound
 
--- the map is as it must be
+-- the map is valid
 pub outline_back : (p : PartsFields) → IsFormed p → outline_fault (words_of p) ≡ None
 unfolding words_of map_words front_of
 outline_back p f =
@@ -236,7 +236,7 @@ parts_back p e =
     in
     λ i. record { text = c.text i; statics = statics i; definitions = defined i; links = links i; relocations = relocations i; entry_bound = m.bound i; version = version i }
 
--- what stands for a value reads as that value
+-- the list that encodes parts is read as these parts
 pub stands_back : (p : PartsFields) (words : List ℕ) → Stands p words → parts_of words ≡ p
 stands_back p words s = ap parts_of s.spelled ∙ parts_back p s.formed
 

@@ -1,4 +1,4 @@
--- Texts that are added one after another.
+-- Texts that are joined.
 use Rattle.std.proofs.Common.{◌≡◌, ℕ, List, ◌++◌, append_assoc}
 use Rattle.std.specs.Prelude.{codes}
 

@@ -1,4 +1,4 @@
--- A table that is spelled is read.
+-- A table that was encoded is decoded as itself.
 use Rattle.std.proofs.Common.{ℕ, ◌≡◌, ◌+◌, ◌-◌, ◌*◌, ◌/◌, ◌%◌, ◌^◌, ◌<◌, ◌≤◌, Bool, true, false, cond, leb, List, [], ◌∷◌, ◌++◌, length, get_or, refl, sym, ap, ◌∙◌, append_assoc, arith}
 use Rattle.std.specs.Prelude.{slice_index}
 use Rattle.std.specs.List.{AllByRecursion}
@@ -23,7 +23,7 @@ pub right_joined : (l r : ℕ) → r < 2 ^ 18 → right (joined l r) ≡ r
 unfolding right joined
 right_joined l r lt = omega arith
 
--- ---- words at their places
+-- ---- words at indexes
 
 pub word_here : (words front rest : List ℕ) (at x : ℕ) → words ≡ front ++ (x ∷ rest) → length front ≡ at → slice_index words at ≡ x
 word_here words front rest at x e p =
@@ -33,7 +33,7 @@ pub word_next : (words front rest : List ℕ) (at x y : ℕ) → words ≡ front
 word_next words front rest at x y e p =
     ap (λ (ws : List ℕ). get_or ws (at + 1) 0) e ∙ get_or-append_right front (x ∷ y ∷ rest) at (at + 1) 0 p (omega arith) ∙ ap (λ n. get_or (x ∷ y ∷ rest) n 0) (let z : at + 1 - at ≡ 1 = omega arith in z)
 
--- the rest of a table behind two words of it
+-- the rest of a table after two words of it
 behind_two : (words front rest tail : List ℕ) (x y : ℕ) → words ≡ front ++ ((x ∷ y ∷ rest) ++ tail) → words ≡ (front ++ x ∷ y ∷ []) ++ (rest ++ tail)
 behind_two words front rest tail x y e = e ∙ sym (append_assoc front (x ∷ y ∷ []) (rest ++ tail))
 

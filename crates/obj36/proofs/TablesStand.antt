@@ -1,4 +1,4 @@
--- Of well-formed parts each definition, link and relocation is one that is read again.
+-- Each definition, link and relocation of well-formed parts is decoded as itself.
 use Rattle.std.proofs.Common.{ℕ, ◌≡◌, ◌^◌, ◌<◌, ◌≤◌, Bool, true, false, cond, ◌&&◌, ◌||◌, eqb, leb, ltb, List, [], ◌∷◌, length, refl, sym, ◌∙◌, arith}
 use Rattle.std.specs.List.{list_any, list_all, AllByRecursion}
 use Rattle.std.proofs.lemmas.Bool.{and_parts, or_left, or_right, leb-true, ltb-true, eqb-true}
@@ -17,7 +17,7 @@ use Rattle.obj36_parts.proofs.SizeLaws.{same_self}
 use Rattle.obj36.proofs.NameReading.{IsGood, good_name, IsRead}
 use Rattle.obj36.proofs.TableReading.{DefinitionStands, LinkStands, section_back, small_section, relocation_back}
 
--- each good name that is among some is read where the table has it
+-- each valid name of the list is decoded where the table has it
 abbrev pub AreRead : List (List ℕ) → List ℕ → List (List ℕ) → ℕ → Type 0
 AreRead some words names base = (x : List ℕ) → list_any (same x) some ≡ true → IsGood x → IsRead words (place_of x names base) (2 ^ 18) x
 

@@ -13,7 +13,7 @@ use Rattle.obj36.specs.declared.fault.ObjectFault.{ObjectFault}
 use Rattle.obj36.specs.declared.fault.ObjectFault.TheVariants.{O1, O2, O3, O4, O5, O6, O7, O8}
 use Rattle.obj36.specs.declared.fault.ObjectFault.TheVariants.{NoMemory}
 
--- the definition and the linkage section that the map tells
+-- the words of the definition section and of the linkage section, as the map gives them
 unfoldable pub told_definition : List ℕ → List ℕ
 told_definition words = extent_words words (extents_of words).definition
 
@@ -34,7 +34,7 @@ linking_fault words =
     links_fault (version_in words) (extents_of words).definition.from (told_definition words)
     (extents_of words).linkage.from (told_linkage words)
 
--- each code with its place, and the first that stands; O8 where none of the others does
+-- each code with its place, if it applies, and otherwise the next one; O8 if no other applies
 abbrev pub from_links : Option ℕ → ObjectFault
 from_links (Some p) = O7 p
 from_links None = O8 0
@@ -65,7 +65,7 @@ fault_behind_map words =
     (from_tables (definition_fault words)
     (from_names (spelling_fault words) (from_links (linking_fault words)))))
 
--- what is told before anything is read: too few words, or a map that is not as it must be
+-- the fault that is found before the parts are decoded: too few words, or an invalid map
 unfoldable pub outline_fault : List ℕ → Option ObjectFault
 outline_fault words =
     if nat_lt (length words) older_map
@@ -78,13 +78,13 @@ first_fault words = from_outline (outline_fault words) (fault_behind_map words)
 abbrev pub StandsForNone : List ℕ → Type 0
 StandsForNone words = (p : PartsFields) → Stands p words → ⊥
 
--- The list stands for no value, and this is its first fault.
+-- The list encodes no parts, and this is its first fault.
 pub record IsRefused (words : List ℕ) (fault : ObjectFault) : Type 0 where
   pub first : first_fault words ≡ fault
   pub stands_for_none : StandsForNone words
 
--- What reading a list says: the value for which it stands, or its first fault, where want of memory
--- may come at any time.
+-- The result of reading a list: the parts that it encodes, or its first fault. It may be NoMemory
+-- whatever the list is.
 abbrev pub ReadSays : List ℕ → Result PartsFields ObjectFault → Type 0
 ReadSays words (Ok p) = Stands p words
 ReadSays words (Err (O1 place)) = IsRefused words (O1 place)
@@ -97,7 +97,7 @@ ReadSays words (Err (O7 place)) = IsRefused words (O7 place)
 ReadSays words (Err (O8 place)) = IsRefused words (O8 place)
 ReadSays words (Err NoMemory) = Unit {0}
 
--- A list that stands for a value is read as that value, unless no memory is found.
+-- A list that encodes parts is read as these parts, unless memory runs out.
 abbrev pub IsReadAs : PartsFields → Result PartsFields ObjectFault → Type 0
 IsReadAs p (Ok q) = q ≡ p
 IsReadAs p (Err NoMemory) = Unit {0}
@@ -110,7 +110,7 @@ IsReadAs p (Err (O6 place)) = ⊥
 IsReadAs p (Err (O7 place)) = ⊥
 IsReadAs p (Err (O8 place)) = ⊥
 
--- The value for which a list stands, or none.
+-- The parts that a list encodes, or none.
 abbrev pub IsFound : List ℕ → Option PartsFields → Type 0
 IsFound words (Some p) = Stands p words
 IsFound words None = StandsForNone words

@@ -1,4 +1,4 @@
--- Lengths of sections that are small enough to be added.
+-- Lengths of sections, each at most that of a segment, so that their sum does not overflow.
 use Rattle.std.specs.Prelude.{◌≤◌}
 use Rattle.obj36_parts.specs.ObjectSegment.{segment_limit}
 use Rattle.obj36.specs.declared.object.Lengths.{Lengths}

@@ -1,4 +1,4 @@
--- The object for which a list of words stands, or its first fault.
+-- The object that a list of words encodes, or its first fault.
 use Rattle.std.specs.Prelude.{ℕ, ◌≡◌, ◌&&◌, nat_eq, if◌then◌else◌, List, Option, Some, None, Result}
 use Rattle.std.specs.Prelude.{Ok, Err}
 use Rattle.std.specs.Cmp.Lexicographic.{pointwise}
@@ -10,8 +10,8 @@ use Rattle.obj36.specs.declared.fault.ObjectFault.{ObjectFault}
 use Rattle.obj36.specs.declared.fault.ObjectFault.TheVariants.{O1, O2, O3, O4, O5, O6, O7, O8}
 use Rattle.obj36.specs.declared.fault.ObjectFault.TheVariants.{NoMemory}
 
--- the value for which a list stands, if there is one: the parts that it would spell, where they
--- spell it
+-- The parts that a list encodes, if there are any: the parts that are decoded from it, if encoding
+-- them yields the list again.
 unfoldable pub value_of : List ℕ → Option PartsFields
 value_of words =
     let parts = parts_of words in
@@ -24,7 +24,7 @@ or_fault None fault = Err fault
 unfoldable pub object_of : List ℕ → Result PartsFields ObjectFault
 object_of words = or_fault (value_of words) (first_fault words)
 
--- What was read is the object of the list; want of memory may come at any time.
+-- The result is the object or the fault of the list. It may be NoMemory whatever the list is.
 abbrev pub IsObjectOf : List ℕ → Result PartsFields ObjectFault → Type 0
 IsObjectOf words (Ok p) = object_of words ≡ Ok p
 IsObjectOf words (Err (O1 place)) = object_of words ≡ Err (O1 place)

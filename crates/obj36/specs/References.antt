@@ -1,11 +1,11 @@
--- The text of a reference, as the assembler writes it: the segment, or the section of the own
--- object, and the entry.
+-- The text of a reference, as the assembler reads it: a segment or a section of the own object, a
+-- dollar sign, and the entry.
 use Rattle.std.specs.Prelude.{ℕ, List, [], ◌++◌, codes, if◌then◌else◌}
 use Rattle.obj36_parts.specs.Fields.{LinkFields}
 use Rattle.obj36_parts.specs.Sections.{own_name}
 use Rattle.obj36_parts.specs.ObjectSegment.{has_name, has_entry}
 
--- what it begins with, and what stands behind the dollar sign
+-- the text before the dollar sign; the text after it
 abbrev pub reference_subject : LinkFields → List ℕ
 reference_subject l = if has_name l.kind then l.name else own_name l.section
 

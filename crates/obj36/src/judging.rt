@@ -1,4 +1,4 @@
-//! The first fault of a list of words.
+//! Finds the first fault of a list of words.
 
 ghost use Rattle.std.specs.Prelude.{ℕ, List, ◌≡◌, ◌+◌, ◌^◌, ◌<◌, length, Option, Some, None};
 ghost use Rattle.std.specs.Prelude.{IfSome, IfOk};
@@ -65,7 +65,8 @@ fn fault_of_linking(words: &[Word]) -> Option<u64>
     )
 }
 
-// The fault of names and links behind tables that are as they must be.
+// The fault of a list of words whose map, sections and tables are valid: of the names, of the
+// links, or O8.
 fn fault_behind_tables(words: &[Word]) -> ObjectFault
     ensures { result
         ≡ from_names (spelling_fault words.now) (from_links (linking_fault words.now)) }
@@ -79,7 +80,7 @@ fn fault_behind_tables(words: &[Word]) -> ObjectFault
     ObjectFault::O8(0)
 }
 
-// The first fault behind a map that is as it must be; O8 where none of the other codes stands.
+// The first fault of a list of words whose map is valid; O8 if no other code applies.
 #[tactic(auto, unfolding(crate::specs::Faults::fault_behind_map))]
 pub(crate) fn fault_behind(alloc: Global, words: &[Word]) -> Result<ObjectFault, NoMemory>
     ensures { IfOk result (λ fault. fault ≡ fault_behind_map words.now) }
@@ -96,7 +97,7 @@ pub(crate) fn fault_behind(alloc: Global, words: &[Word]) -> Result<ObjectFault,
     }
 }
 
-// The fault that is told before anything is read: too few words, or a map that is not as it must be.
+// The fault that is found before the parts are decoded: too few words, or an invalid map.
 #[tactic(auto, unfolding(crate::specs::Faults::outline_fault))]
 pub(crate) fn fault_of_outline(words: &[Word]) -> Option<ObjectFault>
     requires { length words.now < 2 ^ 32 }

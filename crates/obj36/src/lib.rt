@@ -1,11 +1,13 @@
-//! Object segments: what an assembler or a binder makes and a linker reads, as parts and as a list of words.
+//! Object segments, as parts and as a list of words. An assembler or a binder makes them, and a
+//! linker reads them.
 //!
-//! What is promised: for each value of the parts there is at most one list of words, and no two values share one; a
-//! static section is laid where the linkage section ends.
-//! `Object::read` accepts exactly the lists that stand for a value, and gives that value; of every other list it tells
-//! the first fault, with its place. `Object::write` gives the one list. Reading, judging and writing take time that
-//! grows with the list, and a list that is too short or has no map is refused before anything of it is read; a
-//! definition is found by its name at once.
+//! Parts are encoded by at most one list of words, and different parts by different lists. The
+//! linkage section of an object with a static section is its head and its links alone.
+//! `Object::read` accepts exactly the lists that encode parts, and returns the object of these
+//! parts. For any other list it returns the first fault with its place. It fails with `NoMemory` if
+//! memory runs out. `Object::write` returns the one list. Reading, finding the fault, and writing
+//! take time that grows with the list. A list that is too short or has an invalid map is refused
+//! before anything else of it is read. A definition is found by its name in a hash table.
 //!
 //! Source: the format is this project's own.
 #![tactic(auto)]

@@ -1,4 +1,4 @@
-//! Objects.
+//! Objects, and how they are read and written.
 
 ghost use Rattle.std.specs.Prelude.{ℕ, List, [], ◌∷◌, ◌++◌, ◌≡◌, ◌+◌, ◌*◌, ◌<◌, ◌≤◌, ◌^◌, Bool};
 ghost use Rattle.std.specs.Prelude.{true, length, nat_eq, if◌then◌else◌, Some, None, option_map, IfOk, IfSome, OnOk};
@@ -32,7 +32,7 @@ use obj36_read::reading::parts_in;
 use std::alloc::Global;
 use std::marker::Model;
 
-// The sections that are made of parts.
+// The sections that are encoded from parts.
 #[derive(Drop)]
 struct Sections {
     definition: Words,
@@ -40,7 +40,7 @@ struct Sections {
     symbol: Words,
 }
 
-/// An object: parts for which a list of words stands. It is seen as its parts.
+/// An object: well-formed parts, with the words of three of its sections. Its model is its parts.
 #[derive(Drop)]
 pub struct Object {
     parts: Parts,
@@ -60,7 +60,7 @@ impl Model for Object {
     ghost invariant = { λ o. IsObject o.parts o.definition o.linkage o.symbol };
 }
 
-// The sections of parts.
+// Encodes the sections of parts. Fails only with `NoMemory`.
 #[tactic(auto, unfolding(obj36_parts::specs::ObjectSegment::definition_section, obj36_parts::specs::ObjectSegment::linkage_section, obj36_parts::specs::ObjectSegment::symbol_section))]
 fn sections_of(alloc: Global, parts: &Parts) -> Result<Sections, NoMemory>
     requires { HasShortLists parts.now }
@@ -103,7 +103,7 @@ fn push_static_entry(out: &mut Words, newer: bool, offset: u64, length: u64) -> 
     }
 }
 
-// The map and the last word.
+// Adds the map and the last word.
 #[tactic(auto, unfolding(obj36_parts::specs::ObjectSegment::map_part))]
 fn push_map(out: &mut Words, newer: bool, lengths: Lengths, bound: u64) -> Result<(), NoMemory>
     requires { AreSmall lengths }
@@ -131,7 +131,7 @@ fn push_map(out: &mut Words, newer: bool, lengths: Lengths, bound: u64) -> Resul
     push_all(out, &back)
 }
 
-// The lengths fit what tells them.
+// The lengths of the sections, each at most that of a segment.
 fn lengths_of(parts: &Parts, definition: &[Word], linkage: &[Word], symbol: &[Word]) -> Lengths
     requires { IsObject parts.now definition.now linkage.now symbol.now }
     ensures text { result.text ≡ length parts.now.text }
@@ -150,7 +150,7 @@ fn lengths_of(parts: &Parts, definition: &[Word], linkage: &[Word], symbol: &[Wo
     }
 }
 
-// Adds the words of an object where there are none, from its parts and the sections that are made of them.
+// Adds all words of an object to an empty list. The sections are those of its parts.
 #[tactic(auto, unfolding(obj36_parts::specs::ObjectSegment::words_of, obj36_parts::specs::ObjectSegment::map_words))]
 fn push_sections(
     out: &mut Words,
@@ -172,7 +172,7 @@ fn push_sections(
     push_map(out, parts.version == 2, lengths, parts.entry_bound as u64)
 }
 
-// The words of an object, from its parts and the sections that are made of them.
+// All words of an object. The sections are those of its parts.
 fn joined_sections(
     alloc: Global,
     parts: &Parts,
@@ -187,28 +187,30 @@ fn joined_sections(
     match push_sections(&mut out, parts, definition, linkage, symbol) {
         Ok(()) => Ok(out),
         Err(cause) => {
-            // Dropped by a call: so the drop is proved once for its type.
+            // A call of `drop` is proved once for its type.
             drop(out);
             Err(cause)
         }
     }
 }
 
-// Whether two lists of words are the same.
+// Whether two lists of words are equal.
 fn are_same_words(words: &[Word], others: &[Word]) -> bool
     ensures { result ≡ pointwise nat_eq words.now others.now }
 {
     words == others
 }
 
-// Whether a list of words spells the parts, from the sections that are made of them.
+// Whether a list of words encodes the parts that were decoded from it. The sections are those of
+// the parts.
 fn is_spelled(
     alloc: Global,
     parts: &Parts,
     sections: &Sections,
     w: &[Word],
 ) -> Result<bool, NoMemory>
-    requires object { IsObject parts.now sections.now.definition sections.now.linkage sections.now.symbol }
+    requires object { IsObject parts.now sections.now.definition sections.now.linkage
+        sections.now.symbol }
     requires spelled { parts.now ≡ parts_of w.now }
     ensures { IfOk result (λ is. (if is then Some parts.now else None) ≡ value_of w.now) }
 {
@@ -221,7 +223,8 @@ fn is_spelled(
     Ok(same)
 }
 
-// The sections of the parts that a list of words would spell, or none where it does not spell them.
+// The sections of the parts that were decoded from a list of words. None if the list does not
+// encode these parts.
 fn sections_found(alloc: Global, parts: &Parts, w: &[Word]) -> Result<Option<Sections>, NoMemory>
     requires few { HasShortLists parts.now }
     requires spelled { parts.now ≡ parts_of w.now }
@@ -246,7 +249,7 @@ fn sections_found(alloc: Global, parts: &Parts, w: &[Word]) -> Result<Option<Sec
     }
 }
 
-// The object of parts with their sections.
+// The object with these parts and their sections.
 fn object_from(parts: Parts, sections: Sections) -> Object
     requires { IsObject parts sections.definition sections.linkage sections.symbol }
     ensures { result ≡ parts }
@@ -259,7 +262,7 @@ fn object_from(parts: Parts, sections: Sections) -> Object
     }
 }
 
-// The object of parts with their sections, where there are any.
+// The object with these parts and their sections; None if there are no sections.
 fn object_with(parts: Parts, sections: Option<Sections>) -> Option<Object>
     requires { IfSome sections (λ s. IsObject parts s.definition s.linkage s.symbol) }
     ensures { result ≡ option_map (λ s. parts) sections }
@@ -273,7 +276,7 @@ fn object_with(parts: Parts, sections: Option<Sections>) -> Option<Object>
     }
 }
 
-// The object that a list of words is, or none where it stands for no value.
+// The object that a list of words encodes; None if it encodes no parts.
 fn object_in(alloc: Global, w: &[Word]) -> Result<Option<Object>, NoMemory>
     requires { length w.now < 2 ^ 32 }
     ensures value { IfOk result (λ found. found ≡ value_of w.now) }
@@ -289,7 +292,7 @@ fn object_in(alloc: Global, w: &[Word]) -> Result<Option<Object>, NoMemory>
     }
 }
 
-// The object that a list of words with a map is.
+// The object that a list of words with a valid map encodes, or the first fault of the list.
 fn read_behind(alloc: Global, w: &[Word]) -> Result<Object, ObjectFault>
     requires few { length w.now < 2 ^ 32 }
     requires outline { outline_fault w.now ≡ None }
@@ -304,9 +307,9 @@ fn read_behind(alloc: Global, w: &[Word]) -> Result<Object, ObjectFault>
 }
 
 impl Object {
-    /// The object that a list of words is, of fewer than 2^32 words. Exactly the lists that stand for a value are read,
-    /// as that value; of every other list the error is its first fault in the order of the codes, with its place. Want
-    /// of memory may come at any time.
+    /// Reads an object from a list of fewer than 2^32 words. Exactly the lists that encode parts
+    /// are accepted, and the result has these parts. For any other list the error is its first
+    /// fault in the order of the codes. Any list may fail with `NoMemory`.
     pub fn read(alloc: Global, w: &[Word]) -> Result<Object, ObjectFault>
         requires { length w.now < 2 ^ 32 }
         ensures says { ReadSays w.now result }
@@ -319,7 +322,7 @@ impl Object {
         }
     }
 
-    /// The object of these parts, for which some list of words stands. The error is want of memory alone.
+    /// The object with these parts, which must be well formed. Fails only with `NoMemory`.
     pub fn new(alloc: Global, parts: Parts) -> Result<Object, NoMemory>
         requires { is_well_formed parts ≡ true }
         ensures { IfOk result (λ o. o ≡ parts) }
@@ -333,7 +336,7 @@ impl Object {
         }
     }
 
-    /// The one list of words that stands for the object. The error is want of memory alone.
+    /// The one list of words that encodes the object. Fails only with `NoMemory`.
     pub fn write(&self, alloc: Global) -> Result<Words, NoMemory>
         ensures { IfOk result (λ words. Stands self.now words) }
     {
@@ -343,21 +346,22 @@ impl Object {
         joined_sections(alloc, &self.parts, definition, linkage, symbol)
     }
 
-    /// Some list of words stands for the parts of an object.
+    /// A law: the parts of each object are well formed.
     pub fn formed(&self)
         ensures { is_well_formed self.now ≡ true }
     {
         let _ = &self.parts;
     }
 
-    /// The object's parts.
+    /// The parts of the object.
     pub fn parts(&self) -> &Parts
         ensures { result.now ≡ self.now }
     {
         &self.parts
     }
 
-    /// The words of a section: none of the section static in version 1, whose static words are in the linkage section.
+    /// The words of a section. In version 1 the static section has none, since the static words are
+    /// in the linkage section.
     pub fn section(&self, s: Section) -> &[Word]
         ensures { result.now ≡ section_words self.now s }
     {
@@ -369,14 +373,14 @@ impl Object {
         }
     }
 
-    /// How many words the definition section has.
+    /// The number of words of the definition section.
     pub fn definition_length(&self) -> u32
         ensures { result ≡ length (definition_section self.now) }
     {
         self.definition.slice().len() as u32
     }
 
-    /// The definition of this name, if there is one.
+    /// The place of the definition with this name. None if there is none.
     pub fn find(&self, entry: &[u8]) -> Option<Def>
         ensures { result ≡ definition_named entry.now self.now.definitions }
     {
@@ -393,7 +397,8 @@ impl Object {
         self.parts.links.items()
     }
 
-    /// How many words of the text a gate may be entered at; at most the text's length.
+    /// The number of words of the text at which a gate may be entered: at most the length of the
+    /// text.
     pub fn entry_bound(&self) -> u32
         ensures { result ≡ self.now.entry_bound }
     {

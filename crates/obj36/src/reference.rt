@@ -1,4 +1,4 @@
-//! The text of a reference.
+//! The text of the reference of a link.
 
 ghost use Rattle.std.specs.Prelude.{◌++◌, ◌≡◌, ◌≤◌, length, OnOk};
 ghost use Rattle.m36_text.specs.Texts.{name_limit};
@@ -11,7 +11,7 @@ use obj36_parts::link::Link;
 use obj36_parts::names::{has_its_entry, has_its_name};
 use obj36_parts::section::Section;
 
-// A section of the object itself, as the assembler writes it.
+// The name of a section of the object itself, as the assembler reads it.
 fn own_name(section: Section) -> &'static str
     ensures text { result.now ≡ own_name section }
     ensures len { length result.now ≤ name_limit }
@@ -24,7 +24,8 @@ fn own_name(section: Section) -> &'static str
     }
 }
 
-/// What a link's reference begins with: a segment, or a section of the object itself, as `*text`. At most 32 bytes.
+/// The beginning of a link's reference: a segment, or a section of the object itself such as
+/// `*text`. At most 32 bytes.
 pub fn subject(link: &Link) -> &[u8]
     ensures text { result.now ≡ reference_subject link.now }
     ensures len { length result.now ≤ name_limit }
@@ -36,7 +37,7 @@ pub fn subject(link: &Link) -> &[u8]
     }
 }
 
-/// The entry of a link's reference, or nothing. At most 32 bytes.
+/// The entry of a link's reference; empty if it has none. At most 32 bytes.
 pub fn entry(link: &Link) -> &[u8]
     ensures text { result.now ≡ reference_entry link.now }
     ensures len { length result.now ≤ name_limit }
@@ -48,8 +49,8 @@ pub fn entry(link: &Link) -> &[u8]
     }
 }
 
-/// Adds the reference of a link at the end of a text: `segment$entry`, `segment$`, `*section$` or `*section$entry`. The
-/// error is want of memory alone.
+/// Adds the reference of a link at the end of a text: `segment$entry`, `segment$`, `*section$` or
+/// `*section$entry`. Fails only with `NoMemory`.
 #[tactic(auto, unfolding(crate::specs::References::reference_text), using(crate::proofs::ReferenceText::joined))]
 pub fn append_reference(text: &mut Text, link: &Link) -> Result<(), NoMemory>
     ensures { OnOk result (text.new ≡ text.old ++ reference_text link.now) }

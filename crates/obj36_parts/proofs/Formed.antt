@@ -1,4 +1,4 @@
--- What well-formed parts are, part by part.
+-- Well-formed parts, one part after another.
 use Rattle.std.proofs.Common.{◌≡◌, ◌^◌, ◌≤◌, ◌%◌, true, ◌||◌, eqb, leb, length}
 use Rattle.std.specs.List.{list_all}
 use Rattle.std.proofs.lemmas.Bool.{and_parts, leb-true}

@@ -1,4 +1,4 @@
--- What the tables of definitions and links find.
+-- What is found in the tables of definitions and links.
 use Rattle.std.proofs.Common.{ℕ, suc, ◌≡◌, ◌+◌, Bool, true, false, cond, ◌&&◌, ◌||◌, not, eqb, List, [], ◌∷◌, ◌++◌, length, Option, Some, None, is_some, refl, sym, ap, ◌∙◌, subst, true≢false, arith}
 use Rattle.std.specs.List.{list_any, position_from}
 use Rattle.std.specs.Prelude.{position}
@@ -27,7 +27,7 @@ pub names_in_last : {A : Type 0} (entries : List (List ℕ × A)) (name : List �
 names_in_last [] name x = refl
 names_in_last (e ∷ entries) name x = ap (λ (ns : List (List ℕ)). e.0 ∷ ns) (names_in_last entries name x)
 
--- a name is found exactly where it is among them
+-- a name is found exactly if the list has it
 pub looked : {A : Type 0} (name : List ℕ) (entries : List (List ℕ × A)) → is_some (lookup (same name) entries) ≡ list_any (same name) (names_in entries)
 looked name [] = refl
 looked {A} name (e ∷ entries) = by (same name e.0) (looked name entries)
@@ -37,9 +37,9 @@ looked {A} name (e ∷ entries) = by (same name e.0) (looked name entries)
     by true later = refl
     by false later = later
 
--- ---- names that are all different are as many as they are alone
+-- ---- names are all different if they are as many as without repetition
 
--- whether none of some names is among others
+-- whether no name of one list is in another
 none_in : List (List ℕ) → List (List ℕ) → Bool
 none_in names [] = true
 none_in names (x ∷ xs) = not (list_any (same x) names) && none_in names xs
@@ -102,7 +102,7 @@ distinct_by_count keys ds e =
     ap (λ (ns : List (List ℕ)). eqb (length ns) (length ds)) e ∙ ap (λ n. eqb (length (with_names [] names)) n) count
     ∙ counted [] names ∙ ap (λ b. are_distinct names && b) (none_in_none names) ∙ and_true (are_distinct names)
 
--- ---- links that are the same
+-- ---- equality of links
 
 same_section_is : (a b : Section) → eqb (place_number a) (place_number b) ≡ true → a ≡ b
 same_section_is Text Text e = refl
@@ -150,7 +150,7 @@ link_self l =
     (and_all (eqb l.kind l.kind) (eqb (place_number l.section) (place_number l.section)) (eq-eqb l.kind l.kind refl) (eq-eqb (place_number l.section) (place_number l.section) refl))
     (same_self l.name)) (same_self l.entry)) (eq-eqb l.expr l.expr refl)) (eq-eqb l.modifier l.modifier refl)
 
--- ---- the first places
+-- ---- the first indexes
 
 unfoldable pub or_else : {A : Type 0} → Option A → Option A → Option A
 or_else (Some i) o = Some i
@@ -207,7 +207,7 @@ module _ (test : LinkFields → Bool) where
 pub placed_has : (links : List LinkFields) (link : LinkFields) → is_some (position (same_link link) links) ≡ list_any (same_link link) links
 placed_has links link = ap is_some (position_from-zero (same_link link) links) ∙ some_position (same_link link) 0 links
 
--- a link that has a place keeps it, and another goes to the end
+-- a link that has an index keeps it, and another one is added at the end
 places_more : (links : List LinkFields) (places : List (LinkFields × ℕ)) (link other : LinkFields) (b : Bool)
     → ((l : LinkFields) → lookup (same_link l) places ≡ position (same_link l) links) → is_some (lookup (same_link link) places) ≡ b
     → lookup (same_link other) (cond b places (places ++ (link, length links) ∷ [])) ≡ position (same_link other) (links ++ link ∷ [])
@@ -224,13 +224,13 @@ places_more links places link other false are some =
     ∙ ap (λ o. or_else o (cond (same_link other link) (Some (length links)) None)) (are other)
     ∙ sym (position_last (same_link other) links link)
 
--- ---- what is put into a map
+-- ---- inserting into a map
 
 no_tail : {A : Type 0} (b : Bool) (n : A) (r : Option A) → is_some (cond b (Some n) r) ≡ false → (b ≡ false) × (is_some r ≡ false)
 no_tail true n r e = absurd (true≢false e)
 no_tail false n r e = (refl, e)
 
--- a key that is not there goes to the end
+-- a key that is not in the map is added at the end
 pub goes_last : {K A : Type 0} (eq : K → K → Bool) (entries : List (K × A)) (key : K) (place : A) → is_some (lookup (eq key) entries) ≡ false
     → insert_entry eq entries key place ≡ entries ++ (key, place) ∷ []
 goes_last eq [] key place none = refl

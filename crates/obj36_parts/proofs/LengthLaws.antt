@@ -1,4 +1,4 @@
--- How long the sections are.
+-- The lengths of the sections.
 use Rattle.std.proofs.Common.{ℕ, suc, ◌≡◌, ◌+◌, ◌-◌, ◌*◌, ◌^◌, ◌≤◌, Bool, true, false, cond, eqb, List, [], ◌∷◌, ◌++◌, length, IsTrue, refl, sym, ap, ◌∙◌, true≢false, arith}
 use Rattle.std.proofs.lemmas.List.{length-append}
 use Rattle.obj36_parts.specs.Fields.{LinkFields, RelocFields}
@@ -120,12 +120,12 @@ short_lists p e =
       relocations = omega (arith, small, length-words_of p);
     }
 
--- how many words an object has at least besides those of its parts
+-- the least number of words of an object without those of its parts
 pub least_size : (b : Bool) → 18 ≤ cond b 19 18
 least_size true = omega arith
 least_size false = omega arith
 
--- no list of words stands for parts with a list that is too long to be counted
+-- parts with a list of 2^32 items or more are not well formed
 no_list : (p : PartsFields) (b : Bool) → is_well_formed p ≡ b → (HasShortLists p → ⊥) → b ≡ false
 no_list p true e long = absurd (long (short_lists p e))
 no_list p false e long = refl
@@ -133,7 +133,7 @@ no_list p false e long = refl
 pub long_is_none : (p : PartsFields) (b : Bool) → (HasShortLists p → IsTrue b) → b ≡ false → false ≡ is_well_formed p
 long_is_none p b long e = sym (no_list p (is_well_formed p) refl (λ short. true≢false (sym (long short) ∙ e)))
 
--- ---- no section is too long for its length to be told
+-- ---- the length of each section fits the map
 
 pub record IsSmall (p : PartsFields) : Type 0 where
   pub text : length p.text ≤ 2 ^ 18

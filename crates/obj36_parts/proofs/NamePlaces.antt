@@ -1,4 +1,4 @@
--- What the table of names finds.
+-- What is found in the table of names.
 use Rattle.std.proofs.Common.{ℕ, suc, ◌≡◌, ◌+◌, ◌^◌, ◌≤◌, Bool, true, false, cond, List, [], ◌∷◌, ◌++◌, length, Some, is_some, refl, sym, ap, ◌∙◌, subst, arith}
 use Rattle.std.specs.Prelude.{unwrap_or}
 use Rattle.std.specs.List.{list_any}
@@ -17,7 +17,7 @@ nothing_laid entries base e near =
     let P : List (List ℕ × ℕ) → Type 0 = λ es. IsLaid es base base in
     subst P (sym e) (record { near = near; places = refl; behind = omega arith; small = omega arith })
 
--- ---- a name that is not there goes to the end
+-- ---- a name that is not in the table is added at the end
 
 length-names_in : (entries : List (List ℕ × ℕ)) → length (names_in entries) ≡ length entries
 length-names_in [] = refl
@@ -63,7 +63,7 @@ pub few_named : (names new : List (List ℕ)) (name : List ℕ) → new ≡ with
 unfolding with_name
 few_named names new name e = omega (arith, ap length e, one_more names name (list_any (same name) names))
 
--- ---- the place of a name
+-- ---- the offset of a name
 
 place_told : (name : List ℕ) (names : List (List ℕ)) (at : ℕ) → unwrap_or (lookup (same name) (laid names at)) (at + length (all_name_words names)) ≡ place_of name names at
 unfolding laid place_of all_name_words

@@ -7,7 +7,7 @@ use Rattle.obj36_parts.specs.Halves.{joined}
 use Rattle.obj36_parts.specs.Names.{place_of}
 use Rattle.obj36_parts.specs.ObjectSegment.{place_if_any, class_of, definition_words, subject_of, entry_place, expression_words, link_words, relocation_word, relocation_words}
 
--- what two words and the rest complete
+-- two words and the rest
 two_more : (out next total rest : List ℕ) (a b : ℕ) → next ≡ out ++ a ∷ b ∷ [] → out ++ a ∷ b ∷ rest ≡ total → next ++ rest ≡ total
 two_more out next total rest a b e so_far = ap (λ (o : List ℕ). o ++ rest) e ∙ append_assoc out (a ∷ b ∷ []) rest ∙ so_far
 

@@ -1,4 +1,4 @@
--- Names that are spelled once, counted in words.
+-- The number of words of names that are each stored once.
 use Rattle.std.proofs.Common.{ℕ, zero, suc, ◌≡◌, ◌+◌, ◌-◌, Bool, true, false, cond, eqb, ◌||◌, List, [], ◌∷◌, ◌++◌, length, refl, sym, ap, ◌∙◌, append_assoc, arith}
 use Rattle.std.specs.List.{list_any}
 use Rattle.std.proofs.lemmas.Bool.{eqb-true, eq-eqb, and_parts, and_from}
@@ -25,14 +25,14 @@ pub same_self : (a : List ℕ) → same a a ≡ true
 same_self [] = refl
 same_self (x ∷ a) = and_from (eqb x x) (same a a) (eq-eqb x x refl) (same_self a)
 
--- ---- any name of several lists
+-- ---- whether a name is in several lists
 
 pub any_definition : (name : List ℕ) (ds : List Named) → list_any (λ d. same name d.name) ds ≡ list_any (same name) (definition_names ds)
 unfolding definition_names
 any_definition name [] = refl
 any_definition name (d ∷ ds) = ap (λ b. same name d.name || b) (any_definition name ds)
 
--- ---- a name is among the names that stand exactly where it was used
+-- ---- a name is in the table exactly if it was used
 
 or_same : (a b : Bool) → (b ≡ true → a ≡ true) → (a || b) ≡ a
 or_same true b h = refl
@@ -95,7 +95,7 @@ unfolding all_link_names
 all_link_names-append [] ys = refl
 all_link_names-append (x ∷ xs) ys = ap (λ (ns : List (List ℕ)). link_names x ++ ns) (all_link_names-append xs ys) ∙ sym (append_assoc (link_names x) (all_link_names xs) (all_link_names ys))
 
--- the words of names one after another
+-- the words of names, one name after another
 all_length_is : (names : List (List ℕ)) → length (all_name_words names) ≡ all_length names
 unfolding all_name_words all_length
 all_length_is [] = refl
@@ -122,7 +122,7 @@ neither true true n = refl
 neither true false n = refl
 neither false c n = refl
 
--- Names that stand in all are those of the definitions and those that stand alone.
+-- The names of the table are those of the definitions and those that only links use.
 record Beside (ds : List Named) (alone all : List (List ℕ)) : Type 0 where
   among : (x : List ℕ) → list_any (same x) all ≡ (named ds x || list_any (same x) alone)
   long : length (all_name_words all) ≡ all_length (with_names [] (definition_names ds)) + others_length ds alone

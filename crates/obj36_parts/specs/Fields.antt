@@ -1,14 +1,14 @@
--- What contracts see of a definition, a link and a relocation: their fields.
+-- The fields of a definition, a link and a relocation, which are their models.
 use Rattle.std.specs.Prelude.{ℕ, Bool, List}
 use Rattle.obj36_parts.specs.declared.section.Section.{Section}
 
--- where a definition lies: its section and its offset there
+-- the place of a definition: its section and its offset there
 pub record DefFields : Type 0 where
   pub section : Section
   pub value : ℕ
   pub is_entry : Bool
 
--- a link
+-- The fields of `Link`.
 pub record LinkFields : Type 0 where
   pub kind : ℕ
   pub section : Section
@@ -17,7 +17,7 @@ pub record LinkFields : Type 0 where
   pub expr : ℕ
   pub modifier : ℕ
 
--- a relocation
+-- The fields of `Reloc`.
 pub record RelocFields : Type 0 where
   pub section : Section
   pub offset : ℕ

@@ -1,4 +1,4 @@
--- Words by their halves of 18 bits, by bits 3 to 17, and by their quarters of nine.
+-- Words as halves of 18 bits, as quarters of nine bits, and their bits 3 to 17.
 use Rattle.std.specs.Prelude.{ℕ, zero, suc, ◌+◌, ◌*◌, ◌/◌, ◌%◌, ◌^◌, List, [], ◌∷◌}
 
 -- bits 0 to 17 of a word
@@ -13,11 +13,11 @@ right w = w % 2 ^ 18
 unfoldable pub offset_in : ℕ → ℕ
 offset_in w = left w % 2 ^ 15
 
--- the word of two halves; a number that does not fit its half is cut to its low bits
+-- the word with these halves; of each number the low 18 bits are used
 unfoldable pub joined : ℕ → ℕ → ℕ
 joined l r = l % 2 ^ 18 * 2 ^ 18 + r % 2 ^ 18
 
--- a quarter of a word, counted from its left end, which is quarter 0
+-- a quarter of a word; quarter 0 is the leftmost
 unfoldable pub quarter : ℕ → ℕ → ℕ
 quarter w zero = w / 2 ^ 27
 quarter w (suc zero) = w / 2 ^ 18 % 2 ^ 9
@@ -32,6 +32,6 @@ of_quarters a b c d = a * 2 ^ 27 + b * 2 ^ 18 + c * 2 ^ 9 + d
 abbrev pub quarters_of : ℕ → List ℕ
 quarters_of w = quarter w 0 ∷ quarter w 1 ∷ quarter w 2 ∷ quarter w 3 ∷ []
 
--- in how many words so many quarters stand, four in each
+-- the number of words for `count` quarters, four in each
 abbrev pub quarter_words : ℕ → ℕ
 quarter_words count = (count + 3) / 4

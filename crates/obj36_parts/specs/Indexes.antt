@@ -1,5 +1,4 @@
--- What the tables of definitions and links keep beside their lists, so that a name or a link is
--- found at once.
+-- The hash tables of definitions and links, by which a name or a link is found.
 use Rattle.std.specs.Prelude.{ℕ, ◌≡◌, ◌+◌, ◌*◌, ◌^◌, Bool, ◌&&◌, nat_eq, List, [], position, is_some}
 use Rattle.std.specs.List.{list_any}
 use Rattle.std.specs.Map.{lookup}
@@ -11,36 +10,36 @@ use Rattle.obj36_parts.specs.Sections.{class_number, same_section}
 use Rattle.obj36_parts.specs.ObjectSegment.{definition_names, all_link_names}
 use Rattle.obj36_parts.specs.ObjectSegment.{definition_named}
 
--- where the first definition of each name lies, with one more, unless its name has one
+-- the places of the first definitions, with that of one more, unless its name has one
 unfoldable pub with_first : List (List ℕ × DefFields) → Named → List (List ℕ × DefFields)
 with_first firsts d = with_unless (is_some (lookup (same d.name) firsts)) firsts (d.name, d.def)
 
--- These are the names of the definitions, each once, and where the first definition of each lies.
+-- The table has each name of the definitions once, with the place of its first definition.
 pub record AreFirsts (definitions : List Named) (firsts : List (List ℕ × DefFields)) : Type 0 where
   pub names_are : names_in firsts ≡ with_names [] (definition_names definitions)
   pub firsts_are : (name : List ℕ) → lookup (same name) firsts ≡ definition_named name definitions
 
--- what a link has but its names, as one number
+-- all fields of a link but its names, as one number for its hash
 abbrev pub link_number : LinkFields → ℕ
 link_number l = l.expr + 2 ^ 18 * l.modifier + 2 ^ 24 * l.kind + 2 ^ 32 * class_number l.section
 
--- whether two links are the same
+-- whether two links are equal in all fields
 unfoldable pub same_link : LinkFields → LinkFields → Bool
 same_link a b =
     nat_eq a.kind b.kind && same_section a.section b.section
     && same a.name b.name && same a.entry b.entry
     && nat_eq a.expr b.expr && nat_eq a.modifier b.modifier
 
--- whether a link is among some
+-- whether a list has a link
 abbrev pub has_link : LinkFields → List LinkFields → Bool
 has_link link links = list_any (same_link link) links
 
--- the first places of links with that of one more, unless it has one
+-- the first indexes of links, with that of one more, unless it has one
 unfoldable pub with_place : List (LinkFields × ℕ) → LinkFields → ℕ → List (LinkFields × ℕ)
 with_place places link place =
     with_unless (is_some (lookup (same_link link) places)) places (link, place)
 
--- These are the first places of the links, and the names that they use.
+-- The tables have the first index of each link, and the names that the links use.
 pub record AreIndexed (links : List LinkFields) (places : List (LinkFields × ℕ))
     (names : List (List ℕ)) : Type 0 where
   pub places_are : (link : LinkFields)

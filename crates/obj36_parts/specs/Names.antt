@@ -1,4 +1,4 @@
--- Names in a definition section: each stands there once, in order of first use.
+-- The names of a definition section, each once, in order of first use.
 use Rattle.std.specs.Prelude.{ℕ, zero, suc, ◌+◌, ◌*◌, ◌/◌, if◌then◌else◌, List, [], ◌∷◌, ◌++◌}
 use Rattle.std.specs.Prelude.{length, map, slice_index}
 pub use Rattle.m36_text.specs.Texts.{are_same as same, is_name_character}
@@ -6,13 +6,13 @@ unfoldable pub use Rattle.m36_text.specs.Texts.{is_name}
 use Rattle.m36_text.specs.Once.{with_once}
 use Rattle.obj36_parts.specs.Halves.{of_quarters}
 
--- ---- which names stand, and where
+-- ---- which names there are, and where
 
--- the names with one at the end, where it is not among them
+-- names, with one more at the end unless they have it
 unfoldable pub with_name : List (List ℕ) → List ℕ → List (List ℕ)
 with_name names name = with_once (same name) names name
 
--- the names with further ones as they come
+-- names, with others added one by one
 unfoldable pub with_names : List (List ℕ) → List (List ℕ) → List (List ℕ)
 with_names names [] = names
 with_names names (name ∷ more) = with_names (with_name names name) more
@@ -21,29 +21,30 @@ with_names names (name ∷ more) = with_names (with_name names name) more
 abbrev pub names_in : {A : Type 0} → List (List ℕ × A) → List (List ℕ)
 names_in entries = map (λ e. e.0) entries
 
--- how many words a name takes: nine bits for its length and nine for each character
+-- the number of words of a name: nine bits for its length and nine for each character
 unfoldable pub name_length : List ℕ → ℕ
 name_length name = length name / 4 + 1
 
--- the place of a name among names that stand one after another from a place on
+-- the offset of a name among names that are placed one after another from an offset on; after the
+-- last if it is not among them
 unfoldable pub place_of : List ℕ → List (List ℕ) → ℕ → ℕ
 place_of name [] at = at
 place_of name (first ∷ others) at =
     if same name first then at else place_of name others (at + name_length first)
 
--- ---- how a name is spelled
+-- ---- the words of a name
 
 -- a part of nine bits of a name: its length, then its characters, then zeros
 unfoldable pub unit_of : List ℕ → ℕ → ℕ
 unit_of name i = slice_index (length name ∷ name) i
 
--- a word of a name
+-- word j of a name, counted from 0
 unfoldable pub name_word : List ℕ → ℕ → ℕ
 name_word name j =
     of_quarters (unit_of name (4 * j)) (unit_of name (4 * j + 1)) (unit_of name (4 * j + 2))
     (unit_of name (4 * j + 3))
 
--- so many words of a name, from one on
+-- `count` words of a name, from word j on
 unfoldable pub name_words_from : List ℕ → ℕ → ℕ → List ℕ
 name_words_from name j zero = []
 name_words_from name j (suc count) = name_word name j ∷ name_words_from name (suc j) count
@@ -51,7 +52,7 @@ name_words_from name j (suc count) = name_word name j ∷ name_words_from name (
 unfoldable pub name_words : List ℕ → List ℕ
 name_words name = name_words_from name 0 (name_length name)
 
--- the words of names one after another
+-- the words of names, one name after another
 unfoldable pub all_name_words : List (List ℕ) → List ℕ
 all_name_words [] = []
 all_name_words (name ∷ names) = name_words name ++ all_name_words names

@@ -1,5 +1,5 @@
--- Object segments: the one list of words that stands for an object's parts. Version 1 has its
--- static words in the linkage section, version 2 in a section of their own.
+-- Object segments: the one list of words for the parts of an object. Version 1 has its static words
+-- in the linkage section, version 2 in a section of their own.
 use Rattle.std.specs.Prelude.{ℕ, zero, suc, ◌≡◌, ◌+◌, ◌-◌, ◌*◌, ◌%◌, ◌^◌, Bool, true, false, ◌&&◌}
 use Rattle.std.specs.Prelude.{◌||◌, not, nat_eq, nat_lt, nat_le, if◌then◌else◌, List, [], ◌∷◌, ◌++◌}
 use Rattle.std.specs.Prelude.{length, Option, Some, None}
@@ -14,20 +14,20 @@ use Rattle.obj36_parts.specs.declared.section.Section.{Section}
 use Rattle.obj36_parts.specs.declared.section.Section.TheVariants.{Text, Linkage, Symbol, Static}
 use Rattle.obj36_parts.specs.declared.definition.Named.{Named}
 
--- ---- what is written where
+-- ---- constants and lengths
 
--- the number of the version, by whether it is the newer one
+-- the version number: 2 for the newer version, 1 for the other
 abbrev pub version_of : Bool → ℕ
 version_of newer = if newer then 2 else 1
 
--- whether objects of a version, and parts, have a static section of their own
+-- whether objects of a version, or with these parts, have a static section of their own
 abbrev pub is_newer_version : ℕ → Bool
 is_newer_version version = nat_eq version (version_of true)
 
 abbrev pub is_newer : PartsFields → Bool
 is_newer p = is_newer_version p.version
 
--- the next even number, and words with one zero word behind an odd count
+-- the least even number that is not below n; words with a zero word added if their number is odd
 abbrev pub evened : ℕ → ℕ
 evened n = n + n % 2
 
@@ -41,23 +41,23 @@ inner_statics p = if is_newer p then [] else p.statics
 abbrev pub outer_statics : PartsFields → List ℕ
 outer_statics p = if is_newer p then p.statics else []
 
--- how many words the head of a linkage section has
+-- the number of words of the head of a linkage section
 abbrev pub head_words : ℕ
 head_words = 8
 
--- and how many stand at the head of a definition section, and of a symbol section
+-- the number of words of the head of a definition section, and of a symbol section
 abbrev pub definition_head : ℕ
 definition_head = 2
 
 abbrev pub symbol_head : ℕ
 symbol_head = 1
 
--- where the expressions of links begin, behind that head and so many definitions
+-- the offset of the first expression of a link, after the head and the definitions
 abbrev pub expressions_behind : ℕ → ℕ
 expressions_behind definitions = definition_head + 2 * definitions
 
--- the types of links: to a place of a section of the own object, to a segment, to an entry of a
--- segment, and to an entry of the own object
+-- The types of links: to a section of the own object, to a segment, to an entry of a segment, and
+-- to an entry of the own object.
 abbrev pub to_section : ℕ
 to_section = 1
 
@@ -70,7 +70,7 @@ to_entry = 4
 abbrev pub to_own_entry : ℕ
 to_own_entry = 5
 
--- which of them have a name, an entry, or a section
+-- whether a link of this type has the name of a segment, an entry, or a section
 abbrev pub has_name : ℕ → Bool
 has_name kind = nat_eq kind to_segment || nat_eq kind to_entry
 
@@ -80,7 +80,7 @@ has_entry kind = nat_eq kind to_entry || nat_eq kind to_own_entry
 abbrev pub has_section : ℕ → Bool
 has_section kind = nat_eq kind to_section || nat_eq kind to_own_entry
 
--- a place, or 0 where nothing stands there
+-- an offset, or 0 if the count is 0
 unfoldable pub place_if_any : ℕ → ℕ → ℕ
 place_if_any zero at = 0
 place_if_any (suc count) at = at
@@ -108,8 +108,9 @@ all_link_names (l ∷ ls) = link_names l ++ all_link_names ls
 unfoldable pub class_of : DefFields → ℕ
 class_of d = class_number d.section + (if d.is_entry then entry_mark else 0)
 
--- definitions from a place on: the place of the next and the class, the value and the place
--- of the name
+-- The words of definitions. The first is at the offset `at`, and the names begin at `base`. A
+-- definition has the offset of the next one and its class, then its value and the offset of its
+-- name.
 unfoldable pub definition_words : List (List ℕ) → ℕ → List Named → ℕ → List ℕ
 definition_words names base [] at = []
 definition_words names base (d ∷ ds) at =
@@ -117,8 +118,8 @@ definition_words names base (d ∷ ds) at =
     ∷ joined d.def.value (place_of d.name names base)
     ∷ definition_words names base ds (at + 2)
 
--- an expression: the type and its section or the place of its name, the place of its entry
--- and its number
+-- The words of an expression: the type, the section or the offset of the name, the offset of the
+-- entry, and the number that is added.
 unfoldable pub subject_of : List (List ℕ) → ℕ → LinkFields → ℕ
 subject_of names base l =
     if has_name l.kind then place_of l.name names base else place_number l.section
@@ -132,7 +133,7 @@ expression_words names base (l ∷ ls) =
     joined l.kind (subject_of names base l) ∷ joined (entry_place names base l) l.expr
     ∷ expression_words names base ls
 
--- the section of these definitions and links: its names stand once each, in order of first use
+-- the definition section; it has each name once, in order of first use
 unfoldable pub definition_part : List Named → List LinkFields → List ℕ
 definition_part ds ls =
     let names = with_names [] (definition_names ds ++ all_link_names ls) in
@@ -149,39 +150,39 @@ definition_section p = definition_part p.definitions p.links
 
 -- ---- the linkage section
 
--- the first word of a link that is not snapped: 2^18 less its offset, with tag 46 (octal), fault
--- tag 2
+-- the first word of a link that is not snapped: 2^18 minus its offset, with tag 46 (octal), which
+-- is fault tag 2
 abbrev pub link_head : ℕ → ℕ
 link_head at = joined (2 ^ 18 - at) 0o46
 
--- the pointer register through which links are referred to: it points to the linkage section of the
--- segment that executes
+-- The pointer register of references to links. It points to the linkage section of the segment that
+-- is executed.
 abbrev pub linkage_register : ℕ
 linkage_register = 4
 
--- a link: its first word, and the place of its expression with its modifier
+-- links: for each its first word, then the offset of its expression and its modifier
 unfoldable pub link_words : List LinkFields → ℕ → ℕ → List ℕ
 link_words [] at expression = []
 link_words (l ∷ ls) at expression =
     link_head at ∷ joined expression l.modifier ∷ link_words ls (at + 2) (expression + 2)
 
--- where the first link stands behind so many static words of the linkage section
+-- the offset of the first link after this many static words in the linkage section
 abbrev pub links_behind : ℕ → ℕ
 links_behind statics = head_words + statics
 
--- the same in an object of either version: in the newer no static words stand there
+-- the offset of the first link by the version; in the newer one no static words are before it
 abbrev pub first_link_by : Bool → ℕ → ℕ
 first_link_by newer statics = if newer then head_words else links_behind statics
 
--- the word of a link by its number, counted from 0, where the first one stands at a place
+-- the offset of link i, counted from 0, if the first one is at `first`
 abbrev pub word_of_link : ℕ → ℕ → ℕ
 word_of_link first i = first + 2 * i
 
--- how many words the section has with so many static words and links
+-- the number of words of a linkage section with this many static words and links
 abbrev pub linkage_length : ℕ → ℕ → ℕ
 linkage_length statics links = links_behind statics + 2 * links
 
--- the words of the head, static words, and the links, whose expressions stand from a place on
+-- the head, the static words, and the links, whose expressions begin at an offset
 unfoldable pub linkage_part : List ℕ → List LinkFields → ℕ → List ℕ
 linkage_part statics ls expressions =
     0 ∷ joined (links_behind (length statics)) (length ls) ∷ 0 ∷ 0 ∷ 0 ∷ 0 ∷ 0 ∷ 0 ∷ statics
@@ -191,7 +192,7 @@ unfoldable pub linkage_section : PartsFields → List ℕ
 linkage_section p =
     linkage_part (inner_statics p) p.links (expressions_behind (length p.definitions))
 
--- where the first link stands in it
+-- the offset of the first link of an object in its linkage section
 abbrev pub first_link : PartsFields → ℕ
 first_link p = links_behind (length (inner_statics p))
 
@@ -207,15 +208,15 @@ right_part = 1
 abbrev pub offset_part : ℕ
 offset_part = 2
 
--- what a word has in the part of a number
+-- the number in this part of a word
 unfoldable pub part_of : ℕ → ℕ → ℕ
 part_of part w =
     if nat_eq part left_part then left w
     else if nat_eq part right_part then right w
     else offset_in w
 
--- In its right half a relocation has its section, its part and its target, of three bits each: what
--- they count in.
+-- The units of the section, the part and the target in the right half of a relocation. Each has
+-- three bits.
 abbrev pub section_unit : ℕ
 section_unit = 2 ^ 15
 
@@ -235,7 +236,7 @@ unfoldable pub relocation_words : List RelocFields → List ℕ
 relocation_words [] = []
 relocation_words (r ∷ rs) = relocation_word r ∷ relocation_words rs
 
--- the count of the relocations, and each
+-- the number of relocations, then the relocations
 unfoldable pub symbol_part : List RelocFields → List ℕ
 symbol_part rs = joined 0 (length rs) ∷ relocation_words rs
 
@@ -244,7 +245,7 @@ symbol_section p = symbol_part p.relocations
 
 -- ---- the map and the last word
 
--- where a section begins behind others of these lengths, which follow one another
+-- The offset at which a section begins after others of these lengths.
 abbrev pub linkage_behind : ℕ → ℕ → ℕ
 linkage_behind text definition = text + definition
 
@@ -254,13 +255,13 @@ statics_behind text definition linkage = linkage_behind text definition + linkag
 abbrev pub symbol_behind : ℕ → ℕ → ℕ → ℕ → ℕ
 symbol_behind text definition linkage statics = statics_behind text definition linkage + statics
 
--- and where the map does
+-- the offset at which the map begins
 abbrev pub map_behind : ℕ → ℕ → ℕ → ℕ → ℕ → ℕ
 map_behind text definition linkage statics symbol =
     symbol_behind text definition linkage statics + symbol
 
--- The map of sections of these lengths that follow one another: the version, the offset and length
--- of each section, and the entry bound; behind it the last word, with the offset of the map.
+-- The map of sections of these lengths: the version, the offset and length of each section, and the
+-- entry bound. After it comes the last word, with the offset of the map.
 unfoldable pub map_part : Bool → ℕ → ℕ → ℕ → ℕ → ℕ → ℕ → List ℕ
 map_part newer text definition linkage statics symbol bound =
     joined 0 (version_of newer)
@@ -279,7 +280,7 @@ map_words p =
     (length (linkage_section p)) (length (outer_statics p)) (length (symbol_section p))
     p.entry_bound
 
--- the one list of words of an object's parts
+-- the one list of words for the parts of an object
 unfoldable pub words_of : PartsFields → List ℕ
 words_of p =
     p.text ++ definition_section p ++ linkage_section p ++ outer_statics p ++ symbol_section p
@@ -292,17 +293,17 @@ section_words p Linkage = linkage_section p
 section_words p Symbol = symbol_section p
 section_words p Static = outer_statics p
 
--- ---- for which parts a list stands
+-- ---- well-formed parts
 
--- the most words of a segment, and so of an object
+-- the maximal number of words of a segment, and so of an object
 abbrev pub segment_limit : ℕ
 segment_limit = 2 ^ 18
 
--- the most words of a section of an object that is assembled or bound: 2^18 - 4096
+-- the maximal number of words of a section of an object that is assembled or bound: 2^18 - 4096
 abbrev pub section_limit : ℕ
 section_limit = 258048
 
--- whether a section has no more words than it may, and whether each of an object has
+-- whether a section is within the limit; whether each section of an object is
 abbrev pub section_fits : List ℕ → Bool
 section_fits words = nat_le (length words) section_limit
 
@@ -311,11 +312,11 @@ sections_fit p =
     section_fits p.text && section_fits (definition_section p) && section_fits (linkage_section p)
     && section_fits (outer_statics p) && section_fits (symbol_section p)
 
--- whether each name stands once
+-- whether no name occurs twice
 unfoldable pub are_distinct : List (List ℕ) → Bool
 are_distinct names = are_distinct_by same names
 
--- the greatest class, and the greatest number of a section in links and relocations
+-- the greatest class of a definition; the greatest number of a section in links and relocations
 abbrev pub last_class : ℕ → ℕ
 last_class version =
     if is_newer_version version then class_number Static else class_number Symbol
@@ -329,7 +330,7 @@ is_definition version d =
     is_name d.name && nat_lt d.def.value (2 ^ 18)
     && nat_le (class_number d.def.section) (last_class version)
 
--- The fields that a link's type does not use are the section text or an empty name.
+-- A section or a name that a link's type does not use is the text or empty.
 abbrev pub is_section_where : Bool → ℕ → Section → Bool
 is_section_where used version section =
     nat_le (place_number section) (if used then last_place version else 0)
@@ -346,8 +347,8 @@ is_link version l =
     && nat_lt l.expr (2 ^ 18)
     && nat_lt l.modifier (2 ^ 6)
 
--- whether a relocation's place is a word of the text or a static word, where there are so
--- many of each
+-- Whether the offset of a relocation is that of a word of the text or of a static word. `text`,
+-- `inner` and `outer` are the numbers of these words.
 unfoldable pub is_place : ℕ → ℕ → ℕ → Section → ℕ → Bool
 is_place text inner outer Text offset = nat_lt offset text
 is_place text inner outer Linkage offset =
@@ -360,13 +361,13 @@ is_relocation text inner outer version r =
     is_place text inner outer r.section r.offset && nat_lt r.offset (2 ^ 18)
     && nat_le r.part offset_part && nat_le (place_number r.target) (last_place version)
 
--- the number by which relocations are in order
+-- the number by which relocations are ordered
 unfoldable pub order_of : RelocFields → ℕ
 order_of r = (place_number r.section * 2 ^ 18 + r.offset) * 4 + r.part
 
--- Whether relocations are in rising order, each at least at a number, where the left half of one
--- word and its bits 3 to 17 never both stand: behind the one the number of the other is barred,
--- until the next left half bars another.
+-- Whether relocations are in strictly rising order, from `least` on, and none has the order number
+-- `barred`. A relocation of the left half of a word bars that of its bits 3 to 17, since the two
+-- overlap.
 unfoldable pub are_rising : ℕ → ℕ → List RelocFields → Bool
 are_rising least barred [] = true
 are_rising least barred (r ∷ rs) =
@@ -374,12 +375,12 @@ are_rising least barred (r ∷ rs) =
     && are_rising (order_of r + 1)
     (if nat_eq r.part left_part then order_of r + offset_part else barred) rs
 
--- whether relocations are in order: any may be first, and nothing is barred before it, since no part
--- of a word has the number 3
+-- Whether relocations are in order. At first nothing is barred, since no part of a word has the
+-- number 3.
 abbrev pub are_in_order : List RelocFields → Bool
 are_in_order rs = are_rising 0 3 rs
 
--- whether some list stands for the parts
+-- whether there is an object with these parts
 unfoldable pub is_well_formed : PartsFields → Bool
 is_well_formed p =
     (nat_eq p.version (version_of false) || nat_eq p.version (version_of true))
@@ -394,29 +395,30 @@ is_well_formed p =
     p.relocations
     && are_in_order p.relocations
 
--- The list stands for the parts.
+-- The words are the object of the parts.
 pub record Stands (p : PartsFields) (words : List ℕ) : Type 0 where
   pub formed : is_well_formed p ≡ true
   pub spelled : words ≡ words_of p
 
--- ---- what is found in the parts
+-- ---- lookup in the parts
 
 -- whether a definition has the name
 abbrev pub has_definition : List ℕ → List Named → Bool
 has_definition name ds = list_any (λ d. same name d.name) ds
 
--- the first definition of a name
+-- the place of the first definition with a name
 unfoldable pub definition_named : List ℕ → List Named → Option DefFields
 definition_named name [] = None
 definition_named name (d ∷ ds) = if same d.name name then Some d.def else definition_named name ds
 
--- An object keeps parts for which a list stands, with the sections that are made of them.
+-- The invariant of an object: its parts are well formed, and its sections are made of them.
 pub record IsObject (p : PartsFields) (d k s : List ℕ) : Type 0 where
   pub formed : is_well_formed p ≡ true
   pub definition : d ≡ definition_section p
   pub linkage : k ≡ linkage_section p
   pub symbol : s ≡ symbol_section p
 
--- No two values share a list. That each has one list at most is plain: it is `words_of` the value.
+-- Different parts have different words. That parts have at most one list of words is plain: it is
+-- `words_of` of them.
 abbrev pub ValuesApart : Type 0
 ValuesApart = (p q : PartsFields) (words : List ℕ) → Stands p words → Stands q words → p ≡ q

@@ -1,4 +1,4 @@
--- What contracts see of an object's parts.
+-- The fields of `Parts`.
 use Rattle.std.specs.Prelude.{ℕ, List}
 use Rattle.obj36_parts.specs.Fields.{LinkFields, RelocFields}
 use Rattle.obj36_parts.specs.declared.definition.Named.{Named}

@@ -1,4 +1,4 @@
--- The sections of an object: their numbers and names, and the order in which values count in them.
+-- The sections of an object: their numbers, their names, and which of two is the later.
 use Rattle.std.specs.Prelude.{ℕ, Bool, true, false, nat_eq, nat_le, if◌then◌else◌, List, ◌++◌, codes}
 use Rattle.obj36_parts.specs.declared.section.Section.{Section}
 use Rattle.obj36_parts.specs.declared.section.Section.TheVariants.{Text, Linkage, Symbol, Static}
@@ -10,11 +10,11 @@ class_number Linkage = 1
 class_number Symbol = 2
 class_number Static = 3
 
--- what is added to the class of an entry
+-- the number that is added to the class of an entry
 abbrev pub entry_mark : ℕ
 entry_mark = 8
 
--- the number of a section in links and relocations, where the symbol section never stands
+-- the number of a section in links and relocations, which never refer to the symbol section
 abbrev pub place_number : Section → ℕ
 place_number Text = 0
 place_number Linkage = 1
@@ -25,14 +25,14 @@ place_number Symbol = 3
 abbrev pub same_section : Section → Section → Bool
 same_section a b = nat_eq (place_number a) (place_number b)
 
--- the name of a section behind `use`, and before its lines in a listing
+-- the name of a section after `use`, and before its lines in a listing
 abbrev pub section_name : Section → List ℕ
 section_name Text = codes "text"
 section_name Linkage = codes "link"
 section_name Symbol = codes "symbol"
 section_name Static = codes "static"
 
--- and as the segment of an operand
+-- the name of a section as the segment of an operand
 abbrev pub own_name : Section → List ℕ
 own_name section = codes "*" ++ section_name section
 
@@ -43,13 +43,13 @@ is_text_section Linkage = false
 is_text_section Symbol = false
 is_text_section Static = false
 
--- the order of sections, as values count in them: text and symbol, then linkage, then static
+-- the order of sections for the sum of two values: text and symbol, then linkage, then static
 abbrev pub rank : Section → ℕ
 rank Text = 0
 rank Symbol = 0
 rank Linkage = 1
 rank Static = 2
 
--- Of the section of a link and that of the definition that it names, a value counts in the later.
+-- The section relative to which the value of a link to a definition counts: the later of both.
 abbrev pub later_section : Section → Section → Section
 later_section a b = if nat_le (rank a) (rank b) then b else a

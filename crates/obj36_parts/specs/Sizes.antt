@@ -1,4 +1,4 @@
--- How many words an object takes, and its linkage section.
+-- The number of words of an object, and of its linkage section.
 use Rattle.std.specs.Prelude.{ℕ, ◌≡◌, ◌+◌, ◌^◌, ◌<◌, true, List, [], ◌∷◌, length, if◌then◌else◌}
 use Rattle.obj36_parts.specs.PartsFields.{PartsFields}
 use Rattle.obj36_parts.specs.declared.definition.Named.{Named}
@@ -6,25 +6,25 @@ use Rattle.obj36_parts.specs.Names.{with_names, name_length, all_name_words}
 use Rattle.obj36_parts.specs.ObjectSegment.{has_definition, is_newer, linkage_section}
 use Rattle.obj36_parts.specs.ObjectSegment.{linkage_length}
 
--- the words of each name once
+-- the number of words of names, each counted once
 unfoldable pub names_length : List (List ℕ) → ℕ
 names_length uses = length (all_name_words (with_names [] uses))
 
--- the words of names, each as often as it stands
+-- the number of words of names, counted as often as they occur
 unfoldable pub all_length : List (List ℕ) → ℕ
 all_length [] = 0
 all_length (name ∷ names) = name_length name + all_length names
 
--- the words of a name that no definition has
+-- the number of words of a name; 0 if a definition has this name
 unfoldable pub other_length : List Named → List ℕ → ℕ
 other_length ds name = if has_definition name ds then 0 else name_length name
 
--- and of names, each as often as it stands
+-- the same for names, counted as often as they occur
 unfoldable pub others_length : List Named → List (List ℕ) → ℕ
 others_length ds [] = 0
 others_length ds (name ∷ names) = other_length ds name + others_length ds names
 
--- Each list has fewer than 2^32 members.
+-- Each list has fewer than 2^32 items.
 pub record HasShortLists (p : PartsFields) : Type 0 where
   pub text : length p.text < 2 ^ 32
   pub statics : length p.statics < 2 ^ 32
@@ -32,7 +32,7 @@ pub record HasShortLists (p : PartsFields) : Type 0 where
   pub links : length p.links < 2 ^ 32
   pub relocations : length p.relocations < 2 ^ 32
 
--- The linkage section of an object that has a static section ends where that one is laid.
+-- The linkage section of an object with a static section has only its head and the links.
 abbrev pub StaticsPastLinks : Type 0
 StaticsPastLinks =
     (p : PartsFields) → is_newer p ≡ true

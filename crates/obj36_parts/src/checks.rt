@@ -1,4 +1,4 @@
-//! Whether parts are those of an object.
+//! Decides whether parts are well formed.
 
 ghost use Rattle.std.specs.Prelude.{ℕ, true, ◌≡◌, ◌+◌, ◌*◌, ◌^◌, ◌<◌};
 ghost use Rattle.std.specs.Prelude.{◌&&◌, ◌||◌, not, nat_eq, nat_le, length, if◌then◌else◌};
@@ -20,14 +20,14 @@ use crate::sections::{HEAD_WORDS, class, number};
 use m36_text::Name;
 use m36_text::texts::is_name;
 
-/// The greatest class of a definition.
+/// The greatest class of a definition in an object of this version.
 pub fn greatest_class(version: u8) -> u64
     ensures { result ≡ last_class version }
 {
     if version == 2 { 3 } else { 2 }
 }
 
-/// The greatest number of a section in links and relocations.
+/// The greatest number of a section in links and relocations of this version.
 pub fn greatest_place(version: u8) -> u64
     ensures { result ≡ last_place version }
 {
@@ -57,7 +57,7 @@ fn are_good_definitions(version: u8, definitions: &[Named]) -> bool
     true
 }
 
-/// Whether a link of this type has a section.
+/// Whether a link of this type refers to a section of its own object.
 pub fn has_its_section(kind: u64) -> bool
     ensures { result ≡ has_section kind }
 {
@@ -110,14 +110,14 @@ fn are_good_links(version: u8, links: &[Link]) -> bool
     true
 }
 
-/// How many words relocations may name, and in which version.
+/// The bounds for the places of relocations, and the version of the object.
 #[derive(Clone, Copy)]
 pub(crate) struct Room {
-    /// Words of the text.
+    /// The number of words of the text.
     pub text: usize,
-    /// Static words in the linkage section.
+    /// The number of static words in the linkage section.
     pub inner: usize,
-    /// Static words in the static section.
+    /// The number of static words in the static section.
     pub outer: usize,
     /// The version of the object.
     pub version: u8,
@@ -175,7 +175,8 @@ fn may_follow(least: u64, barred: u64, place: u64) -> bool
     least <= place && place != barred
 }
 
-// What is barred behind a relocation: behind part 0 part 2 of its word.
+// The order number that must not occur after a relocation: after one of part 0, that of part 2 of
+// the same word.
 fn barred_behind(part: u8, place: u64, barred: u64) -> u64
     requires { place < 2 ^ 40 }
     ensures { result ≡ (if nat_eq part left_part then place + offset_part else barred) }
@@ -183,7 +184,8 @@ fn barred_behind(part: u8, place: u64, barred: u64) -> u64
     if part == 0 { place + 2 } else { barred }
 }
 
-// Whether relocations are in rising order, without parts 0 and 2 of one word.
+// Whether relocations are in strictly rising order, and none of them has part 2 of a word after one
+// with part 0 of this word.
 #[tactic(auto, unfolding(crate::specs::ObjectSegment::are_rising))]
 fn are_in_order(relocations: &[Reloc]) -> bool
     ensures { result ≡ are_in_order relocations.now }
@@ -203,7 +205,7 @@ fn are_in_order(relocations: &[Reloc]) -> bool
     true
 }
 
-// Whether definitions, links and relocations are those of an object.
+// Whether definitions, links and relocations may be those of an object.
 pub(crate) fn are_good_tables(
     room: Room,
     definitions: &Defs,

@@ -1,4 +1,4 @@
-//! Definitions: the names by which others find places of an object.
+//! Definitions: the names by which others refer to places of an object.
 
 ghost use Rattle.std.specs.Prelude.{ℕ, List, [], ◌∷◌, ◌++◌, ◌≡◌, ◌<◌, OnOk, OnErr};
 ghost use Rattle.std.specs.Vec.{vec_len, vec_capacity};
@@ -14,14 +14,14 @@ use m36_word::NoMemory;
 use std::alloc::Global;
 use std::marker::Model;
 
-/// Where a definition lies.
+/// The place of a definition.
 #[derive(Clone, Copy, PartialEq, Eq)]
 pub struct Def {
-    /// Its offset in the section; 18 bits.
+    /// The offset in the section; 18 bits.
     pub value: u32,
-    /// The section, which is its class. Only version 2 has the class static.
+    /// The section, which gives the class. Only version 2 has the class static.
     pub section: Section,
-    /// It is an entry.
+    /// Whether the definition is an entry, which may be called.
     pub is_entry: bool,
 }
 
@@ -38,16 +38,17 @@ impl Model for Def {
     ghost inverse = { λ d. record { value = d.value; section = d.section; is_entry = d.is_entry } };
 }
 
-/// A definition with its name.
+/// A definition: a name and its place.
 #[derive(Drop)]
 pub struct Named {
     /// 1 to 32 letters, digits, `_` and full stops; unique in its object.
     pub name: Name,
-    /// Where it lies.
+    /// The place that it names.
     pub def: Def,
 }
 
-/// A list of definitions that grows at its end, with where the first definition of each name lies.
+/// A list of definitions that grows at its end, with a hash table of the place of the first
+/// definition of each name. Its model is the list.
 #[derive(Drop)]
 pub struct Defs {
     items: Vec<Named>,
@@ -67,7 +68,7 @@ impl Model for Defs {
 }
 
 impl Defs {
-    /// An empty list, whose names are hashed by a seed.
+    /// An empty list. Its names will be hashed with this seed.
     #[tactic(auto, using(crate::proofs::FirstLaws::none_first))]
     pub fn new(alloc: Global, seed: HashSeed) -> Defs
         ensures { result ≡ [] }
@@ -78,12 +79,12 @@ impl Defs {
         }
     }
 
-    /// The seed of its hashes.
+    /// The seed of its hash table.
     pub fn seed(&self) -> HashSeed {
         *self.firsts.hasher()
     }
 
-    /// Adds a definition at the end. Where no memory is found, nothing changes.
+    /// Adds a definition at the end. If memory runs out, nothing changes.
     pub fn push(&mut self, x: Named) -> Result<(), NoMemory>
         ensures ok { OnOk result (self.new ≡ self.old ++ x ∷ []) }
         ensures err { OnErr result (self.new ≡ self.old) }
@@ -101,28 +102,28 @@ impl Defs {
         self.items.as_slice()
     }
 
-    /// Whether a definition has this name.
+    /// Whether there is a definition of this name.
     pub fn has(&self, name: &Name) -> bool
         ensures { result ≡ has_definition name.now self.now }
     {
         self.firsts.contains_key(name)
     }
 
-    /// Where the first definition of this name lies, if there is one.
+    /// The place of the first definition of this name. None if no definition has it.
     pub fn find(&self, name: &Name) -> Option<Def>
         ensures { result ≡ definition_named name.now self.now }
     {
         self.firsts.get(name).copied()
     }
 
-    /// The names, each once, in the order in which they come first.
+    /// The names, each once, in the order in which they first occur.
     pub fn names(&self) -> &[Name]
         ensures { result.now ≡ with_names [] (definition_names self.now) }
     {
         self.firsts.keys().as_slice()
     }
 
-    /// Whether no two definitions have one name.
+    /// Whether all definitions have different names.
     pub fn have_own_names(&self) -> bool
         ensures { result ≡ are_distinct (definition_names self.now) }
     {
@@ -130,7 +131,7 @@ impl Defs {
     }
 }
 
-// Keeps where a definition lies whose name has none yet.
+// Records the place of a definition, unless its name has one already.
 fn note_first(
     firsts: &mut IndexMap<Name, Def, HashSeed>,
     definition: &Named,
@@ -145,7 +146,7 @@ fn note_first(
     Ok(())
 }
 
-/// Adds an item where there is room for it.
+/// Adds an item; the vector has room for it.
 pub fn put<T: Drop>(items: &mut Vec<T>, x: T)
     requires { vec_len items.old < vec_capacity items.old }
     ensures { items.new.items ≡ items.old.items ++ x ∷ [] }

@@ -1,18 +1,18 @@
-//! Words by their halves.
+//! Words as halves of 18 bits.
 
 ghost use Rattle.std.specs.Prelude.{ℕ, ◌≡◌, ◌+◌, ◌*◌, ◌/◌, ◌%◌, ◌^◌, ◌<◌};
 ghost use Rattle.obj36_parts.specs.Halves.{left, right, joined};
 
 use m36_word::Word;
 
-/// The numbers that a half can hold are below this.
+/// A number of half a word is below this.
 const HALF: u64 = 1 << 18;
 
-/// Bits 3 to 17 of a word, the offset behind a pointer register, count as signed: an offset is below this, and at most
-/// as much below zero.
+/// The bound of a signed offset: bits 3 to 17 of a word, after the number of a pointer register. It
+/// is at least minus this and below this.
 pub const OFFSET_LIMIT: u64 = 1 << 14;
 
-/// Bits 0 to 17.
+/// Bits 0 to 17 of a word.
 #[tactic(auto, unfolding(crate::specs::Halves::left))]
 pub fn left_of(w: Word) -> u64
     ensures value { result ≡ left w }
@@ -21,7 +21,7 @@ pub fn left_of(w: Word) -> u64
     w.value() / HALF
 }
 
-/// Bits 18 to 35.
+/// Bits 18 to 35 of a word.
 #[tactic(auto, unfolding(crate::specs::Halves::right))]
 pub fn right_of(w: Word) -> u64
     ensures value { result ≡ right w }
@@ -30,7 +30,7 @@ pub fn right_of(w: Word) -> u64
     w.value() % HALF
 }
 
-/// The word of two halves.
+/// The word with these halves. Of each number the low 18 bits are used.
 #[tactic(auto, unfolding(crate::specs::Halves::joined))]
 pub fn word_of(left: u64, right: u64) -> Word
     ensures { result ≡ joined left right }

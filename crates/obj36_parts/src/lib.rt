@@ -1,8 +1,10 @@
 //! The parts of an object segment, and the words of its sections.
 //!
-//! What is promised: definitions and links are kept in order, with what finds a name or a link in them at once; how
-//! many words parts take, and whether a list of words stands for them, is told in time that grows with the parts; the
-//! sections are made of exactly the words of the definitions. An error is want of memory alone.
+//! `Parts` has the text, the static words, definitions, links and relocations. Definitions and
+//! links are lists with a hash table each, so a name or a link is found without a search of the
+//! list. `size` computes how many words the object of some parts has, and `is_well_formed` whether
+//! there is such an object; both take time that grows with the parts. The words of each section are
+//! exactly those of the definitions in `specs/ObjectSegment.antt`. The only error is `NoMemory`.
 //!
 //! Source: the format is this project's own.
 #![tactic(auto)]

@@ -1,4 +1,4 @@
-//! Links: the places outside that an object refers to.
+//! Links: references of an object to places of other segments or of itself.
 
 ghost use Rattle.std.specs.Prelude.{ℕ, List, [], ◌∷◌, ◌++◌, ◌≡◌, ◌+◌, ◌<◌, ◌≤◌, position, OnOk};
 ghost use Rattle.std.specs.Prelude.{OnErr};
@@ -23,20 +23,21 @@ use std::alloc::Global;
 use std::hash::{Hash, Hasher};
 use std::marker::Model;
 
-/// A link. A field that its type does not use is the section text or an empty name.
+/// A link. Of the fields that its type does not use, a section is the text and a name is empty.
 #[derive(Debug, PartialEq, Eq, Drop)]
 pub struct Link {
-    /// The segment that is referred to, of the types 3 and 4.
+    /// The segment that the link refers to; used by types 3 and 4.
     pub name: Name,
-    /// The definition there, of the types 4 and 5.
+    /// The definition in the segment; used by types 4 and 5.
     pub entry: Name,
-    /// What is added to the place that is found; 18 bits.
+    /// The number that is added to the place that is found; 18 bits.
     pub expr: u32,
-    /// The type: 1 the own object, 3 a segment, 4 a definition of a segment, 5 a definition of the own object.
+    /// The type: 1 for a section of the own object, 3 for a segment, 4 for a definition of a
+    /// segment, 5 for a definition of the own object.
     pub kind: u8,
-    /// The section of the own object, of the types 1 and 5.
+    /// The section of the own object; used by types 1 and 5.
     pub section: Section,
-    /// The tag of the snapped pair; 6 bits.
+    /// The tag of the pair that replaces the link when it is snapped; 6 bits.
     pub modifier: u8,
 }
 
@@ -79,7 +80,7 @@ impl Hash for Link {
     }
 }
 
-// What a link has but its names, as one number.
+// All fields of a link but its names, as one number for its hash.
 fn number_of(link: &Link) -> u64
     ensures { result ≡ link_number link.now }
 {
@@ -90,7 +91,7 @@ fn number_of(link: &Link) -> u64
 }
 
 impl Link {
-    /// The same link again.
+    /// A copy.
     pub fn copied(&self) -> Link
         ensures { result ≡ self.now }
     {
@@ -105,7 +106,8 @@ impl Link {
     }
 }
 
-/// A list of links that grows at its end, with the first place of each and the names that they use.
+/// A list of links that grows at its end, with hash tables of the first index of each link and of
+/// the names that the links use. Its model is the list.
 #[derive(Drop)]
 pub struct Links {
     items: Vec<Link>,
@@ -126,7 +128,7 @@ impl Model for Links {
 }
 
 impl Links {
-    /// An empty list, whose links are hashed by a seed.
+    /// An empty list. Its links and their names will be hashed with this seed.
     pub fn new(alloc: Global, seed: HashSeed) -> Links
         ensures { result ≡ [] }
     {
@@ -137,7 +139,7 @@ impl Links {
         }
     }
 
-    /// Adds a link at the end. Where no memory is found, nothing changes.
+    /// Adds a link at the end. If memory runs out, nothing changes.
     #[tactic(auto, using(crate::proofs::IndexLaws::indexed_more))]
     pub fn push(&mut self, x: Link) -> Result<(), NoMemory>
         ensures ok { OnOk result (self.new ≡ self.old ++ x ∷ []) }
@@ -158,14 +160,15 @@ impl Links {
         self.items.as_slice()
     }
 
-    /// How many links stand before the first that is the same as this, if there is one.
+    /// The index of the first link that is equal to this one, counted from 0. None if there is
+    /// none.
     pub fn place(&self, link: &Link) -> Option<u64>
         ensures { result ≡ position (same_link link.now) self.now }
     {
         self.places.get(link).copied()
     }
 
-    /// Whether this link is there.
+    /// Whether the list has this link.
     #[tactic(auto, using(crate::proofs::IndexLaws::placed_has))]
     pub fn has(&self, link: &Link) -> bool
         ensures { result ≡ has_link link.now self.now }
@@ -173,7 +176,7 @@ impl Links {
         self.place(link).is_some()
     }
 
-    /// The names that the links use, each once, in the order in which they come first.
+    /// The names that the links use, each once, in the order in which they first occur.
     pub fn names(&self) -> &[Name]
         ensures { result.now ≡ with_names [] (all_link_names self.now) }
     {
@@ -181,7 +184,7 @@ impl Links {
     }
 }
 
-// Keeps the place of a link that has none yet.
+// Records the index of a link, unless it has one already.
 fn note_place(
     places: &mut IndexMap<Link, u64, HashSeed>,
     link: &Link,
@@ -197,7 +200,7 @@ fn note_place(
     Ok(())
 }
 
-// Keeps a name where there is room for it.
+// Adds a name to the set; the set has room for it.
 #[tactic(auto, unfolding(crate::specs::Names::with_name))]
 fn note_name(names: &mut IndexSet<Name, HashSeed>, name: &Name)
     requires { 0 < spare names.old }
@@ -231,7 +234,7 @@ fn note_entry(names: &mut IndexSet<Name, HashSeed>, link: &Link)
     }
 }
 
-// Keeps the names that a link uses, where there is room for two.
+// Adds the names that a link uses to the set; the set has room for two.
 #[tactic(auto, unfolding(crate::specs::ObjectSegment::link_names), using(crate::proofs::NameTables::added_then))]
 fn note_names(names: &mut IndexSet<Name, HashSeed>, link: &Link)
     requires { 2 ≤ spare names.old }

@@ -10,7 +10,8 @@ use crate::link::Link;
 use crate::sections::{HEAD_WORDS, LINK_TAG, push_all, push_pair};
 use m36_word::{NoMemory, Word, Words};
 
-// Adds links whose first stands at a place, and the expression of the first at another.
+// Adds links. The first one is at the offset `first` of the linkage section, and its expression at
+// the offset `expressions` of the definition section.
 fn push_links(out: &mut Words, links: &[Link], first: u64, expressions: u64) -> Result<(), NoMemory>
     requires first { first ≤ 2 ^ 40 }
     requires expressions { expressions ≤ 2 ^ 40 }
@@ -32,7 +33,7 @@ fn push_links(out: &mut Words, links: &[Link], first: u64, expressions: u64) -> 
     Ok(())
 }
 
-// Adds the head of the section.
+// Adds the head of the section. The first of `count` links is at the offset `first`.
 fn push_linkage_header(out: &mut Words, first: u64, count: u64) -> Result<(), NoMemory>
     ensures { OnOk result
         (out.new ≡ out.old ++ 0 ∷ joined first count ∷ 0 ∷ 0 ∷ 0 ∷ 0 ∷ 0 ∷ 0 ∷ []) }
@@ -42,7 +43,8 @@ fn push_linkage_header(out: &mut Words, first: u64, count: u64) -> Result<(), No
     push_all(out, &[zero, head, zero, zero, zero, zero, zero, zero])
 }
 
-// Adds the linkage section of these static words and links, whose expressions stand from a place on.
+// Adds the linkage section of these static words and links. Their expressions begin at the offset
+// `expressions` of the definition section.
 #[tactic(auto, unfolding(crate::specs::ObjectSegment::linkage_part))]
 pub(crate) fn push_linkage(
     out: &mut Words,

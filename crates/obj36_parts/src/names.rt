@@ -1,4 +1,4 @@
-//! The names of a definition section: each stands there once.
+//! The names of a definition section, which has each once.
 
 ghost use Rattle.std.specs.Prelude.{ℕ, [], ◌++◌, ◌≡◌, ◌+◌, ◌-◌, ◌*◌, ◌^◌, ◌<◌, ◌≤◌, length};
 ghost use Rattle.std.specs.Prelude.{OnOk, IfOk};
@@ -16,21 +16,21 @@ use m36_word::{NoMemory, Word, Words};
 use std::alloc::Global;
 use std::marker::Model;
 
-/// Whether a link of this type has a name.
+/// Whether a link of this type has the name of a segment.
 pub fn has_its_name(kind: u64) -> bool
     ensures { result ≡ has_name kind }
 {
     kind == 3 || kind == 4
 }
 
-/// Whether a link of this type has an entry.
+/// Whether a link of this type has the name of an entry.
 pub fn has_its_entry(kind: u64) -> bool
     ensures { result ≡ has_entry kind }
 {
     kind == 4 || kind == 5
 }
 
-// How many words a name takes.
+// The number of words of a name: 1 to 9.
 #[tactic(auto, unfolding(crate::specs::Names::name_length))]
 pub(crate) fn length_of(name: &Name) -> u64
     ensures value { result ≡ name_length name.now }
@@ -39,7 +39,7 @@ pub(crate) fn length_of(name: &Name) -> u64
     name.bytes().len() as u64 / 4 + 1
 }
 
-/// Names that stand one after another from a place on, each once.
+/// A table of names without repetition, which are placed one after another from an offset on.
 #[derive(Drop)]
 pub struct NameTable {
     places: IndexMap<Name, u64, HashSeed>,
@@ -59,7 +59,7 @@ impl Model for NameTable {
 }
 
 impl NameTable {
-    // No names, from a place on.
+    // An empty table. The first name will be at the offset `base` of the definition section.
     fn new(alloc: Global, seed: HashSeed, base: u64) -> NameTable
         requires { base ≤ 2 ^ 40 }
         ensures { result ≡ record { names = []; base = base } }
@@ -71,7 +71,7 @@ impl NameTable {
         }
     }
 
-    // Adds a name, unless it is there.
+    // Adds a name, unless the table has it.
     #[tactic(auto, using(crate::proofs::NamePlaces::named_there, crate::proofs::NamePlaces::few_named))]
     fn add(&mut self, name: &Name) -> Result<(), NoMemory>
         requires { length self.old.names < 2 ^ 40 }
@@ -87,7 +87,7 @@ impl NameTable {
         Ok(())
     }
 
-    // The place of a name; of one that is not there the place behind all.
+    // The offset of a name; for a name that is not in the table, the offset after the last one.
     pub(crate) fn place(&self, name: &Name) -> u64
         ensures { result ≡ place_of name.now self.now.names self.now.base }
     {
@@ -145,7 +145,7 @@ fn add_links(table: &mut NameTable, links: &[Link]) -> Result<(), NoMemory>
     Ok(())
 }
 
-// Adds the names of definitions and links where there are none, in order of first use.
+// Adds the names of definitions and links to an empty table, in order of first use.
 #[tactic(auto, using(crate::proofs::NameTables::added_then))]
 fn add_names(table: &mut NameTable, definitions: &[Named], links: &[Link]) -> Result<(), NoMemory>
     requires definitions { length definitions.now < 2 ^ 32 }
@@ -159,7 +159,8 @@ fn add_names(table: &mut NameTable, definitions: &[Named], links: &[Link]) -> Re
     add_links(table, links)
 }
 
-// Each name once, in order of first use, from a place on. They are hashed by a seed.
+// The names of definitions and links, each once, in order of first use, from the offset `base` on.
+// They are hashed with this seed.
 pub(crate) fn names_used(
     alloc: Global,
     seed: HashSeed,
@@ -178,7 +179,7 @@ pub(crate) fn names_used(
     match add_names(&mut table, definitions, links) {
         Ok(()) => Ok(table),
         Err(cause) => {
-            // Dropped by a call: so the drop is proved once for its type.
+            // A call of `drop` is proved once for its type.
             drop(table);
             Err(cause)
         }

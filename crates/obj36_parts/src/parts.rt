@@ -1,4 +1,4 @@
-//! The parts of an object.
+//! The parts of an object, and whether they are well formed.
 
 ghost use Rattle.std.specs.Prelude.{ℕ, ◌≡◌, ◌+◌, ◌*◌, ◌<◌, ◌≤◌, ◌^◌, length, []};
 ghost use Rattle.std.specs.Prelude.{if◌then◌else◌, IsTrue};
@@ -15,22 +15,24 @@ use crate::size::length_of_names;
 use m36_word::{Word, Words};
 use std::marker::Model;
 
-/// What an object is made of.
+/// The parts of an object.
 #[derive(Drop)]
 pub struct Parts {
     /// Instructions and constants.
     pub text: Words,
-    /// Static words; in version 1 an even number of them.
+    /// Static words. Version 1 has an even number of them.
     pub statics: Words,
     /// Definitions, in order.
     pub definitions: Defs,
     /// Links, in order.
     pub links: Links,
-    /// Relocations, in rising order of section, offset and part.
+    /// Relocations, in strictly rising order of section, offset and part.
     pub relocations: Relocs,
-    /// How many words of the text a gate may be entered at; at most the text's length; 18 bits.
+    /// The number of words of the text at which a gate may be entered, from its first word on: at
+    /// most the length of the text; 18 bits.
     pub entry_bound: u32,
-    /// 1, or 2 with the static words in a section of their own.
+    /// The version of the object. In version 1 the static words are in the linkage section, in
+    /// version 2 they have a section of their own.
     pub version: u8,
 }
 
@@ -53,7 +55,7 @@ impl Model for Parts {
     ghost invariant = { λ p. p.entry_bound < 2 ^ 18 };
 }
 
-// The words that each object has: the heads of three sections, the map and the last word.
+// The number of words that each object has: the heads of three sections, the map and the last word.
 fn fixed_length(version: u8) -> u64
     ensures value { result ≡ (if is_newer_version version then 19 else 18) }
     ensures bound { result < 20 }
@@ -62,7 +64,7 @@ fn fixed_length(version: u8) -> u64
 }
 
 impl Parts {
-    /// The static words that stand in the linkage section.
+    /// The static words in the linkage section: none in version 2.
     pub fn inner_statics(&self) -> &[Word]
         ensures { result.now ≡ inner_statics self.now }
     {
@@ -73,7 +75,7 @@ impl Parts {
         }
     }
 
-    /// The static words that have a section of their own.
+    /// The static words in a section of their own: none in version 1.
     pub fn outer_statics(&self) -> &[Word]
         ensures { result.now ≡ outer_statics self.now }
     {
@@ -84,7 +86,8 @@ impl Parts {
         }
     }
 
-    /// Where the first link stands in the linkage section: behind the words of the head and the static words there.
+    /// The offset of the first link in the linkage section, after the head and the static words
+    /// there.
     pub fn first_link(&self) -> u64
         ensures value { result ≡ first_link self.now }
         ensures bound { result ≤ 2 ^ 63 + 8 }
@@ -92,7 +95,7 @@ impl Parts {
         HEAD_WORDS + self.inner_statics().len() as u64
     }
 
-    /// Whether each list has fewer than 2^32 members, as those of each object have.
+    /// Whether each list has fewer than 2^32 items. The lists of each well-formed object do.
     pub fn has_short_lists(&self) -> bool
         ensures short { IsTrue result → HasShortLists self.now }
         ensures long { HasShortLists self.now → IsTrue result }
@@ -104,8 +107,8 @@ impl Parts {
             && self.relocations.items().len() < 1 << 32
     }
 
-    /// How many words the sections, the map and the last word take for these parts, whether or not a list stands for
-    /// them. Each list has fewer than 2^32 members.
+    /// The number of words of the sections, the map and the last word of these parts, whether or
+    /// not the parts are well formed. Each list has fewer than 2^32 items.
     pub fn size(&self) -> u64
         requires { HasShortLists self.now }
         ensures { result ≡ length (words_of self.now) }
@@ -120,7 +123,8 @@ impl Parts {
         fixed_length(self.version) + text + statics + relocations + tables + names
     }
 
-    /// Whether some list of words stands for these parts. Each list has fewer than 2^32 members.
+    /// Whether the parts are well formed, so that there is an object of them. Each list has fewer
+    /// than 2^32 items.
     #[tactic(auto, unfolding(crate::specs::ObjectSegment::is_well_formed))]
     pub fn is_well_formed(&self) -> bool
         requires { HasShortLists self.now }
@@ -145,7 +149,8 @@ impl Parts {
             && are_good_tables(room, &self.definitions, links, relocations)
     }
 
-    /// Whether some list of words stands for these parts, whose lists may be of any length.
+    /// Whether the parts are well formed, so that there is an object of them. The lists may have
+    /// any length.
     #[tactic(auto, using(crate::proofs::LengthLaws::long_is_none))]
     pub fn is_object(&self) -> bool
         ensures { result ≡ is_well_formed self.now }

@@ -1,4 +1,4 @@
-//! Relocations: the parts of words that move with a section when objects are bound.
+//! Relocations: the parts of words that change with the place of a section when objects are bound.
 
 ghost use Rattle.std.specs.Prelude.{ℕ, List, [], ◌∷◌, ◌++◌, ◌≡◌, OnOk, OnErr};
 
@@ -7,16 +7,16 @@ use m36_word::NoMemory;
 use std::alloc::Global;
 use std::marker::Model;
 
-/// A part of a word that holds a place of a section.
+/// A part of a word that holds an offset in a section.
 #[derive(Clone, Copy, PartialEq, Eq)]
 pub struct Reloc {
     /// The offset of the word in its section; 18 bits.
     pub offset: u32,
-    /// The section of the word: the text, or where static words are.
+    /// The section of the word: the text, or the section that has the static words.
     pub section: Section,
-    /// The part: 0 the left half, 1 the right half, 2 bits 3 to 17.
+    /// The part: 0 for the left half, 1 for the right half, 2 for bits 3 to 17.
     pub part: u8,
-    /// The section whose place the part holds; never the symbol section.
+    /// The section in which the part is an offset; never the symbol section.
     pub target: Section,
 }
 
@@ -43,7 +43,7 @@ impl Model for Reloc {
     } };
 }
 
-/// A list of relocations that grows at its end.
+/// A list of relocations that grows at its end. Its model is the list.
 #[derive(Drop)]
 pub struct Relocs {
     items: Vec<Reloc>,
@@ -68,7 +68,7 @@ impl Relocs {
         }
     }
 
-    /// Adds a relocation at the end. Where no memory is found, nothing changes.
+    /// Adds a relocation at the end. If memory runs out, nothing changes.
     pub fn push(&mut self, x: Reloc) -> Result<(), NoMemory>
         ensures ok { OnOk result (self.new ≡ self.old ++ x ∷ []) }
         ensures err { OnErr result (self.new ≡ self.old) }

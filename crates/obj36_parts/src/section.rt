@@ -1,11 +1,11 @@
 //! Sections of an object.
 
-/// A section that a definition, a link or a relocation names.
+/// A section to which a definition, a link or a relocation refers.
 #[derive(Clone, Copy, Debug, PartialEq, Eq, Hash)]
 pub enum Section {
     /// Instructions and constants.
     Text,
-    /// The header, the links, and in version 1 the static words.
+    /// The head, in version 1 the static words, and the links.
     Linkage,
     /// The relocations.
     Symbol,

@@ -1,4 +1,4 @@
-//! The sections of an object, made from its parts.
+//! Makes the words of the sections of an object.
 
 ghost use Rattle.std.specs.Prelude.{ℕ, [], ◌∷◌, ◌++◌, ◌≡◌, ◌+◌, ◌-◌, ◌*◌, ◌^◌, ◌<◌, ◌≤◌};
 ghost use Rattle.std.specs.Prelude.{length, replicate, OnOk, IfOk};
@@ -29,19 +29,19 @@ use std::alloc::Global;
 /// The tag of a link that is not snapped: fault tag 2.
 pub const LINK_TAG: u64 = 0o46;
 
-/// What is added to the class of an entry.
+/// The number that is added to the class of a definition if it is an entry.
 pub const ENTRY_MARK: u64 = 8;
 
-/// How many words the head of a linkage section has.
+/// The number of words of the head of a linkage section.
 pub const HEAD_WORDS: u64 = 8;
 
-/// The most words of a segment, and so of an object.
+/// The maximal number of words of a segment, and so of an object.
 pub const SEGMENT_LIMIT: u64 = 1 << 18;
 
-/// The most words of a section of an object that is assembled or bound.
+/// The maximal number of words of a section of an object that is assembled or bound.
 pub const SECTION_LIMIT: u64 = (1 << 18) - 4096;
 
-/// The class of a definition in a section.
+/// The class of a definition in this section.
 pub fn class(section: Section) -> u64
     ensures value { result ≡ class_number section }
     ensures bound { result ≤ 3 }
@@ -67,7 +67,7 @@ pub fn number(section: Section) -> u64
     }
 }
 
-/// The number of the version, by whether it is the newer one.
+/// The version number: 2 if the object has a static section (is newer), otherwise 1.
 pub fn version_of(newer: bool) -> u8
     ensures { result ≡ version_of newer }
 {
@@ -94,7 +94,8 @@ fn rank(section: Section) -> u8
     }
 }
 
-/// The later of the section of a link and that of the definition that it names: a value counts in it.
+/// The section relative to which the sum of two values counts: the later of the section of a link
+/// and the section of the definition that it names.
 pub fn later_section(a: Section, b: Section) -> Section
     ensures { result ≡ later_section a b }
 {
@@ -125,7 +126,7 @@ pub fn push_all(out: &mut Words, words: &[Word]) -> Result<(), NoMemory>
     Ok(())
 }
 
-/// The same words again.
+/// A copy of words. Fails only with `NoMemory`.
 pub fn copied(alloc: Global, words: &[Word]) -> Result<Words, NoMemory>
     ensures { IfOk result (λ copy. copy ≡ words.now) }
 {
@@ -133,14 +134,14 @@ pub fn copied(alloc: Global, words: &[Word]) -> Result<Words, NoMemory>
     match push_all(&mut copy, words) {
         Ok(()) => Ok(copy),
         Err(cause) => {
-            // Dropped by a call: so the drop is proved once for its type.
+            // A call of `drop` is proved once for its type.
             drop(copy);
             Err(cause)
         }
     }
 }
 
-/// Adds so many zeros at the end.
+/// Adds `count` zero words at the end.
 pub fn push_zeros(out: &mut Words, count: u64) -> Result<(), NoMemory>
     ensures { OnOk result (out.new ≡ out.old ++ replicate count 0) }
 {
@@ -150,7 +151,7 @@ pub fn push_zeros(out: &mut Words, count: u64) -> Result<(), NoMemory>
     Ok(())
 }
 
-/// Adds one zero behind an odd count of words.
+/// Adds a zero word if the number of words is odd.
 pub fn push_evening(out: &mut Words) -> Result<(), NoMemory>
     ensures { OnOk result (out.new ≡ evened_words out.old) }
 {
@@ -249,7 +250,7 @@ fn push_expressions(out: &mut Words, table: &NameTable, links: &[Link]) -> Resul
     Ok(())
 }
 
-// Adds the definition section of these definitions and links, whose names stand in a table.
+// Adds the definition section of these definitions and links. The table has their names.
 #[tactic(auto, unfolding(crate::specs::ObjectSegment::definition_part))]
 fn push_section(
     out: &mut Words,
@@ -282,7 +283,7 @@ fn push_section(
     push_names(out, table.names())
 }
 
-// The definition section of these definitions and links, whose names stand in a table.
+// The definition section of these definitions and links. The table has their names.
 fn words_by_table(
     alloc: Global,
     table: &NameTable,
@@ -301,14 +302,15 @@ fn words_by_table(
     match push_section(&mut out, table, definitions, links) {
         Ok(()) => Ok(out),
         Err(cause) => {
-            // Dropped by a call: so the drop is proved once for its type.
+            // A call of `drop` is proved once for its type.
             drop(out);
             Err(cause)
         }
     }
 }
 
-/// The definition section of these definitions and links, whose names are hashed by a seed.
+/// The definition section of these definitions and links. Their names are hashed with this seed.
+/// Fails only with `NoMemory`.
 pub fn definition_words_of(
     alloc: Global,
     seed: HashSeed,
@@ -329,7 +331,8 @@ pub fn definition_words_of(
 
 // ---- the linkage section
 
-/// The linkage section of these static words and links, whose expressions stand from a place on.
+/// The linkage section of these static words and links. Their expressions begin at the offset
+/// `expressions` of the definition section. Fails only with `NoMemory`.
 pub fn linkage_words_of(
     alloc: Global,
     statics: &[Word],
@@ -345,7 +348,7 @@ pub fn linkage_words_of(
     match push_linkage(&mut out, statics, links, expressions) {
         Ok(()) => Ok(out),
         Err(cause) => {
-            // Dropped by a call: so the drop is proved once for its type.
+            // A call of `drop` is proved once for its type.
             drop(out);
             Err(cause)
         }
@@ -376,7 +379,7 @@ fn push_symbol(out: &mut Words, relocations: &[Reloc]) -> Result<(), NoMemory>
     Ok(())
 }
 
-/// The symbol section of these relocations.
+/// The symbol section of these relocations. Fails only with `NoMemory`.
 pub fn symbol_words_of(alloc: Global, relocations: &[Reloc]) -> Result<Words, NoMemory>
     ensures { IfOk result (λ words. words ≡ symbol_part relocations.now) }
 {
@@ -384,7 +387,7 @@ pub fn symbol_words_of(alloc: Global, relocations: &[Reloc]) -> Result<Words, No
     match push_symbol(&mut out, relocations) {
         Ok(()) => Ok(out),
         Err(cause) => {
-            // Dropped by a call: so the drop is proved once for its type.
+            // A call of `drop` is proved once for its type.
             drop(out);
             Err(cause)
         }

@@ -1,4 +1,4 @@
-//! How many words names take, each once.
+//! The number of words that names take, each counted once.
 
 ghost use Rattle.std.specs.Prelude.{ℕ, ◌++◌, ◌≡◌, ◌+◌, ◌*◌, ◌^◌, ◌<◌, ◌≤◌, length};
 ghost use Rattle.obj36_parts.specs.ObjectSegment.{definition_names, all_link_names};
@@ -9,7 +9,7 @@ use crate::link::Links;
 use crate::names::length_of;
 use m36_text::Name;
 
-// The words of a name that no definition has.
+// The number of words of a name; 0 if a definition has this name.
 #[tactic(auto, unfolding(crate::specs::Sizes::other_length))]
 fn length_of_other(definitions: &Defs, name: &Name) -> u64
     ensures value { result ≡ other_length definitions.now name.now }
@@ -22,7 +22,7 @@ fn length_of_other(definitions: &Defs, name: &Name) -> u64
     }
 }
 
-// The words of those names that no definition has.
+// The number of words of those names that no definition has.
 #[tactic(auto, unfolding(crate::specs::Sizes::others_length))]
 fn length_of_others(definitions: &Defs, names: &[Name]) -> u64
     requires { length names.now < 2 ^ 40 }
@@ -38,7 +38,7 @@ fn length_of_others(definitions: &Defs, names: &[Name]) -> u64
     total
 }
 
-// The words of all these names.
+// The number of words of all these names.
 #[tactic(auto, unfolding(crate::specs::Sizes::all_length))]
 fn length_of_all(names: &[Name]) -> u64
     requires { length names.now < 2 ^ 40 }
@@ -54,7 +54,7 @@ fn length_of_all(names: &[Name]) -> u64
     total
 }
 
-// The words of the names of definitions and links.
+// The number of words of the names of definitions and links, each counted once.
 #[tactic(auto, using(crate::proofs::NameTables::few_alone, crate::proofs::NameTables::few_linked, crate::proofs::SizeLaws::length_told))]
 pub(crate) fn length_of_names(definitions: &Defs, links: &Links) -> u64
     requires definitions { length definitions.now < 2 ^ 32 }

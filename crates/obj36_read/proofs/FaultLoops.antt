@@ -73,7 +73,7 @@ pub class_end : (last : ℕ) (d : List ℕ) (count i at : ℕ) → count ≤ i �
 unfolding class_faults
 class_end last d count i at le = let k : count - i ≡ 0 = omega arith in ap (λ n. class_faults last d n at) k
 
--- ---- names that stand twice
+-- ---- names that occur twice
 
 pub same_more : (d : List ℕ) (at other i count : ℕ) (total : Bool) (u v : ℕ) → i < count → u ≡ unit_at d at i → v ≡ unit_at d other i → u ≡ v → same_units d at other i (count - i) ≡ total
     → same_units d at other (i + 1) (count - (i + 1)) ≡ total

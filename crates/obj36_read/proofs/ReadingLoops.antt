@@ -6,7 +6,8 @@ use Rattle.obj36_parts.specs.Fields.{LinkFields, RelocFields}
 use Rattle.obj36_parts.specs.declared.definition.Named.{Named}
 use Rattle.obj36_read.specs.Reading.{unit_at, characters, definition_at, definitions_in, link_at, links_in, relocation_in, relocations_in}
 
--- one item more of a table of which count - i items are left: read gives so many items from a place on
+-- one more item of a table, of which `count - i` items are left; `read` decodes items from an index
+-- on
 one_more : {X : Type 0} (left count i : ℕ) (front next total rest all : List X) (x : X) → all ≡ x ∷ rest → next ≡ front ++ x ∷ [] → front ++ all ≡ total → next ++ rest ≡ total
 one_more left count i front next total rest all x a e so_far = ap (λ f. f ++ rest) e ∙ append_assoc front (x ∷ []) rest ∙ ap (λ r. front ++ r) (sym a) ∙ so_far
 
@@ -50,7 +51,7 @@ relocations_read words at count i front total le so_far =
     let k : count - i ≡ 0 = omega arith in
     sym (append-nil front) ∙ ap (λ n. front ++ relocations_in words at n) (sym k) ∙ so_far
 
--- ---- characters, of which the last is read at last
+-- ---- characters
 
 characters_last_suc : (words : List ℕ) (at i count : ℕ) → characters words at i (suc count) ≡ characters words at i count ++ unit_at words at (i + count) % 2 ^ 8 ∷ []
 unfolding characters

@@ -1,4 +1,4 @@
--- Steps of the loop that looks for names that stand twice.
+-- Steps of the loop that looks for names that occur twice.
 use Rattle.std.proofs.Common.{ℕ, zero, suc, ◌≡◌, ◌+◌, ◌-◌, ◌<◌, ◌≤◌, Bool, true, false, cond, eqb, ◌&&◌, List, [], ◌∷◌, Option, Some, None, refl, sym, ap, ◌∙◌, arith}
 use Rattle.std.specs.Prelude.{min, unwrap_or}
 use Rattle.std.specs.Option.{option_map}
@@ -16,7 +16,7 @@ use Rattle.obj36_read.specs.declared.repeats.Spelling.{Spelling}
 use Rattle.obj36_read.proofs.FaultLoops.{earlier-assoc, earlier-none}
 use Rattle.obj36_read.proofs.SpelledNames.{spelled_same}
 
--- ---- what a map finds once a key is put in
+-- ---- lookup in a map after an insertion
 
 module _ {K : Type 0} (eq : K → K → Bool) (test : K → Bool) (key : K) (value : ℕ)
     (agree : test key ≡ true → (k : K) → test k ≡ eq key k) (alike : (k : K) → eq key k ≡ true → test k ≡ test key) where
@@ -58,7 +58,7 @@ alike_from v w m n k l e =
     record { whole = same_is v w a.0; length = eqb-true m n b.0; last = eqb-true k l b.1 }
 
 module _ (d : List ℕ) (at : ℕ) (key : Spelling) where
-  -- a name that is spelled as the key is asked for as the key is
+  -- a name that is spelled as the key gives the same lookup as the key
   asked : is_spelled d at key ≡ true → (s : Spelling) → is_spelled d at s ≡ compare key.whole.now key.length key.last s
   unfolding is_spelled
   asked e s =

@@ -1,4 +1,4 @@
--- Names are the same exactly where they are spelled the same.
+-- Names are equal exactly if they are spelled the same.
 use Rattle.std.proofs.Common.{ℕ, zero, suc, ◌≡◌, ◌+◌, ◌-◌, ◌*◌, ◌/◌, ◌%◌, ◌^◌, ◌<◌, ◌≤◌, Bool, true, false, eqb, leb, ltb, ◌&&◌, List, ◌∷◌, length, take, drop, get_or, refl, sym, ap, ◌∙◌, arith}
 use Rattle.std.specs.Prelude.{slice_index}
 use Rattle.std.specs.Cmp.Lexicographic.{pointwise}
@@ -9,7 +9,7 @@ use Rattle.obj36_read.specs.Reading.{unit_at}
 use Rattle.obj36_read.specs.TableFaults.{lies_within, same_units}
 use Rattle.obj36_read.specs.Spelled.{whole_words, kept_parts, last_parts}
 
--- two tests of which each follows from the other
+-- two tests that imply each other
 either_way : (b c : Bool) → (b ≡ true → c ≡ true) → (c ≡ true → b ≡ true) → b ≡ c
 either_way true c f g = sym (f refl)
 either_way false true f g = g refl
@@ -17,7 +17,7 @@ either_way false false f g = refl
 
 -- ---- the parts of one word
 
--- whether so many parts of nine bits from one on are the same in two words
+-- whether `count` parts of nine bits from one on are the same in two words
 same_parts : ℕ → ℕ → ℕ → ℕ → Bool
 same_parts w v k zero = true
 same_parts w v k (suc count) = eqb (quarter w k) (quarter v k) && same_parts w v (k + 1) count

@@ -8,26 +8,27 @@ use Rattle.obj36_parts.specs.ObjectSegment.{head_words, link_head}
 use Rattle.obj36_read.specs.Reading.{link_start}
 use Rattle.obj36_read.specs.TableFaults.{earlier, where_bad, expression_count, first_expression}
 
--- ---- types and sections of expressions, whose places count from the definition section's word 0
+-- ---- types and sections of expressions, indexed from word 0 of the definition section
 
 unfoldable pub is_type : ℕ → ℕ → Bool
 is_type version word =
     has_name (left word) || (has_section (left word) && nat_le (right word) (last_place version))
 
--- the least of so many expressions from one on whose type or section is not as it must be
+-- the first of `count` expressions from `at` on whose type or section is invalid
 unfoldable pub type_faults : ℕ → List ℕ → ℕ → ℕ → Option ℕ
 type_faults version d zero at = None
 type_faults version d (suc count) at =
     earlier (where_bad (not (is_type version (slice_index d at))) at)
     (type_faults version d count (at + 2))
 
--- ---- links, whose places count from the linkage section's word 0
+-- ---- links, indexed from word 0 of the linkage section
 
 unfoldable pub link_count : List ℕ → ℕ
 link_count k = right (slice_index k 1)
 
--- whether the head of the linkage section is as it must be: as many links as expressions, behind an
--- even number of static words in version 1 and none in version 2, up to the section's end
+-- Whether the head of the linkage section is valid. There are as many links as expressions, they
+-- end at the end of the section, and before them are an even number of static words in version 1
+-- and none in version 2.
 unfoldable pub is_head : ℕ → List ℕ → List ℕ → Bool
 is_head version d k =
     nat_eq (link_count k) (expression_count d)
@@ -36,14 +37,14 @@ is_head version d k =
     && nat_eq (link_start k + 2 * link_count k) (length k)
     && (not (is_newer_version version) || nat_eq (link_start k) head_words)
 
--- whether the link at a place is as it must be, with its expression at another
+-- whether the link at `at` is valid and has its expression at `expression`
 unfoldable pub is_link_at : List ℕ → ℕ → ℕ → Bool
 is_link_at k at expression =
     nat_eq (slice_index k at) (link_head at)
     && nat_eq (left (slice_index k (at + 1))) expression
     && nat_lt (right (slice_index k (at + 1))) (2 ^ 6)
 
--- the first of so many links from one on that is not
+-- the first of `count` links from `at` on that is not valid
 unfoldable pub link_faults : List ℕ → ℕ → ℕ → ℕ → Option ℕ
 link_faults k at expression zero = None
 link_faults k at expression (suc count) =
@@ -57,7 +58,7 @@ linkage_fault version d k =
     then link_faults k (link_start k) (first_expression d) (link_count k)
     else Some 1
 
--- ---- O7, whose places count from the list's word 0
+-- ---- O7, indexed from word 0 of the list
 
 abbrev pub behind : ℕ → Option ℕ → Option ℕ
 behind from place = option_map (λ p. from + p) place

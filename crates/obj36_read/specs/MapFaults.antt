@@ -1,4 +1,4 @@
--- Faults of the map of a list of words, and of the sections that it tells.
+-- Faults of the map of a list of words, and of the sections that it describes.
 use Rattle.std.specs.Prelude.{ℕ, zero, suc, ◌+◌, ◌-◌, Bool, ◌&&◌, ◌||◌, not, nat_eq, nat_lt, nat_le}
 use Rattle.std.specs.Prelude.{if◌then◌else◌, List, [], ◌∷◌, length, take, drop, slice_index, Option}
 use Rattle.std.specs.Prelude.{Some, None}
@@ -15,14 +15,15 @@ use Rattle.obj36_read.specs.declared.map.Extents.{Extents}
 
 -- ---- the map: O2
 
--- whether the last word tells a place from which on a map of either version reaches to the end
+-- whether a map of either version, from where the last word says, reaches to the end
 unfoldable pub is_told : List ℕ → Bool
 is_told words =
     nat_eq (map_place words + older_map) (length words)
     || nat_eq (map_place words + newer_map) (length words)
 
--- map 0 has the version alone; the entry bound has 0 beside it, and is no more than the length of
--- the text; the last word has 0 beside the place of the map
+-- The first word of the map has only the version. The word with the entry bound has 0 in its right
+-- half, and the bound is at most the length of the text. The last word has the index of the map,
+-- and 0 in its right half.
 unfoldable pub is_bound : List ℕ → ℕ → Bool
 is_bound words bound =
     nat_eq (right bound) 0
@@ -44,7 +45,7 @@ unfoldable pub map_fault : List ℕ → Option ℕ
 map_fault words =
     if is_told words then fixed_fault words (version_in words) else Some (length words - 1)
 
--- ---- sections that leave their place or are too short: O3
+-- ---- sections that end past the map or are too short: O3
 
 unfoldable pub extent_at : List ℕ → ℕ → Extent
 extent_at words i = record {
@@ -66,7 +67,7 @@ extents_of words =
       symbol = extent_at words (symbol_index (version_in words));
     }
 
--- whether a section ends past the map or has fewer words than it must
+-- whether a section ends past the map, or has fewer words than its head
 unfoldable pub is_outside : ℕ → Extent → ℕ → Bool
 is_outside map e least = nat_lt map (e.from + e.count) || nat_lt e.count least
 
@@ -88,13 +89,13 @@ section_fault words =
 unfoldable pub covers : Extent → ℕ → Bool
 covers e at = nat_le e.from at && nat_lt at (e.from + e.count)
 
--- how many sections have a word
+-- the number of sections that have a word
 unfoldable pub covering : Extents → ℕ → ℕ
 covering e at =
     of_bit (covers e.text at) + of_bit (covers e.definition at) + of_bit (covers e.linkage at)
     + of_bit (covers e.statics at) + of_bit (covers e.symbol at)
 
--- the first of so many words from a place on that two sections have
+-- the first of `count` words from `at` on that is in two sections
 unfoldable pub first_shared : Extents → ℕ → ℕ → Option ℕ
 first_shared e at zero = None
 first_shared e at (suc count) =

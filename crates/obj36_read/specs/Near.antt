@@ -1,4 +1,4 @@
--- Places and lengths that halves of words tell.
+-- Sections as half words describe them: offsets and lengths below 2^18.
 use Rattle.std.specs.Prelude.{◌<◌, ◌^◌}
 use Rattle.obj36_read.specs.declared.map.Extent.{Extent}
 use Rattle.obj36_read.specs.declared.map.Extents.{Extents}

@@ -1,6 +1,6 @@
--- The parts that a list of words would spell: read by counts alone, the sections one behind another
--- and each table in order. What this does not look at, as offsets, is judged by spelling
--- the parts again.
+-- Decodes the parts that a list of words may encode, by its lengths and counts alone: one section
+-- after another, and each table in order. What this does not check, such as offsets, is checked by
+-- encoding the parts again.
 use Rattle.std.specs.Prelude.{ℕ, zero, suc, ◌+◌, ◌-◌, ◌/◌, ◌%◌, ◌^◌, nat_eq, nat_le}
 use Rattle.std.specs.Prelude.{if◌then◌else◌, min, List, [], ◌∷◌, length, take, drop, slice_index}
 use Rattle.m36_text.specs.Texts.{name_limit}
@@ -18,16 +18,16 @@ use Rattle.obj36_parts.specs.declared.definition.Named.{Named}
 
 -- ---- names
 
--- part i of nine bits from a word on
+-- part i of nine bits, counted from the left end of the word `at`
 unfoldable pub unit_at : List ℕ → ℕ → ℕ → ℕ
 unit_at words at i = quarter (slice_index words (at + i / 4)) (i % 4)
 
--- so many characters from part i on, each cut to a byte
+-- `count` characters from part i on, each of which keeps its low eight bits
 unfoldable pub characters : List ℕ → ℕ → ℕ → ℕ → List ℕ
 characters words at i zero = []
 characters words at i (suc count) = unit_at words at i % 2 ^ 8 ∷ characters words at (i + 1) count
 
--- the name at a place, cut to the most characters of one
+-- the name at an index; a length over 32 is taken as 32
 unfoldable pub name_at : List ℕ → ℕ → List ℕ
 name_at words at = characters words at 1 (min (unit_at words at 0) name_limit)
 
@@ -64,7 +64,7 @@ unfoldable pub definitions_in : List ℕ → ℕ → ℕ → List Named
 definitions_in words at zero = []
 definitions_in words at (suc count) = definition_at words at ∷ definitions_in words (at + 2) count
 
--- a link, by its expression in one section and its modifier in the other
+-- a link, by its expression in the definition section and its modifier in the linkage section
 unfoldable pub link_at : List ℕ → ℕ → List ℕ → ℕ → LinkFields
 link_at words at linkage place =
     let first = slice_index words at in
@@ -100,14 +100,14 @@ relocations_in words at (suc count) =
 
 -- ---- the whole
 
--- how many words the map has with the last word: of version 1, and of version 2
+-- the number of words of the map and the last word: of version 1, and of version 2
 abbrev pub older_map : ℕ
 older_map = 7
 
 abbrev pub newer_map : ℕ
 newer_map = 8
 
--- how far behind the first word of the map the words of the sections are
+-- the indexes in the map of the words of the sections
 abbrev pub text_index : ℕ
 text_index = 1
 
@@ -123,30 +123,30 @@ statics_index = 4
 abbrev pub symbol_index : ℕ → ℕ
 symbol_index version = if is_newer_version version then 5 else 4
 
--- and that with the entry bound
+-- the index in the map of the word with the entry bound
 abbrev pub bound_index : ℕ → ℕ
 bound_index version = if is_newer_version version then 6 else 5
 
--- where the map is, and its version by how far from the end it is
+-- the index of the map, and the version, which depends on how far the map is from the end
 unfoldable pub map_place : List ℕ → ℕ
 map_place words = left (slice_index words (length words - 1))
 
 unfoldable pub version_in : List ℕ → ℕ
 version_in words = version_of (nat_eq (map_place words + newer_map) (length words))
 
--- a word of the map, counted from 0
+-- word i of the map, counted from 0
 abbrev pub map_word : List ℕ → ℕ → ℕ
 map_word words i = slice_index words (map_place words + i)
 
--- a length that a map word tells
+-- the length that a word of the map has
 unfoldable pub told_length : List ℕ → ℕ → ℕ
 told_length words i = right (map_word words i)
 
--- a count of members, no more than there are words
+-- a number of items, at most the number of words of the list
 unfoldable pub told_count : List ℕ → List ℕ → ℕ → ℕ
 told_count words part i = min (right (slice_index part i)) (length words)
 
--- what is left of the list from each section on
+-- the rest of the list from each section on
 unfoldable pub from_definition : List ℕ → List ℕ
 from_definition words = drop (told_length words text_index) words
 
@@ -162,7 +162,7 @@ from_symbol words =
     then drop (told_length words statics_index) (from_statics words)
     else from_statics words
 
--- where the first link stands, by the head of the linkage section
+-- the offset of the first link, which the head of the linkage section has
 unfoldable pub link_start : List ℕ → ℕ
 link_start k = left (slice_index k 1)
 

@@ -1,4 +1,4 @@
--- Names that stand twice, by the least place so far of each spelling.
+-- Names that occur twice, by the least place of each name so far.
 use Rattle.std.specs.Prelude.{ℕ, zero, suc, Bool, ◌&&◌, nat_eq, if◌then◌else◌, min, List, Option}
 use Rattle.std.specs.Prelude.{None}
 use Rattle.std.specs.Option.{option_map}
@@ -9,18 +9,18 @@ use Rattle.obj36_read.specs.TableFaults.{earlier, next_definition, name_place, l
 use Rattle.obj36_read.specs.Spelled.{whole_words, last_parts}
 use Rattle.obj36_read.specs.declared.repeats.Spelling.{Spelling}
 
--- whether the name at a place is spelled so
+-- whether the name at a place has this spelling
 unfoldable pub is_spelled : List ℕ → ℕ → Spelling → Bool
 is_spelled d at s =
     pointwise nat_eq (whole_words d at) s.whole.now
     && (nat_eq (unit_at d at 0) s.length && nat_eq (last_parts d at) s.last)
 
--- the lesser of a place and that of the same name, where there is one
+-- the lesser of a place and the least place of the same name so far; None if there is none so far
 unfoldable pub least_with : List ℕ → List (Spelling × ℕ) → ℕ → Option ℕ
 least_with d places at =
     if lies_within d at then option_map (min at) (lookup (is_spelled d at) places) else None
 
--- the least of these for so many definitions from one on
+-- the least of these for `count` definitions from `at` on
 unfoldable pub least_of_each : List ℕ → List (Spelling × ℕ) → ℕ → ℕ → Option ℕ
 least_of_each d places zero at = None
 least_of_each d places (suc count) at =

@@ -1,9 +1,11 @@
-//! What a list of words tells of an object: the parts that it would spell, and where it is not as it must be.
+//! Decoding of object segments: the parts that a list of words may encode, and where the list is
+//! invalid.
 //!
-//! What is promised: of any list of fewer than 2^32 words the parts are read by counts alone, the sections one behind
-//! another and each table in order; and the first word of the map, of the sections, of the tables, of the names and of
-//! the links that is not as it must be is told, each by its own function. Both take time that grows with the list. An
-//! error is want of memory alone. Whether the parts are those of an object is judged by spelling them again.
+//! `parts_in` decodes any list of fewer than 2^32 words, by its lengths and counts alone: one
+//! section after another, and each table in order. It does not check offsets; a caller checks the
+//! parts by encoding them again. The functions `fault_of_..` each find the first invalid word of
+//! one kind: of the map, the sections, the tables, the names, and the links. All of this takes time
+//! that grows with the list. The only error is `NoMemory`.
 //!
 //! Source: the format is this project's own.
 #![tactic(auto)]

@@ -1,4 +1,4 @@
-//! The links of an object, as they stand in a list of words.
+//! Faults of the links of an object, in a list of words.
 
 ghost use Rattle.std.specs.Prelude.{ℕ, ◌≡◌, ◌+◌, ◌-◌, ◌*◌, ◌%◌, ◌^◌, ◌<◌, ◌&&◌};
 ghost use Rattle.std.specs.Prelude.{◌||◌, Option, Some, None};
@@ -118,7 +118,7 @@ fn fault_of_linkage(version: u8, d: &[Word], k: &[Word]) -> Option<u64>
     }
 }
 
-/// The place in the list of one in a section that begins at a word.
+/// An index in a section that begins at the word `from`, as an index in the whole list.
 pub fn place_behind(from: u64, place: Option<u64>) -> Option<u64>
     requires from { from < 2 ^ 18 }
     requires place { IfSome place (λ p. p < 2 ^ 20) }
@@ -144,8 +144,9 @@ fn first_place(first: Option<u64>, second: Option<u64>) -> Option<u64>
     }
 }
 
-/// The least word of a type, a link or the head of the links that is not as it must be, in a list where the definition
-/// section and the linkage section begin at these words.
+/// The first invalid word of the types of expressions, the head of the linkage section, and the
+/// links, as an index in the whole list. The definition section begins at the word `d_from`, the
+/// linkage section at the word `k_from`.
 #[tactic(auto, unfolding(crate::specs::LinkFaults::links_fault))]
 pub fn fault_of_links(version: u8, d_from: u64, d: &[Word], k_from: u64, k: &[Word]) -> Option<u64>
     requires d { d_from < 2 ^ 18 }

@@ -1,4 +1,4 @@
-//! The lists of the parts of an object, as a list of words would spell them.
+//! Decodes the lists of the parts of an object.
 
 ghost use Rattle.std.specs.Prelude.{ℕ, [], ◌++◌, ◌≡◌, ◌^◌, ◌<◌, length, OnOk};
 ghost use Rattle.obj36_read.specs.Reading.{parts_of};
@@ -26,7 +26,7 @@ pub(crate) struct Lists {
     relocations: Relocs,
 }
 
-// Lists of nothing. Their names and links are hashed by a seed.
+// Empty lists. Their names and links will be hashed with this seed.
 pub(crate) fn no_lists(alloc: Global, seed: HashSeed) -> Lists
     ensures text { result.text ≡ [] }
     ensures statics { result.statics ≡ [] }
@@ -43,7 +43,7 @@ pub(crate) fn no_lists(alloc: Global, seed: HashSeed) -> Lists
     }
 }
 
-// Adds the definitions and the links that a list of words would spell.
+// Decodes the definitions and the links of a list of words, and adds them.
 #[tactic(auto, unfolding(crate::specs::Reading::parts_of))]
 fn read_tables(definitions: &mut Defs, links: &mut Links, words: &[Word]) -> Result<(), NoMemory>
     requires { length words.now < 2 ^ 32 }
@@ -64,7 +64,7 @@ fn read_tables(definitions: &mut Defs, links: &mut Links, words: &[Word]) -> Res
     )
 }
 
-// Adds what a list of words would spell.
+// Decodes the lists of a list of words, and adds to each list of `lists` its items.
 #[tactic(auto, unfolding(crate::specs::Reading::parts_of))]
 pub(crate) fn read_lists(lists: &mut Lists, words: &[Word]) -> Result<(), NoMemory>
     requires { length words.now < 2 ^ 32 }
@@ -84,7 +84,7 @@ pub(crate) fn read_lists(lists: &mut Lists, words: &[Word]) -> Result<(), NoMemo
     read_relocations(&mut lists.relocations, symbol, count_told(words, symbol, 0))
 }
 
-// The parts of these lists, with the entry bound and the version of a list of words.
+// The parts with these lists, and with the entry bound and the version of a list of words.
 #[tactic(auto, unfolding(crate::specs::Reading::parts_of))]
 pub(crate) fn parts_with(lists: Lists, words: &[Word]) -> Parts
     requires text { lists.text ≡ (parts_of words.now).text }

@@ -1,4 +1,4 @@
-//! The map of a list of words: where its sections are.
+//! The map of a list of words, and the sections that it describes.
 
 ghost use Rattle.std.specs.Prelude.{ℕ, ◌≡◌, ◌+◌, ◌-◌, ◌^◌, ◌<◌, ◌≤◌, ◌&&◌, ◌||◌};
 ghost use Rattle.std.specs.Prelude.{length, Option, Some, None};
@@ -19,16 +19,16 @@ use m36_word::Word;
 use obj36_parts::halves::{left_of, right_of};
 use obj36_parts::sections::HEAD_WORDS;
 
-/// Where a section is, as its map word tells.
+/// The words of a section, as its map word gives them.
 #[derive(Clone, Copy)]
 pub struct Extent {
-    /// Its first word.
+    /// The index of its first word.
     pub from: u64,
-    /// How many words it has.
+    /// The number of its words.
     pub count: u64,
 }
 
-/// The sections that a map tells.
+/// The sections that a map describes.
 #[derive(Clone, Copy)]
 pub struct Extents {
     pub text: Extent,
@@ -93,8 +93,8 @@ fn fault_of_fixed(words: &[Word], version: u8) -> Option<u64>
     None
 }
 
-/// The first word of the map, or the last word, that is not as it must be. There is a word at least, and fewer than
-/// 2^32.
+/// The first invalid word of the map, or the last word of the list if it is invalid. The list has
+/// at least one word, and fewer than 2^32.
 #[tactic(auto, unfolding(crate::specs::MapFaults::map_fault))]
 pub fn fault_of_map(words: &[Word]) -> Option<u64>
     requires some { 1 ≤ length words.now }
@@ -111,7 +111,7 @@ pub fn fault_of_map(words: &[Word]) -> Option<u64>
 
 // ---- sections
 
-// How many words stand at the head of a definition section, and of a symbol section.
+// The number of words of the head of a definition section, and of a symbol section.
 const DEFINITION_HEAD: u64 = 2;
 
 const SYMBOL_HEAD: u64 = 1;
@@ -124,7 +124,8 @@ fn index_of_symbol(version: u8) -> u64
 }
 
 fn extent_of_statics(words: &[Word], version: u8) -> Extent
-    ensures value { result ≡ (if is_newer_version version then extent_at words.now statics_index else nowhere) }
+    ensures value { result
+        ≡ (if is_newer_version version then extent_at words.now statics_index else nowhere) }
     ensures from { result.from < 2 ^ 18 }
     ensures count { result.count < 2 ^ 18 }
 {
@@ -135,7 +136,7 @@ fn extent_of_statics(words: &[Word], version: u8) -> Extent
     }
 }
 
-/// Where the map tells the sections to be.
+/// The sections that the map describes.
 #[tactic(auto, unfolding(crate::specs::MapFaults::extents_of))]
 pub fn extents_told(words: &[Word]) -> Extents
     ensures value { result ≡ extents_of words.now }
@@ -160,7 +161,8 @@ fn leaves(map: u64, e: Extent, least: u64) -> bool
     map < e.from + e.count || e.count < least
 }
 
-/// The map word of the first section that ends past the map or is too short.
+/// The map word of the first section that ends past the beginning of the map or is too short for
+/// its head.
 #[tactic(auto, unfolding(crate::specs::MapFaults::section_fault, m36_text::specs::Lines::first_met))]
 pub fn fault_of_sections(words: &[Word]) -> Option<u64>
     ensures value { result ≡ section_fault words.now }
@@ -209,7 +211,7 @@ fn sections_with(e: &Extents, at: u64) -> u64
         + has_word(e.symbol, at) as u64
 }
 
-/// The first word that two sections have.
+/// The first word that is in two sections.
 #[tactic(auto, unfolding(crate::specs::MapFaults::shared_fault, crate::specs::MapFaults::first_shared))]
 pub fn fault_of_sharing(words: &[Word]) -> Option<u64>
     ensures value { result ≡ shared_fault words.now }
@@ -224,7 +226,7 @@ pub fn fault_of_sharing(words: &[Word]) -> Option<u64>
     None
 }
 
-/// The words of a section; those that there are, where it ends past the list.
+/// The words of a section, as far as the list has them.
 #[tactic(auto, unfolding(crate::specs::MapFaults::extent_words))]
 pub fn words_within(words: &[Word], e: Extent) -> &[Word]
     ensures { result.now ≡ extent_words words.now e }

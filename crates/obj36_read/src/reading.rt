@@ -1,4 +1,4 @@
-//! The parts that a list of words would spell.
+//! Decodes the parts that a list of words may encode.
 
 ghost use Rattle.std.specs.Prelude.{ℕ, [], ◌≡◌, ◌+◌, ◌-◌, ◌*◌, ◌/◌, ◌%◌, ◌^◌, ◌<◌};
 ghost use Rattle.std.specs.Prelude.{◌≤◌, ◌++◌, min, length, take, drop, slice_index, if◌then◌else◌, IfOk, OnOk};
@@ -26,13 +26,13 @@ use obj36_parts::section::Section;
 use obj36_parts::sections::{ENTRY_MARK, HEAD_WORDS, version_of};
 use std::alloc::Global;
 
-/// How many words the map of version 1 has, with the last word of the list.
+/// The number of words of a map of version 1 and the last word of the list.
 pub const OLDER_MAP: u64 = 7;
 
-/// And that of version 2.
+/// The number of words of a map of version 2 and the last word of the list.
 pub const NEWER_MAP: u64 = 8;
 
-// The word at a place, and 0 past the end.
+// The word at an index, and 0 past the end.
 pub(crate) fn word_at(words: &[Word], at: u64) -> Word
     ensures { result ≡ slice_index words.now at }
 {
@@ -43,7 +43,7 @@ pub(crate) fn word_at(words: &[Word], at: u64) -> Word
     }
 }
 
-/// What is left behind so many words.
+/// The words after the first `count`; none if there are fewer.
 pub fn behind(words: &[Word], count: u64) -> &[Word]
     ensures { result.now ≡ drop count words.now }
 {
@@ -54,7 +54,7 @@ pub fn behind(words: &[Word], count: u64) -> &[Word]
     }
 }
 
-/// The first words, at most so many.
+/// The first `count` words; all if there are fewer.
 pub fn front(words: &[Word], count: u64) -> &[Word]
     ensures { result.now ≡ take count words.now }
 {
@@ -82,7 +82,7 @@ fn part(word: Word, i: u64) -> u64
     }
 }
 
-// Part i of nine bits from a word on.
+// Part i of nine bits, counted from 0 at the left end of the word `at`.
 #[tactic(auto, unfolding(crate::specs::Reading::unit_at))]
 pub(crate) fn unit(words: &[Word], at: u64, i: u64) -> u64
     requires at { at < 2 ^ 32 }
@@ -103,7 +103,7 @@ fn put_characters(words: &[Word], at: u64, count: usize, bytes: &mut [u8; 32])
     }
 }
 
-// The name at a place.
+// The name at an index. A length over 32 is taken as 32, and each character as its low eight bits.
 #[tactic(auto, unfolding(crate::specs::Reading::name_at))]
 fn name(words: &[Word], at: u64) -> Name
     requires { at < 2 ^ 32 }
@@ -163,7 +163,7 @@ fn definition(words: &[Word], at: u64) -> Named
     }
 }
 
-// Adds the definitions that stand in a table.
+// Decodes a table of definitions, and adds them.
 pub(crate) fn read_definitions(found: &mut Defs, words: &[Word], count: u64) -> Result<(), NoMemory>
     requires { count < 2 ^ 32 }
     ensures { OnOk result
@@ -220,7 +220,7 @@ fn link(words: &[Word], at: u64, linkage: &[Word], place: u64) -> Link
     }
 }
 
-// Adds the links that stand in a table of expressions and in the linkage section.
+// Decodes the links from a table of expressions and from the linkage section, and adds them.
 pub(crate) fn read_links(
     found: &mut Links,
     words: &[Word],
@@ -260,7 +260,7 @@ fn relocation(word: Word) -> Reloc
     }
 }
 
-// Adds the relocations that stand in a table.
+// Decodes a table of relocations, and adds them.
 pub(crate) fn read_relocations(
     found: &mut Relocs,
     words: &[Word],
@@ -280,7 +280,7 @@ pub(crate) fn read_relocations(
 
 // ---- the whole
 
-// Where the map would be.
+// The index of the map, which the last word has.
 #[tactic(auto, unfolding(crate::specs::Reading::map_place))]
 pub(crate) fn place_of_map(words: &[Word]) -> u64
     ensures value { result ≡ map_place words.now }
@@ -289,7 +289,7 @@ pub(crate) fn place_of_map(words: &[Word]) -> u64
     left_of(word_at(words, (words.len() as u64).saturating_sub(1)))
 }
 
-/// The version, by how far the map is from the end.
+/// The version: 2 if the map begins eight words before the end, otherwise 1.
 #[tactic(auto, unfolding(crate::specs::Reading::version_in))]
 pub fn version(words: &[Word]) -> u8
     ensures { result ≡ version_in words.now }
@@ -297,7 +297,7 @@ pub fn version(words: &[Word]) -> u8
     version_of(place_of_map(words) + NEWER_MAP == words.len() as u64)
 }
 
-/// A length that a map word tells.
+/// The length of a section, which word `i` of the map has.
 #[tactic(auto, unfolding(crate::specs::Reading::told_length))]
 pub fn length_told(words: &[Word], i: u64) -> u64
     requires { i < newer_map }
@@ -367,7 +367,7 @@ pub(crate) fn statics(words: &[Word]) -> &[Word]
     }
 }
 
-/// How far behind map 0 the entry bound is.
+/// The index of the word with the entry bound in the map.
 pub fn index_of_bound(version: u8) -> u64
     ensures value { result ≡ bound_index version }
     ensures bound { result < newer_map }
@@ -384,18 +384,18 @@ pub(crate) fn bound(words: &[Word]) -> u64
     left_of(word_at(words, place_of_map(words) + i))
 }
 
-/// The parts that a list of fewer than 2^32 words would spell. The error is want of memory alone.
+/// Decodes the parts that a list of fewer than 2^32 words may encode. Fails only with `NoMemory`.
 pub fn parts_in(alloc: Global, words: &[Word]) -> Result<Parts, NoMemory>
     requires { length words.now < 2 ^ 32 }
     ensures { IfOk result (λ p. p ≡ parts_of words.now) }
 {
-    // All names and links are read from these words.
+    // All names and links are decoded from these words, so their digest is the seed.
     let seed = HashSeed::of_words(alloc, definition_on(words))?;
     let mut lists = no_lists(alloc, seed);
     match read_lists(&mut lists, words) {
         Ok(()) => Ok(parts_with(lists, words)),
         Err(cause) => {
-            // Dropped by a call: so the drop is proved once for its type.
+            // A call of `drop` is proved once for its type.
             drop(lists);
             Err(cause)
         }

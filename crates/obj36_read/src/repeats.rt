@@ -1,4 +1,4 @@
-//! Names that two definitions have, as they stand in a list of words.
+//! Names that two definitions have, in a list of words.
 
 ghost use Rattle.std.specs.Prelude.{ℕ, [], ◌≡◌, ◌+◌, ◌/◌, ◌%◌, ◌^◌, ◌<◌, min, length};
 ghost use Rattle.std.specs.Prelude.{Option, Some, None, IfSome, IfOk, OnOk};
@@ -18,18 +18,19 @@ use m36_text::HashSeed;
 use m36_word::{NoMemory, Word};
 use std::alloc::Global;
 
-/// How a name is spelled. Two names that lie in the section are the same exactly where they are spelled so.
+/// The words of a name. Two names that lie within the section are equal exactly if these are.
 #[derive(Clone, Copy, PartialEq, Eq, Hash)]
 struct Spelling<'a> {
     /// Its words but the last.
     whole: &'a [Word],
-    /// Its length.
+    /// The number of its characters.
     length: u64,
-    /// The parts that it has of its last word.
+    /// The characters of its last word, and of a name shorter than four also its length, as one
+    /// number.
     last: u64,
 }
 
-// So many parts of nine bits of a word and one more, as a number.
+// The first `count` + 1 parts of nine bits of a word, as one number.
 #[tactic(auto, unfolding(crate::specs::Spelled::kept_parts))]
 fn parts_kept(word: Word, count: u64) -> u64
     requires { count < 4 }
@@ -74,7 +75,7 @@ fn spelled_at(d: &[Word], at: u64) -> Spelling<'_>
     }
 }
 
-// The lesser of a place and another, where there is another.
+// The lesser of a place and another, if there is another.
 fn lesser(place: u64, other: Option<u64>) -> Option<u64>
     requires { place < 2 ^ 18 }
     ensures value { result ≡ option_map (min place) other }
@@ -86,7 +87,8 @@ fn lesser(place: u64, other: Option<u64>) -> Option<u64>
     }
 }
 
-// Keeps the place of a name, and tells the least of it and of the same names so far, where there are any.
+// Records the place of a name. If the name occurred before, returns the least place of it so far.
+// Ignores a name that is not within the section.
 fn note<'a>(
     d: &'a [Word],
     places: &mut IndexMap<Spelling<'a>, u64, HashSeed>,
@@ -108,7 +110,7 @@ fn note<'a>(
     Ok(here)
 }
 
-// The least place of a name that two definitions have, by keeping the places of all names where none is kept.
+// The least place of a name that two definitions have. The map of places is empty at first.
 fn repeats_noted<'a>(
     d: &'a [Word],
     places: &mut IndexMap<Spelling<'a>, u64, HashSeed>,
@@ -128,7 +130,7 @@ fn repeats_noted<'a>(
     Ok(found)
 }
 
-// The least place of a name that two definitions have.
+// The least place of a name that two definitions have, as an index in the definition section.
 pub(crate) fn fault_of_repeats(alloc: Global, d: &[Word]) -> Result<Option<u64>, NoMemory>
     ensures value { IfOk result (λ place.
         place ≡ repeats d.now (definition_count d.now) (first_definition d.now)) }
@@ -137,7 +139,7 @@ pub(crate) fn fault_of_repeats(alloc: Global, d: &[Word]) -> Result<Option<u64>,
     let seed = HashSeed::of_words(alloc, d)?;
     let mut places = IndexMap::with_hasher(alloc, seed);
     let found = repeats_noted(d, &mut places);
-    // Dropped by a call: so the drop is proved once for its type.
+    // A call of `drop` is proved once for its type.
     drop(places);
     found
 }

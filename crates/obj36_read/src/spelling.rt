@@ -1,4 +1,4 @@
-//! The names of a definition section, as they stand in a list of words.
+//! Faults of the names of a definition section, in a list of words.
 
 ghost use Rattle.std.specs.Prelude.{ℕ, ◌≡◌, ◌+◌, ◌-◌, ◌%◌, ◌^◌, ◌<◌, ◌&&◌};
 ghost use Rattle.std.specs.Prelude.{length, Option, Some, None, IfSome};
@@ -20,7 +20,7 @@ use m36_word::Word;
 use obj36_parts::halves::{left_of, right_of};
 use obj36_parts::names::{has_its_entry, has_its_name};
 
-// Whether a part of nine bits is a character that may stand in a name.
+// Whether a part of nine bits is a character that a name can have.
 fn is_name_unit(unit: u64) -> bool
     ensures { result ≡ is_name_character unit }
 {
@@ -138,7 +138,8 @@ fn fault_of_linked_names(d: &[Word]) -> Option<u64>
     found
 }
 
-/// The least word of a name that is not as it must be, counted from word 0 of the definition section.
+/// The first word with an invalid name, counted from word 0 of the definition section. For a name
+/// that would begin past the section, it is the word with its offset.
 #[tactic(auto, unfolding(crate::specs::TableFaults::names_fault))]
 pub fn fault_of_names(d: &[Word]) -> Option<u64>
     ensures value { result ≡ names_fault d.now }

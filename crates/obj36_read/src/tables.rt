@@ -1,4 +1,4 @@
-//! The tables of a definition section, as they stand in a list of words.
+//! Faults of the tables of a definition section, in a list of words.
 
 ghost use Rattle.std.specs.Prelude.{ℕ, ◌≡◌, ◌+◌, ◌-◌, ◌*◌, ◌/◌, ◌^◌, ◌<◌, ◌&&◌};
 ghost use Rattle.std.specs.Prelude.{◌||◌, min, length, Option, Some};
@@ -18,7 +18,7 @@ use obj36_parts::halves::{left_of, right_of};
 use obj36_parts::sections::ENTRY_MARK;
 use std::alloc::Global;
 
-// The lesser of two places, where there are any.
+// The lesser of two places, or the one that there is.
 pub(crate) fn earlier_of(first: Option<u64>, second: Option<u64>) -> Option<u64>
     requires first { IfSome first (λ p. p < 2 ^ 20) }
     requires second { IfSome second (λ p. p < 2 ^ 20) }
@@ -175,7 +175,7 @@ fn fault_of_classes(d: &[Word], last: u64) -> Option<u64>
     found
 }
 
-// ---- names that stand twice
+// ---- names that occur twice
 
 #[tactic(auto, unfolding(crate::specs::TableFaults::name_place))]
 pub(crate) fn place_of_name(d: &[Word], at: u64) -> u64
@@ -217,8 +217,9 @@ fn is_head(place: Option<u64>) -> bool
     }
 }
 
-/// The least word that holds a count, an offset, a class or a name that stands twice, where it is not as it must be,
-/// counted from word 0 of the definition section. The error is want of memory alone.
+/// The first invalid word of the tables: one that has a wrong count, offset or class, or the first
+/// word of a name that two definitions have. It is counted from word 0 of the definition section.
+/// Fails only with `NoMemory`.
 #[tactic(auto, unfolding(crate::specs::TableFaults::table_fault))]
 pub fn fault_of_tables(alloc: Global, version: u8, d: &[Word]) -> Result<Option<u64>, NoMemory>
     ensures value { IfOk result (λ place. place ≡ table_fault version d.now) }

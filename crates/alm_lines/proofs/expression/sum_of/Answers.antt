@@ -5,7 +5,7 @@ use Rattle.alm_lines.specs.Expressions.{added}
 use Rattle.alm_lines.proofs.SumLaws.{sum_more}
 use Rattle.alm_lines.proofs.expression.sum_of.Goals as goal
 
--- one term more is added, and one fewer is left
+-- one more term is added, and one fewer is left
 pub loop-rest-preserved : goal.loop-rest-preserved
 unfolding added
 loop-rest-preserved c =

@@ -3,7 +3,7 @@ use Rattle.alm_lines.specs.Sums.{IsAtMost}
 use Rattle.alm_lines.specs.Expressions.{added, sum_of}
 use Rattle.alm_lines.proofs.expression.sum_of.Given as goal
 
--- the rest, added to what has been added, come to the whole
+-- the sum so far with the rest added is the whole
 abbrev pub invariant-loop-rest : goal.invariant-loop-rest
 invariant-loop-rest l = record {
   left : length l.rest ≤ length l.terms;

@@ -2,7 +2,7 @@ use Rattle.std.proofs.Common.{◌≡◌, length}
 use Rattle.alm_lines.specs.Layout.{with_labels, labels_refused}
 use Rattle.alm_lines.proofs.layout.define_labels.Given as goal
 
--- what the rest define and what is refused of them is that of all
+-- the symbols and the refusal of the rest are those of all
 abbrev pub invariant-loop-rest : goal.invariant-loop-rest
 invariant-loop-rest l = record {
   symbols : with_labels l.text l.sum l.symbols l.rest ≡ with_labels l.text l.sum l.initial.symbols l.line.labels;

@@ -3,7 +3,7 @@ use Rattle.alm_lines.specs.Spots.{start, HasRoom}
 use Rattle.alm_lines.specs.Layout.{symbols_from, layout_refusal}
 use Rattle.alm_lines.proofs.layout.take_lines.Given as goal
 
--- what the rest define and what is refused of them is that of all
+-- the symbols and the refusal of the rest are those of all
 abbrev pub invariant-loop-rest : goal.invariant-loop-rest
 invariant-loop-rest l = record {
   room : HasRoom (length l.rest) l.spot;

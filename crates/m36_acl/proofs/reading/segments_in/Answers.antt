@@ -1,4 +1,4 @@
--- A line has a code, or none has and nothing is left.
+-- A line has a code, or none has and the text ends there.
 use Rattle.std.proofs.Common.{◌<◌, length, Ok, sym, ap, ◌∙◌, arith}
 use Rattle.std.proofs.lemmas.Bool.{eqb-true, eqb-false}
 use Rattle.std.proofs.lemmas.Result.{err_from_is_err_and}

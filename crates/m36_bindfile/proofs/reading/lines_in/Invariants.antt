@@ -2,7 +2,7 @@ use Rattle.std.proofs.Common.{◌≡◌, ◌+◌, ◌≤◌, [], length}
 use Rattle.m36_bindfile.specs.BindFile.{lines_from, lines_given}
 use Rattle.m36_bindfile.proofs.reading.lines_in.Given as goal
 
--- the rest completes the whole, and each line above took a byte at least
+-- The result for the rest is the result for the text, and each line above has at least one byte.
 abbrev pub invariant-loop-line : goal.invariant-loop-line
 invariant-loop-line l = record {
   told : lines_from l.above (lines_given l.rest) ≡ lines_from [] (lines_given l.text);

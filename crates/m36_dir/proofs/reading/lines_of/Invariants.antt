@@ -4,8 +4,8 @@ use Rattle.m36_dir.specs.BootOrder.{codes_from, all_lines, lines_given, first_co
 use Rattle.m36_dir.proofs.TextLoops.{FewLines}
 use Rattle.m36_dir.proofs.reading.lines_of.Given as goal
 
--- What is told of the rest is told of the text, the lines of the rest complete those above, and the number of the line
--- is one more than that of the lines above.
+-- The result for the rest is the result for the text. The lines above and those of the rest are all
+-- lines. The number of the line is one more than the number of lines above.
 abbrev pub invariant-loop-line : goal.invariant-loop-line
 invariant-loop-line l = record {
   told : first_told l.number (codes_from (all_lines l.text) l.above.items (lines_given l.rest)) ≡ first_code l.text;

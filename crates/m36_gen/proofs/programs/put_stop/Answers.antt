@@ -6,7 +6,7 @@ use Rattle.m36_gen.specs.Sources.{stop_lines}
 use Rattle.m36_gen.proofs.Parts.{three}
 use Rattle.m36_gen.proofs.programs.put_stop.Goals as goal
 
--- the lines of the gate, one after another
+-- the lines of the gate, in order
 pub returns : goal.returns
 unfolding stop_lines
 returns c =

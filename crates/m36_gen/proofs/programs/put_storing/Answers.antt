@@ -6,7 +6,7 @@ use Rattle.m36_gen.specs.Sources.{storing_lines}
 use Rattle.m36_gen.proofs.Parts.{three}
 use Rattle.m36_gen.proofs.programs.put_storing.Goals as goal
 
--- the lines that store, one after another
+-- the lines that store, in order
 pub returns : goal.returns
 unfolding storing_lines
 returns c =

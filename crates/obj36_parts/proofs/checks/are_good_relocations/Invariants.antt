@@ -3,7 +3,7 @@ use Rattle.std.specs.List.{list_all}
 use Rattle.obj36_parts.specs.ObjectSegment.{is_relocation}
 use Rattle.obj36_parts.proofs.checks.are_good_relocations.Given as goal
 
--- whether the rest are so decides it
+-- the result is that for the rest
 abbrev pub invariant-loop-rest : goal.invariant-loop-rest
 invariant-loop-rest l = list_all (is_relocation l.room.text l.room.inner l.room.outer l.room.version) l.rest ≡ list_all (is_relocation l.room.text l.room.inner l.room.outer l.room.version) l.relocations
 

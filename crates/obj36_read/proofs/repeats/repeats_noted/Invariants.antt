@@ -4,7 +4,7 @@ use Rattle.obj36_read.specs.TableFaults.{earlier, repeats, definition_count, fir
 use Rattle.obj36_read.specs.Repeated.{least_of_each}
 use Rattle.obj36_read.proofs.repeats.repeats_noted.Given as goal
 
--- what is found, what the rest have in common with what is behind, and the rest
+-- what is found so far, what the rest has in common with the names before, and the rest
 abbrev pub invariant-loop : goal.invariant-loop
 invariant-loop l = record {
   rest :

@@ -2,6 +2,6 @@ use Rattle.std.proofs.Common.{◌≡◌, ◌+◌, ◌-◌}
 use Rattle.obj36_read.specs.TableFaults.{are_zeros}
 use Rattle.obj36_read.proofs.spelling.have_zeros.Given as goal
 
--- the rest decides it
+-- the result is that for the rest
 abbrev pub invariant-loop-i : goal.invariant-loop-i
 invariant-loop-i l = are_zeros l.d l.at (l.from + l.i) (l.count - l.i) ≡ are_zeros l.d l.at l.from l.count
