@@ -57,12 +57,12 @@
 //! | `performs_cause` | for a fault exactly one count rose; otherwise all counts are unchanged |
 //! | `performs_files`, `performs_input` | only a program that may write or take input does so |
 //! | `performs_text` | what is written grows by the pieces, or by a prefix of them |
-//! | `performs_written` | over the same files, without input, all calls write prefixes of one text |
+//! | `performs_written` | over the same files, without input, all write prefixes of one text |
 //! | `reads_told` | over known files a program continues by what they have under the name |
 //! | `lives_comes` | a program without a dead end has a call that ends |
 //!
-//! The one text of `performs_written` is what a call that ends writes; the program has to be `Alike`
-//! to itself.
+//! The one text of `performs_written` is what a call that ends writes. The program has to be
+//! `Alike` to itself.
 //!
 //! [`read_bytes`], [`write_file`], [`put_piece`] and [`take_piece`] perform programs of one step
 //! over any world, as part of any program that may take the step. [`add_piece`], [`add_line`],
