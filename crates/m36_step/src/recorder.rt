@@ -15,7 +15,7 @@ pub(crate) trait Recorder {
     ghost use Rattle.m36_model.specs.declared.place.Reference.{Reference};
     ghost use Rattle.m36_step.specs.declared.ended.Ended.{Ended};
 
-    /// The number of references that are stored, 0 if the recorder stores none. There is room for 40.
+    /// The number of references that are stored, 0 if it stores none. There is room for 40.
     ghost taken: { Self → ℕ };
 
     /// The place of the instruction, if the recorder has it.
