@@ -23,9 +23,9 @@ one_more_kept after first kept k all is = All-push (λ k. k.state ≡ state_at a
 
 pub ruleset keeping = (first_kept, some_kept, one_more_kept)
 
--- ---- a machine that remembers where it came from
+-- ---- the invariant of a machine that can go back
 
--- nothing was taken yet
+-- no step was taken yet
 pub new_history :
     {M : Type 0} (after : M → M) (first machine : M) (kept : List (Kept M))
     → first ≡ machine → kept ≡ [] → IsHistory after first machine 0 kept

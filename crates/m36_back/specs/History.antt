@@ -1,5 +1,5 @@
 -- The history of a machine whose turns are a function of its state: the first state, the state
--- after the one turn from it, the state after the one turn from that, and so on.
+-- that the turn from it leaves, the state that the turn from that leaves, and so on.
 use Rattle.std.specs.Prelude.{ℕ, zero, suc, ◌≡◌, ◌-◌, ◌<◌, ◌≤◌, ◌==◌, if◌then◌else◌}
 use Rattle.m36_step.specs.Counting.{most_taken, counted}
 use Rattle.m36_step.specs.declared.turns.Turn.{Turn}
@@ -12,18 +12,18 @@ unfoldable pub state_at : {M : Type 0} → (M → M) → M → ℕ → M
 state_at after first zero = first
 state_at after first (suc n) = after (state_at after first n)
 
--- a first state, and how many steps were taken from there and not taken back
+-- a first state, and the count of steps that were taken from there and not taken back
 pub record History (M : Type 0) : Type 0 where
   pub first : M
   pub taken : ℕ
 
--- the state where the machine stands
+-- the current state of the machine
 abbrev pub standing_at : {M : Type 0} → (M → M) → History M → M
 standing_at after h = state_at after h.first h.taken
 
 -- ---- turns
 
--- A turn is that of the machine, but where no more steps can be counted.
+-- A turn is a turn of the machine, unless the count of steps is at its maximum.
 abbrev pub past_answer : {M : Type 0} → (M → Turn) → (M → M) → History M → Turn
 past_answer answer after h =
     if h.taken == most_taken then Full else answer (standing_at after h)
@@ -39,7 +39,8 @@ PastTurns answer after before turn later =
 
 -- ---- going back
 
--- So many steps are taken back, where so many were taken; want of memory is free.
+-- Done: n steps are taken back, and at least n were taken. NoMemory is always allowed in that
+-- case.
 abbrev pub PastWent : {M : Type 0} → History M → ℕ → BackAnswer → History M → Type 0
 PastWent before n back.Done later =
     (n ≤ before.taken) × (later ≡ record { first = before.first; taken = before.taken - n })

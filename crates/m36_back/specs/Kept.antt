@@ -3,11 +3,11 @@ use Rattle.std.specs.Prelude.{ℕ, ◌≡◌, ◌<◌, ◌^◌, List, All}
 use Rattle.m36_back.specs.History.{state_at}
 use Rattle.m36_back.specs.declared.kept.Kept.{Kept}
 
--- each is the state of its number
+-- each kept state is the state of the history with its number
 abbrev pub AllKept : {M : Type 0} → (M → M) → M → List (Kept M) → Type 0
 AllKept after first kept = All (λ k. k.state ≡ state_at after first k.at) kept
 
--- what is known of a machine that stands where so many steps from its first state lead
+-- the invariant of a machine that is `taken` steps after its first state
 pub record IsHistory {M : Type 0} (after : M → M) (first machine : M) (taken : ℕ)
     (kept : List (Kept M)) : Type 0 where
   pub bound : taken < 2 ^ 64

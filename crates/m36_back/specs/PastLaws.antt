@@ -10,7 +10,7 @@ use Rattle.m36_step.specs.declared.turns.BackAnswer.{BackAnswer}
 use Rattle.m36_step.specs.declared.turns.BackAnswer.TheVariants as back
 use Rattle.m36_back.specs.History.{History, state_at, standing_at, past_answer, PastTurns, PastWent}
 
--- whoever has not gone back stays
+-- going back changes nothing unless it answers Done
 pub past_stays :
     {M : Type 0} (before : History M) (n : ℕ) (answer : BackAnswer) (later : History M)
     → PastWent before n answer later → IsDone answer ⊎ (later ≡ before)
@@ -33,7 +33,7 @@ no_service_if :
 no_service_if Same true turn kept service = service
 no_service_if Same false turn kept service = no_service Same turn kept service
 
--- a service is not followed by another, since there is none
+-- a service is not followed by another, since there are no services
 pub past_apart :
     {M : Type 0} (answer : M → Turn) (after : M → M)
     (kept : (state : M) → IsStepOrEnd (after state ≡ state) (answer state))
@@ -57,7 +57,7 @@ no_step_if : (full : Bool) (turn : Turn)
 no_step_if true turn none step = step
 no_step_if false turn none step = none step
 
--- it is a step, and so it counts
+-- a turn that interrupts is a step, and counts 1
 counts_one : (Same : Type 0) (taken : ℕ) (turn : Turn)
     → IsStepOrEnd Same turn → Interrupts turn → counted taken turn ≡ suc taken
 counts_one Same taken (Stepped told) kept interrupts = add-one taken

@@ -8,7 +8,7 @@ use m36_step::Replay;
 use m36_word::NoMemory;
 use std::alloc::Global;
 
-/// The most states that are kept besides the first.
+/// The maximum number of kept states, without the first state.
 const MOST_KEPT: usize = 8;
 
 /// A state that is kept, with its number in the history.
@@ -18,8 +18,8 @@ pub struct Kept<M> {
     pub state: M,
 }
 
-/// A copy of the latest state that is kept and whose number is not over `target`; of the first state where there is none.
-/// The error is want of memory alone.
+/// A copy of the last kept state whose number is at most `target`, or of the first state if there
+/// is none. Fails only with `NoMemory`.
 #[tactic(auto, unfolding(crate::specs::History::state_at))]
 pub(crate) fn nearest<M: Replay + Drop>(
     alloc: Global,
@@ -45,7 +45,7 @@ pub(crate) fn nearest<M: Replay + Drop>(
     Ok(Kept { at: 0, state })
 }
 
-/// Drops the states whose numbers are over `target`.
+/// Drops the states whose numbers are greater than `target`.
 #[tactic(auto, using(crate::proofs::KeptLaws::keeping))]
 pub(crate) fn drop_later<M: Replay + Drop>(kept: &mut Vec<Kept<M>>, target: u64)
     ensures { (first : M) → AllKept M.after first kept.old.items → AllKept M.after first kept.new.items }
@@ -60,7 +60,7 @@ pub(crate) fn drop_later<M: Replay + Drop>(kept: &mut Vec<Kept<M>>, target: u64)
     }
 }
 
-/// Drops the states whose numbers have any of these bits.
+/// Drops the states whose numbers have any bit of `mask`.
 #[tactic(auto, using(crate::proofs::KeptLaws::keeping))]
 fn thin<M: Replay + Drop>(kept: &mut Vec<Kept<M>>, mask: u64)
     ensures { (first : M) → AllKept M.after first kept.old.items → AllKept M.after first kept.new.items }
@@ -68,8 +68,8 @@ fn thin<M: Replay + Drop>(kept: &mut Vec<Kept<M>>, mask: u64)
     kept.retain(|k| -> bool { k.at & mask == 0 });
 }
 
-// Keeps a copy of the state with number `taken`. Where eight are kept already the distance is doubled first, and the state may
-// be due no longer.
+// Keeps a copy of the state with number `taken`. If eight are kept already, doubles the distance
+// first; then the state may no longer have to be kept.
 #[cold]
 #[inline(never)]
 #[tactic(auto, using(crate::proofs::KeptLaws::keeping))]
@@ -100,9 +100,10 @@ fn keep_due<M: Replay + Drop>(
     mask
 }
 
-/// Keeps a copy of the state with number `taken`, where one is due: where the number has none of the bits of `mask`, which are
-/// those below the distance, a power of 2. Where eight are kept already the distance is doubled first. Answers the mask from
-/// then on. A copy that finds no memory is not kept.
+/// Keeps a copy of the state with number `taken` if the number has no bit of `mask`. The mask has
+/// the bits below the distance of kept states, which is a power of 2. If eight are kept already,
+/// doubles the distance first. Returns the new mask. If there is no memory for a copy, it is not
+/// kept.
 #[inline]
 #[tactic(auto, using(crate::proofs::KeptLaws::keeping))]
 pub(crate) fn keep<M: Replay + Drop>(

@@ -1,16 +1,18 @@
 //! Stepping back.
 //!
-//! A [`Past`] is a machine that remembers where it came from. It is seen as its first state and the count of steps that
-//! were taken from there and not taken back; it stands in the state of its history with that number. A turn is that of the
-//! machine inside. Going back by some steps lowers the count by exactly these, and so restores registers and core alike;
-//! where fewer were taken, or no memory is found, nothing changes.
+//! A [`Past`] is a machine that can go back. Its model is its first state and the count of steps
+//! that were taken from there and not taken back; it is in the state of its history with that
+//! number. A turn is a turn of the machine inside. Going back by n steps lowers the count by
+//! exactly n, and so restores both registers and core. If fewer steps were taken, or memory runs
+//! out, nothing changes.
 //!
-//! A `Past` keeps the first state, and a copy of its machine every so often: every 1,024 steps to begin with, at most eight
-//! at a time. When a ninth is due, every second goes, and from then on copies stand twice as far apart. Going back copies
-//! the nearest earlier state and steps it forward. What is kept, and how much, shows in no contract: it is a matter of
-//! speed and of memory, and a copy that finds no memory is not kept.
+//! A `Past` keeps the first state and at most eight copies of later states, at first one every
+//! 1,024 steps. Before a ninth is kept, every second is dropped, and the distance doubles. To go
+//! back it copies the nearest earlier state and takes the turns from there again. No contract says
+//! what is kept, or how much: that affects only speed and memory. If there is no memory for a
+//! copy, it is not kept.
 //!
-//! `specs/History.antt` has what turns and going back are. Nothing of this is in the processor.
+//! `specs/History.antt` defines turns and going back. The processor has nothing like it.
 #![tactic(auto)]
 
 mod kept;

@@ -11,10 +11,11 @@ use m36_word::Word;
 use std::alloc::Global;
 use std::marker::Model;
 
-/// The states that are kept stand 1,024 steps apart to begin with.
+/// The mask of the first distance: a state is kept every 1,024 steps.
 const FIRST_MASK: u64 = 1024 - 1;
 
-/// A machine that goes back. It is seen as its first state and how many steps were taken from there and not taken back.
+/// A machine that can go back. Its model is its first state and the count of steps that were taken
+/// from there and not taken back.
 #[derive(Drop)]
 pub struct Past<M: Replay> {
     alloc: Global,
@@ -22,7 +23,7 @@ pub struct Past<M: Replay> {
     machine: M,
     taken: u64,
     kept: Vec<Kept<M>>,
-    // A state is kept where its number has none of these bits.
+    // A state is kept if its number has no bit of the mask.
     mask: u64,
 }
 
@@ -38,8 +39,8 @@ impl<M: Replay> Model for Past<M> {
 }
 
 impl<M: Replay + Drop> Past<M> {
-    /// A machine that goes back to where it stands now. It keeps the allocator. Where no memory is found, the machine is
-    /// handed back.
+    /// A machine that can go back to the current state of `m`. It keeps the allocator. If memory
+    /// runs out, the error is the machine `m`.
     #[tactic(auto, using(crate::proofs::KeptLaws::new_history))]
     pub fn new(alloc: Global, m: M) -> Result<Past<M>, M>
         ensures { MatchResult result (λ past. past ≡ record { first = m; taken = 0 }) (λ back. back ≡ m) }
@@ -57,7 +58,7 @@ impl<M: Replay + Drop> Past<M> {
         }
     }
 
-    /// How many steps were taken and not taken back.
+    /// The count of steps that were taken and not taken back.
     pub fn taken(&self) -> u64
         ensures { result ≡ self.now.taken }
     {
@@ -88,7 +89,8 @@ impl<M: Replay + Drop> Stepper for Past<M> {
 
     ghost content = { λ h seg word. M.content (standing_at M.after h) seg word };
 
-    /// A turn of the machine inside. Full is answered exactly where 2^64 - 1 steps are counted, and then nothing changes.
+    /// A turn of the machine inside. Answers Full exactly if the count is 2^64 - 1, and then
+    /// changes nothing.
     #[inline]
     fn turn_into(&mut self, turn: &mut Turn) {
         if self.taken == u64::MAX {
@@ -108,7 +110,8 @@ impl<M: Replay + Drop> Stepper for Past<M> {
         }
     }
 
-    /// Goes back: Before exactly where fewer steps were taken. With every answer but Done nothing has changed.
+    /// Goes back by n steps. Answers Before exactly if fewer steps were taken. Nothing changes
+    /// unless it answers Done.
     fn back(&mut self, n: u32) -> BackAnswer {
         let n = n as u64;
         if self.taken < n {

@@ -1,11 +1,11 @@
-//! Steps that are taken again.
+//! Takes turns again.
 
 ghost use Rattle.std.specs.Prelude.{ℕ, ◌≡◌, ◌+◌};
 ghost use Rattle.m36_back.specs.History.{state_at};
 
 use m36_step::{Replay, Turn};
 
-/// Takes so many turns of a machine.
+/// Takes `turns` turns of a machine.
 #[tactic(auto, unfolding(crate::specs::History::state_at))]
 pub(crate) fn replay<M: Replay>(machine: &mut M, turns: u64)
     ensures { (first : M) (n : ℕ) → machine.old ≡ state_at M.after first n

@@ -32,7 +32,7 @@ odd_served g p word m refs refs' core w at e h joined =
     let one : with_odd (request Odd (at_point p (word + 1)) 1 []) (refs ++ indirect_reference p word 1 ∷ []) ≡ refs' = rw (odd_joins (request Odd (at_point p (word + 1)) 1 []) refs (indirect_reference p word 1), n) (sym joined) in
     rw (e, one) at h
 
--- a reference that is served goes on by its reply
+-- a reference that is served continues by its reply
 pub run_ask : {A : Type 0} (g : RegsFields) (q : Request) (next : Result Answer Fault → Act A) (m : Mid (List ℕ)) (t : Served (List ℕ)) → serve core_store g m q ≡ t → run core_store g (ask q next) m ≡ run core_store g (next t.reply) t.mid
 unfolding run
 run_ask g q next m t e = ap (λ (s : Served (List ℕ)). run core_store g (next s.reply) s.mid) e
@@ -59,7 +59,7 @@ module _ (g : RegsFields) (p : Point) (word : ℕ) (held : Option ℕ) (m m' : M
   pub follows_refused : (f : Fault) → ServesIndirect g p word m m'.core (Err f) → reading ≡ after m'.core refs (Err f)
   follows_refused f h = run_ask g (indirect Indirect p word) _ (standing m.core [] refs) _ (h refs)
 
-  -- after the word that was read
+  -- after the even word was read
   after_even : (w : ℕ) (f : Found) → ServesIndirect g p word m m'.core (Ok w) → f ≡ found word w → reading ≡ run core_store g (after_word next g p word held (even w) f) (standing m'.core [] one_more)
   after_even w f h e =
       run_ask g (indirect Indirect p word) _ (standing m.core [] refs) _ (h refs) ∙ ap (λ (x : Found). run core_store g (after_word next g p word held (even w) x) (standing m'.core [] one_more)) (sym e)
@@ -105,7 +105,7 @@ module _ (g : RegsFields) (p : Point) (m m' : Memory) (refs : List Reference) (n
     after_read i e =
         run_ask g (indirect Indirect p p.y) _ (standing m.core [] refs) _ (h refs) ∙ ap (λ (x : Bool). run core_store g (after_tally p (p.tag % 16) (tally_read w) x) (standing m'.core [] one_tally)) e
 
-    -- the tag I leaves its word
+    -- the tag I does not change its word
     pub counts_indirect_only : (p.tag % 16 == indirect_only) ≡ true → counting ≡ counted_end m'.core one_tally (Ok (record { last = final_at p (tally_address w) None; tally = None; place = 0 }))
     counts_indirect_only e =
         after_read true e ∙ run_done g _ (standing m'.core [] one_tally)
@@ -125,7 +125,7 @@ module _ (g : RegsFields) (p : Point) (m m' : Memory) (refs : List Reference) (n
       counts_claimed place e c =
           after_read false e ∙ run_ask g (indirect Write p p.y) _ (standing m'.core [] one_tally) _ (c g dbr [] one_tally []) ∙ run_done g _ _
 
--- One turn of a chain, by what the tag of its point does.
+-- One step of a chain, by what the tag of its point does.
 module _ (g : RegsFields) (p : Point) (m : Mid (List ℕ)) where
   turn_of : (n : ℕ) (v : Move) (r : Ran (Result ChainEnd Halt) (List ℕ)) → v ≡ move_of_point g p → run core_store g (chain_exhausted p v) m ≡ r → ((k : ℕ) → run core_store g (chain_by (chain k g) g p v) m ≡ r) → run core_store g (chain n g p) m ≡ r
   unfolding chain
@@ -140,7 +140,7 @@ module _ (g : RegsFields) (p : Point) (m : Mid (List ℕ)) where
   pub chain_fails : (n : ℕ) (h : Halt) → Fails h ≡ move_of_point g p → run core_store g (chain n g p) m ≡ record { value = Err h; mid = m }
   chain_fails n h e = turn_of n (Fails h) _ e (run_done g _ m) (λ k. run_done g _ m)
 
-  -- where no more indirect word may be read
+  -- no more indirect words may be read
   pub chain_locks : (word : ℕ) (held : Option ℕ) → Reads word held ≡ move_of_point g p → run core_store g (chain 0 g p) m ≡ record { value = Err (lockup p word); mid = m }
   unfolding chain
   chain_locks word held e =
@@ -151,7 +151,7 @@ module _ (g : RegsFields) (p : Point) (m : Mid (List ℕ)) where
   chain_locks_tally e =
       ap (λ (x : Move). run core_store g (chain_exhausted p x) m) (sym e) ∙ run_done g _ m
 
-  -- where it may
+  -- more indirect words may be read
   pub chain_reads : (n k : ℕ) (v : Move) → n ≡ suc k → v ≡ move_of_point g p → run core_store g (chain n g p) m ≡ run core_store g (chain_by (chain k g) g p v) m
   unfolding chain
   chain_reads n k v less e =

@@ -1,4 +1,4 @@
--- A formed address: what the program of an address chain gives over core.
+-- A formed address: the result of the program of an address chain over core.
 use Rattle.std.specs.Prelude.{ℕ, ◌≡◌, ◌<◌, List, [], ◌∷◌, ◌++◌, Option, Some, None, Result, Ok, Err}
 use Rattle.m36_inst.specs.Fields.{InstFields}
 use Rattle.m36_model.specs.Fields.{FinalFields}
@@ -14,18 +14,18 @@ use Rattle.m36_model.specs.declared.place.Reference.{Reference}
 use Rattle.m36_model.specs.declared.place.Kind.TheVariants as reference
 use Rattle.m36_walk.specs.Served.{standing}
 
--- the program that forms the address of an instruction, over core, in a step that has completed
--- these references and claimed nothing
+-- the program that forms the address of an instruction, run over core, in a step that has
+-- completed these references and claimed no write
 abbrev pub formed_from :
     RegsFields → InstFields → List ℕ → List Reference → Ran (Result ChainEnd Halt) (List ℕ)
 formed_from g i core refs = run core_store g (formation g i) (standing core [] refs)
 
--- where a step stands that has claimed the tally word of its address alone, if there is one
+-- the state of a step that has claimed only the tally word of its address, if there is one
 abbrev pub formed_mid : List ℕ → Formed → List Reference → Mid (List ℕ)
 formed_mid core f refs = standing core (claimed_by f.tally f.place) refs
 
--- how an answer of the code ends it: the address, the place of the tally word, if there is one, as
--- the step's first claim, and core and the references as they stand
+-- How a result of the code ends that run: with the address, the place of the tally word, if there
+-- is one, as the step's first claim, and with this core and these references.
 abbrev pub ended :
     List ℕ → List Reference → Result Formed Halt → Ran (Result ChainEnd Halt) (List ℕ)
 ended core refs (Ok f) = record { value = Ok (chain_end_fields f); mid = formed_mid core f refs }
@@ -35,11 +35,12 @@ ended core refs (Err h) = record { value = Err h; mid = standing core [] refs }
 abbrev pub plain : FinalFields → Formed
 plain last = record { last = last; tally = None; place = 0 }
 
--- this is the last of the references
+-- `r` is the last of the references
 abbrev pub EndsIn : List Reference → Reference → Type 0
 EndsIn refs r = (before : List Reference) × (refs ≡ before ++ r ∷ [])
 
--- A tally word lies in core, and was referenced last, as a Write. Without one the place is 0.
+-- The tally word has a place in core, and its Write is the last reference. Without a tally word
+-- the place is 0.
 abbrev pub TallyLies : Option Tally → ℕ → ℕ → List Reference → Type 0
 TallyLies None place size refs = place ≡ 0
 TallyLies (Some t) place size refs =

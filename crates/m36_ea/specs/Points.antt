@@ -1,4 +1,4 @@
--- What the code finds at a point of a chain, as the definitions say it.
+-- How the code's view of a point of a chain maps to that of the definitions.
 use Rattle.std.specs.Prelude.{ℕ, ◌≡◌, ◌+◌, ◌%◌, ◌<◌, ◌^◌, IfSome, List, [], ◌∷◌, ◌++◌, Option}
 use Rattle.std.specs.Prelude.{Result, Ok, Err}
 use Rattle.m36_desc.specs.Fields.{SdwFields}
@@ -22,27 +22,27 @@ use Rattle.m36_ea.specs.declared.modification.Action.TheVariants as action
 use Rattle.m36_ea.specs.declared.indirect.Format.{Format}
 use Rattle.m36_ea.specs.declared.indirect.Format.TheVariants as format
 
--- what a tag does
+-- what a tag does, in the terms of the definitions
 abbrev pub move_is : Action → Move
 move_is (action.Ends last) = Ends last
 move_is (action.Fails h) = Fails h
 move_is (action.Reads word held) = Reads word held
 move_is action.Counts = Counts
 
--- word numbers and registers have 18 bits
+-- word numbers and held registers have 18 bits
 abbrev pub IsInRange : Action → Type 0
 IsInRange (action.Ends last) = Unit {0}
 IsInRange (action.Fails h) = Unit {0}
 IsInRange (action.Reads word held) = (word < 2 ^ 18) × IfSome held (λ h. h < 2 ^ 18)
 IsInRange action.Counts = Unit {0}
 
--- what an indirect word is
+-- the format of an indirect word, in the terms of the definitions
 abbrev pub found_is : Format → Found
 found_is format.Plain = Plain
 found_is format.Its = Its
 found_is format.Itp = Itp
 
--- the even word of a pair has an even number, so the odd word comes behind it
+-- The even word of a pair has an even word number, so the odd word follows it in the segment.
 abbrev pub FollowsEven : ℕ → Format → Type 0
 FollowsEven word format.Plain = Unit {0}
 FollowsEven word format.Its = word % 2 ≡ 0
@@ -53,22 +53,22 @@ abbrev pub indirect_reference : Point → ℕ → ℕ → Reference
 indirect_reference p word count =
     record { kind = reference.Indirect; at = at_point p word; count = count }
 
--- A reference to one word that is answered tells the word and completes the reference; one that is
--- refused completes nothing. The step has claimed nothing.
+-- The answer to a reference to one word. If it succeeds, it returns the word and completes the
+-- reference; if it is refused, it completes nothing. The step has claimed no write.
 abbrev pub told_word :
     SdwFields → List ℕ → List Reference → List Reference → Result ℕ Fault → Served (List ℕ)
 told_word d core answered refused (Ok w) =
     record { reply = Ok (answer_of_words d [] (w ∷ [])); mid = standing core [] answered }
 told_word d core answered refused (Err f) = record { reply = Err f; mid = standing core [] refused }
 
--- The word of a point at a word number, whatever was referenced before it.
+-- The result is the word of a point at a word number, whatever was referenced before it.
 abbrev pub ServesIndirect : RegsFields → Point → ℕ → Memory → List ℕ → Result ℕ Fault → Type 0
 ServesIndirect g p word m core' result =
     (refs : List Reference)
     → serve core_store g (standing m.core [] refs) (indirect Indirect p word)
     ≡ told_word (sdw_in m p.seg) core' (refs ++ indirect_reference p word 1 ∷ []) refs result
 
--- The odd word of a pair, whose even word was referenced before it.
+-- The result is the odd word of a pair whose even word was referenced before it.
 abbrev pub ServesOdd :
     RegsFields → Point → ℕ → Memory → List Reference → List ℕ → List Reference → Result ℕ Fault
     → Type 0
@@ -77,12 +77,12 @@ ServesOdd g p word m refs core' refs' result =
     (indirect Odd p (word + 1))
     ≡ told_word (sdw_in m p.seg) core' refs' refs' result
 
--- what goes on at the next point, or has ended by a fault
+-- continues at the next point, or ends with a fault
 abbrev pub goes_on : (Point → Formation) → Result Point Fault → Formation
 goes_on next (Ok p) = next p
 goes_on next (Err f) = done (Err (halt.Fault f))
 
--- Whatever follows, the chain that reads its indirect word here goes on so.
+-- A chain that reads its indirect word here continues with this result, whatever comes next.
 abbrev pub Follows :
     RegsFields → Point → ℕ → Option ℕ → List ℕ → List Reference → List ℕ → List Reference
     → Result Point Fault → Type 0
@@ -91,7 +91,7 @@ Follows g p word held core refs core' refs' result =
     → run core_store g (chain_by next g p (Reads word held)) (standing core [] refs)
     ≡ run core_store g (goes_on next result) (standing core' [] refs')
 
--- The chain that reads a tally word here ends so.
+-- the end of a chain that reads a tally word
 abbrev pub counted_end :
     List ℕ → List Reference → Result Formed Fault → Ran (Result ChainEnd Halt) (List ℕ)
 counted_end core refs (Ok f) = ended core refs (Ok f)

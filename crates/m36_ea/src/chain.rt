@@ -1,4 +1,4 @@
-//! The address chain, and the address that it ends at.
+//! Runs an address chain to the address that it ends at.
 
 ghost use Rattle.std.specs.Prelude.{◌≡◌, ◌+◌, ◌<◌, ◌≤◌, ◌^◌, Ok, IfOk, IfSome, IfNone, List, length, option_map, ℕ};
 ghost use Rattle.m36_model.specs.Chain.{lockup, pending_of, claimed_by};
@@ -15,10 +15,10 @@ use m36_inst::Inst;
 use m36_model::{Final, Formed, Halt, Refs, Regs};
 use m36_walk::{Pending, Walk};
 
-/// How many indirect words an address may have.
+/// The maximum number of indirect words of an address.
 const INDIRECT_WORDS: u8 = 16;
 
-/// The lockup fault of an indirect word past the last that an address may have.
+/// The lockup fault, fault 7: an indirect word after the last one that an address may have.
 fn lockup(tpr: &Tpr, word: u32) -> Halt
     requires { word < 2 ^ 18 }
     ensures { result ≡ lockup tpr.now word }
@@ -26,12 +26,13 @@ fn lockup(tpr: &Tpr, word: u32) -> Halt
     Halt::Fault(fault(7, tpr.at(word)))
 }
 
-/// Forms the address of an instruction. `walk` has the descriptor segment of `regs`, and the step has at most 4 completed
-/// references; at most 17 are added.
+/// Forms the address of an instruction. `walk` has the descriptor segment of `regs`. The step has
+/// completed at most 4 references before; at most 17 are added.
 ///
-/// The answer, core, and the completed references are those of the address chain. A fault or a stop is told as the chain
-/// tells it, and leaves core as it was but for the marks of the references that were completed. A tally word that was
-/// counted is not written yet: its new value and its place are in the answer, and its Write is the last of the references.
+/// The result, core and the completed references are those of the address chain. After a fault or
+/// a stop core is unchanged, except for marks. A tally word that was counted is not written yet:
+/// the result has its new value and its place in core, and its Write is the last of the
+/// references.
 pub fn effective(walk: &mut Walk, regs: &Regs, inst: &Inst, refs: &mut Refs) -> Result<Formed, Halt>
     requires dbr { walk.old.dbr ≡ regs.now.dbr }
     requires room { length refs.old.items ≤ 4 }
@@ -72,8 +73,9 @@ pub fn effective(walk: &mut Walk, regs: &Regs, inst: &Inst, refs: &mut Refs) -> 
     }
 }
 
-/// The address of an instruction by its tag alone, where that is one of register modification: such an address makes no
-/// reference, and nothing refuses it. None says that the tag is another, and that `effective` has to form the address.
+/// The address of an instruction whose tag is one of register modification. Such an address makes
+/// no reference and cannot be refused. None: the tag is another one, and `effective` has to form
+/// the address.
 #[inline(always)]
 pub fn plain_address(regs: &Regs, inst: &Inst) -> Option<Final>
     ensures forms { IfSome result (λ last. (core : List ℕ) (refs : List Reference)
@@ -90,7 +92,8 @@ pub fn plain_address(regs: &Regs, inst: &Inst) -> Option<Final>
     }
 }
 
-/// The tally word of an address, as the references of the operand are to see it.
+/// The tally word of an address, for the references of the operand, which have to see its new
+/// value.
 #[tactic(auto, unfolding(m36_model::specs::Store::changes))]
 pub fn pending(formed: &Formed) -> Option<Pending>
     ensures value { result

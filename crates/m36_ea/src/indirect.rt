@@ -1,4 +1,4 @@
-//! Indirect words: plain ones, pairs, and tally words.
+//! Reads indirect words: plain ones, pairs, and tally words.
 
 ghost use Rattle.std.specs.Prelude.{◌≡◌, ◌+◌, ◌<◌, ◌≤◌, ◌^◌, [], ◌∷◌, ◌++◌, IfOk, IfSome};
 ghost use Rattle.std.specs.Prelude.{length};
@@ -16,7 +16,7 @@ use m36_model::{At, Fault, Final, Formed, Kind, Reference, Refs, Regs, Tally};
 use m36_walk::Walk;
 use m36_word::{Field, Pair, Word};
 
-/// What an indirect word is.
+/// The format of an indirect word.
 #[derive(Clone, Copy)]
 pub(crate) enum Format {
     /// An address and a tag.
@@ -27,7 +27,8 @@ pub(crate) enum Format {
     Itp,
 }
 
-/// The tags of pairs count at even word numbers alone.
+/// The format of the indirect word `w` at this word number. A pair begins only at an even word
+/// number.
 #[tactic(auto, unfolding(m36_model::specs::Chain::found))]
 #[inline(always)]
 pub(crate) fn format_of(word: u32, w: Word) -> Format
@@ -44,7 +45,7 @@ pub(crate) fn format_of(word: u32, w: Word) -> Format
     }
 }
 
-/// Adds a completed reference, which begins at a word.
+/// Appends a completed reference to `count` words from `at` on.
 #[inline(always)]
 pub fn complete(refs: &mut Refs, kind: Kind, at: At, count: u8)
     requires { length refs.old.items < 40 }
@@ -55,7 +56,7 @@ pub fn complete(refs: &mut Refs, kind: Kind, at: At, count: u8)
     refs.push(Reference { at, kind, count });
 }
 
-/// Reads an indirect word. With it goes the first ring bracket of its segment.
+/// Reads an indirect word. Returns it with the first ring bracket of its segment.
 fn indirect_word(walk: &mut Walk, regs: &Regs, tpr: &Tpr, word: u32) -> Result<(Word, u8), Fault>
     requires dbr { walk.old.dbr ≡ regs.now.dbr }
     requires word { word < 2 ^ 18 }
@@ -69,8 +70,8 @@ fn indirect_word(walk: &mut Walk, regs: &Regs, tpr: &Tpr, word: u32) -> Result<(
     walk.indirect(tpr.at(word), procedure_segment(regs))
 }
 
-/// Reads the odd word of a pair, and completes the reference: to both words, or where the odd word is refused, to the
-/// even word alone.
+/// Reads the odd word of a pair, and appends the completed reference: to both words or, if the odd
+/// word is refused, to the even word alone.
 fn odd_word(
     walk: &mut Walk,
     regs: &Regs,
@@ -99,8 +100,8 @@ fn odd_word(
     }
 }
 
-/// Reads the indirect word at word number `word`, with the odd word of a pair, and goes on from it. The register is
-/// held from then on.
+/// Reads the indirect word at word number `word`, with the odd word of a pair, and returns the
+/// next point. The register is held from there on.
 pub(crate) fn follow(
     walk: &mut Walk,
     regs: &Regs,
@@ -147,8 +148,8 @@ pub(crate) fn formed(last: Final) -> Formed
     }
 }
 
-/// Reads the tally word at the point's address, which ends the chain. All tags but I count it: they reference it as a
-/// Write, and give its new value.
+/// Reads the tally word at the point's address, which ends the chain. All tags except I count it:
+/// they also reference it as a Write, and return its new value.
 pub(crate) fn count(
     walk: &mut Walk,
     regs: &Regs,

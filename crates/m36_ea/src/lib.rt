@@ -1,17 +1,20 @@
-//! Address formation: from an instruction to the word that it works on.
+//! Address formation: from an instruction to the address of the word that it works on.
 //!
-//! The instruction gives the first point of a chain: a segment, a ring, an address and a tag. The tag of a point either
-//! ends the chain, or gives a fault or a stop, or sends it on through an indirect word: a plain one, a pair ITS or ITP, or a
-//! tally word, which ends it. An address reads at most 16 indirect words; a pair counts as one. On the way the ring never
-//! falls: each pair raises it to the ring that it names and to the first bracket of the segment that holds it.
+//! The instruction gives the first point of a chain: a segment, a ring, an address and a tag. The
+//! tag of a point does one of three things. It ends the chain; it gives a fault or a stop; or it
+//! leads on through an indirect word: a plain one, an ITS or ITP pair, or a tally word, which ends
+//! the chain. An address reads at most 16 indirect words; a pair counts as one. The ring never
+//! falls on the way: each pair raises it to the ring that the pair names and to the first ring
+//! bracket of the segment that has the pair.
 //!
-//! The contract of [`effective`] is that its answer, core, and the completed references are those of the address chain
-//! over core as it stands. It never ends for want of memory. A tally word is counted, and its Write is examined and marked; its new
-//! value is written by the instruction, together with all else that it writes, and until then [`pending`] tells it to the
-//! references of the operand.
+//! By the contract of [`effective`] its result, core and the completed references are those of the
+//! address chain over core. It cannot run out of memory. If it counts a tally word, the Write of
+//! this word is checked and marked, but its new value is not written: the instruction writes it
+//! together with everything else that it writes. Until then the references of the operand get it
+//! from [`pending`].
 //!
-//! Source: Multics Processor Manual AL39, "Effective address formation", "Address modification features", "Indirect word
-//! formats" and "Indirect then tally (IT) modification".
+//! Source: Multics Processor Manual AL39, "Effective address formation", "Address modification
+//! features", "Indirect word formats" and "Indirect then tally (IT) modification".
 #![tactic(auto)]
 
 mod chain;

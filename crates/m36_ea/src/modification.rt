@@ -24,15 +24,16 @@ use m36_word::Word;
 pub(crate) enum Action {
     /// The chain ends here.
     Ends(Final),
-    /// The tag gives a fault or a stop, and no word is read.
+    /// A fault or a stop; no word is read.
     Fails(Halt),
-    /// The indirect word at this word number is read, and from then on this register is held.
+    /// Reads the indirect word at this word number, and holds this register from there on.
     Reads { word: u32, held: Option<u32> },
-    /// The tally word at the point's address is read.
+    /// Reads the tally word at the point's address.
     Counts,
 }
 
-/// The low four bits of the tags of a direct operand: in bits 0 to 17 of a word, and in bits 18 to 35.
+/// The low four bits of the tags of a direct operand: DU has it in bits 0 to 17 of a word, DL in
+/// bits 18 to 35.
 const DIRECT_UPPER: u8 = 0o3;
 
 const DIRECT_LOWER: u8 = 0o7;
@@ -49,7 +50,7 @@ const ITP: u8 = ITP_TAG % 16;
 
 const ITS: u8 = ITS_TAG % 16;
 
-/// No register is named, but a direct operand.
+/// Whether the low four bits of a tag name a direct operand instead of a register.
 fn names_direct(td: u8) -> bool
     ensures { result ≡ is_direct td }
 {
@@ -63,14 +64,14 @@ pub(crate) fn fault(number: u8, at: At) -> Fault
     Fault { at, number, acv: 0 }
 }
 
-/// An illegal procedure, told at the instruction.
+/// Fault 10, illegal procedure, at the instruction.
 fn illegal(regs: &Regs) -> Action
     ensures { move_is result ≡ Fails (halt_here illegal_procedure regs.now) }
 {
     Action::Fails(Halt::Fault(fault(10, regs.here())))
 }
 
-/// Register modification: the end of the chain at y plus a register, or a direct operand.
+/// Register modification: the chain ends at y plus a register, or with a direct operand.
 #[inline(always)]
 fn register(regs: &Regs, tpr: &Tpr, td: u8) -> Final
     requires { td < 16 }
@@ -87,7 +88,7 @@ fn register(regs: &Regs, tpr: &Tpr, td: u8) -> Final
     }
 }
 
-/// Register then indirect: the indirect word is at y plus a register.
+/// Register then indirect: reads the indirect word at y plus a register.
 fn register_then_indirect(regs: &Regs, tpr: &Tpr, td: u8) -> Action
     requires { td < 16 }
     ensures moves { move_is result ≡ move_register_then_indirect regs.now tpr.now td }
@@ -102,7 +103,7 @@ fn register_then_indirect(regs: &Regs, tpr: &Tpr, td: u8) -> Action
     }
 }
 
-/// Indirect then register: the indirect word is at y, and the register is held.
+/// Indirect then register: reads the indirect word at y, and holds the register.
 fn indirect_then_register(regs: &Regs, tpr: &Tpr, td: u8) -> Action
     requires { td < 16 }
     ensures moves { move_is result ≡ move_indirect_then_register regs.now tpr.now td }
@@ -117,7 +118,8 @@ fn indirect_then_register(regs: &Regs, tpr: &Tpr, td: u8) -> Action
     }
 }
 
-/// Indirect then tally: the fault tags, the tags of pairs out of place, the tally words, and what is not provided.
+/// Indirect then tally: the fault tags, the tags of pairs where no pair may begin, the tally
+/// words, and the tags that are not supported, which stop the machine.
 fn indirect_then_tally(regs: &Regs, tpr: &Tpr, td: u8) -> Action
     ensures moves { move_is result ≡ move_indirect_then_tally regs.now tpr.now td }
     ensures range { IsInRange result }
@@ -134,7 +136,7 @@ fn indirect_then_tally(regs: &Regs, tpr: &Tpr, td: u8) -> Action
     }
 }
 
-/// The end of the chain, where the tag of the point is 0 and no register is held.
+/// The end of the chain, if the tag of the point is 0 and no register is held.
 #[inline(always)]
 #[tactic(auto, unfolding(m36_model::specs::Modification::move_of_point, m36_model::specs::Modification::index_of))]
 pub(crate) fn end_unmodified(tpr: &Tpr) -> Final
@@ -146,7 +148,7 @@ pub(crate) fn end_unmodified(tpr: &Tpr) -> Final
     tpr.end_at(tpr.y)
 }
 
-/// The end of the chain, where the tag of the point is one of register modification.
+/// The end of the chain, if the tag of the point is one of register modification.
 #[inline(always)]
 #[tactic(auto, unfolding(m36_model::specs::Modification::move_of_point))]
 pub(crate) fn end_by_register(regs: &Regs, tpr: &Tpr) -> Option<Final>
@@ -175,8 +177,9 @@ pub(crate) fn action_of(regs: &Regs, tpr: &Tpr) -> Action
     }
 }
 
-/// The indirect word that the tag of a point reads, where it is one of register and indirect modification that names no
-/// direct operand; and the register that is held from then on.
+/// The word number of the indirect word that the tag of a point reads, and the register that is
+/// held from there on. Some only for a tag of register and indirect modification that does not
+/// name a direct operand.
 #[inline(always)]
 #[tactic(auto, unfolding(m36_model::specs::Modification::move_of_point))]
 pub(crate) fn reads_word(regs: &Regs, tpr: &Tpr) -> Option<(u32, Option<u32>)>

@@ -1,6 +1,6 @@
-//! Addresses through one indirect word, or through one tally word, that pages in front answer.
+//! Forms addresses through one indirect word, or through one tally word, from pages in front.
 //!
-//! None says that the address is another, or that a page does not stand in front. Core is as it was either way.
+//! None: the address has another form, or a page is not in front. Core never changes.
 
 ghost use Rattle.std.specs.Prelude.{ℕ, ◌≡◌, ◌+◌, ◌<◌, ◌^◌, [], ◌∷◌, ◌++◌, Ok, None, Some, List, IfSome, length};
 ghost use Rattle.m36_model.specs.declared.place.Kind.TheVariants as reference;
@@ -18,17 +18,17 @@ use m36_model::{At, Final, Regs, Tally};
 use m36_walk::Walk;
 use m36_word::{Pair, Word};
 
-/// An address that is formed through an indirect word or a pair, and the reference to it.
+/// An address that is formed through one indirect word or pair, and the reference to it.
 #[derive(Clone, Copy)]
 pub struct Through {
     pub last: Final,
-    /// The indirect word, or the even word of the pair.
+    /// The address of the indirect word, or of the even word of the pair.
     pub at: At,
-    /// 1, or 2 of a pair.
+    /// The number of words: 1, or 2 for a pair.
     pub count: u8,
 }
 
-/// An address that counts a tally word, with that word's new value and its place.
+/// An address that counts a tally word, with that word's new value and its place in core.
 #[derive(Clone, Copy)]
 pub struct Counting {
     pub last: Final,
@@ -36,7 +36,7 @@ pub struct Counting {
     pub place: u32,
 }
 
-/// Reads an indirect word. With it goes the first ring bracket of its segment.
+/// Reads an indirect word. Returns it with the first ring bracket of its segment.
 #[inline(always)]
 fn word_in_front(walk: &mut Walk, regs: &Regs, tpr: &Tpr, word: u32) -> Option<(Word, u8)>
     requires dbr { walk.old.dbr ≡ regs.now.dbr }
@@ -73,8 +73,8 @@ fn odd_in_front(walk: &mut Walk, regs: &Regs, tpr: &Tpr, word: u32) -> Option<Wo
     Some(odd)
 }
 
-/// Reads an indirect word at word number `word`, or an ITS pair, and goes on from it. With the next point goes how many
-/// words were read.
+/// Reads the indirect word at word number `word`, or an ITS pair, and returns the next point and
+/// the number of words that were read.
 #[inline(always)]
 fn follow_in_front(
     walk: &mut Walk,
@@ -112,7 +112,8 @@ fn follow_in_front(
     }
 }
 
-/// Forms an address that reads one indirect word or one ITS pair, and whose next tag is one of register modification.
+/// Forms an address that reads one indirect word or one ITS pair, and whose next tag is one of
+/// register modification.
 #[inline(always)]
 pub fn address_through(walk: &mut Walk, regs: &Regs, inst: &Inst) -> Option<Through>
     requires dbr { walk.old.dbr ≡ regs.now.dbr }
@@ -140,7 +141,7 @@ pub fn address_through(walk: &mut Walk, regs: &Regs, inst: &Inst) -> Option<Thro
     Some(Through { last, at, count })
 }
 
-/// Forms an address that counts a tally word. Its new value is not written yet.
+/// Forms an address that counts a tally word. The new value of that word is not written yet.
 #[inline(always)]
 pub fn address_counted(walk: &mut Walk, regs: &Regs, inst: &Inst) -> Option<Counting>
     requires dbr { walk.old.dbr ≡ regs.now.dbr }

@@ -1,4 +1,4 @@
-//! What an address takes from the registers.
+//! The registers that address formation reads.
 
 ghost use Rattle.std.specs.Prelude.{◌≡◌, ◌<◌, ◌^◌, false};
 ghost use Rattle.m36_word.specs.Field.{field};
@@ -7,7 +7,7 @@ ghost use Rattle.m36_model.specs.Modification.{is_direct, index_of};
 use m36_model::Regs;
 use m36_word::{Field, Word};
 
-/// The segment of the instruction. By way of a copy a step takes fewer instructions.
+/// The segment of the instruction. The copy of `ppr` saves instructions in each step.
 #[inline(always)]
 pub fn procedure_segment(regs: &Regs) -> u16
     ensures { result ≡ regs.now.ppr.psr }
@@ -25,7 +25,7 @@ pub fn procedure_ring(regs: &Regs) -> u8
     ppr.prr
 }
 
-/// The register that the low four bits of a tag name, where they name no direct operand.
+/// The register that the low four bits of a tag name, if they do not name a direct operand.
 #[inline(always)]
 #[tactic(auto, unfolding(m36_model::specs::Modification::index_of))]
 pub(crate) fn index(regs: &Regs, td: u8) -> u32
@@ -47,7 +47,7 @@ pub(crate) fn index(regs: &Regs, td: u8) -> u32
     }
 }
 
-/// Bits 0 to 17.
+/// Bits 0 to 17 of a word.
 #[inline(always)]
 fn upper(w: Word) -> u32
     ensures value { result ≡ field w 0 18 }
@@ -56,7 +56,7 @@ fn upper(w: Word) -> u32
     Field::<0, 18>::get(w) as u32
 }
 
-/// Bits 18 to 35.
+/// Bits 18 to 35 of a word.
 #[inline(always)]
 fn lower(w: Word) -> u32
     ensures value { result ≡ field w 18 18 }

@@ -1,4 +1,4 @@
-//! Tally words: an address, a tally and an increment, which the tags of indirect then tally count.
+//! Tally words: an address, a tally and an increment. The tags of indirect then tally count them.
 
 ghost use Rattle.std.specs.Prelude.{◌≡◌, ◌<◌, ◌≤◌, ◌^◌};
 ghost use Rattle.m36_model.specs.Tally.{tally, tally_word, tally_address, tally_delta};
@@ -18,14 +18,14 @@ pub(crate) const DECREMENT_INCREMENT: u8 = 0o14;
 
 pub(crate) const INCREMENT_DECREMENT: u8 = 0o16;
 
-/// What a tally word gives.
+/// The result of counting a tally word.
 #[derive(Clone, Copy)]
 pub(crate) struct Counted {
-    /// Its new value.
+    /// The new value of the word.
     pub(crate) word: Word,
     /// The computed address; 18 bits.
     pub(crate) address: u32,
-    /// The tally has come to 0.
+    /// Whether the tally is now 0.
     pub(crate) runs_out: bool,
 }
 
@@ -42,7 +42,7 @@ impl Model for Counted {
     ghost inverse = { λ c. record { word = c.word; address = c.address; runs_out = c.runs_out } };
 }
 
-/// The address of a tally word.
+/// The address of a tally word; 18 bits.
 pub(crate) fn address(w: Word) -> u32
     ensures value { result ≡ tally_address w }
     ensures bound { result < 2 ^ 18 }
@@ -50,7 +50,7 @@ pub(crate) fn address(w: Word) -> u32
     Field::<0, 18>::get(w) as u32
 }
 
-/// The increment of a tally word.
+/// The increment of a tally word; 6 bits.
 fn delta(w: Word) -> u32
     ensures value { result ≡ tally_delta w }
     ensures bound { result < 2 ^ 6 }
@@ -58,7 +58,7 @@ fn delta(w: Word) -> u32
     Field::<30, 6>::get(w) as u32
 }
 
-/// A tally word with a new address and a new tally.
+/// A tally word with a new address and a new tally; the increment is unchanged.
 fn recounted(w: Word, address: u32, count: u32) -> Word
     requires address { address < 2 ^ 18 }
     requires count { count < 2 ^ 12 }
@@ -67,7 +67,7 @@ fn recounted(w: Word, address: u32, count: u32) -> Word
     Word::low(((address as u64) << 18) + ((count as u64) << 6) + delta(w) as u64)
 }
 
-/// The address is used and then goes up, and the tally goes down.
+/// Uses the address and then adds `step` to it; the tally decreases by 1, modulo 2^12.
 fn counted_down(w: Word, step: u32) -> Counted
     requires { step < 2 ^ 6 }
     ensures { result ≡ counted_down w step }
@@ -81,7 +81,7 @@ fn counted_down(w: Word, step: u32) -> Counted
     }
 }
 
-/// The address goes down and is then used, and the tally goes up.
+/// Subtracts `step` from the address and then uses it; the tally increases by 1, modulo 2^12.
 fn counted_up(w: Word, step: u32) -> Counted
     requires { step < 2 ^ 6 }
     ensures { result ≡ counted_up w step }
@@ -95,7 +95,7 @@ fn counted_up(w: Word, step: u32) -> Counted
     }
 }
 
-/// What a tally word gives by the low four bits of a tag that counts it.
+/// Counts a tally word, by the low four bits of a tag that counts it.
 #[tactic(auto, unfolding(m36_model::specs::Tally::tally))]
 pub(crate) fn tally(td: u8, w: Word) -> Counted
     ensures { result ≡ tally td w }

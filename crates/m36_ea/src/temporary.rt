@@ -1,4 +1,4 @@
-//! The temporary pointer register, which holds the point that an address chain has come to.
+//! The temporary pointer register, which has the current point of an address chain.
 
 ghost use Rattle.std.specs.Prelude.{◌≡◌, ◌+◌, ◌<◌, ◌^◌, Some, None, IfSome};
 ghost use Rattle.m36_model.specs.Chain.{plain_point, its_point, itp_point};
@@ -12,10 +12,10 @@ use m36_model::{At, Final, Regs};
 use m36_word::{Field, Pair, Word};
 use std::marker::Model;
 
-/// The temporary pointer register, with the address and the tag that go with it.
+/// The temporary pointer register, with the address and the tag of the point.
 #[derive(Clone, Copy)]
 pub(crate) struct Tpr {
-    /// The word that carried the tag, with the ring in which a fault tag is told.
+    /// The word that has the tag. The ring is the one in which a fault tag is reported.
     pub(crate) carrier: At,
     /// The register that is held until the chain ends: its value, of 18 bits.
     pub(crate) held: Option<u32>,
@@ -25,9 +25,9 @@ pub(crate) struct Tpr {
     pub(crate) seg: u16,
     /// The temporary ring register, TRR; 3 bits.
     pub(crate) ring: u8,
-    /// Bit number; 6 bits.
+    /// The bit number; 6 bits.
     pub(crate) bit: u8,
-    /// 6 bits.
+    /// The tag; 6 bits.
     pub(crate) tag: u8,
 }
 
@@ -44,7 +44,7 @@ impl Model for Tpr {
     ghost inverse = { λ t. record { carrier = t.carrier; held = t.held; y = t.y; seg = t.seg; ring = t.ring; bit = t.bit; tag = t.tag } };
 }
 
-/// Where the instruction itself points.
+/// The first point: where the instruction itself points.
 #[inline(always)]
 #[tactic(auto, unfolding(m36_model::specs::FirstPoint::first_point))]
 pub(crate) fn first(regs: &Regs, inst: &Inst) -> Tpr
@@ -95,7 +95,7 @@ fn signed_offset(inst: &Inst) -> u32
 }
 
 impl Tpr {
-    /// A word of the segment, in the ring of the point.
+    /// A word of the point's segment, in the ring of the point.
     #[inline(always)]
     pub(crate) fn at(&self, word: u32) -> At
         requires { word < 2 ^ 18 }
@@ -108,7 +108,7 @@ impl Tpr {
         }
     }
 
-    /// The end of the chain at a word of the segment.
+    /// The end of the chain at a word of the point's segment.
     #[inline(always)]
     pub(crate) fn end_at(&self, word: u32) -> Final
         requires { word < 2 ^ 18 }
@@ -125,7 +125,7 @@ impl Tpr {
         }
     }
 
-    /// The end of the chain at a direct operand.
+    /// The end of the chain with a direct operand.
     #[inline(always)]
     pub(crate) fn end_direct(&self, operand: Word) -> Final
         ensures { result ≡ final_at self.now self.now.y (Some operand) }
@@ -141,8 +141,8 @@ impl Tpr {
         }
     }
 
-    /// The point after a plain indirect word that stands at word number `word`. `r1` is the first ring bracket of the
-    /// segment that holds it.
+    /// The point after the plain indirect word at word number `word`. `r1` is the first ring
+    /// bracket of its segment.
     #[inline(always)]
     pub(crate) fn after_plain(&self, word: u32, held: Option<u32>, w: Word, r1: u8) -> Tpr
         requires word { word < 2 ^ 18 }
@@ -165,7 +165,8 @@ impl Tpr {
         }
     }
 
-    /// The point after an ITS pair whose even word stands at word number `word`.
+    /// The point after the ITS pair whose even word has word number `word`. `r1` is as in
+    /// `after_plain`.
     #[inline(always)]
     pub(crate) fn after_its(&self, word: u32, held: Option<u32>, pair: Pair, r1: u8) -> Tpr
         requires word { word + 1 < 2 ^ 18 }
@@ -190,7 +191,8 @@ impl Tpr {
         }
     }
 
-    /// The point after an ITP pair whose even word stands at word number `word`.
+    /// The point after the ITP pair whose even word has word number `word`. `r1` is as in
+    /// `after_plain`.
     pub(crate) fn after_itp(
         &self,
         regs: &Regs,

@@ -1,4 +1,4 @@
--- The instructions that are done field by field: they are met most often.
+-- The instructions that are executed directly in the registers, since they occur most often.
 use Rattle.std.specs.Prelude.{ℕ, ◌≡◌, Bool, false, not, ◌&&◌, List, [], ◌∷◌, Result, Ok}
 use Rattle.m36_word.specs.declared.pair.Pair.{Pair}
 use Rattle.m36_word.specs.Pairs.{pair_words}
@@ -8,15 +8,15 @@ use Rattle.m36_model.specs.Fields.{FinalFields}
 use Rattle.m36_model.specs.Registers.{RegsFields}
 use Rattle.m36_model.specs.Results.{OperandFields, EffectFields, words_only, words_in_ring}
 
--- a word that is read, and a pair with the first ring bracket of its segment
+-- the operand with a word that was read, or with a pair and the first ring bracket of its segment
 abbrev pub word_read : ℕ → OperandFields
 word_read w = words_only (w ∷ [])
 
 abbrev pub pair_read : Pair → ℕ → OperandFields
 pair_read p ring = words_in_ring (pair_words p) ring
 
--- An effect leaves these registers, and puts these words and this overflow, whatever else its
--- operand has beside the words that were read.
+-- The effect of an instruction: it leaves the registers `after`, puts the words `put` and
+-- overflows or not. It depends on the words that were read, but not on the rest of the operand.
 abbrev pub Gives :
     Effect → ℕ → RegsFields → List ℕ → RegsFields → List ℕ → Bool → Type 0
 Gives e n before got after put overflow =
@@ -24,7 +24,8 @@ Gives e n before got after put overflow =
     → Ok (record { regs = after; put = put; overflow = overflow })
     ≡ exec e n before f (record { got = got; ring = ring; place = place })
 
--- An effect is done: it leaves these registers and puts these words, and gives no overflow fault.
+-- The effect of an instruction, which is not refused and gives no overflow fault: it leaves the
+-- registers `after`, and puts the words `words`.
 pub record IsDone (after : RegsFields) (words : List ℕ) (e : Result EffectFields ℕ) : Type 0 where
   pub overflow : Bool
   pub effect : Ok (record { regs = after; put = words; overflow = overflow }) ≡ e

@@ -1,14 +1,18 @@
-//! Frequent data instructions of the Honeywell 6180, done in the registers field by field.
+//! The frequent data instructions of the Honeywell 6180, executed directly in the registers.
 //!
-//! On single words [`read_word`], [`store_word`], [`store_half`], [`change_word`] and
-//! [`load_address`], on pairs [`read_pair`] and [`store_pair`], and the shifts by [`shift`]. Each has
-//! exactly the effect that the instruction's equations say, and is for one group of instructions
-//! (`Group` of `m36_inst`).
+//! - on single words: [`read_word`], [`store_word`], [`store_half`], [`change_word`] and
+//!   [`load_address`];
+//! - on pairs: [`read_pair`] and [`store_pair`];
+//! - shifts: [`shift`].
 //!
-//! A quick step makes no effect that gives an overflow fault: [`read_word`], [`change_word`] and
-//! [`read_pair`] answer so beforehand, and then nothing has changed. [`read_word_with_overflow`],
-//! [`change_word_with_overflow`] and [`read_pair_with_overflow`] are the same instructions for the
-//! general step: they complete, and answer the overflow.
+//! Each has exactly the effect that the instruction's equations define, for one group of
+//! instructions (`Group` of `m36_inst`).
+//!
+//! [`read_word`], [`change_word`] and [`read_pair`] are for quick steps. A quick step makes no
+//! overflow fault: if the instruction would give one, they say so and change nothing. Their
+//! counterparts [`read_word_with_overflow`], [`change_word_with_overflow`] and
+//! [`read_pair_with_overflow`] are for the general step: they complete the instruction, and return
+//! whether it overflowed.
 //!
 //! Source: Multics Processor Manual AL39, "Fixed-point instructions" and "Boolean instructions".
 #![tactic(auto)]

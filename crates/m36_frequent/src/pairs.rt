@@ -1,6 +1,6 @@
-//! Frequent instructions on pairs, done in the registers field by field.
+//! Frequent instructions on pairs, executed directly in the registers.
 //!
-//! They take and give a pair in registers, as the frequent instructions on single words do.
+//! They take and return a pair by value.
 
 ghost use Rattle.std.specs.Prelude.{ℕ, ◌≡◌, ◌^◌, ◌<◌, false, not, ◌&&◌, [], Ok};
 ghost use Rattle.std.specs.Prelude.{IsTrue, IsFalse, IfSome, IfNone};
@@ -24,7 +24,7 @@ use m36_inst::Effect;
 use m36_model::Regs;
 use m36_word::Pair;
 
-/// The accumulator and the quotient register become a pair, whose words have 36 bits each.
+/// Stores a pair into the accumulator and the quotient register.
 #[inline(always)]
 #[tactic(auto, unfolding(m36_model::specs::Results::with_value))]
 fn take_pair(p: &Pair, regs: &mut Regs)
@@ -35,7 +35,7 @@ fn take_pair(p: &Pair, regs: &mut Regs)
     regs.q = p.odd;
 }
 
-/// Sets zero and negative by a pair.
+/// Sets zero and negative for a pair.
 #[inline(always)]
 #[tactic(auto, unfolding(m36_model::specs::Results::zn))]
 fn test_pair(p: &Pair, regs: &mut Regs)
@@ -46,7 +46,7 @@ fn test_pair(p: &Pair, regs: &mut Regs)
     regs.ind.negative = v >= 1 << 71;
 }
 
-/// The accumulator and the quotient register become a pair, which sets zero and negative.
+/// Loads a pair into the accumulator and the quotient register, and sets zero and negative.
 #[inline(always)]
 #[tactic(auto, unfolding(m36_model::specs::Loads::load, m36_model::specs::Results::with_value, m36_model::specs::Results::moved_on))]
 pub(crate) fn load_pair(p: Pair, regs: &mut Regs)
@@ -59,7 +59,8 @@ pub(crate) fn load_pair(p: Pair, regs: &mut Regs)
     move_on(regs);
 }
 
-/// Sets zero, negative and carry by a sum, and puts overflow on where it overflows.
+/// Sets zero, negative and carry for a sum. Overflow is set if the sum overflows, and otherwise
+/// unchanged.
 #[inline(always)]
 #[tactic(auto, unfolding(m36_model::specs::Results::zn_carry_overflow))]
 fn tell_sum(s: &Sum72, regs: &mut Regs)
@@ -73,8 +74,8 @@ fn tell_sum(s: &Sum72, regs: &mut Regs)
     regs.ind.overflow = before || s.overflow;
 }
 
-/// The accumulator and the quotient register become a sum. The answer is whether it overflows. None,
-/// where `quiet` is on, says that this is a fault, and then nothing has changed.
+/// Loads a sum into the accumulator and the quotient register, and returns whether it overflows.
+/// None, only if `quiet`: the overflow would be a fault, and nothing has changed.
 #[inline(always)]
 #[tactic(auto, unfolding(m36_model::specs::Sums::into_register, m36_model::specs::Results::with_value, m36_model::specs::Results::moved_on))]
 fn try_sum_pair(s: Sum72, quiet: bool, regs: &mut Regs) -> Option<bool>
@@ -94,9 +95,8 @@ fn try_sum_pair(s: Sum72, quiet: bool, regs: &mut Regs) -> Option<bool>
     Some(s.overflow)
 }
 
-/// A frequent instruction that reads a pair, done in the registers. The answer is whether it
-/// overflows. None, where `quiet` is on, says that it gives an overflow fault, and then nothing has
-/// changed.
+/// Executes a frequent instruction that reads a pair, and returns whether it overflows. None, only
+/// if `quiet`: the instruction would give an overflow fault, and nothing has changed.
 #[inline(always)]
 #[tactic(auto, unfolding(m36_model::specs::Effect::exec, m36_model::specs::Sums::add, m36_model::specs::Sums::subtract, m36_model::specs::Compares::compare, m36_model::specs::Logic::and_register, m36_model::specs::Logic::or_register, m36_model::specs::Logic::xor_register, m36_model::specs::Loads::load))]
 fn try_read(effect: Effect, regs: &mut Regs, p: Pair, quiet: bool) -> Option<bool>
@@ -121,9 +121,8 @@ fn try_read(effect: Effect, regs: &mut Regs, p: Pair, quiet: bool) -> Option<boo
     Some(false)
 }
 
-/// A frequent instruction that reads a pair, done in the registers. False says that it gives an
-/// overflow fault, and then nothing has changed. The first ring bracket of the pair's segment does
-/// not matter.
+/// Executes a frequent instruction that reads a pair. False: it would give an overflow fault, and
+/// nothing has changed. The first ring bracket of the pair's segment does not matter.
 #[inline(always)]
 pub fn read_pair(effect: Effect, regs: &mut Regs, p: Pair) -> bool
     requires { group_of effect ≡ group.ReadPair }
@@ -138,7 +137,7 @@ pub fn read_pair(effect: Effect, regs: &mut Regs, p: Pair) -> bool
     }
 }
 
-/// The same instruction, also where it gives an overflow fault. The answer is whether it overflows.
+/// As `read_pair`, but also completes on overflow. Returns whether the instruction overflows.
 pub fn read_pair_with_overflow(effect: Effect, regs: &mut Regs, p: Pair) -> bool
     requires { group_of effect ≡ group.ReadPair }
     ensures value { (n : ℕ) → Gives effect n regs.old (pair_words p) regs.new [] result }
@@ -150,7 +149,7 @@ pub fn read_pair_with_overflow(effect: Effect, regs: &mut Regs, p: Pair) -> bool
     }
 }
 
-/// The pair that STAQ writes.
+/// Executes STAQ, and returns the pair to write.
 #[inline(always)]
 #[tactic(auto, unfolding(m36_model::specs::Effect::exec, m36_model::specs::Stores::store))]
 pub fn store_pair(effect: Effect, regs: &mut Regs) -> Pair

@@ -1,4 +1,4 @@
-//! The registers that data instructions work on.
+//! The registers of the data instructions.
 
 ghost use Rattle.std.specs.Prelude.{◌≡◌};
 ghost use Rattle.m36_model.specs.Results.{aq_pair};
@@ -22,7 +22,7 @@ pub fn quotient(regs: &Regs) -> Word
     regs.q
 }
 
-/// The accumulator and the quotient register, as a pair.
+/// The accumulator and the quotient register as a pair; the accumulator is the even word.
 #[inline(always)]
 pub fn pair(regs: &Regs) -> Pair
     ensures { result ≡ aq_pair regs.now }

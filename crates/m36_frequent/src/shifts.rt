@@ -1,4 +1,4 @@
-//! Shifts, done in the registers field by field, as the frequent instructions on words and pairs are.
+//! Shifts, executed directly in the registers.
 
 ghost use Rattle.std.specs.Prelude.{ℕ, ◌≡◌, ◌^◌, ◌<◌, false, [], Ok};
 ghost use Rattle.m36_word.specs.Pairs.{number_of};
@@ -19,7 +19,7 @@ use m36_inst::Effect;
 use m36_model::{Final, Regs};
 use m36_word::{Pair, Word};
 
-/// A word shifted by a count.
+/// A word, shifted by `n` places.
 #[inline(always)]
 #[tactic(auto, unfolding(m36_arith::specs::ShiftResult::shift_result))]
 fn moved_word(op: Shift, w: Word, n: u32) -> Word
@@ -29,7 +29,7 @@ fn moved_word(op: Shift, w: Word, n: u32) -> Word
     shift36(op, w, n).value
 }
 
-/// A pair shifted by a count.
+/// A pair, shifted by `n` places.
 #[inline(always)]
 #[tactic(auto, unfolding(m36_arith::specs::ShiftResult::shift_result))]
 fn moved_pair(op: Shift, p: Pair, n: u32) -> Pair
@@ -39,7 +39,7 @@ fn moved_pair(op: Shift, p: Pair, n: u32) -> Pair
     shift72(op, p, n).value
 }
 
-/// By how many places: the computed address modulo 128.
+/// The number of places to shift by: the computed address modulo 128.
 #[inline(always)]
 fn shift_count(f: &Final) -> u32
     ensures value { result ≡ count_of f.now.at.word }
@@ -48,7 +48,7 @@ fn shift_count(f: &Final) -> u32
     f.at.word % 128
 }
 
-/// Puts carry on or off.
+/// Sets or clears carry.
 #[inline(always)]
 fn tell_carry(carry: bool, regs: &mut Regs)
     ensures { regs.new ≡ with_indicators (with_carry carry regs.old.ind) regs.old }
@@ -56,7 +56,7 @@ fn tell_carry(carry: bool, regs: &mut Regs)
     regs.ind.carry = carry;
 }
 
-/// ALS: the accumulator to the left.
+/// ALS: shifts the accumulator left.
 #[inline(always)]
 #[tactic(auto, unfolding(m36_arith::specs::ShiftResult::shift_result, m36_model::specs::ShiftEffects::shift_left, m36_model::specs::Loads::load, m36_model::specs::Results::with_value, m36_model::specs::Results::zn, m36_model::specs::Results::moved_on))]
 fn a_left(f: &Final, regs: &mut Regs)
@@ -69,7 +69,7 @@ fn a_left(f: &Final, regs: &mut Regs)
     tell_carry(s.carry, regs);
 }
 
-/// QLS: the quotient register to the left.
+/// QLS: shifts the quotient register left.
 #[inline(always)]
 #[tactic(auto, unfolding(m36_arith::specs::ShiftResult::shift_result, m36_model::specs::ShiftEffects::shift_left, m36_model::specs::Loads::load, m36_model::specs::Results::with_value, m36_model::specs::Results::zn, m36_model::specs::Results::moved_on))]
 fn q_left(f: &Final, regs: &mut Regs)
@@ -82,7 +82,7 @@ fn q_left(f: &Final, regs: &mut Regs)
     tell_carry(s.carry, regs);
 }
 
-/// LLS: both registers to the left, as one number.
+/// LLS: shifts both registers left, as one number of 72 bits.
 #[inline(always)]
 #[tactic(auto, unfolding(m36_arith::specs::ShiftResult::shift_result, m36_model::specs::ShiftEffects::shift_left, m36_model::specs::Loads::load, m36_model::specs::Results::with_value, m36_model::specs::Results::zn, m36_model::specs::Results::moved_on))]
 fn pair_left(f: &Final, regs: &mut Regs)
@@ -95,7 +95,7 @@ fn pair_left(f: &Final, regs: &mut Regs)
     tell_carry(s.carry, regs);
 }
 
-/// A shift, done in the registers. It never overflows.
+/// Executes a shift. It never gives an overflow fault.
 #[inline(always)]
 #[tactic(auto, unfolding(m36_model::specs::Effect::exec, m36_model::specs::ShiftEffects::shift_right, m36_model::specs::ShiftEffects::shift_right_logical, m36_model::specs::ShiftEffects::rotate_left, m36_model::specs::Loads::load))]
 pub fn shift(effect: Effect, regs: &mut Regs, f: &Final)

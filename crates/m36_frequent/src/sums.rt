@@ -1,4 +1,4 @@
-//! Sums of words, done in the registers field by field.
+//! Sums of words, computed directly in the registers.
 
 ghost use Rattle.std.specs.Prelude.{◌≡◌, false, not, ◌&&◌, [], ◌∷◌, Ok, IsTrue, IfSome, IfNone};
 ghost use Rattle.m36_model.specs.Results.{A, Q, with_indicators, zn_carry_overflow};
@@ -8,8 +8,8 @@ use crate::words::move_on;
 use m36_arith::Sum36;
 use m36_model::Regs;
 
-/// Whether the effect is not made: `quiet` is on, and an overflow is a fault, as the overflow mask
-/// is off.
+/// Whether the instruction must not be executed: `quiet` is on, and the overflow would be a fault
+/// because the overflow mask is off.
 #[inline(always)]
 pub(crate) fn holds_back(overflow: bool, quiet: bool, regs: &Regs) -> bool
     ensures { result ≡ (quiet && (overflow && not regs.now.ind.mask)) }
@@ -18,7 +18,8 @@ pub(crate) fn holds_back(overflow: bool, quiet: bool, regs: &Regs) -> bool
     quiet && overflow && !ind.mask
 }
 
-/// Sets zero, negative and carry by a sum, and puts overflow on where it overflows.
+/// Sets zero, negative and carry for a sum. Overflow is set if the sum overflows, and otherwise
+/// unchanged.
 #[inline(always)]
 #[tactic(auto, unfolding(m36_model::specs::Results::zn_carry_overflow))]
 fn tell_sum(s: Sum36, regs: &mut Regs)
@@ -33,8 +34,8 @@ fn tell_sum(s: Sum36, regs: &mut Regs)
     }
 }
 
-/// The accumulator becomes a sum. The answer is whether it overflows. None, where `quiet` is
-/// on, says that this is a fault, and then nothing has changed.
+/// Loads a sum into the accumulator, and returns whether it overflows. None, only if `quiet`: the
+/// overflow would be a fault, and nothing has changed.
 #[inline(always)]
 #[tactic(auto, unfolding(m36_model::specs::Sums::into_register, m36_model::specs::Results::with_value, m36_model::specs::Results::moved_on))]
 pub(crate) fn try_sum_a(s: Sum36, quiet: bool, regs: &mut Regs) -> Option<bool>
@@ -54,7 +55,7 @@ pub(crate) fn try_sum_a(s: Sum36, quiet: bool, regs: &mut Regs) -> Option<bool>
     Some(s.overflow)
 }
 
-/// The same for the quotient register.
+/// As `try_sum_a`, for the quotient register.
 #[inline(always)]
 #[tactic(auto, unfolding(m36_model::specs::Sums::into_register, m36_model::specs::Results::with_value, m36_model::specs::Results::moved_on))]
 pub(crate) fn try_sum_q(s: Sum36, quiet: bool, regs: &mut Regs) -> Option<bool>
@@ -74,8 +75,8 @@ pub(crate) fn try_sum_q(s: Sum36, quiet: bool, regs: &mut Regs) -> Option<bool>
     Some(s.overflow)
 }
 
-/// A sum that goes into the operand sets the indicators. The answer is the sum. None, where `quiet`
-/// is on, says that its overflow is a fault, and then nothing has changed.
+/// Sets the indicators for a sum that goes into the operand, and returns the sum. None, only if
+/// `quiet`: its overflow would be a fault, and nothing has changed.
 #[inline(always)]
 #[tactic(auto, unfolding(m36_model::specs::Sums::into_operand, m36_model::specs::Results::moved_on))]
 pub(crate) fn try_sum_word(s: Sum36, quiet: bool, regs: &mut Regs) -> Option<Sum36>

@@ -1,8 +1,8 @@
-//! Frequent instructions on single words, done in the registers field by field.
+//! Frequent instructions on single words, executed directly in the registers.
 //!
-//! They take and give words in registers. What may give an overflow fault has two forms: for a quick
-//! step one that asks first and then changes nothing, and for the general step one that completes
-//! and answers the overflow.
+//! They take and return words by value. An instruction that may give an overflow fault has two
+//! forms: one for a quick step, which checks for the fault first and then changes nothing, and one
+//! for the general step, which completes the instruction and returns whether it overflowed.
 
 ghost use Rattle.std.specs.Prelude.{ℕ, ◌≡◌, ◌^◌, ◌<◌, false, not, ◌&&◌, ◌⊎◌, [], ◌∷◌, Ok};
 ghost use Rattle.std.specs.Prelude.{IsTrue, IsFalse, IfSome, IfNone};
@@ -24,7 +24,7 @@ use m36_inst::Effect;
 use m36_model::{Final, Regs};
 use m36_word::{Field, Word};
 
-/// Moves on to the next instruction.
+/// Advances the instruction counter to the next instruction, modulo 2^18.
 #[inline(always)]
 #[tactic(auto, unfolding(m36_model::specs::Results::moved_on))]
 pub(crate) fn move_on(regs: &mut Regs)
@@ -35,7 +35,7 @@ pub(crate) fn move_on(regs: &mut Regs)
     regs.ppr.ic = (ic + 1) % (1 << 18);
 }
 
-/// Sets zero and negative by a word.
+/// Sets zero and negative for a word.
 #[inline(always)]
 #[tactic(auto, unfolding(m36_model::specs::Results::zn))]
 fn test(w: Word, regs: &mut Regs)
@@ -46,7 +46,7 @@ fn test(w: Word, regs: &mut Regs)
     regs.ind.negative = v >= 1 << 35;
 }
 
-/// Sets zero and negative by the number of an index register.
+/// Sets zero and negative for the value of an index register.
 #[inline(always)]
 #[tactic(auto, unfolding(m36_model::specs::Results::zn))]
 fn test_index(v: u32, regs: &mut Regs)
@@ -56,7 +56,7 @@ fn test_index(v: u32, regs: &mut Regs)
     regs.ind.negative = v >= 1 << 17;
 }
 
-/// The accumulator becomes a word.
+/// Loads a word into the accumulator.
 #[inline(always)]
 #[tactic(auto, unfolding(m36_model::specs::Loads::load, m36_model::specs::Results::with_value, m36_model::specs::Results::moved_on))]
 pub(crate) fn load_a(w: Word, regs: &mut Regs)
@@ -68,7 +68,7 @@ pub(crate) fn load_a(w: Word, regs: &mut Regs)
     move_on(regs);
 }
 
-/// The quotient register becomes a word.
+/// Loads a word into the quotient register.
 #[inline(always)]
 #[tactic(auto, unfolding(m36_model::specs::Loads::load, m36_model::specs::Results::with_value, m36_model::specs::Results::moved_on))]
 pub(crate) fn load_q(w: Word, regs: &mut Regs)
@@ -80,7 +80,7 @@ pub(crate) fn load_q(w: Word, regs: &mut Regs)
     move_on(regs);
 }
 
-/// An index register becomes a number.
+/// Loads a number into an index register.
 #[inline(always)]
 #[tactic(auto, unfolding(m36_model::specs::Loads::load, m36_model::specs::Results::with_value, m36_model::specs::Results::moved_on))]
 fn load_index(n: u8, v: u32, regs: &mut Regs)
@@ -94,7 +94,7 @@ fn load_index(n: u8, v: u32, regs: &mut Regs)
     move_on(regs);
 }
 
-/// Sets zero, negative and carry by a comparison.
+/// Sets zero, negative and carry for a comparison.
 #[inline(always)]
 #[tactic(auto, unfolding(m36_model::specs::Results::compared))]
 pub(crate) fn tell_comparison(c: Compare, regs: &mut Regs)
@@ -108,7 +108,7 @@ pub(crate) fn tell_comparison(c: Compare, regs: &mut Regs)
     move_on(regs);
 }
 
-/// SZN: the word is tested.
+/// SZN: sets zero and negative for the word.
 #[inline(always)]
 #[tactic(auto, unfolding(m36_model::specs::Compares::test_word))]
 fn test_alone(w: Word, regs: &mut Regs)
@@ -120,9 +120,8 @@ fn test_alone(w: Word, regs: &mut Regs)
     move_on(regs);
 }
 
-/// A frequent instruction that reads a word, done in the registers. The answer is whether it
-/// overflows. None, where `quiet` is on, says that it gives an overflow fault, and then nothing has
-/// changed.
+/// Executes a frequent instruction that reads a word, and returns whether it overflows. None, only
+/// if `quiet`: the instruction would give an overflow fault, and nothing has changed.
 #[inline(always)]
 #[tactic(auto, unfolding(m36_model::specs::Effect::exec, m36_model::specs::Sums::add, m36_model::specs::Sums::subtract, m36_model::specs::Compares::compare, m36_model::specs::Logic::and_register, m36_model::specs::Logic::or_register, m36_model::specs::Logic::xor_register, m36_model::specs::Loads::load))]
 fn try_read(effect: Effect, reg: u8, regs: &mut Regs, w: Word, quiet: bool) -> Option<bool>
@@ -157,8 +156,8 @@ fn try_read(effect: Effect, reg: u8, regs: &mut Regs, w: Word, quiet: bool) -> O
     Some(false)
 }
 
-/// A frequent instruction that reads a word, done in the registers. False says that it gives an
-/// overflow fault, and then nothing has changed.
+/// Executes a frequent instruction that reads a word. False: it would give an overflow fault, and
+/// nothing has changed.
 #[inline(always)]
 pub fn read_word(effect: Effect, reg: u8, regs: &mut Regs, w: Word) -> bool
     requires group { group_of effect ≡ group.Read }
@@ -174,7 +173,7 @@ pub fn read_word(effect: Effect, reg: u8, regs: &mut Regs, w: Word) -> bool
     }
 }
 
-/// The same instruction, also where it gives an overflow fault. The answer is whether it overflows.
+/// As `read_word`, but also completes on overflow. Returns whether the instruction overflows.
 pub fn read_word_with_overflow(effect: Effect, reg: u8, regs: &mut Regs, w: Word) -> bool
     requires group { group_of effect ≡ group.Read }
     requires reg { reg < 8 }
@@ -187,7 +186,7 @@ pub fn read_word_with_overflow(effect: Effect, reg: u8, regs: &mut Regs, w: Word
     }
 }
 
-/// The word that a frequent store writes.
+/// Executes a frequent store, and returns the word to write.
 #[inline(always)]
 #[tactic(auto, unfolding(m36_model::specs::Effect::exec, m36_model::specs::Stores::store, m36_model::specs::Stores::store_zero))]
 pub fn store_word(effect: Effect, regs: &mut Regs) -> Word
@@ -207,7 +206,7 @@ pub fn store_word(effect: Effect, regs: &mut Regs) -> Word
     word
 }
 
-/// The half of a word that STX or SXL writes.
+/// Executes STX or SXL, and returns the half to write, in the low 18 bits of a word.
 #[inline(always)]
 #[tactic(auto, unfolding(m36_model::specs::Effect::exec, m36_model::specs::Stores::store))]
 pub fn store_half(effect: Effect, reg: u8, regs: &mut Regs) -> Word
@@ -228,9 +227,9 @@ pub fn store_half(effect: Effect, reg: u8, regs: &mut Regs) -> Word
     Word::low(half as u64)
 }
 
-/// A frequent instruction that reads a word and writes it, done in the registers. The answer is the
-/// sum to write, with its overflow. None, where `quiet` is on, says that it gives an overflow fault,
-/// and then nothing has changed.
+/// Executes a frequent instruction that reads and writes a word, and returns the sum to write,
+/// with its overflow. None, only if `quiet`: the instruction would give an overflow fault, and
+/// nothing has changed.
 #[inline(always)]
 #[tactic(auto, unfolding(m36_model::specs::Effect::exec, m36_model::specs::Sums::add_one_to_storage, m36_model::specs::Sums::add_to_storage))]
 fn try_change(effect: Effect, regs: &mut Regs, w: Word, quiet: bool) -> Option<Sum36>
@@ -250,8 +249,8 @@ fn try_change(effect: Effect, regs: &mut Regs, w: Word, quiet: bool) -> Option<S
     }
 }
 
-/// A frequent instruction that reads a word and writes it, done in the registers. The answer is the
-/// word to write. None says that it gives an overflow fault, and then nothing has changed.
+/// Executes a frequent instruction that reads and writes a word, and returns the word to write.
+/// None: the instruction would give an overflow fault, and nothing has changed.
 #[inline(always)]
 pub fn change_word(effect: Effect, regs: &mut Regs, w: Word) -> Option<Word>
     requires { group_of effect ≡ group.Change }
@@ -266,8 +265,7 @@ pub fn change_word(effect: Effect, regs: &mut Regs, w: Word) -> Option<Word>
     }
 }
 
-/// The same instruction, also where it gives an overflow fault. The answer is the sum to write, with
-/// its overflow.
+/// As `change_word`, but also completes on overflow. Returns the sum to write, with its overflow.
 pub fn change_word_with_overflow(effect: Effect, regs: &mut Regs, w: Word) -> Sum36
     requires { group_of effect ≡ group.Change }
     ensures value { (n : ℕ)
@@ -280,7 +278,7 @@ pub fn change_word_with_overflow(effect: Effect, regs: &mut Regs, w: Word) -> Su
     }
 }
 
-/// An instruction that loads its address, done in the registers. It never overflows.
+/// Executes an instruction that loads its address. It never overflows.
 #[inline(always)]
 #[tactic(auto, unfolding(m36_model::specs::Effect::exec))]
 pub fn load_address(effect: Effect, reg: u8, regs: &mut Regs, f: &Final)

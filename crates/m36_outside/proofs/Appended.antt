@@ -21,7 +21,7 @@ appends_more (Some held) (Some part) (Some whole) bytes done count first more =
     more ∙ ap (λ l. l ++ take count (drop done bytes)) first ∙ append_assoc held (take done bytes) (take count (drop done bytes))
     ∙ ap (λ l. held ++ l) (sym (take-add done count bytes))
 
--- a write that took nothing, behind others that took nothing
+-- a write that took nothing, after others that took nothing
 pub keeps_by_nothing :
     (start now next : Option (List ℕ)) → Keeps start now → Appends now next [] → Keeps start next
 keeps_by_nothing None now next first more = tt
@@ -29,7 +29,7 @@ keeps_by_nothing (Some held) None next first more = absurd first
 keeps_by_nothing (Some held) (Some same) None first more = absurd more
 keeps_by_nothing (Some held) (Some same) (Some rest) first more = more ∙ append-nil same ∙ first
 
--- a write behind others that took nothing
+-- a write after others that took nothing
 pub appends_behind :
     (start now next : Option (List ℕ)) (bytes : List ℕ)
     → Keeps start now → Appends now next bytes → Appends start next bytes
@@ -82,7 +82,7 @@ appends_whole (Some held) (Some part) None bytes done first more all = absurd mo
 appends_whole (Some held) (Some part) (Some whole) bytes done first more all =
     ap (λ l. Some l) (more ∙ first ∙ ap (λ l. held ++ l) (take_all done bytes all))
 
--- the same of a list that is told
+-- as above, for a list that is known
 pub grows_more :
     (start now next bytes : List ℕ) (done count : ℕ)
     → now ≡ start ++ take done bytes → next ≡ now ++ take count (drop done bytes)

@@ -78,7 +78,7 @@ block_more bytes marks bytes' marks' len count len' count' pieces pieces' piece 
           ∙ sym (marks_more 0 pieces piece);
     }
 
--- whether there is room is told by what is counted
+-- the counters decide whether there is room
 pub block_room :
     (bytes marks : List ℕ) (len count : ℕ) (pieces : List (List ℕ)) (piece : List ℕ)
     → Lie bytes marks len count pieces
@@ -255,7 +255,7 @@ parts_rest bytes piece pieces few = elim (cases_Bool (nat_le (length piece) (len
   | inr e ↦ rw e refl
 ]
 
--- all bytes of pieces, parted by them, are the pieces
+-- all bytes of pieces, split at their boundaries, are the pieces
 parts_all : (pieces : List (List ℕ)) → parts (joined pieces) pieces ≡ pieces
 parts_all [] = refl
 parts_all (piece ∷ pieces) =
@@ -302,7 +302,7 @@ takes_front_of old pieces piece taken rest alike few =
     subst (λ l. TakesSome old (old ++ l ∷ []) (piece ∷ pieces)) (begins_short piece (joined pieces) taken rest alike few)
     (takes_some_of_lines None None old (old ++ take (length taken) piece ∷ []) pieces piece (front old (length taken) piece))
 
--- bytes with which the bytes of pieces begin, parted by them, are some pieces whole, and a part of the next
+-- a prefix of the bytes of pieces, split at their boundaries, is some whole pieces and a prefix of the next
 parts_take :
     (old : List (List ℕ)) (piece : List ℕ) (pieces : List (List ℕ)) (taken rest : List ℕ)
     → piece ++ joined pieces ≡ taken ++ rest
@@ -332,7 +332,7 @@ parts_take old piece (next ∷ pieces) taken rest alike = elim (cases_Bool (nat_
       (takes_front_of old (next ∷ pieces) piece taken rest alike (omega arith))
 ]
 
--- what was taken of pieces comes to a first part of what all come to
+-- what was taken of pieces is a prefix of their concatenation
 some_written :
     (old new due : List (List ℕ))
     → TakesSome old new due → GrewWithin (Some (joined old)) (Some (joined new)) (joined due)
@@ -353,7 +353,7 @@ some_written old new due some =
           ∙ append_assoc (joined old) lines some.part);
     }
 
--- a writer of which nothing was noted before took all bytes
+-- a writer with an empty log took all bytes
 pub block_taken :
     (old new pieces : List (List ℕ)) (before taken : List ℕ)
     → Grew (Some before) (Some taken) (joined pieces) → before ≡ []

@@ -3,7 +3,7 @@ use Rattle.std.proofs.Common.{◌≡◌, ℕ, List, [], ◌++◌, Option, sym, s
 use Rattle.m36_outside.specs.Written.{Grew, GrewWithin}
 use Rattle.m36_outside.proofs.Grown.{grew_on, grew_more, grew_longer, grew_by_nothing, within_nothing}
 
--- Of the text `all`, written from `start` on, `left` is left to write behind `now`.
+-- Of the text `all`, written from `start` on, `left` is still to be written after `now`.
 pub record Completes (now start : Option (List ℕ)) (left all : List ℕ) : Type 0 where
   pub whole : (new : Option (List ℕ)) → Grew now new left → Grew start new all
   pub cut : (new : Option (List ℕ)) → GrewWithin now new left → GrewWithin start new all

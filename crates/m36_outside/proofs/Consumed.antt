@@ -104,7 +104,7 @@ pub keeps_all : (now : Option (List ℕ)) → Keeps now now
 keeps_all None = tt
 keeps_all (Some left) = refl
 
--- a piece of bytes that are not told
+-- a piece of an input whose bytes are not known
 pub piece_untold : (count : ℕ) (into : List ℕ) → 1 ≤ count → count ≤ length into → Moved None None count into
 piece_untold count into some room = record { some = some; room = room; left = refl }
 

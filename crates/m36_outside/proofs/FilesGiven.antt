@@ -1,4 +1,4 @@
--- Laws of what a file gave: pieces that were given one after another, and those that were noted behind others.
+-- Laws of what a file gave: pieces given one after another, and logs that are appended to other logs.
 use Rattle.std.proofs.Common.{◌≡◌, ℕ, ◌<◌, List, [], ◌∷◌, ◌++◌, length, refl, sym, ap, subst, ◌∙◌}
 use Rattle.std.proofs.lemmas.List.{append-nil, append_assoc}
 use Rattle.std.specs.declared.io.ErrorKind.{ErrorKind}
@@ -75,7 +75,7 @@ chunk_gives chunk.NoMemory old new before after got added gave = record { pieces
 
 pub ruleset giving = (gives_none, gives_more, gives_all, gives_too_much, gives_some, gives_some_more)
 
--- what an opened file gave, of which nothing was noted before, is noted behind what others gave
+-- the log of an opened file is appended to the log of the files before it
 behind :
     (old new before after pieces : List (List ℕ))
     → after ≡ before ++ pieces → before ≡ [] → new ≡ old ++ after → new ≡ old ++ pieces

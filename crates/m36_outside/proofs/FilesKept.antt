@@ -1,4 +1,4 @@
--- Laws of files of which one is put in.
+-- Laws of files of which one is replaced.
 use Rattle.std.proofs.Common.{◌≡◌, ℕ, true, List, Option, inl, inr, refl, bytes_eq}
 use Rattle.std.specs.Cmp.Lexicographic.{bytes_decides}
 use Rattle.std.proofs.lemmas.Bool.{cases_Bool}

@@ -94,7 +94,7 @@ pub ruleset gathering = (gathers_here, gathers_behind, loses_behind, loses_here,
 
 -- ---- pieces that are added, and handed over at the end
 
--- what is in the block was put behind what was put before
+-- what is in the block was put after what was put before
 finished :
     (old mid more : List (List ℕ)) (written between written' : Option (List ℕ)) (taken midway : List (List ℕ))
     → Gathers old mid more written between taken midway → Grew between written' (joined mid)

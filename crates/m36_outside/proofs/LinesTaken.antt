@@ -4,7 +4,7 @@ use Rattle.std.proofs.Common.{◌≡◌, ℕ, List, [], ◌∷◌, ◌++◌, Opt
 use Rattle.std.proofs.lemmas.List.{append-nil, append_assoc}
 use Rattle.m36_outside.specs.Passing.{TakesPart, TakesSome}
 
--- where nothing is due, nothing need be done
+-- no pieces need no put
 pub takes_no_lines : (now : List (List ℕ)) → now ≡ now ++ []
 takes_no_lines now = sym (append-nil now)
 
@@ -83,7 +83,7 @@ takes_line_on old now new left line one two = takes_lines_on old now new (line �
 -- what a function that puts several lines takes by `using`
 pub ruleset lines_taken = (takes_no_lines, takes_lines_on, takes_some_of_line, takes_lines_more, takes_lines_longer, takes_some_of_lines, takes_line_more, takes_line_on)
 
--- Of the lines `all`, taken from `start` on, `left` are left to take behind `now`.
+-- Of the pieces `all`, taken from `start` on, `left` are still to be taken after `now`.
 pub record CompletesLines (now start left all : List (List ℕ)) : Type 0 where
   pub whole : (new : List (List ℕ)) → new ≡ now ++ left → new ≡ start ++ all
   pub cut : (new : List (List ℕ)) → TakesSome now new left → TakesSome start new all

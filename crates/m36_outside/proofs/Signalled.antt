@@ -1,4 +1,4 @@
--- Laws of errors that were noted: of signals, behind which a call is made again, and of what makes it give up.
+-- Laws of logged errors: of signals, after which a call is made again, and of errors that make it give up.
 use Rattle.std.proofs.Common.{◌≡◌, ◌≢◌, ◌↔◌, Bool, true, false, ℕ, ◌+◌, ◌-◌, ◌^◌, ◌≤◌, ◌⊎◌, inl, inr, List, [], ◌∷◌, ◌++◌, length, replicate, refl, sym, ap, subst, ◌∙◌, arith, length-append}
 use Rattle.std.proofs.lemmas.List.{append-nil, append_assoc, replicate_more, replicate-append-replicate}
 use Rattle.std.specs.Prelude.{IsTrue}
@@ -15,7 +15,7 @@ use Rattle.m36_outside.specs.declared.reading.Chunk.TheVariants as chunk
 use Rattle.m36_outside.specs.declared.sink.Put.{Put}
 use Rattle.m36_outside.specs.declared.sink.Put.TheVariants as put
 
--- ---- one call of the system, which is made again behind a signal
+-- ---- one call of the system, which is made again after a signal
 
 -- no error yet
 pub signals_none : (now : List ErrorKind) → Signals now now
@@ -123,7 +123,7 @@ gives_up_on start now next first more = record {
 
 pub ruleset in_turn = (signals_none, signals_on, gives_up_on)
 
--- ---- what was noted of one writer or reader, of which nothing was noted before, behind what was noted of others
+-- ---- the log of one writer or reader, appended to the log of others
 
 pub signals_behind :
     (old new before after : List ErrorKind)

@@ -2,7 +2,7 @@
 use Rattle.std.proofs.Common.{◌≡◌, ℕ, ◌+◌, List, ◌++◌, take, drop, sym, ap, ◌∙◌}
 use Rattle.std.proofs.lemmas.List.{drop-drop, take-append-drop}
 
--- Of the bytes from a place on, so many were copied: they and those behind them are what was left.
+-- `count` bytes were copied from an index on: they and the bytes after them are what was left.
 pub taken_front :
     (content left into : List ℕ) (place count : ℕ)
     → left ≡ drop place content → take count into ≡ take count left
@@ -11,7 +11,7 @@ taken_front content left into place count from same =
     let next : drop (place + count) content ≡ drop count left = sym (ap (drop count) from ∙ drop-drop count place content) in
     sym (ap (λ l. l ++ drop (place + count) content) same ∙ ap (λ l. take count left ++ l) next ∙ take-append-drop count left)
 
--- those behind them
+-- the bytes after them
 pub taken_rest :
     (content left : List ℕ) (place count : ℕ) → left ≡ drop place content → drop (place + count) content ≡ drop count left
 taken_rest content left place count from = sym (ap (drop count) from ∙ drop-drop count place content)

@@ -29,11 +29,11 @@ takes_front written written' old new whole count grown took = record {
   grew = ap (λ w. Some w) grown;
 }
 
--- what a writer took, of which nothing was noted before
+-- what a writer with an empty log took
 pub taken_is : (before after bytes : List ℕ) → Grew (Some before) (Some after) bytes → before ≡ [] → after ≡ bytes
 taken_is before after bytes grown none = let same : Some after ≡ Some bytes = rw none at grown in cc
 
--- one more piece behind the others
+-- one more piece after the others
 pub joined_more : (pieces : List (List ℕ)) (piece : List ℕ) → joined (pieces ++ piece ∷ []) ≡ joined pieces ++ piece
 joined_more [] piece = append-nil piece
 joined_more (first ∷ pieces) piece =
@@ -87,7 +87,7 @@ writes_all old new whole before after grown none took =
 
 -- ---- by the answer of a put
 
--- of a writer of which nothing was noted before, behind what was noted of others
+-- the log of a writer, appended to the log of others
 pub put_says_behind :
     (answer : Put) (old new before after whole : List ℕ)
     → PutSays answer (Some before) (Some after) whole → before ≡ [] → new ≡ old ++ after
@@ -101,7 +101,7 @@ put_says_behind Failed old new before after whole within none noted = record {
   grew = ap (λ w. Some w) (noted ∙ ap (λ w. old ++ w) (taken_is before after within.part within.grew none));
 }
 
--- what it took is noted as one piece
+-- what it took is logged as one piece
 pub put_says :
     (answer : Put) (old new : List (List ℕ)) (whole before after : List ℕ)
     → PutSays answer (Some before) (Some after) whole → before ≡ [] → new ≡ old ++ after ∷ []
@@ -116,7 +116,7 @@ pub put_takes :
 put_takes Done old new whole before after grown none took = takes_whole old new whole before after grown none took
 put_takes Failed old new whole before after within none took = takes_written old new whole before after within none took
 
--- what a file took, all of it, is noted so
+-- all that a file took is logged as one entry
 pub notes_done :
     (answer : Put) (old new : List (List ℕ)) (whole before after : List ℕ)
     → PutSays answer (Some before) (Some after) whole → before ≡ [] → new ≡ old ++ after ∷ []

@@ -1,4 +1,4 @@
--- What the answer to a write says where it is that of a file: the folder does not tell its files.
+-- What the answer to a write implies if it is that of the file: the files of the folder are not known.
 use Rattle.std.proofs.Common.{◌≡◌, ℕ, List, None, refl, sym, subst}
 use Rattle.std.specs.declared.io.ErrorKind.{ErrorKind}
 use Rattle.m36_outside.specs.NameCalls.{ReplaceCalls}

@@ -1,28 +1,28 @@
--- A block of pieces, which lie one behind the other in one list of bytes.
+-- A block: pieces whose bytes are contiguous in one list.
 use Rattle.std.specs.Prelude.{ℕ, ◌≡◌, ◌≤◌, Bool, List, [], ◌∷◌, ◌+◌, ◌&&◌, length, take, drop, nat_le}
 use Rattle.std.specs.Prelude.{nat_lt, if◌then◌else◌}
 use Rattle.m36_outside.specs.Passing.{joined}
 
--- how many bytes a block has room for, and how many pieces
+-- the capacity of a block, in bytes and in pieces
 abbrev pub block_bytes : ℕ
 block_bytes = 32768
 
 abbrev pub block_pieces : ℕ
 block_pieces = 2048
 
--- A block has room for one more piece.
+-- A block with these pieces has room for one more.
 abbrev pub has_room : List (List ℕ) → List ℕ → Bool
 has_room pieces piece =
     nat_lt (length pieces) block_pieces
     && nat_le (length (joined pieces) + length piece) block_bytes
 
--- the places where pieces begin, of which the first begins at `from`, and the place behind the last
+-- the offset of each piece, if the first has the offset `from`, and then the offset of the end
 abbrev pub marks_of : ℕ → List (List ℕ) → List ℕ
 marks_of from [] = from ∷ []
 marks_of from (piece ∷ pieces) = from ∷ marks_of (from + length piece) pieces
 
--- How pieces lie in a block: their bytes come first, one piece after the other, and the places where
--- they begin come first too.
+-- How pieces are stored in a block: `bytes` begins with their bytes, one piece after the other,
+-- and `marks` with their offsets and the offset of the end.
 pub record Lie (bytes marks : List ℕ) (len count : ℕ) (pieces : List (List ℕ)) : Type 0 where
   pub fits : len ≤ block_bytes
   pub few : count ≤ block_pieces
@@ -31,12 +31,12 @@ pub record Lie (bytes marks : List ℕ) (len count : ℕ) (pieces : List (List �
   pub bytes_are : take len bytes ≡ joined pieces
   pub marks_are : take (count + 1) marks ≡ marks_of 0 pieces
 
--- there is room for so many bytes more, in a piece more
+-- there is room for `wanted` more bytes as one more piece
 abbrev pub is_room : ℕ → ℕ → ℕ → Bool
 is_room len count wanted = nat_lt count block_pieces && nat_le (len + wanted) block_bytes
 
--- Bytes parted by pieces: those pieces that are whole in them, and where a piece is left the rest
--- of the bytes, which may be none, as a first part of it.
+-- Splits bytes at the boundaries of pieces: each piece that the bytes have as a whole, and then,
+-- if a piece is left, the rest of the bytes, perhaps empty, as a prefix of that piece.
 abbrev pub parts : List ℕ → List (List ℕ) → List (List ℕ)
 parts bytes [] = []
 parts bytes (piece ∷ pieces) =

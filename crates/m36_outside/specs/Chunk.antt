@@ -1,4 +1,4 @@
--- What one read of a file adds to what was read of it.
+-- What one read of a file appends to the text that was read before.
 use Rattle.std.specs.Prelude.{ℕ, ◌≡◌, ◌≤◌, ◌<◌, List, [], ◌∷◌, ◌++◌, length, Option, ⊤}
 use Rattle.std.specs.declared.io.ErrorKind.{ErrorKind}
 use Rattle.std.specs.Io.KnownBytes.{Consumes, IsAtEnd}
@@ -9,18 +9,18 @@ use Rattle.m36_outside.specs.declared.reading.Chunk.{Chunk}
 use Rattle.m36_outside.specs.declared.reading.Chunk.TheVariants.{More, End, TooLarge, Failed}
 use Rattle.m36_outside.specs.declared.reading.Chunk.TheVariants.{NoMemory}
 
--- Bytes moved from what the reader had left, where that is known, to the end of the text.
+-- Bytes moved from what the reader had left, if that is known, to the end of the text.
 pub record Moves (old new : Option (List ℕ)) (before after : List ℕ) : Type 0 where
   pub got : List ℕ
   pub taken : Consumes old new got
   pub added : after ≡ before ++ got
 
--- More was read, and all that was read is within the limit.
+-- The text grew, and is within the limit.
 pub record GrowsWithinLimit (before after : List ℕ) : Type 0 where
   pub limit : length after ≤ file_limit
   pub more : length before < length after
 
--- what the answer says of what is left and of what was read, before and after
+-- what an answer implies for the bytes that are left and for the text, before and after the read
 abbrev pub ChunkSays : Chunk → Option (List ℕ) → Option (List ℕ) → List ℕ → List ℕ → Type 0
 ChunkSays More old new before after = Moves old new before after × GrowsWithinLimit before after
 ChunkSays End old new before after = Moves old new before after × IsAtEnd new × (after ≡ before)
@@ -28,7 +28,7 @@ ChunkSays TooLarge old new before after = Moves old new before after × (file_li
 ChunkSays Failed old new before after = ⊤
 ChunkSays NoMemory old new before after = ⊤
 
--- what the answer says where these bytes were read and are added
+-- what an answer implies if the bytes `got` were read and are appended
 abbrev pub AddSays : Chunk → List ℕ → List ℕ → List ℕ → Type 0
 AddSays More before after got = (after ≡ before ++ got) × GrowsWithinLimit before after
 AddSays End before after got = ⊥
@@ -36,13 +36,13 @@ AddSays TooLarge before after got = (after ≡ before ++ got) × (file_limit < l
 AddSays Failed before after got = ⊥
 AddSays NoMemory before after got = after ≡ before
 
--- A piece was given, and moved to the end of the text.
+-- A piece was given, and appended to the text.
 pub record GivesPiece (old new : List (List ℕ)) (before after : List ℕ) : Type 0 where
   pub got : List ℕ
   pub gave : new ≡ old ++ got ∷ []
   pub added : after ≡ before ++ got
 
--- what the answer says of what was given, and of what was read, before and after
+-- what an answer implies for the pieces given and for the text, before and after the read
 abbrev pub ChunkGives :
     Chunk → List (List ℕ) → List (List ℕ) → List ℕ → List ℕ → Type 0
 ChunkGives More old new before after = GivesPiece old new before after
@@ -51,7 +51,7 @@ ChunkGives TooLarge old new before after = GivesPiece old new before after
 ChunkGives Failed old new before after = new ≡ old
 ChunkGives NoMemory old new before after = GivesSome old new
 
--- Failed was answered where the read gave up, and every other answer behind signals alone.
+-- Failed: the read gave up. Every other answer: the only errors were interruptions by signals.
 abbrev pub ChunkHasError : Chunk → List ErrorKind → List ErrorKind → Type 0
 ChunkHasError More old new = Signals old new
 ChunkHasError End old new = Signals old new

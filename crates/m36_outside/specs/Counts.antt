@@ -1,15 +1,14 @@
--- Counts of faults.
+-- Counts of faults, which saturate.
 use Rattle.std.specs.Prelude.{ℕ, ◌≡◌, ◌<◌, ◌+◌, ◌-◌, ◌^◌, ◌⊎◌, min}
 
--- where every count ends
+-- the maximum of each count
 abbrev pub last_count : ℕ
 last_count = 2 ^ 64 - 1
 
--- A count rose in a call: it is greater after the call than before, or it stands where every count
--- ends.
+-- A count rose in a call: it is greater after the call than before, or it is at its maximum.
 abbrev pub Rose : ℕ → ℕ → Type 0
 Rose old new = (old < new) ⊎ (new ≡ last_count)
 
--- a count after one more fault
+-- the count after one more fault
 abbrev pub raised : ℕ → ℕ
 raised count = min (count + 1) last_count

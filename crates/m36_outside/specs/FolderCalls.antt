@@ -1,4 +1,4 @@
--- The calls of a folder: what it was asked and told to write, and what it answered.
+-- The log of the calls of a folder, with their answers.
 use Rattle.std.specs.Prelude.{ℕ, List}
 use Rattle.m36_outside.specs.declared.folder.ReadAnswer.{ReadAnswer}
 use Rattle.m36_outside.specs.declared.folder.WriteAnswer.{WriteAnswer}

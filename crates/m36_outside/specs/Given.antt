@@ -1,4 +1,4 @@
--- What a file gave while it was read: pieces in order, of which an empty one is the end.
+-- What a file gave while it was read: pieces in order, with an empty one for the end.
 use Rattle.std.specs.Prelude.{ℕ, ◌≡◌, ◌<◌, List, [], ◌∷◌, ◌++◌, length}
 use Rattle.m36_outside.specs.Passing.{joined}
 use Rattle.m36_outside.specs.ReadAnswer.{file_limit}
@@ -6,30 +6,30 @@ use Rattle.m36_outside.specs.declared.folder.ReadAnswer.{ReadAnswer}
 use Rattle.m36_outside.specs.declared.folder.ReadAnswer.TheVariants.{Read, Absent, TooLarge, Failed}
 use Rattle.m36_outside.specs.declared.folder.ReadAnswer.TheVariants.{NoMemory}
 
--- Pieces were given that come to these bytes.
+-- Pieces were given whose concatenation is `bytes`.
 pub record Gives (old new : List (List ℕ)) (bytes : List ℕ) : Type 0 where
   pub pieces : List (List ℕ)
   pub come : joined pieces ≡ bytes
   pub gave : new ≡ old ++ pieces
 
--- Pieces were given that come to these bytes, and then the end.
+-- Pieces were given whose concatenation is `bytes`, and then the end.
 pub record GivesAll (old new : List (List ℕ)) (bytes : List ℕ) : Type 0 where
   pub pieces : List (List ℕ)
   pub come : joined pieces ≡ bytes
   pub gave : new ≡ (old ++ pieces) ++ [] ∷ []
 
--- Pieces were given that come to more bytes than are read of a file.
+-- Pieces were given that together exceed the limit of a file.
 pub record GivesTooMuch (old new : List (List ℕ)) : Type 0 where
   pub pieces : List (List ℕ)
   pub more : file_limit < length (joined pieces)
   pub gave : new ≡ old ++ pieces
 
--- Some pieces were given, or none.
+-- Pieces were given, perhaps none.
 pub record GivesSome (old new : List (List ℕ)) : Type 0 where
   pub pieces : List (List ℕ)
   pub gave : new ≡ old ++ pieces
 
--- what the answer to a read says of what the file gave
+-- what the answer to a read implies for the pieces that the file gave
 abbrev pub ReadGives : ReadAnswer → List (List ℕ) → List (List ℕ) → Type 0
 ReadGives (Read bytes) old new = GivesAll old new bytes
 ReadGives Absent old new = new ≡ old

@@ -16,7 +16,7 @@ pub record MemFolderFields : Type 0 where
   pub read_faults : ℕ
   pub write_faults : ℕ
 
--- a folder without files, and the numbers of the reads and writes that are to fail
+-- a folder without files, with the numbers of the reads and writes that fail
 abbrev pub new_folder : List ℕ → List ℕ → MemFolderFields
 new_folder reads writes = record {
   files = [];
@@ -28,7 +28,8 @@ new_folder reads writes = record {
   write_faults = 0;
 }
 
--- the folder after a read: one more read is counted, and a fault where it was to fail
+-- the folder after a read: the read is counted and logged, and counted as a fault if it had to
+-- fail
 abbrev pub after_read : MemFolderFields → List ℕ → ReadAnswer → MemFolderFields
 after_read folder name answer = record {
   files = folder.files;
@@ -40,8 +41,8 @@ after_read folder name answer = record {
   write_faults = folder.write_faults;
 }
 
--- the folder after a write that left these files: one more write is counted, and a fault where it
--- was to fail
+-- the folder after a write that left these files: the write is counted and logged, and counted as
+-- a fault if it had to fail
 abbrev pub after_write :
     MemFolderFields → List NamedFile → List ℕ → List ℕ → WriteAnswer → MemFolderFields
 after_write folder files name content answer = record {

@@ -1,4 +1,4 @@
--- Input in memory: what is left of it, what was given, and which of its calls fail.
+-- Input in memory: what is left of it, what was given, and which calls fail.
 use Rattle.std.specs.Prelude.{ℕ, List, [], ◌∷◌, ◌++◌, take, drop, if◌then◌else◌}
 use Rattle.m36_outside.specs.Counts.{raised}
 use Rattle.m36_outside.specs.CallPlan.{CallPlan, new_plan, next_fails, after_call}
@@ -10,15 +10,16 @@ pub record MemLinesFields : Type 0 where
   pub calls : CallPlan
   pub faults : ℕ
 
--- input of these bytes, and the numbers of the calls that are to fail
+-- input of these bytes, with the numbers of the calls that fail
 abbrev pub new_lines : List ℕ → List ℕ → MemLinesFields
 new_lines content calls = record { left = content; given = []; calls = new_plan calls; faults = 0 }
 
--- what a call gives with a buffer of so many bytes
+-- the piece that a call gives with a buffer of `room` bytes
 abbrev pub next_piece : MemLinesFields → ℕ → List ℕ
 next_piece lines room = take (piece_length room lines.left) lines.left
 
--- The input after a call: one whose number is listed takes nothing.
+-- The input after a call with a buffer of `room` bytes. A call whose number is listed consumes
+-- nothing.
 abbrev pub after_piece : MemLinesFields → ℕ → MemLinesFields
 after_piece lines room = record {
   left = if next_fails lines.calls then lines.left

@@ -1,5 +1,4 @@
--- A place for output in memory: what it holds, in which pieces, how much it may hold, and which of
--- its calls fail.
+-- Output in memory: its bytes, its pieces, how many bytes it may hold, and which puts fail.
 use Rattle.std.specs.Prelude.{ℕ, Bool, List, [], ◌∷◌, ◌++◌, ◌-◌, ◌||◌, length, take, nat_lt}
 use Rattle.std.specs.Prelude.{if◌then◌else◌, false}
 use Rattle.m36_outside.specs.Counts.{raised}
@@ -12,25 +11,25 @@ pub record MemSinkFields : Type 0 where
   pub puts : CallPlan
   pub faults : ℕ
 
--- nothing written yet, room for so many bytes, and the numbers of the puts that are to fail
+-- an empty output with room for `room` bytes, and the numbers of the puts that fail
 abbrev pub new_sink : ℕ → List ℕ → MemSinkFields
 new_sink room puts =
     record { bytes = []; pieces = []; room = room; puts = new_plan puts; faults = 0 }
 
--- how many more bytes it may hold
+-- the number of bytes that still fit
 abbrev pub room_left : MemSinkFields → ℕ
 room_left sink = sink.room - length sink.bytes
 
--- A put fails where its number is listed, or where the piece goes past the room.
+-- A put fails if its number is listed, or if the piece does not fit.
 abbrev pub put_fails : MemSinkFields → List ℕ → Bool
 put_fails sink piece = next_fails sink.puts || nat_lt (room_left sink) (length piece)
 
--- what is taken of a piece: nothing by a put whose number is listed, and else as much as there is
--- room for
+-- what is taken of a piece: nothing if the number of the put is listed, otherwise as many of its
+-- first bytes as fit
 abbrev pub taken : MemSinkFields → List ℕ → List ℕ
 taken sink piece = if next_fails sink.puts then [] else take (room_left sink) piece
 
--- the place after a put
+-- the output after a put
 abbrev pub after_put : MemSinkFields → List ℕ → MemSinkFields
 after_put sink piece = record {
   bytes = sink.bytes ++ taken sink piece;
@@ -40,8 +39,8 @@ after_put sink piece = record {
   faults = if put_fails sink piece then raised sink.faults else sink.faults;
 }
 
--- The pieces of a block are put one after another, up to the first whose put fails: whether one
--- does, and the place then.
+-- The pieces of a block are put one after another, up to the first put that fails. `block_fails`:
+-- one does. `after_block`: the output afterwards.
 unfoldable pub block_fails : MemSinkFields → List (List ℕ) → Bool
 block_fails sink [] = false
 block_fails sink (piece ∷ pieces) =

@@ -1,5 +1,5 @@
--- The calls of the system that change the names of a directory, as they were noted, and how a file
--- is replaced by them.
+-- The logged calls of the system that change the names of a directory, and how they replace a
+-- file.
 use Rattle.std.specs.Prelude.{ℕ, zero, suc, ◌≡◌, ◌+◌, ◌/◌, ◌%◌, ◌⊎◌, Bool, true, false, List, [], ◌∷◌, ◌++◌}
 use Rattle.std.specs.Prelude.{replicate, codes}
 use Rattle.std.specs.declared.io.ErrorKind.{ErrorKind}
@@ -10,22 +10,22 @@ use Rattle.m36_outside.specs.declared.name_calls.NameCall.TheVariants.{Make, Ren
 use Rattle.m36_outside.specs.declared.sink.Put.{Put}
 use Rattle.m36_outside.specs.declared.sink.Put.TheVariants.{Done, Failed}
 
--- an error was noted unless the call was done
+-- if the call was done, no error was logged; otherwise one was
 abbrev pub ErrorUnless : Bool → List ErrorKind → List ErrorKind → Type 0
 ErrorUnless true old new = new ≡ old
 ErrorUnless false old new = (kind : ErrorKind) × (new ≡ old ++ kind ∷ [])
 
--- the spare name with this number, below 1000: `.m36-` and three digits
+-- the spare name with this number, which is below 1000: `.m36-` and three digits
 unfoldable pub spare_name : ℕ → List ℕ
 spare_name number =
     codes ".m36-" ++ (48 + number / 100) ∷ (48 + number / 10 % 10) ∷ (48 + number % 10) ∷ []
 
--- The first spare names, of which each was refused.
+-- Each of the first `n` spare names was tried and refused.
 unfoldable pub tried : ℕ → List NameCall
 tried zero = []
 tried (suc n) = tried n ++ Make (spare_name n) false ∷ []
 
--- A file was made under the first spare name that was free.
+-- A file was created under the first spare name that was free; each before it existed already.
 pub record MakesSpare (spare : List ℕ) (calls calls' : List NameCall)
     (errors errors' : List ErrorKind) : Type 0 where
   pub count : ℕ
@@ -33,7 +33,7 @@ pub record MakesSpare (spare : List ℕ) (calls calls' : List NameCall)
   pub noted : calls' ≡ calls ++ tried count ++ Make spare true ∷ []
   pub refused : errors' ≡ errors ++ replicate count AlreadyExists
 
--- No file could be made under a spare name. The last try was refused with some error.
+-- No file could be created under a spare name. The last try was refused with error `kind`.
 pub record MakesNone (calls calls' : List NameCall) (errors errors' : List ErrorKind)
     : Type 0 where
   pub count : ℕ
@@ -42,8 +42,8 @@ pub record MakesNone (calls calls' : List NameCall) (errors errors' : List Error
   pub kind : ErrorKind
   pub refused : errors' ≡ errors ++ replicate before AlreadyExists ++ kind ∷ []
 
--- What was done with the spare file: on Done it has the name, in place of the file that had the
--- name before. On Failed it was to be removed, and no file was renamed.
+-- What was done with the spare file. Done: it was renamed to the name, and replaced the file that
+-- had the name before. Failed: a removal was tried, and no file was renamed.
 abbrev pub SpareUsed : Put → List ℕ → List ℕ → List NameCall → List NameCall → Type 0
 SpareUsed Done spare name old new = new ≡ old ++ Rename spare name true ∷ []
 SpareUsed Failed spare name old new =
@@ -51,26 +51,26 @@ SpareUsed Failed spare name old new =
     × ((new ≡ old ++ Remove spare done ∷ [])
     ⊎ (new ≡ old ++ Rename spare name false ∷ [] ++ Remove spare done ∷ []))
 
--- The cause of a failure, and after it at most the error of the removal of the spare file.
+-- The errors of a failure, and after them at most the error of the removal of the spare file.
 pub record FailsBy (old new : List ErrorKind) : Type 0 where
   pub failed : List ErrorKind
   pub cause : GivesUp old failed
       ⊎ ((before : List ErrorKind) × Signals old before × ErrorUnless false before failed)
   pub removal : (done : Bool) × ErrorUnless done failed new
 
--- The errors with which the spare file was written and renamed: signals alone on Done.
+-- The errors of writing and renaming the spare file. Done: only interruptions by signals.
 abbrev pub SpareErrors : Put → List ErrorKind → List ErrorKind → Type 0
 SpareErrors Done old new = Signals old new
 SpareErrors Failed old new = FailsBy old new
 
--- The calls that follow those that made the spare file: the file is replaced as a whole.
+-- The calls that replace a file as a whole, from the first spare name that was tried on.
 pub record Replaces (name : List ℕ) (old new : List NameCall) : Type 0 where
   pub count : ℕ
   pub noted : new
       ≡ old ++ tried count ++ Make (spare_name count) true ∷ []
       ++ Rename (spare_name count) name true ∷ []
 
--- No file was renamed: no spare file was made, or it was made and a removal was tried.
+-- No file was renamed: no spare file was created, or one was and its removal was tried.
 pub record ReplacesNot (name : List ℕ) (old new : List NameCall) : Type 0 where
   pub count : ℕ
   pub noted : (new ≡ old ++ tried count)

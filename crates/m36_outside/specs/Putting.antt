@@ -1,11 +1,11 @@
--- What is said of a sink to which a text is put, in pieces.
+-- The contract of putting a text into a sink, in pieces.
 use Rattle.std.specs.Prelude.{ℕ, List}
 use Rattle.m36_outside.specs.Passing.{joined, TakesLines}
 use Rattle.m36_outside.specs.Put.{PutSays, PutHasCause}
 use Rattle.m36_outside.specs.SinkState.{SinkState}
 use Rattle.m36_outside.specs.declared.sink.Put.{Put}
 
--- It is put whole; or, where a put failed, a first part of it: pieces of it and a first part of the
+-- The text is put as a whole; or, if a put failed, some first pieces of it and a prefix of the
 -- next.
 pub record PutsText
     (answer : Put) (bytes : List ℕ) (due : List (List ℕ)) (old new : SinkState)
@@ -14,6 +14,6 @@ pub record PutsText
   pub pieces : TakesLines answer old.taken new.taken due
   pub faults : PutHasCause answer old.faults new.faults
 
--- the same of pieces
+-- as `PutsText`, for the text of these pieces
 abbrev pub PutsPieces : Put → List (List ℕ) → SinkState → SinkState → Type 0
 PutsPieces answer pieces old new = PutsText answer (joined pieces) pieces old new

@@ -1,15 +1,15 @@
--- What the answers of a read say.
+-- What the answer to a read implies.
 use Rattle.std.specs.Prelude.{ℕ, ◌≡◌, ◌≤◌, ◌<◌, List, length, Option, Some, None, ⊤}
 use Rattle.m36_outside.specs.Counts.{Rose}
 use Rattle.m36_outside.specs.declared.folder.ReadAnswer.{ReadAnswer}
 use Rattle.m36_outside.specs.declared.folder.ReadAnswer.TheVariants.{Read, Absent, TooLarge, Failed}
 use Rattle.m36_outside.specs.declared.folder.ReadAnswer.TheVariants.{NoMemory}
 
--- the greatest length of a file that is read, 16 MiB
+-- the maximum length of a file that can be read: 16 MiB
 abbrev pub file_limit : ℕ
 file_limit = 16777216
 
--- what the answer says of the named file, where the folder tells its files
+-- what the answer implies for the named file, if the files of the folder are known
 abbrev pub ReadSays : ReadAnswer → Option (List ℕ) → Type 0
 ReadSays (Read bytes) file = file ≡ Some bytes
 ReadSays Absent file = file ≡ None
@@ -25,7 +25,7 @@ IsWithinLimit TooLarge = ⊤
 IsWithinLimit Failed = ⊤
 IsWithinLimit NoMemory = ⊤
 
--- A failed read made the count of faults rise, and every other read left it.
+-- A failed read raised the count of faults; every other read left it unchanged.
 abbrev pub ReadHasCause : ReadAnswer → ℕ → ℕ → Type 0
 ReadHasCause (Read bytes) old new = new ≡ old
 ReadHasCause Absent old new = new ≡ old

@@ -1,4 +1,4 @@
--- A folder and an input in memory that never fail: what they hold, and what passed.
+-- A folder and an input in memory that never fail: their content and their logs.
 use Rattle.std.specs.Prelude.{ℕ, List}
 use Rattle.m36_outside.specs.FolderCalls.{Asked, Wrote}
 use Rattle.m36_outside.specs.declared.file_list.NamedFile.{NamedFile}

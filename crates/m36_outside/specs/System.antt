@@ -1,4 +1,4 @@
--- What the calls of the system answered, as it was noted.
+-- What the calls of the system answered, as it was logged.
 use Rattle.std.specs.Prelude.{ℕ, ◌≡◌, List, [], ◌∷◌, ◌++◌, ◌⊎◌, ⊤, Contains, IsUtf8, replicate}
 use Rattle.std.specs.declared.io.ErrorKind.{ErrorKind}
 use Rattle.std.specs.declared.io.ErrorKind.TheVariants.{NotFound, AlreadyExists}
@@ -14,27 +14,27 @@ use Rattle.m36_outside.specs.declared.name_calls.NameCall.{NameCall}
 use Rattle.m36_outside.specs.declared.sink.Put.{Put}
 use Rattle.m36_outside.specs.declared.sink.Put.TheVariants.{Done, Failed}
 
--- what parts the directories of a path
+-- the separator of directories in a path
 abbrev pub slash : ℕ
 slash = 47
 
--- Done was answered where these bytes went through a flush, whole.
+-- Done: these bytes were flushed, as a whole.
 abbrev pub NotesDone : Put → List (List ℕ) → List (List ℕ) → List ℕ → Type 0
 NotesDone Done old new bytes = new ≡ old ++ bytes ∷ []
 NotesDone Failed old new bytes = ⊤
 
--- Failed was answered where the system's call gave up, and Done behind signals alone.
+-- Failed: the call of the system gave up. Done: the only errors were interruptions by signals.
 abbrev pub PutHasError : Put → List ErrorKind → List ErrorKind → Type 0
 PutHasError Done old new = Signals old new
 PutHasError Failed old new = GivesUp old new
 
--- the same of the answers of an input
+-- the same for the answers of an input
 abbrev pub PieceHasError : Piece → List ErrorKind → List ErrorKind → Type 0
 PieceHasError (piece.Got count) old new = Signals old new
 PieceHasError piece.End old new = Signals old new
 PieceHasError piece.Failed old new = GivesUp old new
 
--- the same of an opened file, which is not absent
+-- the same for a file that was opened, which cannot be absent
 abbrev pub OpenHasError : ReadAnswer → List ErrorKind → List ErrorKind → Type 0
 OpenHasError (read.Read bytes) old new = Signals old new
 OpenHasError read.Absent old new = ⊥
@@ -46,27 +46,27 @@ OpenHasError read.NoMemory old new = Signals old new
 abbrev pub NamesNoFile : List ℕ → Type 0
 NamesNoFile name = IsUtf8 name → Contains name slash
 
--- Every other name may be that of a file.
+-- Every other name may be the name of a file.
 pub record NamesFile (name : List ℕ) : Type 0 where
   pub text : IsUtf8 name
   pub no_slash : ¬ (Contains name slash)
 
--- the answer to a file that could not be opened
+-- the answer for a file that could not be opened
 abbrev pub refusal_of : ErrorKind → ReadAnswer
 refusal_of NotFound = read.Absent
 refusal_of _ = read.Failed
 
--- One error came by which a file could not be opened, and the answer is that to it.
+-- A file could not be opened because of one error, and the answer is that for this error.
 abbrev pub IsRefused : ReadAnswer → List ErrorKind → List ErrorKind → Type 0
 IsRefused answer old new =
     (kind : ErrorKind) × (refusal_of kind ≡ answer) × (new ≡ old ++ kind ∷ [])
 
--- No file was read: a read gave up, or no file was opened.
+-- No file was read: a read gave up, or the file could not be opened.
 pub record ReadsNot (old new : List ErrorKind) : Type 0 where
   pub why : GivesUp old new ⊎ IsRefused read.Failed old new
 
--- Absent was answered to a name of no file, or behind one error that is answered so, which is that
--- there is no such file; Failed where no file was read, and the other answers as of an opened file.
+-- Absent: the name names no file, or the system reported that the file was not found. Failed: no
+-- file was read. The other answers are as for a file that was opened.
 abbrev pub ReadHasError : ReadAnswer → List ℕ → List ErrorKind → List ErrorKind → Type 0
 ReadHasError (read.Read bytes) name old new = OpenHasError (read.Read bytes) old new
 ReadHasError read.Absent name old new =
@@ -75,37 +75,38 @@ ReadHasError read.TooLarge name old new = OpenHasError read.TooLarge old new
 ReadHasError read.Failed name old new = ReadsNot old new
 ReadHasError read.NoMemory name old new = OpenHasError read.NoMemory old new
 
--- the answer to a write by that of the file
+-- the answer of the folder for the result of the put
 abbrev pub write_answer_of : Put → WriteAnswer
 write_answer_of Done = write.Written
 write_answer_of Failed = write.Failed
 
--- No file was written: it has the name of none; or, after spare names that files had already, the
--- calls failed.
+-- No file was written: the name names no file; or, after some spare names that files had already,
+-- a call failed.
 pub record WritesNot (name : List ℕ) (old new : List ErrorKind) : Type 0 where
   pub why :
       NamesNoFile name ⊎ ((count : ℕ) × FailsBy (old ++ replicate count AlreadyExists) new)
 
--- Failed was answered where no file was written. On Done the only errors are those of spare names
--- that files had already, and then signals.
+-- Failed: no file was written. Done: the only errors were refusals of spare names that files had
+-- already, and then interruptions by signals.
 abbrev pub FileHasError : Put → List ℕ → List ErrorKind → List ErrorKind → Type 0
 FileHasError Done name old new =
     (count : ℕ) × Signals (old ++ replicate count AlreadyExists) new
 FileHasError Failed name old new = WritesNot name old new
 
--- Nothing was noted, or a first part of the content.
+-- Nothing was logged, or a prefix of the content.
 pub record NotesPart (old new : List (List ℕ)) (content : List ℕ) : Type 0 where
   pub why :
       (new ≡ old)
       ⊎ ((part : List ℕ) × (rest : List ℕ) × (content ≡ part ++ rest) × (new ≡ old ++ part ∷ []))
 
--- what a file that is written took of a content
+-- what a file that is written took of its content
 abbrev pub NotesWrite : Put → List (List ℕ) → List (List ℕ) → List ℕ → Type 0
 NotesWrite Done old new content = new ≡ old ++ content ∷ []
 NotesWrite Failed old new content = NotesPart old new content
 
--- The answers of a folder, by those of the file. A directory never answers that no memory was
--- found for a write.
+-- What a write implies, by the answer of the folder. A directory never answers NoMemory to a
+-- write. `WriteTakes`: for the bytes that the file took. `WriteCalls`: for the calls that change
+-- names. `WriteHasError`: for the errors.
 abbrev pub WriteTakes : WriteAnswer → List (List ℕ) → List (List ℕ) → List ℕ → Type 0
 WriteTakes write.Written old new content = NotesWrite Done old new content
 WriteTakes write.Failed old new content = NotesWrite Failed old new content

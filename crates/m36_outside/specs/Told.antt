@@ -1,12 +1,12 @@
--- What is known of the files, the input and the output of the system: counts of faults, and what
--- passed.
+-- What contracts know of the files, the input and the output of the system: counts of faults and
+-- logs.
 use Rattle.std.specs.Prelude.{ℕ, List}
 use Rattle.std.specs.declared.io.ErrorKind.{ErrorKind}
 use Rattle.m36_outside.specs.FolderCalls.{Asked, Wrote}
 use Rattle.m36_outside.specs.declared.name_calls.NameCall.{NameCall}
 
--- a folder: its calls, the pieces that its files gave, the bytes that each file which was made
--- took, the calls that change names, and the errors of the system
+-- a folder: its calls, the pieces that its files gave, the bytes that each file took when it was
+-- made, the calls that change names, and the errors of the system
 pub record FolderTold : Type 0 where
   pub reads : ℕ
   pub writes : ℕ

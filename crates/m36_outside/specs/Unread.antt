@@ -1,7 +1,6 @@
--- Bytes in memory that are taken from the beginning on.
+-- Bytes in memory that are consumed from the beginning on.
 use Rattle.std.specs.Prelude.{ℕ, List, length, min}
 
--- how many bytes are taken with a buffer of so many bytes: as many as are left and as there is room
--- for
+-- the number of bytes that are consumed with a buffer of `room` bytes: as many as fit
 abbrev pub piece_length : ℕ → List ℕ → ℕ
 piece_length room left = min room (length left)

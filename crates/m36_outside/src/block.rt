@@ -1,4 +1,4 @@
-//! Pieces of output that are put at once.
+//! A block: pieces of output that are put at once.
 
 ghost use Rattle.std.specs.Prelude.{ℕ, [], ◌∷◌, ◌++◌, ◌+◌, ◌≡◌, ◌<◌, ◌≤◌, ◌==◌, length, get_or, take, slice_range};
 ghost use Rattle.std.specs.Bool.{OnTrue, OnFalse};
@@ -13,26 +13,27 @@ use crate::spelled::{SHORT, Spelled};
 use crate::text::Text;
 use std::marker::Model;
 
-/// The most bytes of all pieces.
+/// The maximum number of bytes of all pieces together.
 const BYTES: usize = 32768;
 
-/// The most pieces.
+/// The maximum number of pieces.
 const PIECES: usize = 2048;
 
-/// The places where they begin, and the one where the last of them ends.
+/// The maximum number of marks: one for the begin of each piece, and one for the end of the last.
 const PIECES_AND_END: usize = 2049;
 
-/// Pieces in order, seen as a list of them. Their bytes lie one after the other, so a system can take all pieces in one
-/// call. There is room for 2,048 pieces, and for 32,768 bytes in them.
+/// Pieces in order; the view is the list of them. Their bytes are contiguous, so a system can take
+/// all pieces in one call. A block has room for 2,048 pieces and for 32,768 bytes in them.
 #[derive(Drop)]
 pub struct Block {
-    /// The bytes of the pieces, and after them bytes that mean nothing.
+    /// The bytes of the pieces, and then unused bytes.
     bytes: [u8; BYTES],
-    /// Where each piece begins, then where the last one ends, and after that places that mean nothing.
+    /// The offset in `bytes` of each piece, then the offset of the end of the last one, then
+    /// unused marks.
     marks: [usize; PIECES_AND_END],
-    /// How many bytes the pieces have.
+    /// The number of bytes of all pieces.
     len: usize,
-    /// How many pieces there are.
+    /// The number of pieces.
     count: usize,
     pieces: Passed<Text>,
 }
@@ -49,7 +50,7 @@ impl Model for Block {
 }
 
 impl Block {
-    /// No pieces.
+    /// An empty block.
     #[tactic(auto, using(crate::proofs::Blocks::blocks))]
     pub fn new() -> Block
         ensures { result ≡ [] }
@@ -63,14 +64,14 @@ impl Block {
         }
     }
 
-    /// Whether there are no pieces.
+    /// Whether the block is empty.
     pub fn is_empty(&self) -> bool
         ensures { result ≡ (length self.now == 0) }
     {
         self.len() == 0
     }
 
-    /// How many pieces there are.
+    /// The number of pieces.
     #[tactic(auto, using(crate::proofs::Blocks::blocks))]
     pub fn len(&self) -> usize
         ensures { result ≡ length self.now }
@@ -78,7 +79,7 @@ impl Block {
         self.count
     }
 
-    /// The bytes of all pieces, one after the other.
+    /// The bytes of all pieces, concatenated.
     #[tactic(auto, using(crate::proofs::Blocks::blocks))]
     pub fn bytes(&self) -> &[u8]
         ensures { result.now ≡ joined self.now }
@@ -86,7 +87,7 @@ impl Block {
         &self.bytes[..self.len]
     }
 
-    /// The piece at a place.
+    /// The piece with this index.
     #[tactic(auto, using(crate::proofs::Blocks::blocks))]
     pub fn piece(&self, place: usize) -> &[u8]
         requires { place < length self.now }
@@ -96,14 +97,14 @@ impl Block {
         between(self.bytes(), marks[place], marks[place + 1])
     }
 
-    // Where each piece begins, and where the last one ends.
+    // The offset of each piece, and the offset of the end of the last one.
     fn marks(&self) -> &[usize]
         ensures { result.now ≡ marks_of 0 self.now }
     {
         &self.marks[..self.count + 1]
     }
 
-    /// Adds a piece at the end where there is room, and answers whether there is.
+    /// Appends a piece if there is room for it, and returns whether there is.
     #[tactic(auto, using(crate::proofs::Blocks::blocks))]
     pub fn push(&mut self, piece: &[u8]) -> bool
         ensures room { result ≡ has_room self.old piece.now }
@@ -119,7 +120,7 @@ impl Block {
         true
     }
 
-    /// The same of a short text, which is written where it lies from then on.
+    /// As `push`, for a short text, which is spelled directly into the block.
     #[inline(always)]
     #[tactic(auto, using(crate::proofs::Blocks::blocks))]
     pub fn push_line<L: Spelled>(&mut self, line: &L) -> bool
@@ -136,7 +137,7 @@ impl Block {
         true
     }
 
-    // The same where there may be no room for the longest text.
+    // As `push_line`, where the block may have no room for the longest text: makes a copy first.
     #[inline(never)]
     fn push_copy<L: Spelled>(&mut self, line: &L) -> bool
         ensures room { result ≡ has_room self.old (L.text line.now) }
@@ -148,7 +149,7 @@ impl Block {
         self.push(&copy[..count])
     }
 
-    /// Takes all pieces out.
+    /// Removes all pieces.
     #[tactic(auto, using(crate::proofs::Blocks::blocks))]
     pub fn clear(&mut self)
         ensures { self.new ≡ [] }
@@ -159,7 +160,7 @@ impl Block {
         self.pieces = Passed::new();
     }
 
-    /// Puts all pieces, and takes them out. They are out too where the put failed.
+    /// Puts all pieces into the sink, and removes them, even if the put failed.
     pub fn hand_over<S: Sink>(&mut self, out: &mut S) -> Put
         ensures says { PutSays result (S.written out.old) (S.written out.new) (joined self.old) }
         ensures through { TakesLines result (S.taken out.old) (S.taken out.new) self.old }
@@ -171,8 +172,8 @@ impl Block {
         answer
     }
 
-    /// Adds a piece at the end, and where there is no room for it hands over what is there before. Where that failed, no
-    /// piece is left.
+    /// Appends a piece. If there is no room for it, puts the earlier pieces into the sink first.
+    /// If that fails, the block is empty afterwards.
     #[tactic(auto, using(crate::proofs::Gathered::gathering))]
     pub fn add<S: Sink>(&mut self, piece: &[u8], out: &mut S) -> Put
         ensures adds { Adds result self.old self.new (piece.now ∷ [])
@@ -189,7 +190,7 @@ impl Block {
         }
     }
 
-    /// The same of a short text.
+    /// As `add`, for a short text.
     #[inline(always)]
     pub fn add_line<L: Spelled, S: Sink>(&mut self, line: &L, out: &mut S) -> Put
         ensures adds { Adds result self.old self.new (L.text line.now ∷ [])
@@ -204,7 +205,7 @@ impl Block {
         }
     }
 
-    // The same where there is no room for it.
+    // As `add_line`, where there is no room for the text.
     #[inline(never)]
     fn add_copy<L: Spelled, S: Sink>(&mut self, line: &L, out: &mut S) -> Put
         ensures adds { Adds result self.old self.new (L.text line.now ∷ [])
@@ -217,7 +218,8 @@ impl Block {
         self.add(&copy[..count], out)
     }
 
-    /// Adds the last piece, and hands over all that is there. No piece is left, whether that was done or failed.
+    /// Adds the last piece, and puts everything into the sink. The block is empty afterwards, even
+    /// after a failure.
     #[tactic(auto, using(crate::proofs::Gathered::finishing))]
     pub fn finish<S: Sink>(&mut self, piece: &[u8], out: &mut S) -> Put
         ensures says { PutSays result
@@ -233,7 +235,7 @@ impl Block {
         }
     }
 
-    /// Adds a piece to a block of none. One that has no room in it is put.
+    /// Adds a piece to an empty block. A piece that is too long for any block is put directly.
     #[tactic(auto, using(crate::proofs::Gathered::gathering))]
     fn add_first<S: Sink>(&mut self, piece: &[u8], out: &mut S) -> Put
         requires { self.old ≡ [] }
@@ -250,7 +252,7 @@ impl Block {
     }
 }
 
-/// Whether there is room for so many bytes more, in a piece more.
+/// Whether there is room for `wanted` more bytes as one more piece.
 #[inline(always)]
 fn is_room(len: usize, count: usize, wanted: usize) -> bool
     requires { len ≤ BYTES }
@@ -259,7 +261,7 @@ fn is_room(len: usize, count: usize, wanted: usize) -> bool
     count < PIECES && wanted <= BYTES - len
 }
 
-/// Copies a piece after so many bytes, and answers how many there are then.
+/// Copies a piece to the offset `len`, and returns the offset after it.
 #[inline(always)]
 #[tactic(auto, using(crate::proofs::Fronts::front_put))]
 fn copy_after(bytes: &mut [u8; BYTES], len: usize, piece: &[u8]) -> usize
@@ -272,7 +274,7 @@ fn copy_after(bytes: &mut [u8; BYTES], len: usize, piece: &[u8]) -> usize
     end
 }
 
-/// Writes a short text after so many bytes, and answers how many there are then.
+/// Spells a short text at the offset `len`, and returns the offset after it.
 #[inline(always)]
 #[tactic(auto, using(crate::proofs::Fronts::front_put))]
 fn spell_after<L: Spelled>(bytes: &mut [u8; BYTES], len: usize, line: &L) -> usize
@@ -284,7 +286,8 @@ fn spell_after<L: Spelled>(bytes: &mut [u8; BYTES], len: usize, line: &L) -> usi
     len + line.spell(&mut bytes[len..len + SHORT])
 }
 
-/// Marks where the last of so many pieces and one more ends, and answers how many there are then.
+/// Marks `end` as the end of one more piece after `count` pieces, and returns the number of pieces
+/// then.
 #[inline(always)]
 #[tactic(auto, using(std::proofs::lemmas::List::take_more_set))]
 fn mark(marks: &mut [usize; PIECES_AND_END], count: usize, end: usize) -> usize
@@ -296,7 +299,7 @@ fn mark(marks: &mut [usize; PIECES_AND_END], count: usize, end: usize) -> usize
     count + 1
 }
 
-/// The bytes between two places.
+/// The bytes in `from .. until`.
 fn between(bytes: &[u8], from: usize, until: usize) -> &[u8]
     requires order { from ≤ until }
     requires within { until ≤ length bytes.now }
@@ -305,7 +308,7 @@ fn between(bytes: &[u8], from: usize, until: usize) -> &[u8]
     &bytes[from..until]
 }
 
-/// A short text that is a piece.
+/// A short text, logged as one piece.
 #[derive(Drop)]
 struct Line<'a, L> {
     line: &'a L,
@@ -319,7 +322,7 @@ impl Entries<Text> for Block {
     ghost entries = { λ block. block };
 }
 
-/// What a system took of a block, from the beginning on: its pieces, and a first part of the next.
+/// The pieces that a system took of a block from its beginning, and a prefix of the next piece.
 #[derive(Drop)]
 pub(crate) struct Begun<'a> {
     pub(crate) block: &'a Block,

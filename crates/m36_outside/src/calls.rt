@@ -1,4 +1,4 @@
-//! Numbered calls, some of which are to fail.
+//! Numbered calls, some of which have to fail.
 
 ghost use Rattle.std.specs.Prelude.{◌≡◌, IfOk};
 ghost use Rattle.m36_outside.specs.CallPlan.{new_plan, next_fails, after_call};
@@ -7,8 +7,8 @@ use m36_word::NoMemory;
 use std::alloc::Global;
 use std::marker::Model;
 
-/// Counts the calls of an object in memory from 1 to 2^32 - 1, which every later call has too, and knows the numbers of
-/// those that are to fail.
+/// Counts the calls of an object in memory and has the numbers of those that fail. Calls are
+/// numbered from 1, and from 2^32 - 1 on each has that number.
 #[derive(Drop)]
 pub struct Calls {
     failing: Vec<u32>,
@@ -24,7 +24,8 @@ impl Model for Calls {
 }
 
 impl Calls {
-    /// No call yet, and the numbers of the calls that are to fail. The error is want of memory alone.
+    /// No call so far. `failing` has the numbers of the calls that fail. Fails only with
+    /// `NoMemory`.
     pub fn new(alloc: Global, failing: &[u32]) -> Result<Calls, NoMemory>
         ensures { IfOk result (λ calls. calls ≡ new_plan failing.now) }
     {
@@ -34,7 +35,7 @@ impl Calls {
         })
     }
 
-    /// Counts one more call, and tells whether it is to fail.
+    /// Counts one more call, and returns whether it has to fail.
     pub fn next_fails(&mut self) -> bool
         ensures fails { result ≡ next_fails self.old }
         ensures after { self.new ≡ after_call self.old }

@@ -20,18 +20,20 @@ use std::io::ErrorKind;
 use std::marker::Model;
 use std::rt::Files;
 
-/// What parts the directories of a path.
+/// The separator of directories in a path.
 const SLASH: u8 = b'/';
 
-/// The files of the current directory. It does not tell them. Contracts see its two counts of faults, its calls, the
-/// pieces that the files which it read gave, the bytes that each file which it made took, the calls that change names, and
-/// the errors that the system answered.
+/// The files of the current directory. Their content is not known to contracts. Contracts see the
+/// two counts of faults, the calls, the pieces that the files gave when they were read, the bytes
+/// that each file took when it was made, the calls that change names, and the errors of the
+/// system.
 ///
-/// A file is written whole or not at all: `replacing.rt` says how.
+/// A file is written as a whole or not at all (`replacing.rt`).
 ///
-/// A name that is not UTF-8, or that has a slash, is that of no file of the directory: a read of it answers Absent, and a
-/// write of it Failed. A file that the system reports as not found is Absent. Every other refusal and error of the system
-/// is a fault, so a directory in place of a file cannot be read, nor a name that the system does not take.
+/// A name that is not UTF-8, or that has a slash, names no file of the directory: a read of it
+/// answers Absent, and a write Failed. A file that the system reports as not found is Absent.
+/// Every other refusal and error of the system is a fault: so a read of a directory fails, as does
+/// a name that the system rejects.
 #[derive(Drop)]
 pub struct DirFolder<R> {
     read_faults: u64,
@@ -62,7 +64,7 @@ impl<R> Model for DirFolder<R> {
 }
 
 impl<R: Files + Drop> DirFolder<R> {
-    /// The current directory, as this runtime reaches it.
+    /// The current directory of this runtime.
     pub fn new(rt: R) -> DirFolder<R>
         ensures { result ≡ record {
           reads = 0;
@@ -169,7 +171,7 @@ fn read_file<R: Files>(rt: &R, alloc: Global, name: &[u8], notes: &mut FileNotes
     }
 }
 
-/// The answer to a file that could not be opened: only one that is not found is absent.
+/// The answer for a file that could not be opened: Absent if it was not found, otherwise Failed.
 fn refusal(kind: ErrorKind) -> ReadAnswer
     ensures { result ≡ refusal_of kind }
 {
@@ -179,7 +181,7 @@ fn refusal(kind: ErrorKind) -> ReadAnswer
     }
 }
 
-/// The answer of the folder by that of the file.
+/// The answer of the folder for the result of the put.
 fn write_answer(put: Put) -> WriteAnswer
     ensures { result ≡ write_answer_of put }
 {
@@ -189,7 +191,8 @@ fn write_answer(put: Put) -> WriteAnswer
     }
 }
 
-/// The name as text, where it can be that of a file of the current directory: it is UTF-8 and has no slash.
+/// The name as text if it may name a file of the current directory: if it is UTF-8 and has no
+/// slash.
 pub fn name_of_file(name: &[u8]) -> Option<&str>
     ensures { MatchOption result
         (NamesNoFile name.now)

@@ -1,4 +1,4 @@
-//! Counts of faults.
+//! Counts of faults, which saturate at 2^64 - 1.
 
 ghost use Rattle.std.specs.Prelude.{◌≡◌, ◌≤◌, ◌<◌, ◌^◌};
 ghost use Rattle.m36_outside.specs.Counts.{raised, Rose};
@@ -10,7 +10,7 @@ use crate::folder::ReadAnswer;
 use crate::lines::Piece;
 use crate::sink::Put;
 
-/// A count of faults after one more. It ends at 2^64 - 1.
+/// The count after one more fault. It saturates at 2^64 - 1.
 pub fn raise(count: u64) -> u64
     ensures value { result ≡ raised count }
     ensures rose { Rose count result }
@@ -20,7 +20,7 @@ pub fn raise(count: u64) -> u64
     count.saturating_add(1)
 }
 
-/// A count of faults after a put of this answer.
+/// The count after a put with this answer.
 pub fn after_put(count: u64, answer: Put) -> u64
     ensures cause { PutHasCause answer count result }
     ensures later { count ≤ result }
@@ -32,7 +32,7 @@ pub fn after_put(count: u64, answer: Put) -> u64
     }
 }
 
-/// A count of faults after a call for a piece of this answer.
+/// The count after a call for a piece with this answer.
 pub fn after_piece(count: u64, answer: Piece) -> u64
     ensures cause { PieceHasCause answer count result }
     ensures later { count ≤ result }
@@ -44,7 +44,7 @@ pub fn after_piece(count: u64, answer: Piece) -> u64
     }
 }
 
-/// A count of faults after a read of this answer.
+/// The count after a read with this answer.
 #[tactic(auto, using(crate::proofs::Causes::read_without_fault))]
 pub fn after_read(count: u64, answer: &ReadAnswer) -> u64
     ensures cause { ReadHasCause answer.now count result }

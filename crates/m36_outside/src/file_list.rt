@@ -13,14 +13,15 @@ use m36_word::NoMemory;
 use std::alloc::Global;
 use std::marker::Model;
 
-/// One file.
+/// A file: its name and its content.
 #[derive(Drop)]
 pub struct NamedFile {
     pub name: Text,
     pub content: Text,
 }
 
-/// Files in the order in which their names came, seen as a list of them. No name stands twice.
+/// Files in the order in which their names were first set; the view is the list. All names are
+/// distinct.
 #[derive(Drop)]
 pub struct FileList {
     files: Vec<NamedFile>,
@@ -45,12 +46,12 @@ impl FileList {
         }
     }
 
-    /// What the list takes its memory from.
+    /// The allocator of the list.
     pub fn allocator(&self) -> Global {
         *self.files.allocator()
     }
 
-    /// The content of the file of this name.
+    /// The content of the file with this name, or None if there is no such file.
     #[tactic(auto, using(crate::proofs::FilesNamed::files_named))]
     pub fn find(&self, name: &[u8]) -> Option<&Text>
         ensures { MatchOption result
@@ -65,7 +66,7 @@ impl FileList {
         }
     }
 
-    /// Reads a file. The answer is never Failed.
+    /// Reads the file with this name. The answer is never Failed.
     pub fn read(&self, alloc: Global, name: &[u8]) -> ReadAnswer
         ensures says { ReadSays result (file_named self.now name.now) }
         ensures limit { IsWithinLimit result }
@@ -84,7 +85,7 @@ impl FileList {
         }
     }
 
-    /// Puts a file in, in place of the one of this name that may be there. Where no memory is found, nothing changes.
+    /// Sets the file with this name, which may exist already. If memory runs out, nothing changes.
     #[tactic(auto, using(crate::proofs::FilesNamed::files_named))]
     pub fn set(&mut self, alloc: Global, name: &[u8], content: &[u8]) -> Result<(), NoMemory>
         ensures ok { OnOk result
@@ -102,7 +103,7 @@ impl FileList {
         }
     }
 
-    /// Writes a file. The answer is never Failed.
+    /// Writes the file with this name. The answer is never Failed.
     pub fn write(&mut self, alloc: Global, name: &[u8], content: &[u8]) -> WriteAnswer
         ensures says { WriteSays result
             (Some (file_named self.old)) (Some (file_named self.new)) name.now content.now }
@@ -116,7 +117,7 @@ impl FileList {
     }
 }
 
-/// Adds a file at the end. Where no memory is found, nothing changes.
+/// Appends a file. If memory runs out, nothing changes.
 fn push_file(
     files: &mut Vec<NamedFile>,
     alloc: Global,
@@ -133,14 +134,14 @@ fn push_file(
             Ok(())
         }
         Err(cause) => {
-            // Dropped by a call: so the drop is proved once for its type.
+            // Dropped by a call, so the drop is proved once for its type.
             drop(content);
             Err(cause)
         }
     }
 }
 
-/// The place of the first file of this name, or the length of the list where there is none.
+/// The index of the first file with this name, or the length of the list if there is none.
 #[tactic(auto, using(crate::proofs::FilesNamed::places))]
 fn place_of(files: &[NamedFile], name: &[u8]) -> usize
     ensures { result ≡ position_or_len (has_name name.now) files.now }

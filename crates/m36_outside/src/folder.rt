@@ -1,4 +1,4 @@
-//! A folder of files.
+//! The trait of a folder of files.
 
 ghost use Rattle.std.specs.Prelude.{ℕ, ◌≡◌, ◌≤◌, ◌<◌, ◌^◌, List, [], ◌∷◌, ◌++◌, Option, IfSome};
 ghost use Rattle.m36_outside.specs.Files.{Files};
@@ -9,54 +9,55 @@ ghost use Rattle.m36_outside.specs.FolderCalls.{Asked, Wrote};
 use crate::text::Text;
 use std::alloc::Global;
 
-/// The greatest length of a file that is read, 16 MiB.
+/// The maximum length of a file that can be read: 16 MiB.
 pub const FILE_LIMIT: usize = 1 << 24;
 
-/// The answer of a read.
+/// The answer to a read.
 #[derive(Drop)]
 pub enum ReadAnswer {
     /// The whole content of the file, of at most 16,777,216 bytes.
     Read(Text),
-    /// There is no file of this name.
+    /// There is no file with this name.
     Absent,
     /// The file has more than 16,777,216 bytes.
     TooLarge,
     /// The file could not be read. The count of read faults rose.
     Failed,
-    /// No memory was found for the content.
+    /// Out of memory for the content.
     NoMemory,
 }
 
-/// The answer of a write.
+/// The answer to a write.
 #[derive(Clone, Copy, PartialEq, Eq)]
 pub enum WriteAnswer {
-    /// The file has this content, and nothing else.
+    /// The file has exactly this content.
     Written,
-    /// The file could not be written, and is as it was. The count of write faults rose.
+    /// The file could not be written and is unchanged. The count of write faults rose.
     Failed,
-    /// No memory was found. Nothing changed.
+    /// Out of memory. No file changed.
     NoMemory,
 }
 
-/// Files by their names, which are bytes.
+/// Files by their names; a name is any list of bytes.
 ///
-/// A folder may tell its files, as one in memory does, or not, as one of a real system. Whether it tells them never
-/// changes. Every folder tells what it was asked and told to write, and what it answered, in order. Its two counts of faults never fall, are below 2^64, and stay where they are once they have reached
-/// 2^64 - 1.
+/// The files may be known to contracts, as those of a folder in memory, or not, as those of a real
+/// system. Whether they are known never changes. Every folder logs its reads and writes with their
+/// answers, in order. Its two counts of faults never fall, are below 2^64, and saturate at 2^64 -
+/// 1.
 pub trait Folder {
-    /// The files, where they are told.
+    /// The files, if they are known.
     ghost files: { Self → Option Files };
 
-    /// The reads so far: each name and the answer.
+    /// The reads so far, in order: each name with the answer.
     ghost asked: { Self → List Asked };
 
-    /// The writes so far: each name, the content and the answer.
+    /// The writes so far, in order: each name with the content and the answer.
     ghost wrote: { Self → List Wrote };
 
-    /// How many reads failed.
+    /// The number of reads that failed.
     ghost read_faults: { Self → ℕ };
 
-    /// How many writes failed.
+    /// The number of writes that failed.
     ghost write_faults: { Self → ℕ };
 
     /// Reads a whole file. No read changes a file.
@@ -72,7 +73,7 @@ pub trait Folder {
         ensures count_bound { read_faults self.new < 2 ^ 64 }
         ensures other_count { write_faults self.new ≡ write_faults self.old };
 
-    /// Makes a file of this name with this content, in place of the one that may be there.
+    /// Creates or replaces the file with this name. Its content is then `content`.
     fn write(&mut self, alloc: Global, name: &[u8], content: &[u8]) -> WriteAnswer
         ensures says { WriteSays result (files self.old) (files self.new) name.now content.now }
         ensures wrote { wrote self.new ≡ wrote self.old ++ (name.now, content.now, result) ∷ [] }

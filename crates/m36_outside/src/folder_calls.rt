@@ -1,4 +1,4 @@
-//! Notes of the calls of a folder.
+//! The log of the calls of a folder.
 
 ghost use Rattle.std.specs.Prelude.{[], ◌∷◌, ◌++◌, ◌≡◌};
 
@@ -22,7 +22,7 @@ pub struct FolderCalls {
 }
 
 impl FolderCalls {
-    /// No call yet.
+    /// An empty log.
     pub fn new() -> FolderCalls
         ensures asked { result.asked.entries ≡ [] }
         ensures wrote { result.wrote.entries ≡ [] }
@@ -33,7 +33,7 @@ impl FolderCalls {
         }
     }
 
-    /// Notes a read.
+    /// Logs a read.
     pub fn note_read(&mut self, name: &[u8], answer: &ReadAnswer)
         ensures asked { self.new.asked.entries ≡ self.old.asked.entries ++ (name.now, answer.now) ∷ [] }
         ensures wrote { self.new.wrote.entries ≡ self.old.wrote.entries }
@@ -41,7 +41,7 @@ impl FolderCalls {
         self.asked.note(&(name, answer));
     }
 
-    /// Notes a write.
+    /// Logs a write.
     pub fn note_write(&mut self, name: &[u8], content: &[u8], answer: WriteAnswer)
         ensures wrote { self.new.wrote.entries ≡ self.old.wrote.entries ++ (name.now, content.now, answer) ∷ [] }
         ensures asked { self.new.asked.entries ≡ self.old.asked.entries }

@@ -1,41 +1,53 @@
-//! The edge of the simulator to the outside world: files, lines of input and a place for the output.
+//! The simulator's edge to the outside world: files, input and output.
 //!
-//! Every byte that the simulator takes in or gives out passes through three traits, and their contracts are all that the
-//! parts above know of the world. An object of these traits may tell what it holds, and whether it does never changes. What
-//! a contract says of content is said where the object tells it.
+//! Every byte that the simulator reads or writes passes through three traits, and the layers above
+//! know the world by their contracts alone. An object may expose its content to contracts or not;
+//! this never changes. A clause about content holds only if the content is exposed ("known"
+//! below).
 //!
-//! - A [`Folder`] has files by their names. No read changes a file. A read that neither fails nor wants memory gives the
-//!   file's bytes, or answers Absent exactly where there is no such file, and TooLarge exactly where the file has more than
-//!   16,777,216 bytes. A write sets the named file alone, and where it failed no file differs.
-//! - [`Lines`] are input that is taken in pieces, from the beginning on. A call that does not fail tells the end exactly
-//!   where nothing is left.
-//! - A [`Sink`] has what was written to it. A put adds the piece at the end, and where it failed a first part of the piece.
-//!   Many pieces are put at once in a [`Block`]: the standard output takes them in one call of the system, or in as many as
-//!   it needs, and a sink in memory as though one by one. A block that gathers pieces is no sink: what is in it is not
-//!   written until it is handed over.
+//! - A [`Folder`] has files by name. No read changes a file. A read that neither fails nor runs
+//!   out of memory returns the file's bytes, Absent exactly if there is no such file, or TooLarge
+//!   exactly if the file has more than 16,777,216 bytes. A write sets the named file alone; if it
+//!   fails, no file changes.
+//! - [`Lines`] are input, read in pieces from its beginning. A call that does not fail reports the
+//!   end exactly if nothing is left.
+//! - A [`Sink`] has what was written to it. A put appends its piece, or a prefix of it if the put
+//!   fails. A [`Block`] gathers pieces that are put at once: the standard output takes them in one
+//!   system call, or in as many as it needs, and a sink in memory as if one by one. A block is not
+//!   a sink: its pieces are not written until the block is handed over.
 //!
-//! A call answers Failed only where a count of faults rose in this call: it is greater after the call than before, or stands
-//! at 2^64 - 1, where every count ends. Counts never fall. Want of memory is the one answer that needs no cause; such a
-//! call has changed nothing.
+//! A call answers Failed only if a count of faults rose in this call: it is greater after the call
+//! than before, or it is 2^64 - 1, where every count saturates. Counts never fall. Only NoMemory
+//! needs no cause; a call that answers it changes no file.
 //!
-//! | In memory, with calls that fail at will | In memory, never failing | Of the system |
+//! | In memory, with calls that fail on request | In memory, never failing | Of the system |
 //! |---|---|---|
 //! | [`MemFolder`] | [`SureFolder`] | [`DirFolder`], the files of the current directory |
 //! | [`MemLines`] | [`SureLines`] | [`StdLines`], the standard input |
 //! | [`MemSink`] | [`SureSink`] | [`StdSink`], the standard output |
 //!
-//! Each of them, those of the system included, tells what passed through it, in order: a folder its reads and writes, an
-//! input the pieces that it gave, and a sink those that it took. [`Passed`] carries that, and has no bytes: nothing that
-//! passed is kept. So a caller's contract can say, of every object, what it asked for and what it put by the answers.
+//! Each of them, also those of the system, exposes its log to contracts, in order: a folder its
+//! reads and writes, an input the pieces that it gave, a sink the pieces that it took. The log is
+//! a [`Passed`]. It has no bytes at run time, so nothing is kept in memory. By it a caller's
+//! contract can state, for every object, what was requested and what was put.
 //!
-//! What is of the system goes through `noted.rt` and `name_calls.rt`, which note what each call of std answered. The first is
-//! proved over every reader and writer. By it the adapters prove that a put which is done wrote all and flushed it, that what is read of a
-//! file is all that it gave, that a file is replaced whole or not at all, that what a signal breaks off is made again, and
-//! that a failure has an error behind it. What a real file holds, or a terminal has left, is not told: what std says of the system is taken as it is.
+//! The system is called in `noted.rt`, in `name_calls.rt` and, to open a file, in `directory.rt`.
+//! Each call is logged with what std answered. `noted.rt` is proved for every reader and writer.
+//! From it the adapters prove:
 //!
-//! A caller composes these contracts by the laws in `proofs/`: `Grown` for what several puts wrote, `LinesTaken` for the
-//! pieces that they put, `Completes` for puts in a loop, `Gathered` for pieces that were gathered in a block, `Risen` for
-//! counts, and `FilesKept` for files. `caller.rt` of `outside_tests` is a worked one. No part of the manual speaks of this.
+//! - a put that is done wrote everything and flushed it;
+//! - what is read of a file is all that the file gave;
+//! - a file is replaced as a whole or not at all;
+//! - a call that a signal interrupts is made again;
+//! - each failure has a cause: an error of the system, or a name that names no file.
+//!
+//! The content of a real file, or what is left to read at a terminal, is not known: contracts take
+//! what std reports of the system as it is.
+//!
+//! A caller composes these contracts by the laws in `proofs/`: `Grown` for what several puts
+//! wrote, `LinesTaken` for the pieces that they put, `Completes` for puts in a loop, `Gathered`
+//! for pieces gathered in a block, `Risen` for counts, and `FilesKept` for files. `caller.rt` of
+//! `outside_tests` is a worked example. The manual of the processor does not cover any of this.
 #![tactic(auto)]
 
 pub mod block;

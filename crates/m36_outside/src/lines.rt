@@ -1,35 +1,38 @@
-//! Lines of input.
+//! The trait of an input.
 
 ghost use Rattle.std.specs.Prelude.{ℕ, ◌≡◌, ◌≤◌, ◌<◌, ◌^◌, List, length, Option};
 ghost use Rattle.m36_outside.specs.Passing.{PieceGives};
 ghost use Rattle.m36_outside.specs.Piece.{PieceSays, PieceHasCause};
 
-/// The answer of a call for the next piece.
+/// The answer to a call for the next piece.
 #[derive(Clone, Copy, PartialEq, Eq, Debug)]
 pub enum Piece {
-    /// So many bytes, at least one, stand at the beginning of the buffer.
+    /// The number of bytes at the beginning of the buffer, at least 1.
     Got(usize),
-    /// Nothing is left.
+    /// End of input: nothing is left.
     End,
-    /// The input could not be read, and nothing was taken from it. The count of faults rose.
+    /// The input could not be read, and nothing was consumed. The count of faults rose.
     Failed,
 }
 
-/// Input that is read in pieces. A piece need not end where a line does.
+/// Input that is read in pieces. The end of a piece need not be the end of a line.
 ///
-/// The input may tell what is left, as one in memory does, or not, as a terminal. Whether it tells it never changes.
-/// Every input tells the pieces that it gave, in order, one a call that did not fail; an empty piece is the end. Its count of faults never falls, is below 2^64, and stays where it is once it has reached 2^64 - 1.
+/// What is left may be known to contracts, as for input in memory, or not, as for a terminal.
+/// Whether it is known never changes. Every input logs the pieces that it gave, in order, one for
+/// each call that did not fail; an empty piece is the end. Its count of faults never falls, is
+/// below 2^64, and saturates at 2^64 - 1.
 pub trait Lines {
-    /// The bytes that are left, where they are told.
+    /// The bytes that are left, if they are known.
     ghost left: { Self → Option (List ℕ) };
 
-    /// The pieces that were given so far.
+    /// The pieces given so far, in order.
     ghost given: { Self → List (List ℕ) };
 
-    /// How many calls failed.
+    /// The number of calls that failed.
     ghost faults: { Self → ℕ };
 
-    /// Moves the next bytes to the beginning of `into`. What the buffer holds behind them is left open.
+    /// Moves the next bytes to the beginning of `into`. The contract leaves open what follows them
+    /// in the buffer.
     fn next_piece(&mut self, into: &mut [u8]) -> Piece
         requires room { 1 ≤ length into.old }
 

@@ -1,4 +1,4 @@
-//! A folder in memory, whose calls fail where a test wants it.
+//! A folder in memory whose calls fail on request.
 
 ghost use Rattle.std.specs.Prelude.{[], ◌∷◌, ◌++◌, ◌≡◌, ◌≤◌, ◌<◌, ◌^◌, ◌↔◌, Some, IsTrue, IfOk, OnOk, OnErr};
 ghost use Rattle.m36_outside.specs.CallPlan.{next_fails};
@@ -16,10 +16,10 @@ use m36_word::NoMemory;
 use std::alloc::Global;
 use std::marker::Model;
 
-/// Files in memory. It tells them.
+/// Files in memory. They are known to contracts.
 ///
-/// Its reads are numbered from 1 to 2^32 - 1, which every later read has too, and so are its writes. The calls whose
-/// numbers were listed fail, and change no file.
+/// Reads are numbered from 1, and from 2^32 - 1 on each has that number; so are writes. The calls
+/// whose numbers were listed fail, and change no file.
 #[derive(Drop)]
 pub struct MemFolder {
     files: FileList,
@@ -52,8 +52,8 @@ impl Model for MemFolder {
 impl MemFolder {
     ghost use Rattle.m36_outside.specs.MemFolder.{new_folder};
 
-    /// A folder without files, and the numbers of the reads and writes that are to fail. The error is want of memory
-    /// alone.
+    /// A folder without files. The arguments are the numbers of the reads and writes that fail.
+    /// Fails only with `NoMemory`.
     pub fn new(
         alloc: Global,
         fail_reads: &[u32],
@@ -72,15 +72,15 @@ impl MemFolder {
                 write_faults: 0,
             }),
             Err(cause) => {
-                // Dropped by a call: so the drop is proved once for its type.
+                // Dropped by a call, so the drop is proved once for its type.
                 drop(reads);
                 Err(cause)
             }
         }
     }
 
-    /// Puts a file in, in place of the one of this name that may be there. It counts as no write. Where no memory is
-    /// found, nothing changes.
+    /// Sets the file with this name, which may exist already. This is not counted as a write. If
+    /// memory runs out, nothing changes.
     pub fn add(&mut self, name: &[u8], content: &[u8]) -> Result<(), NoMemory>
         ensures ok { OnOk result
             (file_named self.new.files ≡ with_file name.now (Some content.now) (file_named self.old.files)) }

@@ -1,4 +1,4 @@
-//! Input in memory, whose calls fail where a test wants it.
+//! An input in memory whose calls fail on request.
 
 ghost use Rattle.std.specs.Prelude.{◌≡◌, ◌≤◌, ◌<◌, ◌^◌, ◌↔◌, Some, IsTrue, IfOk, length};
 ghost use Rattle.m36_outside.specs.CallPlan.{next_fails};
@@ -15,10 +15,10 @@ use m36_word::NoMemory;
 use std::alloc::Global;
 use std::marker::Model;
 
-/// Input in memory. It tells what is left.
+/// Input in memory. What is left is known to contracts.
 ///
-/// Its calls are numbered from 1 to 2^32 - 1, which every later call has too. The calls whose numbers were listed fail,
-/// and take nothing. A piece fills the buffer, where so much is left.
+/// Calls are numbered from 1, and from 2^32 - 1 on each has that number. The calls whose numbers
+/// were listed fail, and consume nothing. A piece fills the buffer if enough is left.
 #[derive(Drop)]
 pub struct MemLines {
     unread: Unread,
@@ -46,7 +46,8 @@ impl Model for MemLines {
 impl MemLines {
     ghost use Rattle.m36_outside.specs.MemLines.{new_lines};
 
-    /// Input of these bytes, and the numbers of the calls that are to fail. The error is want of memory alone.
+    /// Input of these bytes. `fail` has the numbers of the calls that fail. Fails only with
+    /// `NoMemory`.
     pub fn new(alloc: Global, content: &[u8], fail: &[u32]) -> Result<MemLines, NoMemory>
         ensures { IfOk result (λ lines. lines ≡ new_lines content.now fail.now) }
     {
@@ -59,7 +60,7 @@ impl MemLines {
                 faults: 0,
             }),
             Err(cause) => {
-                // Dropped by a call: so the drop is proved once for its type.
+                // Dropped by a call, so the drop is proved once for its type.
                 drop(unread);
                 Err(cause)
             }

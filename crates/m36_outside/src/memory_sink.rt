@@ -1,4 +1,4 @@
-//! A place for output in memory, whose calls fail where a test wants it.
+//! An output in memory whose calls fail on request.
 
 ghost use Rattle.std.specs.Prelude.{◌≡◌, ◌+◌, ◌≤◌, ◌<◌, ◌^◌, ◌++◌, ◌↔◌, ◌⊎◌, Some, IsTrue, IfOk, length, vec_len, vec_capacity};
 ghost use Rattle.m36_outside.specs.Passing.{PutTakes, TakesLines, joined};
@@ -14,11 +14,12 @@ use m36_word::NoMemory;
 use std::alloc::Global;
 use std::marker::Model;
 
-/// Output in memory. It tells what is written.
+/// Output in memory. What is written is known to contracts.
 ///
-/// Its puts are numbered from 1 to 2^32 - 1, which every later put has too. A put whose number was listed fails and
-/// takes nothing. A piece that goes past the room fails too, and as much of it is taken as there is room for. Each piece of
-/// a block is a put, up to the first that fails.
+/// Puts are numbered from 1, and from 2^32 - 1 on each has that number. A put whose number was
+/// listed fails and takes nothing. A piece that is longer than the room that is left fails too,
+/// and its first bytes are taken, as many as fit. Each piece of a block is a put, up to the first
+/// that fails.
 #[derive(Drop)]
 pub struct MemSink {
     bytes: Vec<u8>,
@@ -48,8 +49,8 @@ impl Model for MemSink {
 impl MemSink {
     ghost use Rattle.m36_outside.specs.MemSink.{new_sink};
 
-    /// Nothing written yet, room for so many bytes, and the numbers of the puts that are to fail. All memory is taken
-    /// here. The error is want of it alone.
+    /// An empty output with room for `room` bytes. `fail` has the numbers of the puts that fail.
+    /// All memory is allocated here. Fails only with `NoMemory`.
     pub fn new(alloc: Global, room: usize, fail: &[u32]) -> Result<MemSink, NoMemory>
         ensures { IfOk result (λ sink. sink ≡ new_sink room fail.now) }
     {
@@ -63,7 +64,7 @@ impl MemSink {
                 faults: 0,
             }),
             Err(cause) => {
-                // Dropped by a call: so the drop is proved once for its type.
+                // Dropped by a call, so the drop is proved once for its type.
                 drop(bytes);
                 Err(cause)
             }
@@ -139,7 +140,7 @@ impl Sink for MemSink {
     }
 }
 
-/// Adds bytes at the end of a list that has room for them.
+/// Appends bytes to a list that has room for them.
 fn add_within(bytes: &mut Vec<u8>, more: &[u8])
     requires { vec_len bytes.old + length more.now ≤ vec_capacity bytes.old }
     ensures items { bytes.new.items ≡ bytes.old.items ++ more.now }

@@ -1,6 +1,7 @@
-//! The calls of the system that change the names of a directory, and the spare file.
+//! The system calls that change the names of a directory, and the spare file.
 //!
-//! The system's calls are in `make_new`, `rename` and `remove`. Each notes the call and whether the system did it.
+//! The system is called by `make_new`, `rename` and `remove`. Each logs the call and whether the
+//! system did it.
 
 ghost use Rattle.std.specs.Prelude.{[], ◌∷◌, ◌++◌, ◌+◌, ◌≡◌, ◌<◌, true, false, MatchResult, MatchOption};
 ghost use Rattle.m36_outside.specs.NameCalls.{ErrorUnless, MakesSpare, MakesNone, spare_name};
@@ -16,28 +17,30 @@ use std::rt::Files;
 /// The number of spare names.
 const SPARES: u16 = 1000;
 
-/// The length of a spare name.
+/// The length of a spare name, in bytes.
 const SPARE_LENGTH: usize = 8;
 
-/// A call that changes the names of a directory, and whether the system did it. Only clauses see it.
+/// A call that changes the names of a directory, and whether the system did it. Only clauses see
+/// it.
 #[derive(Drop)]
 pub enum NameCall {
-    /// A file was to be made under a name that nothing has.
+    /// To create a file under a name that no file has.
     Make(Text, bool),
-    /// The file of the first name was to get the second name, in place of the file that has it.
+    /// To rename the file of the first name to the second, and replace the file that has the
+    /// second name.
     Rename(Text, Text, bool),
-    /// The file of this name was to be removed.
+    /// To remove the file with this name.
     Remove(Text, bool),
 }
 
-/// A call that makes a file.
+/// A call that creates a file, for the log.
 #[derive(Drop)]
 struct Making<'a> {
     name: &'a str,
     done: bool,
 }
 
-/// A call that renames a file.
+/// A call that renames a file, for the log.
 #[derive(Drop)]
 struct Renaming<'a> {
     from: &'a str,
@@ -45,7 +48,7 @@ struct Renaming<'a> {
     done: bool,
 }
 
-/// A call that removes a file.
+/// A call that removes a file, for the log.
 #[derive(Drop)]
 struct Removing<'a> {
     name: &'a str,
@@ -73,7 +76,8 @@ impl Entries<NameCall> for Removing<'_> {
     ghost entries = { λ call. Remove call.name.now call.done ∷ [] };
 }
 
-/// Makes a file under the first spare name that is free. Each spare name begins with a point.
+/// Creates a file under the first spare name that is free. Each spare name begins with a point.
+/// None: no spare name was free, or the system refused with another error.
 pub fn make_spare<R: Files>(
     rt: &R,
     calls: &mut Passed<NameCall>,
@@ -109,7 +113,7 @@ fn spare_name(number: u16) -> ArrayString<SPARE_LENGTH>
     name
 }
 
-/// The digit of a number below ten.
+/// The ASCII digit of a number below ten.
 fn digit(number: u16) -> char
     requires { number < 10 }
     ensures value { result ≡ 48 + number }
@@ -118,7 +122,7 @@ fn digit(number: u16) -> char
     char::from(b'0' + number as u8)
 }
 
-/// Makes a file under a name that nothing has.
+/// Creates a file under a name that no file has.
 fn make_new<R: Files>(
     rt: &R,
     name: &str,
@@ -146,7 +150,8 @@ fn make_new<R: Files>(
     }
 }
 
-/// Gives the file of the first name the second name, in place of the file that has it. Returns whether that was done.
+/// Renames the file of the first name to the second, and replaces the file that has the second
+/// name. Returns whether that was done.
 pub fn rename<R: Files>(
     rt: &R,
     from: &str,
@@ -162,7 +167,7 @@ pub fn rename<R: Files>(
     done
 }
 
-/// Removes the file of a name. Returns whether that was done.
+/// Removes the file with a name. Returns whether that was done.
 pub fn remove<R: Files>(
     rt: &R,
     name: &str,
@@ -177,7 +182,7 @@ pub fn remove<R: Files>(
     done
 }
 
-/// Notes the error of a call, if any. Returns whether the call was done.
+/// Logs the error of a call, if any. Returns whether the call was done.
 fn note_refusal(answer: Result<(), Error>, errors: &mut Passed<ErrorKind>) -> bool
     ensures { ErrorUnless result errors.old.entries errors.new.entries }
 {

@@ -1,7 +1,7 @@
-//! Notes of what passes through a writer and a reader of std.
+//! The calls of the system through a writer and a reader of std, with a log of what each answered.
 //!
-//! These are the calls of the system, and what is noted beside each is what it answered. Each is proved over every
-//! reader and writer, and tells of one that tells its bytes that they moved as noted.
+//! Each call is proved for every reader and writer. If the bytes of a reader or writer are known,
+//! the contract says that they moved as logged.
 
 ghost use Rattle.std.specs.Prelude.{[], ◌∷◌, ◌++◌, ◌≡◌, ◌≤◌, ◌↔◌, Some, IfSome, IfNone, IsTrue, MatchOption, length, take};
 ghost use Rattle.std.specs.Bool.{OnTrue, OnFalse};
@@ -46,7 +46,8 @@ impl Entries<ErrorKind> for Passed<ErrorKind> {
     ghost entries = { λ kinds. kinds.entries };
 }
 
-/// Notes of a writer: of the bytes that it took, of those that were taken at each flush, and of its errors.
+/// Logs of a writer: the bytes that it took, at each flush the bytes taken up to then, and its
+/// errors.
 #[derive(Drop)]
 pub struct WriterNotes {
     pub taken: Passed<u8>,
@@ -55,7 +56,7 @@ pub struct WriterNotes {
 }
 
 impl WriterNotes {
-    /// Nothing is noted yet.
+    /// Empty logs.
     pub fn new() -> WriterNotes
         ensures taken { result.taken.entries ≡ [] }
         ensures flushed { result.flushed.entries ≡ [] }
@@ -68,8 +69,8 @@ impl WriterNotes {
         }
     }
 
-    /// Writes once. None says that the writer answered an error, or took nothing of bytes that are some; Some(0) that a
-    /// signal broke in. In both one error was noted.
+    /// Writes once. None: the writer answered an error, or it took nothing of these non-empty
+    /// bytes. Some(0): a signal interrupted the call. In both cases one error was logged.
     pub fn write<W: Write>(&mut self, writer: &mut W, bytes: &[u8]) -> Option<usize>
         requires some { 1 ≤ length bytes.now }
         ensures bound { IfSome result (λ count. count ≤ length bytes.now) }
@@ -105,7 +106,7 @@ impl WriterNotes {
         }
     }
 
-    /// Flushes what was written, once and again where a signal broke in, and tells whether that was done.
+    /// Flushes, again after each interruption by a signal, and returns whether that was done.
     #[tactic(auto, using(crate::proofs::Consumed::pieces, crate::proofs::Signalled::trying))]
     pub fn flush<W: Write>(&mut self, writer: &mut W) -> bool
         ensures taken { self.new.taken.entries ≡ self.old.taken.entries }
@@ -132,7 +133,7 @@ impl WriterNotes {
     }
 }
 
-/// A reader, with notes of the pieces that it gave and of its errors. An empty piece is the end.
+/// A reader with logs of the pieces that it gave and of its errors. An empty piece is the end.
 #[derive(Drop)]
 pub struct NotedReader<R> {
     pub inner: R,
@@ -141,7 +142,7 @@ pub struct NotedReader<R> {
 }
 
 impl<R: Read> NotedReader<R> {
-    /// The reader, of which nothing is noted yet.
+    /// The reader with empty logs.
     pub fn new(inner: R) -> NotedReader<R>
         ensures inner { result.inner ≡ inner }
         ensures given { result.given.entries ≡ [] }
@@ -154,7 +155,7 @@ impl<R: Read> NotedReader<R> {
         }
     }
 
-    /// Reads, once and again where a signal broke in. Some(0) is the end.
+    /// Reads once, again after each interruption by a signal. Some(0) is the end.
     #[tactic(auto, using(crate::proofs::Consumed::pieces, crate::proofs::Signalled::trying))]
     pub fn read(&mut self, into: &mut [u8]) -> Option<usize>
         requires room { 1 ≤ length into.old }
@@ -186,7 +187,7 @@ impl<R: Read> NotedReader<R> {
     }
 }
 
-/// Notes an error, and tells whether it is that a signal broke in.
+/// Logs an error, and returns whether it is the interruption by a signal.
 fn note_error(errors: &mut Passed<ErrorKind>, error: &Error) -> bool
     ensures signal { OnTrue result
         (errors.new.entries ≡ errors.old.entries ++ ErrorKind.Interrupted ∷ []) }
@@ -197,7 +198,7 @@ fn note_error(errors: &mut Passed<ErrorKind>, error: &Error) -> bool
     is_signal(kind)
 }
 
-/// Whether the error is that a signal broke in.
+/// Whether the error is the interruption by a signal.
 fn is_signal(kind: ErrorKind) -> bool
     ensures { IsTrue result ↔ (kind ≡ ErrorKind.Interrupted) }
 {

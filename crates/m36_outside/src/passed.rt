@@ -1,4 +1,4 @@
-//! What passed through an object, which only clauses see.
+//! A log that only contracts can see.
 
 ghost use Rattle.std.specs.Prelude.{List, [], ◌++◌, ◌≡◌};
 ghost use Rattle.std.specs.Borrow.{ftrue};
@@ -6,15 +6,16 @@ ghost use base.Stored.{coded_list};
 
 use std::marker::{Model, PhantomData};
 
-/// The entries that a value makes in a list of entries.
+/// The entries that a value adds to a log.
 pub trait Entries<E> {
     ghost entries: { Self → List E };
 }
 
-/// A list that grows at its end and that no memory holds: it has no bytes, and clauses alone see its entries.
+/// A list that grows at its end and takes no memory: only clauses see its entries.
 ///
-/// An object that hands things on to a system keeps one, and notes in it what passed. Since no memory holds the list, a
-/// note is true as far as its caller makes it: it stands beside the call of the system that it tells, in few places.
+/// An object that passes things on to a system has such a log, and notes in it what passed.
+/// Nothing checks a note against the system, so it is as true as the code that makes it: there are
+/// few notes, each next to the call of the system that it records.
 #[derive(Drop)]
 pub struct Passed<E> {
     marker: PhantomData<E>,
@@ -26,7 +27,7 @@ impl<E> Model for Passed<E> {
 }
 
 impl<E> Passed<E> {
-    /// No entry.
+    /// An empty log.
     pub fn new() -> Passed<E>
         ensures { result.entries ≡ [] }
     {
@@ -35,7 +36,7 @@ impl<E> Passed<E> {
         }
     }
 
-    /// Notes the entries that a value makes.
+    /// Appends the entries of a value.
     pub fn note<X: Entries<E>>(&mut self, _of: &X)
         ensures { self.new.entries ≡ self.old.entries ++ X.entries _of.now }
     {}

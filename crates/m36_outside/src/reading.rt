@@ -1,4 +1,4 @@
-//! The loop over the reads of std, which may give less than was asked for.
+//! The loop over the reads of std, each of which may return less than was requested.
 
 ghost use Rattle.std.specs.Prelude.{◌≡◌, ◌+◌, ◌≤◌, ◌<◌, Some, None, IfSome, length};
 ghost use Rattle.m36_outside.specs.Piece.{PieceSays};
@@ -17,25 +17,25 @@ use m36_word::NoMemory;
 use std::alloc::Global;
 use std::io::{ErrorKind, Read};
 
-/// How many bytes are asked for at once.
+/// The maximum number of bytes that one read requests.
 const CHUNK: usize = 8192;
 
-/// The answer of one read.
+/// The result of one read.
 #[derive(Clone, Copy)]
 pub enum Chunk {
     /// Bytes were added.
     More,
     /// The end was reached.
     End,
-    /// Bytes were added, and now there are too many.
+    /// Bytes were added, and the text is now longer than the limit.
     TooLarge,
     /// The read failed.
     Failed,
-    /// No memory was found for the bytes.
+    /// Out of memory for the bytes.
     NoMemory,
 }
 
-/// Reads to the end, and takes at most one byte past the limit. The answer is never Absent.
+/// Reads to the end, and consumes at most one byte past the limit. The answer is never Absent.
 #[tactic(auto, using(crate::proofs::Consumed::consumed, crate::proofs::FilesGiven::giving, crate::proofs::Signalled::in_turn))]
 pub fn read_whole<R: Read>(from: &mut NotedReader<R>, alloc: Global) -> ReadAnswer
     ensures told { IfSome (R.remaining from.old.inner) (λ bytes. ReadSays result (Some bytes)) }
@@ -55,7 +55,8 @@ pub fn read_whole<R: Read>(from: &mut NotedReader<R>, alloc: Global) -> ReadAnsw
     }
 }
 
-/// Reads to the end a reader of which nothing is noted yet. The pieces that it gave and its errors are added to the notes.
+/// As `read_whole`, for a reader without a log. The pieces that it gave and its errors are added
+/// to `given` and `errors`.
 pub fn read_alone<R: Read + Drop>(
     reader: R,
     alloc: Global,
@@ -74,7 +75,7 @@ pub fn read_alone<R: Read + Drop>(
     answer
 }
 
-/// Reads once, and adds what was read.
+/// Reads once, and appends what was read.
 fn read_chunk<R: Read>(from: &mut NotedReader<R>, text: &mut Text) -> Chunk
     requires { length text.old ≤ file_limit }
     ensures says { ChunkSays result
@@ -88,7 +89,7 @@ fn read_chunk<R: Read>(from: &mut NotedReader<R>, text: &mut Text) -> Chunk
     read_through(from, &mut buffer[..room], text)
 }
 
-/// Reads once through a buffer, and adds what was read.
+/// Reads once through a buffer, and appends what was read.
 fn read_through<R: Read>(from: &mut NotedReader<R>, buffer: &mut [u8], text: &mut Text) -> Chunk
     requires room { 1 ≤ length buffer.old }
     ensures says { ChunkSays result
@@ -104,7 +105,7 @@ fn read_through<R: Read>(from: &mut NotedReader<R>, buffer: &mut [u8], text: &mu
     }
 }
 
-/// How many bytes to ask for: at least one, and no more than one past the limit.
+/// The number of bytes to request: at least 1, and at most one past the limit.
 fn room_after(text: &[u8]) -> usize
     requires { length text.now ≤ file_limit }
     ensures some { 1 ≤ result }
@@ -114,7 +115,7 @@ fn room_after(text: &[u8]) -> usize
     CHUNK.min(FILE_LIMIT + 1 - text.len())
 }
 
-/// Adds what was read.
+/// Appends what was read.
 fn add_chunk(got: &[u8], text: &mut Text) -> Chunk
     requires some { 1 ≤ length got.now }
     ensures { AddSays result text.old text.new got.now }
@@ -126,7 +127,7 @@ fn add_chunk(got: &[u8], text: &mut Text) -> Chunk
     }
 }
 
-/// Reads the next bytes, as many as one read gives.
+/// Reads the next bytes, as many as one read returns.
 #[tactic(auto, using(crate::proofs::Consumed::pieces))]
 pub fn read_piece<R: Read>(from: &mut NotedReader<R>, into: &mut [u8]) -> Piece
     requires room { 1 ≤ length into.old }

@@ -1,7 +1,8 @@
-//! How a file of the current directory is written: whole, or not at all.
+//! Writes a file of the current directory as a whole, or not at all.
 //!
-//! The content goes into a spare file, whose name no file had. Only when it took all of the content does it get the name
-//! of the file, by one call of the system. On every failure it is removed, and the file is as it was.
+//! The content goes into a spare file, whose name no file had before. Once the spare file has all
+//! of the content, one system call renames it to the name of the file. After any failure a removal
+//! of the spare file is tried, and the file is unchanged.
 
 ghost use Rattle.std.specs.Prelude.{◌≡◌, Some, IfSome};
 ghost use Rattle.m36_outside.specs.NameCalls.{ReplaceCalls, SpareUsed, SpareErrors};
@@ -17,7 +18,7 @@ use crate::writing::write_alone;
 use std::io::Write;
 use std::rt::Files;
 
-/// Makes a file of the current directory, in place of the one that may have the name.
+/// Creates or replaces a file of the current directory.
 pub fn write_file<R: Files>(rt: &R, name: &[u8], content: &[u8], notes: &mut FileNotes) -> Put
     ensures outside { NamesNoFile name.now
         → (result ≡ Put.Failed)
@@ -37,7 +38,8 @@ pub fn write_file<R: Files>(rt: &R, name: &[u8], content: &[u8], notes: &mut Fil
     }
 }
 
-/// Writes the content to the spare file and gives it the name. Where one of these fails, the spare file is removed.
+/// Writes the content to the spare file and renames it. If either fails, it removes the spare
+/// file.
 fn replace<R: Files>(
     rt: &R,
     mut file: R::File,
@@ -52,7 +54,7 @@ fn replace<R: Files>(
     ensures error { SpareErrors result notes.old.errors.entries notes.new.errors.entries }
 {
     let answer = fill(&mut file, content, notes);
-    // The file is closed before it gets its name.
+    // The file is closed before it is renamed.
     drop(file);
     match answer {
         Put::Done => give_name(rt, spare, name, notes),
@@ -63,7 +65,8 @@ fn replace<R: Files>(
     }
 }
 
-/// Writes the content to a file.
+/// Writes the content to a file and flushes it. The bytes that the file took are logged as one
+/// entry.
 fn fill<W: Write>(file: &mut W, content: &[u8], notes: &mut FileNotes) -> Put
     ensures took { NotesWrite result notes.old.taken.entries notes.new.taken.entries content.now }
     ensures inner { IfSome (W.contents file.old)
@@ -78,7 +81,7 @@ fn fill<W: Write>(file: &mut W, content: &[u8], notes: &mut FileNotes) -> Put
     answer
 }
 
-/// Gives the spare file the name, and removes it where that fails.
+/// Renames the spare file to the name, and removes it if that fails.
 fn give_name<R: Files>(rt: &R, spare: &str, name: &str, notes: &mut FileNotes) -> Put
     ensures taken { notes.new.taken.entries ≡ notes.old.taken.entries }
     ensures given { notes.new.given.entries ≡ notes.old.given.entries }

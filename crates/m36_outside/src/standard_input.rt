@@ -11,8 +11,8 @@ use crate::noted::NotedReader;
 use crate::reading::read_piece;
 use std::marker::Model;
 
-/// The standard input. It does not tell what is left there. Contracts see its count of faults, the pieces that it gave,
-/// and the errors that the system answered.
+/// The standard input. What is left there is not known to contracts. Its count of faults, the
+/// pieces that it gave, and the errors of the system are.
 #[derive(Drop)]
 pub struct StdLines<R: Input> {
     faults: u64,
@@ -36,7 +36,7 @@ impl<R: Input> Model for StdLines<R> {
 }
 
 impl<R: Input + Drop> StdLines<R> {
-    /// The standard input, as this runtime reaches it.
+    /// The standard input of this runtime.
     pub fn new(rt: R) -> StdLines<R>
         ensures { result ≡ record { faults = 0; given = []; errors = [] } }
     {

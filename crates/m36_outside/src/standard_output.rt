@@ -15,8 +15,9 @@ use std::io;
 use std::io::ErrorKind;
 use std::marker::Model;
 
-/// The standard output. It tells the pieces that it took, and by them what is written there since it was made. Contracts
-/// see them, its count of faults, and the errors that the system answered. Each put is flushed before it answers.
+/// The standard output. The pieces that it took are known to contracts, and by them what was
+/// written since it was made; so are its count of faults and the errors of the system. Each put is
+/// flushed before it returns.
 #[derive(Drop)]
 pub struct StdSink<R> {
     faults: u64,
@@ -37,7 +38,7 @@ impl<R> Model for StdSink<R> {
 }
 
 impl<R: Print + Drop> StdSink<R> {
-    /// The standard output, as this runtime reaches it.
+    /// The standard output of this runtime.
     pub fn new(rt: R) -> StdSink<R>
         ensures { result ≡ record { faults = 0; taken = []; errors = [] } }
     {
@@ -79,7 +80,7 @@ impl<R: Print + Drop> Sink for StdSink<R> {
         answer
     }
 
-    /// The pieces go in one call of the system, or in as many as it needs.
+    /// Puts the pieces in one system call, or in as many as the system needs.
     fn put_block(&mut self, block: &Block) -> Put
         ensures says { PutSays result
             (Some (joined self.old.taken)) (Some (joined self.new.taken)) (joined block.now) }

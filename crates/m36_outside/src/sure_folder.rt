@@ -13,7 +13,8 @@ use m36_word::NoMemory;
 use std::alloc::Global;
 use std::marker::Model;
 
-/// Files in memory, seen as a list of named files and its calls. It tells them, and never counts a fault.
+/// Files in memory; the view is the list of named files and the log of calls. It never counts a
+/// fault.
 #[derive(Drop)]
 pub struct SureFolder {
     files: FileList,
@@ -33,7 +34,7 @@ impl Model for SureFolder {
 }
 
 impl SureFolder {
-    /// A folder without files. The error is want of memory alone.
+    /// A folder without files. Fails only with `NoMemory`.
     pub fn new(alloc: Global) -> Result<SureFolder, NoMemory>
         ensures { IfOk result (λ folder. folder ≡ record { files = []; asked = []; wrote = [] }) }
     {
@@ -43,7 +44,7 @@ impl SureFolder {
         })
     }
 
-    /// Puts a file in, in place of the one of this name that may be there. Where no memory is found, nothing changes.
+    /// Sets the file with this name, which may exist already. If memory runs out, nothing changes.
     pub fn add(&mut self, name: &[u8], content: &[u8]) -> Result<(), NoMemory>
         ensures ok { OnOk result
             (file_named self.new.files ≡ with_file name.now (Some content.now) (file_named self.old.files)) }

@@ -1,4 +1,4 @@
-//! Input in memory that never fails.
+//! An input in memory that never fails.
 
 ghost use Rattle.std.specs.Prelude.{[], ◌∷◌, ◌++◌, ◌≡◌, ◌≤◌, Some, IfOk, length, take, drop};
 ghost use Rattle.m36_outside.specs.Passing.{PieceGives};
@@ -13,8 +13,8 @@ use m36_word::NoMemory;
 use std::alloc::Global;
 use std::marker::Model;
 
-/// Input in memory, seen as the bytes that are left and the pieces that were given. It tells them, and never counts a
-/// fault. A piece fills the buffer, where so much is left.
+/// Input in memory; the view is the bytes that are left and the pieces given. It never counts a
+/// fault. A piece fills the buffer if enough is left.
 #[derive(Drop)]
 pub struct SureLines {
     unread: Unread,
@@ -30,7 +30,7 @@ impl Model for SureLines {
 }
 
 impl SureLines {
-    /// Input of these bytes. The error is want of memory alone.
+    /// Input of these bytes. Fails only with `NoMemory`.
     pub fn new(alloc: Global, content: &[u8]) -> Result<SureLines, NoMemory>
         ensures { IfOk result (λ lines. lines ≡ record { left = content.now; given = [] }) }
     {

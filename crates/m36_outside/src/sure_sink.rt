@@ -1,4 +1,4 @@
-//! A place for output that never fails.
+//! An output that never fails.
 
 ghost use Rattle.std.specs.Prelude.{[], ◌∷◌, ◌++◌, ◌≡◌, Some};
 ghost use Rattle.m36_outside.specs.Passing.{joined};
@@ -9,14 +9,15 @@ use crate::passed::Passed;
 use crate::sink::{Put, Sink};
 use crate::text::Text;
 
-/// Takes every piece and keeps none. It tells what it took, and never counts a fault.
+/// Takes every piece and keeps none. The pieces that it took are known to contracts. It never
+/// counts a fault.
 #[derive(Drop)]
 pub struct SureSink {
     taken: Passed<Text>,
 }
 
 impl SureSink {
-    /// The place.
+    /// A sink that has taken nothing.
     pub fn new() -> SureSink
         ensures { result.taken.entries ≡ [] }
     {

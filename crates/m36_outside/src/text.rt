@@ -1,4 +1,4 @@
-//! A list of bytes.
+//! A growable list of bytes.
 
 ghost use Rattle.std.specs.Prelude.{ℕ, List, [], ◌∷◌, ◌++◌, ◌≡◌, IfOk, OnOk, OnErr};
 
@@ -6,8 +6,8 @@ use m36_word::NoMemory;
 use std::alloc::Global;
 use std::marker::Model;
 
-/// A list of bytes that grows at its end, seen as a list of numbers: a file's content, a file's name or a word of
-/// the command line.
+/// A list of bytes that grows at its end; the view is a list of numbers. It holds the content or
+/// the name of a file, or a word of the command line.
 #[derive(Drop)]
 pub struct Text {
     items: Vec<u8>,
@@ -31,7 +31,7 @@ impl Text {
         }
     }
 
-    /// A text of these bytes. The error is want of memory alone.
+    /// A text of these bytes. Fails only with `NoMemory`.
     pub fn from_bytes(alloc: Global, bytes: &[u8]) -> Result<Text, NoMemory>
         ensures { IfOk result (λ text. text ≡ bytes.now) }
     {
@@ -40,7 +40,7 @@ impl Text {
         })
     }
 
-    /// Adds a byte at the end. Where no memory is found, nothing changes.
+    /// Appends a byte. If memory runs out, nothing changes.
     pub fn push(&mut self, x: u8) -> Result<(), NoMemory>
         ensures ok { OnOk result (self.new ≡ self.old ++ x ∷ []) }
         ensures err { OnErr result (self.new ≡ self.old) }
@@ -49,7 +49,7 @@ impl Text {
         Ok(())
     }
 
-    /// Adds bytes at the end. Where no memory is found, nothing changes.
+    /// Appends bytes. If memory runs out, nothing changes.
     pub fn append(&mut self, bytes: &[u8]) -> Result<(), NoMemory>
         ensures ok { OnOk result (self.new ≡ self.old ++ bytes.now) }
         ensures err { OnErr result (self.new ≡ self.old) }
@@ -58,7 +58,7 @@ impl Text {
         Ok(())
     }
 
-    /// The bytes in order.
+    /// The bytes, in order.
     pub fn bytes(&self) -> &[u8]
         ensures { result.now ≡ self.now }
     {

@@ -1,4 +1,4 @@
-//! Bytes in memory that are taken from the beginning on.
+//! Bytes in memory that are consumed from the beginning on.
 
 ghost use Rattle.std.specs.Prelude.{◌≡◌, ◌≤◌, ◌++◌, IfOk, length, take, drop};
 ghost use Rattle.m36_outside.specs.Unread.{piece_length};
@@ -8,7 +8,7 @@ use m36_word::NoMemory;
 use std::alloc::Global;
 use std::marker::Model;
 
-/// Bytes of which some are taken already, seen as the list of those that are left.
+/// Bytes of which some are already consumed; the view is the list of those that are left.
 #[derive(Drop)]
 pub struct Unread {
     content: Text,
@@ -26,7 +26,7 @@ impl Model for Unread {
 }
 
 impl Unread {
-    /// These bytes, of which none is taken yet. The error is want of memory alone.
+    /// These bytes, with none consumed. Fails only with `NoMemory`.
     pub fn new(alloc: Global, bytes: &[u8]) -> Result<Unread, NoMemory>
         ensures { IfOk result (λ unread. unread ≡ bytes.now) }
     {
@@ -36,7 +36,8 @@ impl Unread {
         })
     }
 
-    /// Moves the next bytes to the beginning of a buffer: as many as are left and as there is room for. It tells how many.
+    /// Moves the next bytes to the beginning of a buffer, as many as fit, and returns their
+    /// number.
     #[tactic(auto, using(crate::proofs::Taken::taken))]
     pub fn take(&mut self, into: &mut [u8]) -> usize
         ensures count { result ≡ piece_length (length into.old) self.old }
@@ -49,8 +50,8 @@ impl Unread {
     }
 }
 
-/// Copies bytes of the first list, from a place on, to the beginning of the second: as many as there are and as there is
-/// room for. It tells how many.
+/// Copies the bytes of `from` from index `place` on to the beginning of `into`, as many as fit,
+/// and returns their number.
 fn copy_from(from: &[u8], place: usize, into: &mut [u8]) -> usize
     requires { place ≤ length from.now }
     ensures count { result ≡ piece_length (length into.old) (drop place from.now) }

@@ -1,4 +1,4 @@
-//! The loop over the writes of std, which may take less than was given.
+//! The loop over the writes of std, each of which may take less than it is given.
 
 ghost use Rattle.std.specs.Prelude.{◌≡◌, ◌≤◌, ◌<◌, ◌-◌, ◌++◌, Some, IfSome, IfNone, MatchOption, length, take, drop};
 ghost use Rattle.std.specs.Io.KnownBytes.{Appends, Keeps};
@@ -34,8 +34,8 @@ pub fn write_whole<W: Write>(writer: &mut W, notes: &mut WriterNotes, bytes: &[u
     }
 }
 
-/// Writes all of these bytes to a writer of which nothing is noted yet, and flushes them. What it took and its errors are
-/// added to the notes.
+/// As `write_whole`, for a writer without a log. The bytes that it took and its errors are added
+/// to `taken` and `errors`.
 pub fn write_alone<W: Write>(
     writer: &mut W,
     bytes: &[u8],
@@ -54,7 +54,8 @@ pub fn write_alone<W: Write>(
     answer
 }
 
-/// Writes some of these bytes, from a place on: once, and again where a signal broke in.
+/// Writes some of the bytes from an index on, in one write. A write that a signal interrupts is
+/// made again.
 fn write_from<W: Write>(
     writer: &mut W,
     notes: &mut WriterNotes,
@@ -78,7 +79,7 @@ fn write_from<W: Write>(
     write_some(writer, notes, &bytes[place..])
 }
 
-/// Writes some of these bytes: once, and again where a signal broke in.
+/// Writes some of these bytes, in one write. A write that a signal interrupts is made again.
 #[tactic(auto, using(crate::proofs::Appended::appending, crate::proofs::Signalled::trying))]
 fn write_some<W: Write>(writer: &mut W, notes: &mut WriterNotes, bytes: &[u8]) -> Option<usize>
     requires some { 1 ≤ length bytes.now }

@@ -1,4 +1,4 @@
--- Programs of parts that are alike, and calls of them.
+-- Programs are alike if their parts are, and calls of them.
 use Rattle.std.proofs.Common.{◌∙◌, ◌++◌, ◌≡◌, ℕ, false, List, [], ◌∷◌, Some, Result, Ok, Err, refl, sym, ap, subst}
 use Rattle.std.proofs.lemmas.List.Folds.{concat-append as joined_both}
 use Rattle.m36_outside.specs.Files.{Files}
@@ -25,9 +25,9 @@ use Rattle.m36_program.proofs.KeptLaws.{after_read, after_write, false_true}
 use Rattle.m36_program.proofs.OneText.{one_text}
 use Rattle.m36_program.proofs.ProgramLaws.{performs_text}
 
--- ---- nodes of the second
+-- ---- the second program
 
--- it chooses: alike by whatever value
+-- it chooses: they are alike if they are for each value
 pub alike_some :
     {may : May} {A B : Type 0} (p : Program may A) (Is : B → Type 0) (go : B → Program may A)
     → ((b : B) → Is b → Alike p (go b)) → Alike p (some Is go)
@@ -174,7 +174,7 @@ no_inputs may (OutputFailed pieces ∷ more) result never trail = ap inputs_of t
 no_inputs may (Input piece ∷ more) result never trail = false_true may.takes never trail.0
 no_inputs may (InputFailed ∷ more) result never trail = false_true may.takes never trail.0
 
--- Over the same files and input, what one call puts is a first part of what another puts that comes to its end.
+-- Over the same files and input, a call puts a prefix of the pieces that any call puts that ends.
 pub performs_one_text :
     {may : May} {A : Type 0} (p : Program may A) (files : Files) (result end : Result A Status)
     (old new old' new' : Seen)
@@ -186,7 +186,7 @@ performs_one_text p files result end old new old' new' alike ended told told' on
     one_text p one.events result end old new new' files ended told one.follow one.goes p other.events old' alike told'
     other.follow input other.goes
 
--- The same of a program that takes no input.
+-- As above, for a program that takes no input.
 pub performs_quiet_text :
     {may : May} {A : Type 0} (p : Program may A) (files : Files) (result end : Result A Status)
     (old new old' new' : Seen)
@@ -198,7 +198,7 @@ performs_quiet_text {may = may} p files result end old new old' new' never alike
     (subst (λ l. SameInput l (inputs_of other.events))
     (sym (no_inputs may one.events result never (goes_trail p one.events result one.goes))) tt)
 
--- What is put is pieces of a text, of which these are the first.
+-- If the pieces are a prefix of a list, what is written grows by a prefix of its concatenation.
 written_within :
     (answer : Put) (first all left : List (List ℕ)) (old new : SinkState)
     → all ≡ first ++ left → PutsPieces answer first old new → GrewWithin old.written new.written (joined all)
@@ -210,7 +210,7 @@ written_within Failed first all left old new is put =
     subst (GrewWithin old.written new.written) (sym (ap joined is ∙ joined_both first left))
     (grew_longer old.written new.written (joined first) (joined left) put.text)
 
--- So what is written, however the call ends, grows by a first part of the one text of the files.
+-- So however the call ends, what is written grows by a prefix of the one text of these files.
 pub performs_written :
     {may : May} {A : Type 0} (p : Program may A) (files : Files) (result end : Result A Status)
     (old new old' new' : Seen)

@@ -1,4 +1,4 @@
--- The causes of what a program comes to, by the trail that it leaves.
+-- The causes of results in the counts of faults, by the events of a program.
 use Rattle.std.proofs.Common.{◌≡◌, ℕ, List, [], ◌∷◌, Result, Err, sym, ap, subst, ◌∙◌, inl, inr}
 use Rattle.m36_outside.specs.Counts.{Rose}
 use Rattle.m36_outside.specs.declared.folder.ReadAnswer.{ReadAnswer}
@@ -28,7 +28,7 @@ none_failed old new same = record {
   inputs = ap (λ s. s.input_faults) same;
 }
 
--- where no call failed
+-- if no call failed
 unfailed_cause :
     {A : Type 0} (result : Result A Status) (old new : Seen) → IsUnfailed result → NoneFailed old new
     → HasCause result old new

@@ -79,7 +79,7 @@ loses_here old more before after fails = record {
   fails = fails;
 }
 
--- a piece was put that has no room in a block
+-- a piece was put that is too long for a block
 pub gathers_put :
     (old new : List (List ℕ)) (piece : List ℕ) (before after : Seen)
     → old ≡ [] → new ≡ old → IsOutput piece before after → Gathers old new (piece ∷ []) before after

@@ -1,4 +1,4 @@
--- One program after another: it goes as the first, and then as the one by its value; or the first ends it.
+-- Two joined programs: the events of the first and then those of the second; or the first ends with a status.
 use Rattle.std.proofs.Common.{◌≡◌, ℕ, List, [], ◌∷◌, ◌++◌, Result, Ok, Err, sym, ap, subst, inl, inr}
 use Rattle.m36_outside.specs.declared.folder.ReadAnswer.{ReadAnswer}
 use Rattle.m36_outside.specs.declared.folder.ReadAnswer.TheVariants as read
@@ -12,11 +12,11 @@ use Rattle.m36_program.specs.Program.{Found, Content, Absent, TooLarge, May, Pro
 use Rattle.m36_program.specs.Program.{done, stops, reads, writes, puts, takes, some, wants}
 use Rattle.m36_program.specs.Goes.{Ends, AfterRead, AfterWrite, FailsWith, FailedOutput, FailedInput, Goes}
 
--- a value is no end
+-- a result with a value is not an end with a status
 no_end : {A P : Type 0} (a : A) (status : Status) (events : List Event) → Ends {A = A} (Err status) events (Ok a) → P
 no_end a status events ends = absurd (let e = ends.result_is in cc)
 
--- an end is the same whatever the value would have been
+-- a status determines the end, whatever the type of the value
 same_status : {A : Type 0} (s t : Status) → (let r : Result A Status = Err s in r ≡ Err t) → s ≡ t
 same_status s t is = cc
 
@@ -53,7 +53,7 @@ write_then write.NoMemory goes goes' first more a result on rest = no_end a NoMe
 no_failed_input : {A P : Type 0} (a : A) (events : List Event) → FailedInput {A = A} events (Ok a) → P
 no_failed_input a events failed = absurd (let e = failed.result_is in cc)
 
--- A failed output ends the program with WriteFault, in whatever part of it the last of its pieces is put.
+-- A failed output ends the program with WriteFault, wherever in the program the last of its pieces is put.
 pub fails_with :
     {A : Type 0} (pieces : List (List ℕ)) (goes : List Event → Type 0) (result : Result A Status)
     → (goes (OutputFailed pieces ∷ []) → result ≡ Err WriteFault) → FailsWith pieces goes result

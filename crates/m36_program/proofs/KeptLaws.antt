@@ -1,4 +1,4 @@
--- A program that may not write keeps all files, and one that may not take input leaves it as it is.
+-- A program that may not write keeps all files, and one that may not take input leaves the input as it is.
 use Rattle.std.proofs.Common.{◌≡◌, ℕ, Bool, true, false, List, [], ◌∷◌, Result, ap, subst, ◌∙◌}
 use Rattle.m36_outside.specs.declared.folder.ReadAnswer.{ReadAnswer}
 use Rattle.m36_outside.specs.declared.folder.ReadAnswer.TheVariants as read
@@ -15,7 +15,7 @@ use Rattle.m36_program.specs.Program.{May}
 use Rattle.m36_program.specs.Goes.{AfterRead, AfterWrite}
 use Rattle.m36_program.specs.Trail.{Trail, FilesKept, InputKept}
 
--- what holds by whatever answer, if it holds after the end and after each step
+-- P holds for every answer if it holds when the program ends and when it continues
 pub after_read :
     {A P : Type 0} (answer : ReadAnswer) (goes : Type 0) (more : List Event) (result : Result A Status)
     → (more ≡ [] → P) → (goes → P) → AfterRead answer (λ found events. goes) more result → P
@@ -32,7 +32,7 @@ after_write write.Written goes more result none on after = on after
 after_write write.Failed goes more result none on after = none after.none
 after_write write.NoMemory goes more result none on after = none after.none
 
--- no more passes
+-- no more events
 pub passed_none : (more : List Event) (old new : Seen) → more ≡ [] → Follow more old new → new ≡ old
 unfolding Follow
 passed_none more old new none follow =

@@ -20,7 +20,7 @@ use Rattle.m36_program.proofs.PutLaws.{goes_puts, puts_both, puts_one, puts_none
 pub leads_start : {may : May} {A : Type 0} (p : Program may A) (seen : Seen) → Leads p p seen seen
 leads_start p seen = record { events = []; follow = follow_none seen; leads = λ more result goes. goes }
 
--- some events passed, after which less is left
+-- some events happened, after which less is left
 leads_on :
     {may : May} {A : Type 0} (now next first : Program may A) (passed : List Event) (old between new : Seen)
     → Leads now first old between → Follow passed between new
@@ -34,7 +34,7 @@ leads_on now next first passed old between new left follow on = record {
       (left.leads (passed ++ more) result (on more result goes));
 }
 
--- a part of what is left gave a value
+-- a part of what is left ended with a value
 pub leads_then :
     {may : May} {A B : Type 0} (part : Program may A) (next : A → Program may B) (first : Program may B) (a : A)
     (old between new : Seen)
@@ -43,7 +43,7 @@ leads_then part next first a old between new left performs =
     leads_on (then_with part next) (next a) first performs.events old between new left performs.follow
     (λ more result goes. goes_then part next performs.events more a result performs.goes goes)
 
--- the rest of what is left came to its end
+-- a call performed all that was left
 pub leads_ends :
     {may : May} {A : Type 0} (now first : Program may A) (result : Result A Status) (old between new : Seen)
     → Leads now first old between → Performs now result between new → Performs first result old new
@@ -53,7 +53,7 @@ leads_ends now first result old between new left performs = record {
   goes = left.leads performs.events result performs.goes;
 }
 
--- a part of what is left ended it
+-- a part of what is left ended with a status
 pub leads_stop :
     {may : May} {A B : Type 0} (part : Program may A) (next : A → Program may B) (first : Program may B) (s : Status)
     (old between new : Seen)
@@ -64,7 +64,7 @@ leads_stop part next first s old between new left performs = record {
   goes = left.leads performs.events (Err s) (goes_stop part next performs.events s performs.goes);
 }
 
--- the first one is another, of the same meaning
+-- what is left is another, equal program
 pub leads_as :
     {may : May} {A : Type 0} (now next first : Program may A) (old new : Seen) → now ≡ next → Leads now first old new
     → Leads next first old new
@@ -72,7 +72,7 @@ leads_as now next first old new same left = subst (λ p. Leads p first old new) 
 
 -- ---- one step of what is left
 
--- one value is chosen
+-- a value was chosen
 pub leads_some :
     {may : May} {A B : Type 0} (Is : B → Type 0) (go : B → Program may A) (b : B) (first : Program may A)
     (old new : Seen)
@@ -83,7 +83,7 @@ leads_some Is go b first old new is left = record {
   leads = λ more result goes. left.leads more result (goes_some Is go b more result is goes);
 }
 
--- memory was there
+-- memory did not run out
 pub leads_wants :
     {may : May} {A : Type 0} (p first : Program may A) (old new : Seen) → Leads (wants p) first old new
     → Leads p first old new
@@ -126,7 +126,7 @@ leads_gathers block block' more rest first old between new left gathers =
     ∙ puts_both block more rest)
     (goes_puts gathers.handed (puts_all block' rest) after result goes))
 
--- one piece is
+-- one piece is added
 pub leads_adds :
     {may : May} {A : Type 0} (block block' : List (List ℕ)) (piece : List ℕ) (rest first : Program may A)
     (old between new : Seen)
@@ -143,7 +143,7 @@ pub leads_empty :
 leads_empty block rest first old new none left =
     subst (λ p. Leads p first old new) (sym (puts_none rest) ∙ ap (λ l. puts_all l rest) (sym none)) left
 
--- all pieces were put, and the rest performs what is left
+-- all pieces were put, and a call performed what was left
 pub gathers_performs :
     {may : May} {A : Type 0} (pieces : List (List ℕ)) (rest : Program may A) (result : Result A Status)
     (old between new : Seen)

@@ -1,4 +1,4 @@
--- A program without a dead end has a call that comes to its end.
+-- A program without a dead end has a call that ends.
 use Rattle.std.proofs.Common.{◌≡◌, ℕ, Bool, true, false, List, [], ◌∷◌, ◌++◌, length, Option, Some, None, Result, Ok}
 use Rattle.std.proofs.Common.{Err, refl, sym, ap, inl, arith, ltb}
 use Rattle.std.specs.Prelude.{IfSome}
@@ -49,7 +49,7 @@ unfolding Lives puts_all
 lives_puts [] p live = live
 lives_puts (piece ∷ pieces) p live = lives_puts pieces p live
 
--- ---- calls that come to their end
+-- ---- calls that end
 
 -- an answer to a read
 record Answered (name : List ℕ) (files : Option Files) : Type 1 where

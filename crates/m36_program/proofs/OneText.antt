@@ -1,5 +1,5 @@
--- What a call puts is a first part of what another puts that comes to its end, over the same files and input, where
--- their programs are alike.
+-- A call puts a prefix of the pieces that another call puts which ends, over the same files and input, if their
+-- programs are alike.
 use Rattle.std.proofs.Common.{◌≡◌, ℕ, ◌≤◌, ◌<◌, List, [], ◌∷◌, ◌++◌, length, cond, Option, Some, Result, Ok, Err}
 use Rattle.std.proofs.Common.{refl, sym, ap, subst, ◌∙◌, inl, inr}
 use Rattle.std.specs.Prelude.{IfSome}
@@ -28,7 +28,7 @@ use Rattle.m36_program.specs.Alike.{EndsAlike, ReadsAlike, WritesAlike, PutsAlik
 use Rattle.m36_program.specs.Alike.{SameInput, inputs_of}
 use Rattle.m36_program.proofs.GoesLaws.{goes_failed, fails_with}
 
--- ---- results that are no end
+-- ---- results that are not an end
 
 read_fault : {A P : Type 0} (result : Result A Status) → result ≡ Err ReadFault → IsEnd result → P
 read_fault {A} result is ended =
@@ -42,7 +42,7 @@ no_memory : {A P : Type 0} (result : Result A Status) → result ≡ Err NoMemor
 no_memory {A} result is ended =
     absurd (let fault : IsEnd {A = A} (Err NoMemory) = subst (IsEnd {A = A}) is ended in fault)
 
--- nothing was put, and the call did not come to its end
+-- nothing was put, and the call did not end
 nothing_put :
     {A : Type 0} (all : List (List ℕ)) (result end : Result A Status) → ((P : Type 0) → IsEnd result → P)
     → OneText [] all result end
@@ -58,7 +58,7 @@ one_more piece other first all result end same text = record {
   ended = text.ended;
 }
 
--- ---- what is found by the files
+-- ---- what is found in the files
 
 found_read : (bytes : List ℕ) → length bytes ≤ file_limit → found_in (Some bytes) ≡ Content bytes
 found_read bytes within = ap (λ b. cond b TooLarge (Content bytes)) (le-ltb file_limit (length bytes) within)
@@ -66,7 +66,7 @@ found_read bytes within = ap (λ b. cond b TooLarge (Content bytes)) (le-ltb fil
 found_large : (bytes : List ℕ) → file_limit < length bytes → found_in (Some bytes) ≡ TooLarge
 found_large bytes over = ap (λ b. cond b TooLarge (Content bytes)) (lt-ltb file_limit (length bytes) over)
 
--- a read that was answered by the file, or one that ended the program
+-- a read that was answered by the file, or that ended the program
 pub found_or_ended :
     {A P : Type 0} (answer : ReadAnswer) (file : Option (List ℕ)) (goes : Found → List Event → Type 0)
     (more : List Event) (result : Result A Status)
@@ -83,7 +83,7 @@ found_or_ended read.Failed file goes more result says within after on ends =
 found_or_ended read.NoMemory file goes more result says within after on ends =
     ends after.none (λ Q ended. no_memory result after.result_is ended)
 
--- a write that was made, or one that ended the program
+-- a write that was done, or that ended the program
 written_or_ended :
     {A P : Type 0} (answer : WriteAnswer) (goes : List Event → Type 0) (more : List Event) (result : Result A Status)
     (name content : List ℕ) (old new : Option Files)
@@ -103,9 +103,9 @@ said answer name told files is says =
     let at : IfSome (Some files) (λ f. ReadSays answer (f name)) =
     subst (λ t. IfSome t (λ f. ReadSays answer (f name))) is says in at
 
--- ---- the other call, which comes to its end
+-- ---- the other call, which ends
 
--- The other program goes on from here, and by that the text is one.
+-- The other program goes on from here, and from that the two texts are one.
 abbrev Continues :
     {may : May} {A : Type 0} → (Program may A → Type 0) → Files → List (List ℕ) → List (List ℕ) → Result A Status
     → Result A Status → Seen → Type 1
@@ -114,7 +114,7 @@ Continues {may} {A} alike files inputs first result end new =
     → alike q → old.files ≡ Some files → Follow events old new → SameInput inputs (inputs_of events) → Goes q events end
     → OneText first (pieces_of events) result end
 
--- it ends too
+-- it ends too, with the same result
 ends_alike :
     {may : May} {A : Type 0} (value : Result A Status) (q : Program may A) (events : List Event) (end : Result A Status)
     → EndsAlike value q → IsEnd end → Goes q events end → (events ≡ []) × (value ≡ end)
@@ -263,7 +263,7 @@ text_takes piece alike files inputs first result end new ended on _ events old i
 
 -- ---- a call whose output failed
 
--- the pieces of the failed call are first ones of the other's, in whatever part of the program the last of them is put
+-- the pieces of the failed call are a prefix of the other's, wherever in the program the last of them is put
 failed_with :
     {may : May} {A : Type 0} (p : Program may A) (pieces : List (List ℕ)) (files : Files) (end : Result A Status)
     (new : Seen)
@@ -306,7 +306,7 @@ text_failed (wants p) pieces files end new ended (inr ends) = absurd (let e = en
 
 -- ---- one text
 
--- an end where nothing is put
+-- an end, and no piece is put
 none_put :
     {A : Type 0} (first : List Event) (all : List (List ℕ)) (result end : Result A Status)
     → first ≡ [] → ((P : Type 0) → IsEnd result → P) → OneText (pieces_of first) all result end

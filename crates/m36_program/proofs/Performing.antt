@@ -11,7 +11,7 @@ use Rattle.m36_program.specs.Performs.{Performs}
 use Rattle.m36_program.specs.Readers.{put_one}
 use Rattle.m36_program.proofs.GoesLaws.{goes_then, goes_stop}
 
--- ---- one step, in which nothing passes
+-- ---- one step without events
 
 pub goes_done : (may : May) {A : Type 0} (a : A) → Goes {may = may} (done a) [] (Ok a)
 unfolding Goes
@@ -40,7 +40,7 @@ pub goes_no_memory : {may : May} {A : Type 0} (p : Program may A) → Goes (want
 unfolding Goes
 goes_no_memory p = inr (record { none = refl; result_is = refl })
 
--- a call in which nothing passes
+-- a call without events
 pub performs_none :
     {may : May} {A : Type 0} (p : Program may A) (result : Result A Status) (seen : Seen) → Goes p [] result
     → Performs p result seen seen
@@ -73,7 +73,7 @@ performs_no_memory p seen = performs_none (wants p) (Err NoMemory) seen (goes_no
 
 -- ---- one program after another
 
--- the first gave a value, and the second went on by it
+-- the first ended with a value, and the second continued with it
 pub performs_then :
     {may : May} {A B : Type 0} (p : Program may A) (next : A → Program may B) (a : A) (result : Result B Status)
     (old between new : Seen)
@@ -84,7 +84,7 @@ performs_then p next a result old between new first second = record {
   goes = goes_then p next first.events second.events a result first.goes second.goes;
 }
 
--- the first ended
+-- the first ended with a status
 pub performs_stop :
     {may : May} {A B : Type 0} (p : Program may A) (next : A → Program may B) (s : Status) (old new : Seen)
     → Performs p (Err s) old new → Performs (then_with p next) (Err s) old new
@@ -102,7 +102,7 @@ pub puts_then :
 unfolding then_with put_one
 puts_then piece rest = refl
 
--- it was put, and then the rest went on
+-- it was put, and then the rest was performed
 pub performs_put :
     {may : May} {A : Type 0} (piece : List ℕ) (rest : Program may A) (result : Result A Status) (old between new : Seen)
     → Performs {may = may} (put_one piece) (Ok tt) old between → Performs rest result between new

@@ -53,7 +53,7 @@ reads_after (piece ∷ pieces) more = reads_after pieces more
 
 -- ---- a program that puts pieces
 
--- They were put, and then the rest went on.
+-- They were put, and then the rest was performed.
 pub record ThenGoes {may : May} {A : Type 0} (pieces : List (List ℕ)) (rest : Program may A) (events : List Event)
     (result : Result A Status) : Type 0 where
   pub more : List Event
@@ -70,7 +70,7 @@ then_more piece pieces rest more events result is on = record {
   goes = on.goes;
 }
 
--- Where the output did not fail, all of them were put.
+-- If the output did not fail, all of them were put.
 pub puts_gone :
     {may : May} {A : Type 0} (pieces : List (List ℕ)) (rest : Program may A) (events : List Event)
     (result : Result A Status)
@@ -149,8 +149,8 @@ ended_failed may piece (next ∷ failed) pieces s rest result on fails =
       }
     ]
 
--- All pieces were put, and the result is that of the status; or the output failed, and those that were to be put are
--- first ones of them.
+-- All pieces were put, and the result is that of the status; or the output failed, and those that were to be put are a
+-- prefix of them.
 pub puts_ended :
     (may : May) (pieces : List (List ℕ)) (s : Status) (own : MayEnd s) (events : List Event)
     (result : Result (Unit {0}) Status)
@@ -165,9 +165,9 @@ puts_ended may (piece ∷ pieces) s own events result (inr failed) =
     (inr (ended_failed may piece failed.pieces pieces s (puts_all pieces (ends s own)) result
     (λ on. puts_ended may pieces s own (OutputFailed failed.pieces ∷ []) result on) failed.rest))
 
--- ---- what is put, where the output fails
+-- ---- what is put if the output fails
 
--- A first part of some pieces is a first part of more.
+-- A prefix of some pieces is a prefix of more.
 pub puts_longer :
     (pieces left : List (List ℕ)) (old new : SinkState) → PutsPieces Failed pieces old new
     → PutsPieces Failed (pieces ++ left) old new
@@ -180,7 +180,7 @@ puts_longer pieces left old new put =
 
 -- ---- what was read
 
--- Each read was answered by the files, where they are known.
+-- Each read was answered by the files, if they are known.
 pub trail_told :
     {A : Type 0} (may : May) (events : List Event) (result : Result A Status) (old new : Seen) (files : Option Files)
     → may.writes ≡ false → old.files ≡ files → Trail may events result → Follow events old new

@@ -1,4 +1,4 @@
--- What holds of every call that performs a program.
+-- What holds for every call that performs a program.
 use Rattle.std.proofs.Common.{◌≡◌, ℕ, false, List, [], ◌∷◌, Result, Err, refl, sym, subst, inl, inr}
 use Rattle.m36_outside.specs.Counts.{Rose}
 use Rattle.m36_outside.proofs.Risen.{rose_never}
@@ -58,9 +58,9 @@ pub performs_whole :
 performs_whole {may = may} p result old new performs whole =
     trail_put may performs.events result whole (goes_trail p performs.events result performs.goes)
 
--- ---- statuses that never come
+-- ---- statuses that cannot occur
 
--- no count of faults ever rises, as over objects that never fail
+-- no count of faults ever rises, as for objects that never fail
 pub record NeverFailed (seen : Seen) : Type 0 where
   pub reads : seen.read_faults ≡ 0
   pub writes : seen.write_faults ≡ 0
@@ -127,14 +127,14 @@ trail_given may (Input piece ∷ more) result trail = trail_given may more resul
 trail_given {A} may (InputFailed ∷ more) result trail =
     ended_given {A = A} (Err status.ReadFault) more result tt trail.1
 
--- A call gives the value for Done, and never says that the words are no command.
+-- A call has a value instead of Done, and never Usage.
 pub performs_given :
     {may : May} {A : Type 0} (p : Program may A) (result : Result A Status) (old new : Seen) → Performs p result old new
     → IsGiven result
 performs_given {may = may} p result old new performs =
     trail_given may performs.events result (goes_trail p performs.events result performs.goes)
 
--- Over objects that never fail no fault comes.
+-- Over objects that never fail there is no fault.
 pub performs_never :
     {may : May} {A : Type 0} (p : Program may A) (result : Result A Status) (old new : Seen)
     → NeverFailed old → NeverFailed new → Performs p result old new → IsUnfailed result
@@ -148,14 +148,14 @@ pub early_given : (result : Result (Unit {0}) Status) → IsGiven result → ear
 early_given (Err status.Done) given = absurd given
 early_given _ given = refl
 
--- a call of a whole command, by the status that is answered for it
+-- a call of a whole command, by its status
 pub performs_early :
     {may : May} (p : Program may (Unit {0})) (result : Result (Unit {0}) Status) (old new : Seen)
     → Performs p result old new → Performs p (early (status_by result)) old new
 performs_early p result old new performs =
     subst (λ r. Performs p r old new) (sym (early_given result (performs_given p result old new performs))) performs
 
--- the end of a program by a status
+-- the end of a program with a status
 pub goes_ends : (may : May) (s : Status) (own : MayEnd s) → Goes {may = may} (ends s own) [] (early s)
 unfolding Goes ends
 goes_ends may status.Usage own = absurd own

@@ -26,7 +26,7 @@ goes_puts (piece ∷ pieces) rest more result goes = inl (record {
   rest = goes_puts pieces rest more result goes;
 })
 
--- the pieces of a list and those of another
+-- the pieces of one list and then of another
 pub puts_both :
     {may : May} {A : Type 0} (first more : List (List ℕ)) (rest : Program may A)
     → puts_all (first ++ more) rest ≡ puts_all first (puts_all more rest)
@@ -43,7 +43,7 @@ pub puts_none : {may : May} {A : Type 0} (rest : Program may A) → puts_all [] 
 unfolding puts_all
 puts_none rest = refl
 
--- the output fails in a call for pieces, of which there is one at least
+-- the output fails in a call for one or more pieces
 goes_lost :
     {may : May} {A : Type 0} (piece : List ℕ) (pieces : List (List ℕ)) (rest : Program may A)
     → Goes (puts_all (piece ∷ pieces) rest) (OutputFailed (piece ∷ pieces) ∷ []) (Err WriteFault)

@@ -1,5 +1,5 @@
--- Two programs that follow one another have gone one after the other; or the first has ended; or the output failed in a
--- call for pieces of both.
+-- The events of two joined programs are those of one and then the other; or the first ended with a status; or the
+-- output failed in a call for pieces of both.
 use Rattle.std.proofs.Common.{◌≡◌, ◌⊎◌, ℕ, true, List, [], ◌∷◌, ◌++◌, Result, Ok, Err, refl, sym, ap, subst, ◌∙◌, inl}
 use Rattle.std.proofs.Common.{inr}
 use Rattle.std.proofs.lemmas.List.{append_assoc}
@@ -23,7 +23,7 @@ use Rattle.m36_program.proofs.GoesLaws.{goes_failed}
 
 -- ---- a failed output
 
--- the pieces of a failed call are those of the first; or they are its last ones and some of the second
+-- the pieces of a failed call are the last ones of the first program and some of the second
 pub record FailsBoth {may : May} {A B : Type 0} (p : Program may A) (next : A → Program may B) (pieces : List (List ℕ))
     (result : Result B Status) : Type 0 where
   pub last : List (List ℕ)
@@ -115,7 +115,7 @@ split_failed (wants p) next pieces result (inr ends) = absurd (let e = ends.none
 
 -- ---- any events
 
--- some events before
+-- some events before them
 split_map :
     {may : May} {A B : Type 0} (p q : Program may A) (next : A → Program may B) (passed more : List Event)
     (result : Result B Status)
@@ -148,7 +148,7 @@ split_map p q next passed more result on (inr (inr across)) = inr (inr (record {
   goes_on = across.goes_on;
 }))
 
--- the first ended, by a step
+-- the first ended in this step
 split_ends :
     {may : May} {A B : Type 0} (p : Program may A) (next : A → Program may B) (s : Status) (events : List Event)
     (result : Result B Status)
@@ -279,7 +279,7 @@ goes_split (wants p) next events result (inr ends) =
 
 -- ---- calls
 
--- the two of a call whose output did not fail
+-- a call that performs both, if the output did not fail, is two calls
 pub performs_split :
     {may : May} {A B : Type 0} (p : Program may A) (next : A → Program may B) (result : Result B Status)
     (old new : Seen)

@@ -52,7 +52,7 @@ puts_piece Failed piece pieces old between new first rest = record {
 
 -- ---- by the events
 
--- nothing passes after an event that puts nothing
+-- no event after one that puts nothing
 text_ends :
     (more : List Event) (old between new : Seen)
     → more ≡ [] → Follow more between new → output_of between ≡ output_of old
@@ -116,9 +116,9 @@ follow_text may (InputFailed ∷ more) result old new trail follow =
     let did : IsInputFailed old follow.between = follow.begins in
     text_ends more old follow.between new trail.1.none follow.goes_on (ap output_of did.rest)
 
--- ---- whether all was put, by the result
+-- ---- whether everything was put, by the result
 
--- With a result other than WriteFault all pieces are put whole.
+-- Unless the result is WriteFault, all pieces are put as a whole.
 pub trail_put :
     {A : Type 0} (may : May) (events : List Event) (result : Result A Status)
     → (result ≡ Err status.WriteFault → ⊥) → Trail may events result → put_of events ≡ Done

@@ -1,4 +1,4 @@
--- What a call reads where the files are known.
+-- What a call reads if the files are known.
 use Rattle.std.proofs.Common.{◌≡◌, ℕ, List, ◌∷◌, Some, Result, Ok, Err, ap, subst, ◌∙◌, inl, inr}
 use Rattle.m36_outside.specs.Files.{Files}
 use Rattle.m36_world.specs.Seen.{Seen}
@@ -17,7 +17,7 @@ use Rattle.m36_program.specs.Alike.{IsEnd}
 use Rattle.m36_program.specs.Readers.{refuses, bytes_found, file_bytes}
 use Rattle.m36_program.proofs.OneText.{found_or_ended, said}
 
--- A call that reads a file goes on by what the files have.
+-- A call that reads a file continues by what the files have.
 pub record GoesOn {may : May} {A : Type 0} (p : Program may A) (files : Files) (result : Result A Status)
     (new : Seen) : Type 0 where
   pub between : Seen

@@ -1,4 +1,4 @@
--- The trail that each program leaves, and what follows from it.
+-- What holds for the events of each program (`Trail`), and what follows from it.
 use Rattle.std.proofs.Common.{List, Result, Ok, Err, refl, sym, subst, inl, inr}
 use Rattle.m36_outside.specs.declared.folder.ReadAnswer.{ReadAnswer}
 use Rattle.m36_outside.specs.declared.folder.ReadAnswer.TheVariants as read
@@ -13,7 +13,7 @@ use Rattle.m36_program.specs.Goes.{Ends, AfterRead, AfterWrite, Goes}
 use Rattle.m36_program.specs.Trail.{IsUnfailed, Trail}
 use Rattle.m36_program.proofs.GoesLaws.{goes_failed, fails_with}
 
--- ---- steps, made into others
+-- ---- steps, mapped to others
 
 pub read_map :
     {A : Type 0} (answer : ReadAnswer) (goes goes' : Found → List Event → Type 0) (more : List Event)
@@ -34,7 +34,7 @@ write_map write.Written goes goes' more result on rest = on rest
 write_map write.Failed goes goes' more result on rest = rest
 write_map write.NoMemory goes goes' more result on rest = rest
 
--- ---- each program leaves a trail
+-- ---- `Trail` holds for each program
 
 own_unfailed : (A : Type 0) (s : Status) → IsOwn s → IsUnfailed {A = A} (Err s)
 own_unfailed A status.Done own = absurd own
@@ -44,7 +44,7 @@ own_unfailed A status.WriteFault own = absurd own
 own_unfailed A status.NoMemory own = absurd own
 own_unfailed A _ own = tt
 
--- where nothing passes
+-- no more events
 trail_ends :
     {A : Type 0} (may : May) (value : Result A Status) (events : List Event) (result : Result A Status)
     → IsUnfailed value → Ends value events result → Trail may events result

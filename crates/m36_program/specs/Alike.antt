@@ -1,6 +1,6 @@
--- Programs that put one text. Two are alike if they read and write the same files, put the same
--- pieces and take the same input, one after another, and come to the same value or status, whatever
--- they choose on the way. A program that is alike to itself has one text.
+-- Programs that put one text. Two programs are alike if they read and write the same files, put
+-- the same pieces and take the same input, in the same order, and end with the same value or
+-- status, whatever values they choose. A program that is alike to itself has one text.
 use Rattle.std.specs.Prelude.{ℕ, ◌≡◌, ⊤, List, [], ◌∷◌, ◌++◌, Result, Ok, Err}
 use Rattle.std.specs.List.{flat_map}
 use Rattle.m36_world.specs.Logs.{input_of}
@@ -9,7 +9,7 @@ use Rattle.m36_reading.specs.declared.status.Status.{Status}
 use Rattle.m36_program.specs.Program.{Found, May, IsOwn, Program}
 use Rattle.m36_program.specs.Program.{done, stops, reads, writes, puts, takes, some, wants}
 
--- The second one ends too, with the same.
+-- The second program ends too, with the same value or status.
 abbrev pub EndsAlike : {may : May} {A : Type 0} → Result A Status → Program may A → Type 0
 EndsAlike value (done a) = value ≡ Ok a
 EndsAlike value (stops status own) = value ≡ Err status
@@ -20,7 +20,7 @@ EndsAlike value (takes allowed go) = ⊥
 EndsAlike {may} {A} value (some {B} Is go) = (b : B) → Is b → EndsAlike value (go b)
 EndsAlike value (wants rest) = EndsAlike value rest
 
--- It reads the same file.
+-- The second program reads the same file.
 abbrev pub ReadsAlike :
     {may : May} {A : Type 0} → List ℕ → (Found → Program may A → Type 0) → Program may A → Type 0
 ReadsAlike name alike (done a) = ⊥
@@ -32,7 +32,7 @@ ReadsAlike name alike (takes allowed go) = ⊥
 ReadsAlike {may} {A} name alike (some {B} Is go) = (b : B) → Is b → ReadsAlike name alike (go b)
 ReadsAlike name alike (wants rest) = ReadsAlike name alike rest
 
--- It writes the same file.
+-- The second program writes the same file with the same content.
 abbrev pub WritesAlike :
     {may : May} {A : Type 0} → List ℕ → List ℕ → (Program may A → Type 0) → Program may A → Type 0
 WritesAlike name content alike (done a) = ⊥
@@ -46,7 +46,7 @@ WritesAlike {may} {A} name content alike (some {B} Is go) =
     (b : B) → Is b → WritesAlike name content alike (go b)
 WritesAlike name content alike (wants rest) = WritesAlike name content alike rest
 
--- It puts the same piece.
+-- The second program puts the same piece.
 abbrev pub PutsAlike :
     {may : May} {A : Type 0} → List ℕ → (Program may A → Type 0) → Program may A → Type 0
 PutsAlike piece alike (done a) = ⊥
@@ -58,7 +58,7 @@ PutsAlike piece alike (takes allowed go) = ⊥
 PutsAlike {may} {A} piece alike (some {B} Is go) = (b : B) → Is b → PutsAlike piece alike (go b)
 PutsAlike piece alike (wants rest) = PutsAlike piece alike rest
 
--- It takes input.
+-- The second program takes input too.
 abbrev pub TakesAlike :
     {may : May} {A : Type 0} → (List ℕ → Program may A → Type 0) → Program may A → Type 0
 TakesAlike alike (done a) = ⊥
@@ -83,24 +83,24 @@ Alike (wants rest) other = Alike rest other
 
 -- ---- one text
 
--- A value, or a status of the program's own.
+-- The result is a value, or a status that a program itself stops with.
 abbrev pub IsEnd : {A : Type 0} → Result A Status → Type 0
 IsEnd (Ok a) = ⊤
 IsEnd (Err status) = IsOwn status
 
--- Pieces are the first ones of others. Where the call that put them came to its end, they are all
--- of them, and the results are the same.
+-- The pieces `first` are a prefix of the list `all`. If the call that put them ended, they are all
+-- of them, and the results are equal.
 pub record OneText {A : Type 0} (first all : List (List ℕ)) (result end : Result A Status)
     : Type 0 where
   pub left : List (List ℕ)
   pub is : all ≡ first ++ left
   pub ended : IsEnd result → (left ≡ []) × (result ≡ end)
 
--- the pieces of input that were taken
+-- the pieces of input that were taken, in order
 abbrev pub inputs_of : List Event → List (List ℕ)
 inputs_of events = flat_map input_of events
 
--- The pieces of input are the same, as far as both calls took them.
+-- The pieces of input are the same, as far as both calls took any.
 abbrev pub SameInput : List (List ℕ) → List (List ℕ) → Type 0
 SameInput [] others = ⊤
 SameInput (piece ∷ pieces) [] = ⊤

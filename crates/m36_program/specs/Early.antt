@@ -1,10 +1,10 @@
--- The status of a whole command, and the result of the call that performs it.
+-- Converts between the status of a whole command and the result of the call that performs it.
 use Rattle.std.specs.Prelude.{⊤, Result, Ok, Err}
 use Rattle.m36_reading.specs.declared.status.Status.{Status}
 use Rattle.m36_reading.specs.declared.status.Status.TheVariants as status
 use Rattle.m36_program.specs.Program.{May, Program, done, stops}
 
--- the result by the status: Done is the value
+-- the result for a status: Done becomes the value
 abbrev pub early : Status → Result (Unit {0}) Status
 early status.Done = Ok tt
 early status.Usage = Err status.Usage
@@ -16,12 +16,12 @@ early (status.MachineStop end) = Err (status.MachineStop end)
 early status.Steps = Err status.Steps
 early status.NoMemory = Err status.NoMemory
 
--- the status by the result
+-- the status for a result
 abbrev pub status_by : Result (Unit {0}) Status → Status
 status_by (Ok u) = status.Done
 status_by (Err s) = s
 
--- A result that a program may have: the value stands for Done, and Usage it never says.
+-- A result that a program may have. It has a value instead of Done, and never Usage.
 abbrev pub IsGiven : {A : Type 0} → Result A Status → Type 0
 IsGiven (Ok a) = ⊤
 IsGiven (Err status.Done) = ⊥
@@ -34,7 +34,7 @@ IsGiven (Err (status.MachineStop end)) = ⊤
 IsGiven (Err status.Steps) = ⊤
 IsGiven (Err status.NoMemory) = ⊤
 
--- a status that a command may end with by itself
+-- a status that a command itself may end with
 abbrev pub MayEnd : Status → Type 0
 MayEnd status.Done = ⊤
 MayEnd status.Usage = ⊥
@@ -46,7 +46,7 @@ MayEnd (status.MachineStop end) = ⊤
 MayEnd status.Steps = ⊤
 MayEnd status.NoMemory = ⊥
 
--- the end with a status
+-- the program that ends with a status
 unfoldable pub ends : {may : May} → (s : Status) → MayEnd s → Program may (Unit {0})
 ends status.Done own = done tt
 ends status.Usage own = stops status.Usage own

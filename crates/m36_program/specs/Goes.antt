@@ -1,5 +1,5 @@
--- How a program goes: what passes, event by event, and the result. Each step has a record of its
--- own, so that a proof over programs has one case a step.
+-- Which events and which result a program can have. Each kind of step has a record of its own, so
+-- that a proof over programs has one case for each.
 use Rattle.std.specs.Prelude.{ℕ, ◌≡◌, ◌⊎◌, List, [], ◌∷◌, Result, Ok, Err}
 use Rattle.m36_outside.specs.declared.folder.ReadAnswer.{ReadAnswer}
 use Rattle.m36_outside.specs.declared.folder.ReadAnswer.TheVariants as read
@@ -13,7 +13,7 @@ use Rattle.m36_reading.specs.declared.status.Status.TheVariants.{ReadFault, Writ
 use Rattle.m36_program.specs.Program.{Found, Content, Absent, TooLarge, May, Program}
 use Rattle.m36_program.specs.Program.{done, stops, reads, writes, puts, takes, some, wants}
 
--- Nothing more passes, and the result is this.
+-- There are no more events, and the result is `value`.
 pub record Ends {A : Type 0} (value : Result A Status) (events : List Event)
     (result : Result A Status) : Type 0 where
   pub none : events ≡ []
@@ -21,7 +21,7 @@ pub record Ends {A : Type 0} (value : Result A Status) (events : List Event)
 
 -- ---- reading
 
--- A program goes on by what was found. A failed read ends it, and so does want of memory.
+-- A program continues by what was found. A failed read ends it, and so does running out of memory.
 abbrev pub AfterRead :
     {A : Type 0} → ReadAnswer → (Found → List Event → Type 0) → List Event → Result A Status
     → Type 0
@@ -55,21 +55,21 @@ pub record NextWrite {A : Type 0} (name content : List ℕ) (goes : List Event �
 
 -- ---- putting
 
--- the piece is put whole
+-- the piece is written as a whole
 pub record NextOutput (piece : List ℕ) (goes : List Event → Type 0) (events : List Event)
     : Type 0 where
   pub more : List Event
   pub first : events ≡ Output piece ∷ more
   pub rest : goes more
 
--- No other piece was to be put in the call that failed, or those that the program puts next.
+-- The call that failed had no other pieces, or they are pieces that the program puts next.
 abbrev pub FailsWith :
     {A : Type 0} → List (List ℕ) → (List Event → Type 0) → Result A Status → Type 0
 FailsWith [] goes result = result ≡ Err WriteFault
 FailsWith (piece ∷ pieces) goes result = goes (OutputFailed (piece ∷ pieces) ∷ [])
 
--- The output fails in a call that was to put the piece, and maybe some of those that the program
--- puts next.
+-- The output fails in a call for this piece, and perhaps for some of those that the program puts
+-- next.
 pub record FailedOutput {A : Type 0} (piece : List ℕ) (goes : List Event → Type 0)
     (events : List Event) (result : Result A Status) : Type 0 where
   pub pieces : List (List ℕ)

@@ -1,4 +1,4 @@
--- Programs without a dead end: wherever one chooses there is a value to go on by.
+-- Programs without a dead end: at each choice there is a value with the property.
 use Rattle.std.specs.Prelude.{ℕ, ◌<◌, ◌^◌, ⊤, List, Result}
 use Rattle.m36_world.specs.Seen.{Seen}
 use Rattle.m36_reading.specs.declared.status.Status.{Status}
@@ -7,7 +7,7 @@ use Rattle.m36_program.specs.Program.{done, stops, reads, writes, puts, takes, s
 use Rattle.m36_program.specs.Performs.{Performs}
 use Rattle.m36_program.specs.Alike.{IsEnd}
 
--- There is a value with the property, and this holds of each.
+-- Some value has the property `Is`, and `holds` is true of each that has it.
 pub record HasValue {B : Type 0} (Is holds : B → Type 0) : Type 0 where
   pub value : B
   pub is : Is value
@@ -23,14 +23,14 @@ Lives (takes allowed go) = (piece : List ℕ) → Lives (go piece)
 Lives (some Is go) = HasValue Is (λ b. Lives (go b))
 Lives (wants rest) = Lives rest
 
--- the counts of faults, as in every world
+-- each count of faults is below 2^64, as in every world
 pub record AreCounts (seen : Seen) : Type 0 where
   pub reads : seen.read_faults < 2 ^ 64
   pub writes : seen.write_faults < 2 ^ 64
   pub outputs : seen.output_faults < 2 ^ 64
   pub inputs : seen.input_faults < 2 ^ 64
 
--- From here on some call performs the program and comes to its end.
+-- Some call that begins here performs the program and ends.
 pub record Comes {may : May} {A : Type 0} (p : Program may A) (old : Seen) : Type 0 where
   pub result : Result A Status
   pub new : Seen

@@ -1,4 +1,5 @@
--- What a call says that performs a program, and what a loop says of the program that is left.
+-- The contract of a call that performs a program, and the invariant of a loop that has a part
+-- left.
 use Rattle.std.specs.Prelude.{List, ◌++◌, Result}
 use Rattle.m36_world.specs.declared.event.Event.{Event}
 use Rattle.m36_world.specs.Seen.{Seen}
@@ -7,15 +8,15 @@ use Rattle.m36_reading.specs.declared.status.Status.{Status}
 use Rattle.m36_program.specs.Program.{May, Program}
 use Rattle.m36_program.specs.Goes.{Goes}
 
--- Some events passed, one after another, and by them the program comes to the result.
+-- Some events happened, one after another, and with them the program goes to the result.
 pub record Performs {may : May} {A : Type 0} (program : Program may A) (result : Result A Status)
     (old new : Seen) : Type 0 where
   pub events : List Event
   pub follow : Follow events old new
   pub goes : Goes program events result
 
--- Some events passed, and the program that is left is `now`: however it goes, the first one goes by
--- these events and then by those of `now`, to the same result.
+-- Some events happened, and `now` is what is left of the program: whenever `now` goes by some
+-- events to a result, `first` goes by these events and then those to the same result.
 pub record Leads {may : May} {A : Type 0} (now first : Program may A) (old new : Seen)
     : Type 0 where
   pub events : List Event

@@ -1,16 +1,16 @@
--- Programs over the events of the outside.
+-- Programs: what a command does to the outside.
 use Rattle.std.specs.Prelude.{ℕ, ◌≡◌, Bool, true, false, ⊤, List, [], ◌∷◌}
 use Rattle.m36_reading.specs.declared.status.Status.{Status}
 use Rattle.m36_reading.specs.declared.status.Status.TheVariants as status
 
--- what a program may do besides reading files and putting text
+-- what a program may do besides reading files and putting output
 pub record May : Type 0 where
   -- write files
   pub writes : Bool
   -- take input
   pub takes : Bool
 
--- neither
+-- neither of them
 abbrev pub quiet : May
 quiet = record { writes = false; takes = false }
 
@@ -20,8 +20,8 @@ pub data Found : Type 0 where
   Absent : Found
   TooLarge : Found
 
--- A status that a program itself stops with. With Done it gives its value, a
--- failed call and a failed allocation have statuses of their own, and words that are no command
+-- A status that a program itself stops with. Not so: Done, for which a program has its value; the
+-- statuses of failed calls and of failed allocations; and Usage, since words that are no command
 -- have no program.
 abbrev pub IsOwn : Status → Type 0
 IsOwn status.Done = ⊥
@@ -34,26 +34,26 @@ IsOwn (status.MachineStop end) = ⊤
 IsOwn status.Steps = ⊤
 IsOwn status.NoMemory = ⊥
 
--- What is done, step by step, until a value is there or a status ends it.
+-- What is done, step by step, until there is a value or a status.
 pub data Program (may : May) (A : Type 0) : Type 1 where
-  -- the value
+  -- ends with a value
   done : A → Program may A
-  -- the end, with a status
+  -- ends with a status
   stops : (status : Status) → IsOwn status → Program may A
-  -- reads the file of a name, and goes on by what is found
+  -- reads the file with a name, and continues by what is found
   reads : List ℕ → (Found → Program may A) → Program may A
-  -- writes a file of a name with a content
+  -- writes the file with a name: its content
   writes : may.writes ≡ true → List ℕ → List ℕ → Program may A → Program may A
   -- puts a piece of output
   puts : List ℕ → Program may A → Program may A
-  -- takes a piece of input, and goes on by it; an empty piece is the end of the input
+  -- takes a piece of input, and continues by it; an empty piece is the end of the input
   takes : may.takes ≡ true → (List ℕ → Program may A) → Program may A
-  -- goes on by some value with a property
+  -- continues by some value with a property
   some : {B : Type 0} → (B → Type 0) → (B → Program may A) → Program may A
   -- memory may run out here
   wants : Program may A → Program may A
 
--- one program after another, by the value of the first
+-- one program after another, which gets the value of the first
 unfoldable pub then_with : {may : May} {A B : Type 0} → Program may A → (A → Program may B)
     → Program may B
 then_with (done a) next = next a

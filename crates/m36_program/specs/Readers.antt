@@ -1,5 +1,5 @@
--- Programs that several commands share: a file is refused, the bytes of a file are read, a piece is
--- put, a file is written, a piece of input is taken.
+-- Programs that several commands share: to refuse a file, read the bytes of a file, put a piece,
+-- write a file, and take a piece of input.
 use Rattle.std.specs.Prelude.{ℕ, ◌≡◌, true, ⊤, List, take, Result, Ok, Err}
 use Rattle.m36_reading.specs.declared.status.Bad.{Bad}
 use Rattle.m36_reading.specs.declared.status.Code.{Code}
@@ -11,11 +11,11 @@ use Rattle.m36_reading.specs.declared.status.Status.TheVariants.{Steps, NoMemory
 use Rattle.m36_program.specs.Program.{Found, Content, Absent, TooLarge, May, Program}
 use Rattle.m36_program.specs.Program.{done, stops, reads, writes, puts, takes, wants}
 
--- a refused file, by its name, a code, a place and a column
+-- a refused file: its name, a code, a place and a column
 abbrev pub refused_at : List ℕ → Code → ℕ → ℕ → Bad
 refused_at name code at column = record { name = name; code = code; at = at; column = column }
 
--- one that has no columns
+-- a refused file without columns, whose column is 0
 abbrev pub refused : List ℕ → Code → ℕ → Bad
 refused name code at = refused_at name code at 0
 
@@ -23,7 +23,7 @@ refused name code at = refused_at name code at 0
 unfoldable pub refuses : {may : May} {A : Type 0} → Bad → Program may A
 refuses bad = wants (stops (BadFile bad) tt)
 
--- the status of a call that refuses a file
+-- the status of a call that refuses a file: BadFile, or NoMemory
 abbrev pub IsRefusal : Status → Bad → Type 0
 IsRefusal Done bad = ⊥
 IsRefusal Usage bad = ⊥
@@ -35,30 +35,30 @@ IsRefusal (MachineStop end) bad = ⊥
 IsRefusal Steps bad = ⊥
 IsRefusal NoMemory bad = ⊤
 
--- F1 where the file is absent, F2 where it has more than 16,777,216 bytes
+-- refuses with F1 if the file is absent, and with F2 if it has more than 16,777,216 bytes
 abbrev pub bytes_found : {may : May} → List ℕ → Found → Program may (List ℕ)
 bytes_found name (Content bytes) = done bytes
 bytes_found name Absent = refuses (refused name code.F1 0)
 bytes_found name TooLarge = refuses (refused name code.F2 0)
 
--- the bytes of a file
+-- reads the bytes of a file
 unfoldable pub file_bytes : {may : May} → List ℕ → Program may (List ℕ)
 file_bytes name = reads name (bytes_found name)
 
--- a piece of output
+-- puts a piece of output
 unfoldable pub put_one : {may : May} → List ℕ → Program may (Unit {0})
 put_one piece = puts piece (done tt)
 
--- a file that is written, where the program may write
+-- writes a file; the program has to be one that may write
 unfoldable pub write_one :
     {may : May} → may.writes ≡ true → List ℕ → List ℕ → Program may (Unit {0})
 write_one allowed name content = writes allowed name content (done tt)
 
--- a piece of input, where the program may take it
+-- takes a piece of input; the program has to be one that may take it
 unfoldable pub take_one : {may : May} → may.takes ≡ true → Program may (List ℕ)
 take_one allowed = takes allowed done
 
--- the piece by the buffer and how many of its first bytes are taken
+-- the piece, from its length and the buffer
 abbrev pub taken_by : Result ℕ Status → List ℕ → Result (List ℕ) Status
 taken_by (Ok count) into = Ok (take count into)
 taken_by (Err status) into = Err status

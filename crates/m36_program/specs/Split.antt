@@ -1,4 +1,4 @@
--- How two programs that follow one another have gone.
+-- What the events of two joined programs mean for each of the two.
 use Rattle.std.specs.Prelude.{ℕ, ◌≡◌, ◌⊎◌, List, [], ◌∷◌, ◌++◌, Result, Ok, Err}
 use Rattle.m36_world.specs.Seen.{Seen}
 use Rattle.m36_world.specs.Follow.{outputs}
@@ -9,7 +9,7 @@ use Rattle.m36_program.specs.Program.{May, Program}
 use Rattle.m36_program.specs.Goes.{Goes}
 use Rattle.m36_program.specs.Performs.{Performs}
 
--- The first gave a value, and the second went on by it.
+-- The first program ended with a value, and the second continued with it.
 pub record BothGo {may : May} {A B : Type 0} (p : Program may A) (next : A → Program may B)
     (events : List Event) (result : Result B Status) : Type 0 where
   pub first : List Event
@@ -19,15 +19,15 @@ pub record BothGo {may : May} {A B : Type 0} (p : Program may A) (next : A → P
   pub begins : Goes p first (Ok value)
   pub goes_on : Goes (next value) more result
 
--- The first ended.
+-- The first program ended with a status.
 pub record FirstEnds {may : May} {A B : Type 0} (p : Program may A) (events : List Event)
     (result : Result B Status) : Type 0 where
   pub status : Status
   pub result_is : result ≡ Err status
   pub goes : Goes p events (Err status)
 
--- The output failed in a call for the last pieces of the first and for pieces of the second. Had
--- those of the first been put, it would have given a value.
+-- The output failed in a call for the last pieces of the first program and for pieces of the
+-- second. If the pieces of the first had been put, it would have ended with a value.
 pub record FailsAcross {may : May} {A B : Type 0} (p : Program may A) (next : A → Program may B)
     (events : List Event) (result : Result B Status) : Type 0 where
   pub passed : List Event

@@ -1,6 +1,6 @@
--- The trail that a program leaves, whatever the program: nothing passes after a failed call or one
--- that ran out of memory, and the result is that failure; files are written and input is taken only
--- where the program may.
+-- What holds for the events of every program. Nothing happens after a failed call or one that ran
+-- out of memory, and the result is that failure. Files are written and input is taken only if the
+-- program may do so.
 use Rattle.std.specs.Prelude.{ℕ, ◌≡◌, ◌⊎◌, true, ⊤, List, [], ◌∷◌, ◌++◌, Result, Ok, Err}
 use Rattle.m36_outside.specs.Counts.{Rose}
 use Rattle.m36_outside.specs.SinkState.{SinkState}
@@ -15,7 +15,7 @@ use Rattle.m36_reading.specs.declared.status.Status.TheVariants as status
 use Rattle.m36_program.specs.Program.{May}
 use Rattle.m36_program.specs.Goes.{Ends, AfterRead, AfterWrite}
 
--- No failed call gave the result.
+-- The result does not come from a failed call.
 abbrev pub IsUnfailed : {A : Type 0} → Result A Status → Type 0
 IsUnfailed (Ok a) = ⊤
 IsUnfailed (Err status.Done) = ⊥
@@ -42,14 +42,14 @@ Trail may (InputFailed ∷ more) result =
 
 -- ---- counts of faults
 
--- no count of faults differs
+-- all counts of faults are unchanged
 pub record NoneFailed (old new : Seen) : Type 0 where
   pub reads : new.read_faults ≡ old.read_faults
   pub writes : new.write_faults ≡ old.write_faults
   pub outputs : new.output_faults ≡ old.output_faults
   pub inputs : new.input_faults ≡ old.input_faults
 
--- one count rose, and no other differs
+-- One count rose, and the others are unchanged. One record for each count.
 pub record ReadFailed (old new : Seen) : Type 0 where
   pub reads : Rose old.read_faults new.read_faults
   pub writes : new.write_faults ≡ old.write_faults
@@ -74,8 +74,8 @@ pub record TakeFailed (old new : Seen) : Type 0 where
   pub outputs : new.output_faults ≡ old.output_faults
   pub inputs : Rose old.input_faults new.input_faults
 
--- The result has its cause in the counts of faults: ReadFault and WriteFault in one that rose, and
--- with every other result none differs.
+-- The result has its cause in the counts of faults: for ReadFault and WriteFault one of them rose,
+-- and for every other result all are unchanged.
 abbrev pub HasCause : {A : Type 0} → Result A Status → Seen → Seen → Type 0
 HasCause (Ok a) old new = NoneFailed old new
 HasCause (Err status.Done) old new = NoneFailed old new
@@ -90,13 +90,13 @@ HasCause (Err status.NoMemory) old new = NoneFailed old new
 
 -- ---- files and input
 
--- No file differs, and none was to be written.
+-- No file changed, and no write was tried.
 pub record FilesKept (old new : Seen) : Type 0 where
   pub files : new.files ≡ old.files
   pub writes : new.writes ≡ old.writes
   pub faults : new.write_faults ≡ old.write_faults
 
--- No input was asked for.
+-- No input was requested.
 pub record InputKept (old new : Seen) : Type 0 where
   pub left : new.left ≡ old.left
   pub inputs : new.inputs ≡ old.inputs
@@ -114,7 +114,7 @@ pieces_of (OutputFailed pieces ∷ events) = pieces ++ pieces_of events
 pieces_of (Input piece ∷ events) = pieces_of events
 pieces_of (InputFailed ∷ events) = pieces_of events
 
--- whether all of them were
+-- whether all of them were put
 abbrev pub put_of : List Event → Put
 put_of [] = Done
 put_of (FileRead name answer ∷ events) = put_of events
@@ -124,7 +124,7 @@ put_of (OutputFailed pieces ∷ events) = Failed
 put_of (Input piece ∷ events) = put_of events
 put_of (InputFailed ∷ events) = put_of events
 
--- the output, as a sink tells it
+-- the output as the state of a sink
 abbrev pub output_of : Seen → SinkState
 output_of seen =
     record { written = seen.written; taken = seen.outputs; faults = seen.output_faults }

@@ -1,11 +1,11 @@
-//! The status of a whole command, and the result of the call that performs it.
+//! Converts between the status of a whole command and the result of the call that performs it.
 
 ghost use Rattle.std.specs.Prelude.{◌≡◌};
 ghost use Rattle.m36_program.specs.Early.{early, status_by};
 
 use m36_reading::Status;
 
-/// The result by the status: Ok for Done, and every other status as an error.
+/// The result for a status: Ok for Done; every other status is an error.
 pub fn early(status: Status) -> Result<(), Status>
     ensures { result ≡ early status }
 {
@@ -15,7 +15,7 @@ pub fn early(status: Status) -> Result<(), Status>
     }
 }
 
-/// The status by the result.
+/// The status for a result.
 pub fn status_by(outcome: Result<(), Status>) -> Status
     ensures { result ≡ status_by outcome }
 {

@@ -1,4 +1,4 @@
-//! Pieces that are gathered in a block, which is handed over when it is full and at the end.
+//! Gathers pieces in a block, which is put when it is full and at the end.
 
 ghost use Rattle.std.specs.Prelude.{◌≡◌, [], ◌∷◌, ◌++◌};
 ghost use Rattle.m36_outside.specs.Put.{OnFailed};
@@ -9,7 +9,7 @@ use m36_outside::spelled::SHORT;
 use m36_outside::{Block, Put, Spelled};
 use m36_world::World;
 
-/// Puts all pieces of a block, and takes them out of it, also where the output failed.
+/// Puts all pieces of a block, and removes them from it, even if the output fails.
 pub fn hand_over<W: World>(block: &mut Block, world: &mut W) -> Put
     ensures puts { PutBlockDid result block.old (W.seen world.old) (W.seen world.new) }
     ensures empty { block.new ≡ [] }
@@ -19,8 +19,8 @@ pub fn hand_over<W: World>(block: &mut Block, world: &mut W) -> Put
     answer
 }
 
-/// Adds a piece to a block. Where there is no room for it, what is in the block is handed over
-/// first. Where the output failed, the block is empty.
+/// Adds a piece to a block. If there is no room for it, puts the earlier pieces first. If the
+/// output fails, the block is empty afterwards.
 #[tactic(auto, using(crate::proofs::Gathered::gathering))]
 pub fn add_piece<W: World>(block: &mut Block, piece: &[u8], world: &mut W) -> Put
     ensures adds { Adds result block.old block.new (piece.now ∷ [])
@@ -36,7 +36,7 @@ pub fn add_piece<W: World>(block: &mut Block, piece: &[u8], world: &mut W) -> Pu
     }
 }
 
-/// As `add_piece`, for a short text, which is written into the block in place.
+/// As `add_piece`, for a short text, which is spelled directly into the block.
 #[inline(always)]
 #[tactic(auto, using(crate::proofs::Gathered::gathering))]
 pub fn add_line<L: Spelled, W: World>(block: &mut Block, line: &L, world: &mut W) -> Put
@@ -51,7 +51,7 @@ pub fn add_line<L: Spelled, W: World>(block: &mut Block, line: &L, world: &mut W
     }
 }
 
-// The same where there is no room for it.
+// As `add_line`, if there is no room for the text.
 #[inline(never)]
 fn add_copy<L: Spelled, W: World>(block: &mut Block, line: &L, world: &mut W) -> Put
     ensures adds { Adds result block.old block.new (L.text line.now ∷ [])
@@ -63,7 +63,7 @@ fn add_copy<L: Spelled, W: World>(block: &mut Block, line: &L, world: &mut W) ->
     add_piece(block, &copy[..count], world)
 }
 
-// Adds a piece to an empty block. One that is too long for a block is put.
+// Adds a piece to an empty block. A piece that is too long for a block is put directly.
 #[tactic(auto, using(crate::proofs::Gathered::gathering))]
 fn add_first<W: World>(block: &mut Block, piece: &[u8], world: &mut W) -> Put
     requires { block.old ≡ [] }
@@ -78,8 +78,8 @@ fn add_first<W: World>(block: &mut Block, piece: &[u8], world: &mut W) -> Put
     }
 }
 
-/// Adds the last piece, and hands over the block. The block is empty then, also where the output
-/// failed.
+/// Adds the last piece, and puts the block. The block is empty afterwards, even if the output
+/// fails.
 #[tactic(auto, using(crate::proofs::Gathered::finishing))]
 pub fn finish<W: World>(block: &mut Block, piece: &[u8], world: &mut W) -> Put
     ensures puts { Puts result (block.old ++ piece.now ∷ []) (W.seen world.old) (W.seen world.new) }

@@ -1,16 +1,17 @@
-//! What a command does to the outside, as a program.
+//! What a command does to the outside world, as a program.
 //!
 //! A *program* (`specs/Program.antt`) is a value that says, step by step, what a command does: it
-//! reads a file and goes on by what is found, writes a file, puts a piece of output, or takes a
-//! piece of input. It may choose a value that has a property, and memory may run out where it says
-//! so. At the end it has a value, or stops with a status. Two programs are joined by `then_with`,
-//! as `?` joins two calls. A program names no folder and no terminal, and nothing interprets it: it
-//! is what a contract says, and the code beside it is ordinary.
+//! reads a file and continues according to what it finds, writes a file, puts a piece of output,
+//! or takes a piece of input. It may choose any value with a given property, and it says where
+//! memory may run out. It ends with a value, or stops with a status. `then_with` joins two
+//! programs, as `?` joins two calls. A program names no folder and no terminal, and no code
+//! interprets it: it is the content of a contract, and the code with that contract is ordinary
+//! code.
 //!
 //! The command `audit FILE` is this program:
 //!
-//! ```antt
-//! audit name = then_with (file_bytes name) (λ bytes. then_with (image_of name bytes) audit_of)
+//! ```antt audit name = then_with (file_bytes name) (λ bytes. then_with (image_of name bytes)
+//! audit_of)
 //!
 //! image_of name bytes = by (image_in bytes):
 //!     Ok image ↦ done image  |  Err fault ↦ refuses (bad_file name fault)
@@ -19,48 +20,52 @@
 //!     puts_all (audit_pieces findings) (ends (audit_status findings))))
 //! ```
 //!
-//! It reads the file, which is absent, too large or there, and refuses it or goes on. Then memory
-//! may run out, and from there on it no longer may. It goes on by a list of findings of which the
-//! auditor's contract holds, puts a line for each, or `audit yes`, and ends with Done or AuditNo.
+//! It reads the file, and refuses it or continues. Then memory may run out; after that it cannot
+//! run out any more. The program chooses a list of findings that satisfies the auditor's contract,
+//! puts a line for each, or `audit yes`, and ends with Done or AuditNo.
 //!
-//! | Step | Goes on after the event | Ends the program |
+//! | Step | Continues after the event | Ends the program |
 //! |---|---|---|
 //! | `done a`, `stops status` | | with the value, with the status |
 //! | `reads name go` | `FileRead`, by what is found | ReadFault, NoMemory, as the read answers |
 //! | `writes name content rest` | `FileWrite` | WriteFault, NoMemory, as the write answers |
 //! | `puts piece rest` | `Output` | WriteFault: `OutputFailed` |
 //! | `takes go` | `Input` with a piece, which is empty at the end | ReadFault: `InputFailed` |
-//! | `some Is go` | at once, by any value of which `Is` holds | |
+//! | `some Is go` | at once, with any value that satisfies `Is` | |
 //! | `wants rest` | at once | NoMemory |
 //!
-//! A failed put is one event with all pieces of the call: this piece, and maybe those that the
+//! A failed put is one event with all pieces of the call: this piece, and perhaps pieces that the
 //! program puts next.
 //!
-//! `Goes program events result` (`specs/Goes.antt`) says that the program goes by these events, in
-//! this order and no others, to this result. `Performs program result old new`
+//! `Goes program events result` (`specs/Goes.antt`) says that the program can produce exactly
+//! these events, in this order, and end with this result. `Performs program result old new`
 //! (`specs/Performs.antt`) is the contract of a call: some events happened, one after another, and
-//! by them the program goes to the result of the call. What a program may do is part of its type:
-//! `Program quiet A` writes no file and takes no input.
+//! with them the program goes to the result of the call. What a program may do is part of its
+//! type: `Program quiet A` writes no file and takes no input.
 //!
-//! A loop says in its invariant what is left of its program (`Leads`). Lines that it has gathered
-//! in a block are put before what is left: so adding a line and handing over a full block are one
-//! lemma each.
+//! The invariant of a loop says what is left of its program (`Leads`). Lines that the loop has
+//! gathered in a block are put before what is left, so adding a line and putting a full block are
+//! one lemma each.
 //!
-//! What holds of every program is proved once, and a command's contract takes its value from there:
+//! What holds for every program is proved once, and a command's contract takes its value from
+//! there:
 //!
-//! | Law in `proofs/` | It says of each call that performs a program |
+//! | Law in `proofs/` | What it says of each call that performs a program |
 //! |---|---|
 //! | `performs_then`, `performs_stop` | calls of two programs, in order, perform the two joined |
-//! | `performs_split` | and the other way round, where the output did not fail |
-//! | `performs_cause` | a fault has one count that rose; otherwise no count differs |
+//! | `performs_split` | the converse, if the output did not fail |
+//! | `performs_cause` | for a fault exactly one count rose; otherwise all counts are unchanged |
 //! | `performs_files`, `performs_input` | only a program that may write or take input does so |
-//! | `performs_text` | what is written grows by the pieces, or by a first part of them |
-//! | `performs_written` | over the same files all calls write first parts of one text (`Alike`) |
-//! | `reads_told` | over known files a program goes on by what they have under the name |
-//! | `lives_comes` | a program without a dead end has a call that comes to its end |
+//! | `performs_text` | what is written grows by the pieces, or by a prefix of them |
+//! | `performs_written` | over the same files, without input, all write prefixes of one text |
+//! | `reads_told` | over known files a program continues by what they have under the name |
+//! | `lives_comes` | a program without a dead end has a call that ends |
+//!
+//! The one text of `performs_written` is what a call that ends writes. The program has to be
+//! `Alike` to itself.
 //!
 //! [`read_bytes`], [`write_file`], [`put_piece`] and [`take_piece`] perform programs of one step
-//! over any world, within any program that may take the step. [`add_piece`], [`add_line`],
+//! over any world, as part of any program that may take the step. [`add_piece`], [`add_line`],
 //! [`finish`] and [`hand_over`] gather pieces in a block.
 #![tactic(auto)]
 

@@ -1,4 +1,4 @@
-//! One piece of output, and one file that is written.
+//! Puts one piece of output, and writes one file.
 
 ghost use Rattle.std.specs.Prelude.{◌≡◌, true};
 ghost use Rattle.m36_program.specs.Program.{May};
@@ -10,7 +10,7 @@ use m36_reading::Status;
 use m36_world::World;
 use std::alloc::Global;
 
-/// Puts a piece.
+/// Puts a piece. The only error is WriteFault.
 #[tactic(auto, using(crate::proofs::ReadLaws::putting))]
 pub fn put_piece<W: World>(piece: &[u8], world: &mut W) -> Result<(), Status>
     ensures { (may : May) → Performs {may = may} (put_one piece.now) result
@@ -22,7 +22,7 @@ pub fn put_piece<W: World>(piece: &[u8], world: &mut W) -> Result<(), Status>
     }
 }
 
-/// Writes a file.
+/// Writes a file. The errors are WriteFault and NoMemory.
 #[tactic(auto, using(crate::proofs::ReadLaws::writing))]
 pub fn write_file<W: World>(
     alloc: Global,

@@ -1,4 +1,4 @@
-//! The bytes of a file, with all its refusals.
+//! Reads the bytes of a file, with all its refusals.
 
 ghost use Rattle.std.specs.Prelude.{◌≡◌, ◌≤◌, length, IfOk};
 ghost use Rattle.m36_outside.specs.ReadAnswer.{file_limit};
@@ -11,8 +11,8 @@ use m36_reading::{Bad, Code, Status};
 use m36_world::World;
 use std::alloc::Global;
 
-/// Refuses a file, at a place and a column of it. Where memory runs out for its name, the status is
-/// NoMemory.
+/// The status that refuses a file at a place and a column of it. If memory runs out for its name,
+/// the status is NoMemory.
 pub fn refuse_at(alloc: Global, name: &[u8], code: Code, at: u32, column: u32) -> Status
     ensures { IsRefusal result (refused_at name.now code at column) }
 {
@@ -27,14 +27,15 @@ pub fn refuse_at(alloc: Global, name: &[u8], code: Code, at: u32, column: u32) -
     }
 }
 
-/// Refuses a file that has no columns.
+/// As `refuse_at`, with column 0, for a file without columns.
 pub fn refuse(alloc: Global, name: &[u8], code: Code, at: u32) -> Status
     ensures { IsRefusal result (refused name.now code at) }
 {
     refuse_at(alloc, name, code, at, 0)
 }
 
-/// Reads the bytes of a file: F1 where it is absent, and F2 where it has more than 16 MiB.
+/// Reads the bytes of a file. Refuses it with F1 if it is absent, and with F2 if it has more than
+/// 16 MiB.
 #[tactic(auto, using(crate::proofs::ReadLaws::reading))]
 pub fn read_bytes<W: World>(alloc: Global, name: &[u8], world: &mut W) -> Result<Text, Status>
     ensures performs { (may : May) → Performs {may = may} (file_bytes name.now) result

@@ -1,4 +1,4 @@
-//! One piece of input.
+//! Takes one piece of input.
 
 ghost use Rattle.std.specs.Prelude.{◌≡◌, ◌≤◌, true, length, IfOk};
 ghost use Rattle.m36_program.specs.Program.{May};
@@ -9,8 +9,9 @@ use m36_outside::Piece;
 use m36_reading::Status;
 use m36_world::World;
 
-/// Takes the next piece of input, and answers how many bytes at the beginning of `into` it has. At
-/// the end of the input it has none. What the buffer holds after them is left open.
+/// Takes the next piece of input, and returns its length; the piece is at the beginning of `into`.
+/// The length is 0 only at the end of the input. The contract leaves open what follows the piece
+/// in the buffer.
 #[tactic(auto, using(crate::proofs::ReadLaws::taking))]
 pub fn take_piece<W: World>(into: &mut [u8], world: &mut W) -> Result<usize, Status>
     requires { 1 ≤ length into.old }

@@ -1,4 +1,4 @@
--- How an operation goes on from a direct operand.
+-- How an operation continues from a direct operand.
 use Rattle.std.proofs.Common.{ℕ, ◌≡◌, ◌∙◌, refl, sym, ap, Bool, true, false, List, Result, Ok, Err, IfOk, arith}
 use Rattle.m36_inst.specs.Operands.{operand_of, takes_direct}
 use Rattle.m36_inst.specs.declared.effect.Effect.{Effect}

@@ -39,7 +39,7 @@ module _ (g : RegsFields) where
   abbrev refused : Option ℕ → Option FinalFields → Halt → Ended
   refused word at h = record { word = word; at = at; outcome = outcome_of h }
 
-  -- It leaves core, whatever it has claimed.
+  -- It leaves core unchanged, whatever it has claimed.
   halts : (word : Option ℕ) (at : Option FinalFields) (h : Halt) (core : List ℕ) (claims : List Spot) (refs : List Reference) → end_of (run core_store g (halted g word at h) (standing core claims refs)) ≡ given_end core refs g (refused word at h)
   unfolding run core_put changes
   halts word at h core claims refs = refl
@@ -48,7 +48,7 @@ module _ (g : RegsFields) where
   ends_halted word at h core refs program g' e is same end =
       rw (is, same, end) (halts word at h core [] refs)
 
-  -- what goes on after a program, by how that program ran
+  -- what follows a program, by how that program ran
   goes_on : {A : Type 0} (act : Act (Result A Halt)) (next : A → Act Ending) (halts : Halt → Act Ending) (m : Mid (List ℕ)) (t : Ran (Result A Halt) (List ℕ)) → run core_store g act m ≡ t → run core_store g (otherwise act next halts) m ≡ run core_store g (either next halts t.value) t.mid
   goes_on {A = A} act next halts m t e =
       run_then core_store g act (either next halts) m ∙ ap (λ (x : Ran (Result A Halt) (List ℕ)). run core_store g (either next halts x.value) x.mid) e

@@ -1,4 +1,4 @@
--- How a quick step ends, by what its references and its effect gave.
+-- How a quick step ends, given the results of its references and of its effect.
 use Rattle.std.proofs.Common.{ℕ, ◌≡◌, ◌∙◌, refl, sym, ap, subst, Bool, true, false, not, ◌&&◌, List, [], ◌∷◌, ◌++◌, Option, Some, None, option_map, Ok, ◌+◌, slice_index, slice_set}
 use Rattle.m36_inst.specs.Fields.{InstFields}
 use Rattle.m36_inst.specs.Instruction.{inst_of}
@@ -46,7 +46,7 @@ use Rattle.m36_step.specs.declared.operated.Part.TheVariants as part
 use Rattle.m36_step.proofs.Ends.{address_formed, fetches}
 use Rattle.m36_step.proofs.Plain.{not_absa, shift_not_absa, read_ends, stored_ends, half_ends, changed_ends, pair_read_ends, pair_stored_ends, direct_ends, address_ends, stays_ends, target_ends, call_ends, unprivileged}
 
--- what a group says of an effect
+-- what the group of an instruction implies for its effect
 pub fits : (q : Quick) (k : Group) → IsQuick q → q.group ≡ k → Fits k q.effect
 fits q k row is = subst (λ (x : Group). Fits x q.effect) (sym row.group ∙ is) (grouped q.effect)
 
@@ -92,7 +92,7 @@ forms_by group.Other e f other = absurd (other refl)
 forms_by _ e f other = record { privileged = f.privileged; forms = λ n. let r = sym f.operand ∙ n in absurd cc }
 
 module _ (Has : List Reference → Type 0) (Tells : List Reference → Ended → Type 0) (q : Quick) (g : RegsFields) (w : ℕ) where
-  -- The end of a step whose overflow, if there is one, is no fault.
+  -- The end of a step whose overflow, if there is one, is not a fault.
   pub on_end : (last : FinalFields) (after : RegsFields) (overflow : Bool) → (overflow && not after.ind.mask) ≡ false → next_end w last ≡ record { word = Some w; at = Some last; outcome = outcome_after overflow after.ind.mask g }
   on_end last after overflow quiet = ap (λ (b : Bool). record { word = Some w; at = Some last; outcome = outcome_by b g }) (sym quiet)
 
@@ -224,7 +224,7 @@ module _ (Has : List Reference → Type 0) (Tells : List Reference → Ended →
           tells = tells refs has;
         }
 
-    -- A return goes by the pair that is read.
+    -- A return uses the pair that is read.
     pub return_on : q.group ≡ group.Return → (place ring : ℕ) (got : Pair) → pair_words got ≡ slice_index m.core place ∷ (slice_index m.core (place + 1) ∷ [])
         → ((psr : ℕ) → Reads m m.core psr (aligned_at 2 last.at) 2 None (Ok (slice_index m.core place ∷ (slice_index m.core (place + 1) ∷ []))))
         → ring ≡ (sdw_in m last.at.seg).r1
@@ -242,7 +242,7 @@ module _ (Has : List Reference → Type 0) (Tells : List Reference → Ended →
           tells = tells refs has;
         }
 
-    -- A call goes on in the ring that its target gives.
+    -- A call continues in the ring that its target determines.
     pub call_on : q.group ≡ group.Call → (ring : ℕ)
         → ((refs : List Reference) → serve core_store g (standing m.core [] refs) (request Call last.at 1 []) ≡ served_by (request Call last.at 1 []) m.core [] refs (at_target (sdw_in m last.at.seg) (Ok ring)))
         → ring ≡ ring_called (sdw_in m last.at.seg) last.at.ring
@@ -280,7 +280,7 @@ module _ (Has : List Reference → Type 0) (Tells : List Reference → Ended →
           tells = tells refs has;
         }
 
-    -- The address alone is used.
+    -- Only the address is used.
     alone_on : operand_of q.effect ≡ kind.A → is_absa q.effect ≡ false → Ok (record { regs = after; put = []; overflow = false }) ≡ exec q.effect q.reg g last no_operand
         → TellsSame last → Operates Has Tells q g w last m.core m.core after
     alone_on k absa effect tells refs has =
@@ -353,7 +353,7 @@ module _ (Has : List Reference → Type 0) (Tells : List Reference → Ended →
             };
       }
 
--- What a record tells of a quick step.
+-- What a record has of a quick step.
 pub told_on : (g : RegsFields) (m : Memory) (before : List Reference) (core : List ℕ) (after : RegsFields) (told : StepRecord) → before ≡ []
     → Steps (λ refs. before ≡ refs) (λ refs e. (told.refs.items ≡ refs) × (ended_of told ≡ e)) g m.core core after
     → EndsSo g (program g) m.core [] core told.refs.items after (ended_of told)

@@ -1,4 +1,4 @@
--- Each instruction that has an address is one of three groups.
+-- Each instruction that has an address is in one of three groups.
 use Rattle.std.proofs.Common.{◌≡◌, refl, false, IsTrue}
 use Rattle.m36_inst.specs.Groups.{is_pointer, is_control, is_data}
 use Rattle.m36_inst.specs.Operands.{operand_of}

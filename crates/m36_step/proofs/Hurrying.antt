@@ -16,7 +16,7 @@ use Rattle.m36_step.specs.Quick.{IsNoLdbr, Steps, next_end}
 use Rattle.m36_step.specs.declared.ended.Ended.{Ended}
 use Rattle.m36_step.proofs.Ends.{step_told, step_left}
 
--- so many steps lead from the first state to this one, and each of them goes on and is no LDBR
+-- `taken` steps lead from the first state to this one; each has the outcome Next and is not an LDBR
 pub record Taken (start now : State (List ℕ)) (taken : ℕ) : Type 0 where
   pub state : now ≡ states_after taken start
   pub on : (n : ℕ) → n < taken → (record_of core_store (states_after n start)).outcome ≡ Next
@@ -27,7 +27,7 @@ unfolding states_after
 none_taken start =
     record { state = refl; on = λ n h. absurd (omega arith); plain = λ n h. absurd (omega arith) }
 
--- what one step tells that goes on
+-- what a step with the outcome Next implies
 pub record IsTakenOn (s later : State (List ℕ)) : Type 0 where
   pub left : later ≡ state_after core_store s
   pub on : (record_of core_store s).outcome ≡ Next
@@ -59,7 +59,7 @@ one_more start before later taken t steps =
       plain = below_more (λ n. ExecutesLdbr (record_of core_store (states_after n start)) → ⊥) taken t.plain (rw (← t.state) one.plain);
     }
 
--- Turns of a machine whose run has not ended, where each step goes on.
+-- Turns of a machine whose run has not ended, if each step has the outcome Next.
 pub turns_repeated :
     (m : MachineFields) (taken : ℕ) → m.ended ≡ None → ((n : ℕ) → n < taken → (record_of core_store (states_after n m.state)).outcome ≡ Next)
     → repeated machine_after taken m ≡ record { state = states_after taken m.state; ended = None }

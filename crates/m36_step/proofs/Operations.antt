@@ -1,4 +1,4 @@
--- How an operation ends, once its operand is there and its effect is known.
+-- How an operation ends, given its operand and its effect.
 use Rattle.std.proofs.Common.{ℕ, ◌≡◌, ◌∙◌, refl, sym, ap, List, [], ◌∷◌, ◌++◌, length, append-nil, Result, Ok, Err, arith}
 use Rattle.m36_inst.specs.Operands.{operand_of}
 use Rattle.m36_inst.specs.declared.effect.Effect.{Effect}
@@ -30,17 +30,17 @@ use Rattle.m36_step.specs.Reached.{unwritten_end, written_end, reached_end}
 use Rattle.m36_step.specs.declared.operated.Operated.{Operated}
 use Rattle.m36_step.specs.declared.operated.Reached.{Reached}
 
--- the effect of the definition, by that of the code
+-- the effect of the definition, given that of the code
 effect_is : (g : RegsFields) (x : Effect36) (v : Result EffectFields ℕ) → answer_fields (Ok x) ≡ refused_here g v → v ≡ Ok (effect_fields x)
 effect_is g x (Ok y) h = let e : effect_fields x ≡ y = cc in ap (λ (z : EffectFields). Ok z) (sym e)
 effect_is g x (Err number) h = cc
 
--- Where it is refused, nothing is performed, whatever would be written.
+-- If the effect is refused, nothing is performed, whatever would have been written.
 refusal_is : (g : RegsFields) (fault : Fault) (v : Result EffectFields ℕ) (f : Formed) (part : Part) (first : ℕ) → answer_fields (Err fault) ≡ refused_here g v → performed g (chain_end_fields f) part first v ≡ Err (halt.Fault fault)
 refusal_is g fault (Ok y) f part first h = cc
 refusal_is g fault (Err number) f part first h = let e = sym h in cc
 
--- where no words are put, it does not matter under which number
+-- if no words are put, the number of the claim does not matter
 no_puts : (part : Part) (first : ℕ) (words : List ℕ) → length words ≡ 0 → puts_from part 0 words ≡ puts_from part first words
 no_puts part first [] l = refl
 no_puts part first (w ∷ words) l = absurd (omega arith)

@@ -1,4 +1,4 @@
--- How an instruction ends whose address has no tally word, by what its references and its effect gave.
+-- How an instruction ends whose address has no tally word, given the results of its references and of its effect.
 use Rattle.std.proofs.Common.{ℕ, ◌≡◌, ◌∙◌, refl, sym, ap, Bool, true, false, not, ◌&&◌, List, [], ◌∷◌, Option, Some, None, Result, Ok, slice_set}
 use Rattle.m36_inst.specs.Operands.{operand_of, takes_direct, is_privileged}
 use Rattle.m36_inst.specs.declared.effect.Effect.{Effect}
@@ -42,7 +42,7 @@ use Rattle.m36_step.specs.declared.operated.Operated.{Operated}
 use Rattle.m36_step.specs.declared.operated.Part.TheVariants as part
 use Rattle.m36_step.proofs.Ends.{operation_performed}
 
--- an instruction that loads its address does not ask for its place
+-- an instruction that loads its address is not ABSA
 pub not_absa : (e : Effect) → group_of e ≡ group.Address → is_absa e ≡ false
 not_absa effect.Absa h = cc
 not_absa _ h = refl
@@ -59,11 +59,11 @@ module _ (e : Effect) (n w : ℕ) (g : RegsFields) (last : FinalFields) where
   abbrev c : ChainEnd
   c = chain_end_fields f
 
-  -- the end of the step, with the registers as the effect leaves them
+  -- the end of the step, with the registers after the effect
   abbrev done_end : RegsFields → Bool → Ended
   done_end g' overflow = record { word = Some w; at = Some last; outcome = outcome_after overflow g'.ind.mask g }
 
-  -- what is written, and where the first word stands
+  -- what is written, and the place of the first word
   abbrev operated_at : ℕ → Bool → Operated
   operated_at place overflow = record { place = place; part = part.Whole; overflow = overflow }
 
@@ -76,7 +76,7 @@ module _ (e : Effect) (n w : ℕ) (g : RegsFields) (last : FinalFields) where
   effect_done part o g' words overflow h =
       ap (λ (x : RegsFields). performed g c part 0 (exec e n x last o)) same_regs ∙ ap (performed g c part 0) (sym h)
 
-  -- a program that is over its effect
+  -- a program whose effect is complete
   performs_part : (part : Part) (o : OperandFields) (g' : RegsFields) (words : List ℕ) (overflow : Bool) (core : List ℕ) (claims : List Spot) (refs : List Reference) → Ok (record { regs = g'; put = words; overflow = overflow }) ≡ exec e n g last o
       → run core_store g (perform e n g c part 0 o) (standing core claims refs) ≡ record { value = Ok (record { regs = g'; puts = puts_from part 0 words; overflow = overflow }); mid = standing core claims refs }
   performs_part part o g' words overflow core claims refs h =
@@ -169,7 +169,7 @@ module _ (e : Effect) (n w : ℕ) (g : RegsFields) (last : FinalFields) where
         ∙ performs no_operand g' (pair_words put) overflow core' (run_from place 2) refs' effect)
         (stored ∙ sym (ap (core_put core') (changes_of_run [] place (pair_words put)))) is
 
-    -- A word is read, and then it is written: by what the Write gave.
+    -- A word is read and then written, by the result of the Write.
     module _ (m' : Memory) (core'' : List ℕ) (refs'' : List Reference) (got : ℕ) (k : operand_of e ≡ kind.Rw) (none : last.direct ≡ None) (read : ServesRead g f 1 m refs core' refs' (Ok (got ∷ []))) (same : m'.core ≡ core') where
       changes_by : run core_store g (operate e n g c) (standing m.core [] refs) ≡ run core_store g (refer (request_at Write c 1) (λ b. perform e n g c Whole b.first (word_read got))) (standing m'.core [] refs')
       changes_by =
@@ -186,7 +186,8 @@ module _ (e : Effect) (n w : ℕ) (g : RegsFields) (last : FinalFields) where
           ∙ performs (word_read got) g' (word ∷ []) overflow core'' (run_from place 1) refs'' effect)
           stored
 
-  -- Nothing is referenced: the operand is direct, or the address alone is used, or a transfer is not taken, or its target is examined and not touched.
+  -- Nothing is referenced: the operand is direct, only the address is used, a transfer is not taken, or its target is
+  -- checked but not read.
   module _ (core : List ℕ) (refs : List Reference) (g' : RegsFields) (overflow : Bool) (end : Ended) (is : end ≡ done_end g' overflow) where
     pub direct_ends : (operand : ℕ) → operand_of e ≡ kind.R → last.direct ≡ Some operand → takes_direct e ≡ true
         → Ok (record { regs = g'; put = []; overflow = overflow }) ≡ exec e n g last (word_read operand)
@@ -229,7 +230,7 @@ module _ (e : Effect) (n w : ℕ) (g : RegsFields) (last : FinalFields) where
         ∙ run_ask g (request_at Transfer c 1) _ (standing core [] refs) _ served
         ∙ performs no_operand g' [] overflow core [] refs effect)
 
-    -- A call is allowed, in the ring that its target gives.
+    -- A call is allowed, in the ring that its target determines.
     pub call_ends : (d : SdwFields) (ring : ℕ) → operand_of e ≡ kind.Call6 → last.direct ≡ None
         → serve core_store g (standing core [] refs) (request Call last.at 1 []) ≡ served_by (request Call last.at 1 []) core [] refs (at_target d (Ok ring)) → ring ≡ ring_called d last.at.ring
         → Ok (record { regs = g'; put = []; overflow = overflow }) ≡ exec e n g last (ring_only ring)
@@ -246,7 +247,7 @@ module _ (e : Effect) (n w : ℕ) (g : RegsFields) where
   starts_addressed kind.N forms = absurd (forms refl)
   starts_addressed _ forms = refl
 
-  -- an instruction that forms an address, and is not privileged
+  -- an instruction that forms an address and is not privileged
   pub unprivileged : (privileged : Bool) → is_privileged e ≡ false → (operand_of e ≡ kind.N → ⊥) → admitted e n g w (is_privileged e && not privileged) ≡ addressed e n g w
   unprivileged privileged none forms =
       ap (λ (b : Bool). admitted e n g w (b && not privileged)) none ∙ starts_addressed (operand_of e) forms

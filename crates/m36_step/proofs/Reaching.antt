@@ -1,4 +1,4 @@
--- A program that asks for a reference goes on by its reply.
+-- A program that asks for a reference continues by its reply.
 use Rattle.m36_ea.proofs.Runs.{run_ask, run_done}
 
 pub ruleset reaching = (run_ask, run_done)

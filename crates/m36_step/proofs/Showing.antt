@@ -1,4 +1,4 @@
--- What is shown of a step is that of its record.
+-- What is recorded of a step by `Shown` is part of its record.
 use Rattle.std.proofs.Common.{◌≡◌, ℕ, List, [], sym, ap, ◌∙◌}
 use Rattle.m36_model.specs.Core.{core_store}
 use Rattle.m36_model.specs.Registers.{RegsFields}

@@ -91,7 +91,7 @@ module _ (Has : List Reference → Type 0) (Tells : List Reference → Ended →
     effect_done first o words overflow h =
         ap (λ (x : RegsFields). performed g e Whole first (exec q.effect q.reg x c.last o)) same_regs ∙ ap (performed g e Whole first) (sym h)
 
-    -- A word is read, which is another than the tally word.
+    -- A word is read that is not the tally word.
     pub read_counted_on : q.group ≡ group.Read → (place got : ℕ) (core : List ℕ) → place ≢ c.place → got ≡ slice_index m.core place
         → ((psr : ℕ) (pending : Option Pending) → Reads m m.core psr c.last.at 1 pending (Ok (slice_index (seen m.core pending) place ∷ [])))
         → ((f : FinalFields) → IsDone after [] (exec q.effect q.reg (with_tally c.tally.runout g) f (word_read got)))

@@ -1,4 +1,4 @@
--- The words of an instruction, one after another.
+-- The words of an instruction are written one after another.
 use Rattle.std.proofs.Common.{ℕ, zero, suc, ◌≡◌, ◌+◌, ◌*◌, ◌∙◌, refl, sym, ap, subst, List, [], ◌∷◌, ◌++◌, map, length, Option, Some, None, inr, arith}
 use Rattle.m36_word.specs.declared.pair.Pair.{Pair}
 use Rattle.m36_model.specs.Act.{Whole}
@@ -69,7 +69,7 @@ block_lies size a pairs e h =
     let n : length (words_of_pairs pairs) ≡ 16 = omega (arith, block_length pairs) in
     subst (λ (k : ℕ). LiesIn size a k) n h
 
--- A block is written whole.
+-- A block is written as a whole.
 pub block_is_whole : (part : code.Part) (pairs : List Pair) → PartFits part (words_of_pairs pairs) → Whole ≡ part_of part
 block_is_whole part.Whole pairs h = refl
 block_is_whole part.Left pairs h = absurd (omega (arith, h.0, block_length pairs))

@@ -1,4 +1,4 @@
--- Kinds of answers of a turn and of going back.
+-- Properties of the answers of a turn and of going back.
 use Rattle.std.specs.Prelude.{◌≡◌, Bool, true, false, T, Result, Ok, Err}
 use Rattle.m36_word.specs.declared.pair.Pair.{Pair}
 use Rattle.m36_model.specs.declared.endings.LinkCode.{LinkCode}
@@ -22,7 +22,7 @@ is_service NoMemory = false
 abbrev pub IsService : Turn → Type 0
 IsService turn = T (is_service turn)
 
--- a step, or an end with which this holds
+-- a step, or an end for which `Same` holds
 abbrev pub IsStepOrEnd : Type 0 → Turn → Type 0
 IsStepOrEnd Same (Stepped told) = Unit {0}
 IsStepOrEnd Same (Linked note) = ⊥
@@ -31,7 +31,7 @@ IsStepOrEnd Same (Ended end) = Same
 IsStepOrEnd Same Full = ⊥
 IsStepOrEnd Same NoMemory = ⊥
 
--- a step after which another follows
+-- a step whose outcome is Next, so that another step follows
 abbrev pub IsOn : Turn → Type 0
 IsOn (Stepped told) = told.outcome ≡ Next
 IsOn (Linked note) = ⊥
@@ -54,13 +54,13 @@ IsNotNext Next = ⊥
 IsNotNext (Faulted fault) = Unit {0}
 IsNotNext (Stopped stop) = Unit {0}
 
--- the answer of a link service that refused the link
+-- the result of a link service that refused the link
 abbrev pub IsRefused : Result Pair LinkCode → Type 0
 IsRefused (Ok pair) = ⊥
 IsRefused (Err code) = Unit {0}
 
--- a step whose outcome is not Next, or a link service that refused the link: the turn after it is
--- not a step
+-- A step whose outcome is not Next, or a link service that refused the link. The turn after it is
+-- not a step.
 abbrev pub Interrupts : Turn → Type 0
 Interrupts (Stepped told) = IsNotNext told.outcome
 Interrupts (Linked note) = IsRefused note.answer
@@ -69,7 +69,7 @@ Interrupts (Ended end) = ⊥
 Interrupts Full = ⊥
 Interrupts NoMemory = ⊥
 
--- it answers that it cannot go back, and is as before
+-- the machine answers that it cannot go back, and is unchanged
 abbrev pub IsUnable : {S : Type 0} → S → BackAnswer → S → Type 0
 IsUnable before answer later = (answer ≡ back.Unable) × (later ≡ before)
 

@@ -1,5 +1,5 @@
--- How the code's step ends, how the program of the step ends over core, and a record before it is
--- told.
+-- The end of a step, as the code gives it and as the program of the step gives it over core; and
+-- an empty record.
 use Rattle.std.specs.Prelude.{ℕ, ◌≡◌, Bool, List, [], Option, Some, None}
 use Rattle.m36_model.specs.Fields.{FinalFields}
 use Rattle.m36_model.specs.Registers.{RegsFields}
@@ -17,7 +17,7 @@ use Rattle.m36_walk.specs.Served.{standing}
 use Rattle.m36_ea.specs.Formed.{formed_mid}
 use Rattle.m36_step.specs.declared.ended.Ended.{Ended}
 
--- what a step tells of its end, with its references and core as it leaves it
+-- the end of a step, with its references, and the registers and core after it
 pub record End : Type 0 where
   pub word : Option ℕ
   pub at : Option FinalFields
@@ -26,7 +26,7 @@ pub record End : Type 0 where
   pub refs : List Reference
   pub core : List ℕ
 
--- the end of a run of the program: the words are written together
+-- the end of a run of the program, after which the words are written together
 abbrev pub end_of : Ran Ending (List ℕ) → End
 end_of t =
     record {
@@ -38,7 +38,7 @@ end_of t =
       core = (stepped core_store t).store;
     }
 
--- the end that the code gives, with the registers as it leaves them
+-- the end that the code gives, with core, the references and the registers that it leaves
 abbrev pub given_end : List ℕ → List Reference → RegsFields → Ended → End
 given_end core refs after e =
     record {
@@ -54,16 +54,16 @@ given_end core refs after e =
 abbrev pub halted_end : Option ℕ → Option FinalFields → Halt → Ended
 halted_end word at h = record { word = word; at = at; outcome = outcome_of h }
 
--- the end of a step that has its effect
+-- the end of a step whose effect is complete
 abbrev pub completed_end : ℕ → FinalFields → Bool → Bool → RegsFields → Ended
 completed_end word last overflow mask g =
     record { word = Some word; at = Some last; outcome = outcome_after overflow mask g }
 
--- the end that a record tells
+-- the end in a record
 abbrev pub ended_of : StepRecord → Ended
 ended_of told = record { word = told.word; at = told.at; outcome = told.outcome }
 
--- a record that tells of no step yet, and has these registers
+-- an empty record with these registers
 abbrev pub untold_record : RegsFields → StepRecord
 untold_record g =
     record {
@@ -75,15 +75,15 @@ untold_record g =
       ppr = g.ppr;
     }
 
--- A program over core, in a step that has completed these references and claimed nothing, ends as
--- the code does.
+-- The program, run over core in a step that has completed these references and claimed no write,
+-- ends as the code does.
 abbrev pub EndsSo :
     RegsFields → Act Ending → List ℕ → List Reference → List ℕ → List Reference → RegsFields → Ended
     → Type 0
 EndsSo g program core refs core' refs' g' e =
     end_of (run core_store g program (standing core [] refs)) ≡ given_end core' refs' g' e
 
--- The same once the address is formed: the step has claimed the word of the tally, if there is one.
+-- The same once the address is formed: the step has claimed the tally word, if there is one.
 abbrev pub EndsFormed :
     RegsFields → Act Ending → List ℕ → Formed → List Reference → List ℕ → List Reference
     → RegsFields → Ended → Type 0

@@ -1,4 +1,4 @@
--- What is seen of a machine.
+-- The model of a machine.
 use Rattle.std.specs.Prelude.{ℕ, List, Option}
 use Rattle.m36_model.specs.Store.{State}
 use Rattle.m36_model.specs.declared.endings.End.{End}

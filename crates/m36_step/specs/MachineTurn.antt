@@ -15,7 +15,7 @@ use Rattle.m36_step.specs.declared.turns.Turn.{Turn}
 use Rattle.m36_step.specs.declared.turns.Turn.TheVariants.{Stepped, Ended}
 use Rattle.m36_step.specs.declared.turns.BackAnswer.{BackAnswer}
 
--- how a step ends the run
+-- how a step with this outcome ends the run, if it does
 abbrev pub ended_by : Outcome → Option End
 ended_by Next = None
 ended_by (Faulted fault) = Some (end.Fault fault)
@@ -33,7 +33,7 @@ after_by None s =
     }
 after_by (Some e) s = record { state = s; ended = Some e }
 
--- A turn is a step, until one has ended the run: from then on each turn tells how.
+-- A turn is a step, until one has ended the run; from then on each turn reports that end.
 unfoldable pub machine_turn : MachineFields → Turn
 machine_turn m = turn_by m.ended m.state
 
@@ -43,7 +43,7 @@ machine_after m = after_by m.ended m.state
 abbrev pub MachineTurns : MachineFields → Turn → MachineFields → Type 0
 MachineTurns before turn later = (turn ≡ machine_turn before) × (later ≡ machine_after before)
 
--- A machine does not go back.
+-- A machine cannot go back.
 abbrev pub MachineWent : MachineFields → ℕ → BackAnswer → MachineFields → Type 0
 MachineWent before n answer later = IsUnable before answer later
 

@@ -1,5 +1,5 @@
--- An operation: what the program of an operand and its effect gives over core, and the words that
--- it leaves to be written.
+-- An operation: the result of the program of an operand and its effect over core, and the words
+-- that are still to be written.
 use Rattle.std.specs.Prelude.{ℕ, ◌<◌, ◌^◌, List, ◌++◌, length, Option, Some, None, Result, Ok, Err}
 use Rattle.m36_inst.specs.declared.effect.Effect.{Effect}
 use Rattle.m36_model.specs.Act.{Part, Whole, Left, Right, Put}
@@ -22,43 +22,44 @@ use Rattle.m36_step.specs.declared.operated.Part as code
 use Rattle.m36_step.specs.declared.operated.Part.TheVariants as part
 use Rattle.m36_step.specs.declared.operated.Operated.{Operated}
 
--- the code's parts of a word are those of the definitions
+-- the part of a word, in the terms of the definitions
 abbrev pub part_of : code.Part → Part
 part_of part.Whole = Whole
 part_of part.Left = Left
 part_of part.Right = Right
 
--- the places of so many words to be written, behind that of the tally word
+-- the claimed places: that of the tally word, and then `count` words from `place` on
 abbrev pub claims_with : Formed → ℕ → ℕ → List Spot
 claims_with f place count = claimed_by f.tally f.place ++ run_from place count
 
--- where words are written: the tally word first, and then those that the effect gives
+-- the places to write: that of the tally word first, and then those of the words that the effect
+-- gives
 abbrev pub claims_of : Formed → Held → Operated → List Spot
 claims_of f put o = claims_with f o.place (length (words_of_held put))
 
--- what is written there
+-- the values to write there
 abbrev pub puts_of : Formed → Held → Operated → List Put
 puts_of f put o =
     puts_with (pending_of f.tally) (part_of o.part) (length (claimed_by f.tally f.place))
     (words_of_held put)
 
--- with the registers as the effect leaves them
+-- the same with the registers after the effect
 abbrev pub performed_by : Formed → RegsFields → Held → Operated → Performed
 performed_by f g put o = record { regs = g; puts = puts_of f put o; overflow = o.overflow }
 
--- the program of an operation over core, from where the address is formed
+-- the program of an operation, run over core from the state in which the address is formed
 abbrev pub ran_from :
     RegsFields → Operation → Formed → List ℕ → List Reference → Ran (Result Performed Halt) (List ℕ)
 ran_from g program f core refs = run core_store g program (formed_mid core f refs)
 
--- the same, of what an effect does once the address is formed
+-- the same for the operation of an instruction
 abbrev pub operation_from :
     Effect → ℕ → RegsFields → Formed → List ℕ → List Reference
     → Ran (Result Performed Halt) (List ℕ)
 operation_from e n g f core refs = ran_from g (operate e n g (chain_end_fields f)) f core refs
 
--- How an answer of the code ends it, with the registers as they then stand and the words that are
--- to be written. Where it is refused, nothing more is claimed.
+-- How a result of the code ends that run, with the registers after it and the words to write. If
+-- the operation is refused, it has claimed nothing more.
 abbrev pub operated_end :
     List ℕ → List Reference → Formed → RegsFields → Held → Result Operated Halt
     → Ran (Result Performed Halt) (List ℕ)
@@ -66,24 +67,24 @@ operated_end core refs f g put (Ok o) =
     record { value = Ok (performed_by f g put o); mid = standing core (claims_of f put o) refs }
 operated_end core refs f g put (Err h) = record { value = Err h; mid = formed_mid core f refs }
 
--- the tally word lies in core
+-- the tally word, if there is one, has a place in core
 abbrev pub TallyIn : Option Tally → ℕ → ℕ → Type 0
 TallyIn None place size = Unit {0}
 TallyIn (Some t) place size = place < size
 
--- A part that is not the whole word is a half, of one word.
+-- A part that is not the whole word takes one word that is a half.
 abbrev pub PartFits : code.Part → List ℕ → Type 0
 PartFits part.Whole words = Unit {0}
 PartFits part.Left words = IsHalf words
 PartFits part.Right words = IsHalf words
 
--- a half has 18 bits, and a word whatever it has
+-- a half has 18 bits; for a whole word nothing is required
 abbrev pub PartHolds : code.Part → ℕ → Type 0
 PartHolds part.Whole w = Unit {0}
 PartHolds part.Left w = FitsHalf w
 PartHolds part.Right w = FitsHalf w
 
--- the words to be written lie in a core of this size
+-- the words to write have places in a core of this size
 pub record Lies (size : ℕ) (f : Formed) (put : Held) (o : Operated) : Type 0 where
   pub tally : TallyIn f.tally f.place size
   pub run : LiesIn size o.place (length (words_of_held put))

@@ -1,4 +1,4 @@
--- How a quick step ends: nothing has refused it, and the next instruction follows.
+-- How a quick step ends: nothing refuses it, and the next instruction follows.
 use Rattle.std.specs.Prelude.{ℕ, ◌≡◌, Bool, List, [], Some}
 use Rattle.m36_inst.specs.declared.effect.Effect.TheVariants as effect
 use Rattle.m36_inst.specs.declared.rows.Quick.{Quick}
@@ -18,12 +18,12 @@ use Rattle.m36_model.specs.declared.effects.Formed.{Formed}
 use Rattle.m36_step.specs.Ended.{end_of, given_end}
 use Rattle.m36_step.specs.declared.ended.Ended.{Ended}
 
--- the end of a step that goes on
+-- the end of a step whose outcome is Next
 abbrev pub next_end : ℕ → FinalFields → Ended
 next_end w last = record { word = Some w; at = Some last; outcome = Next }
 
--- A program over core goes on to the next instruction, from where a step stands, and leaves core and
--- the registers so. Of its references and its end a recorder tells.
+-- The program, run from this state of a step, ends with the outcome Next, and leaves this core and
+-- these registers. The recorder has its references and its end (`Tells`).
 pub record GoesOn (Tells : List Reference → Ended → Type 0) (g : RegsFields) (act : Act Ending)
     (mid : Mid (List ℕ)) (core : List ℕ) (after : RegsFields) (w : ℕ) : Type 0 where
   pub refs : List Reference
@@ -31,7 +31,7 @@ pub record GoesOn (Tells : List Reference → Ended → Type 0) (g : RegsFields)
   pub ends : end_of (run core_store g act mid) ≡ given_end core refs after (next_end w last)
   pub tells : Tells refs (next_end w last)
 
--- The same, whatever references were completed before. The step has claimed nothing.
+-- The same, whatever references were completed before. The step has claimed no write.
 abbrev pub Goes :
     (List Reference → Type 0) → (List Reference → Ended → Type 0) → RegsFields → Act Ending
     → List ℕ → List ℕ → RegsFields → ℕ → Type 0
@@ -57,14 +57,14 @@ OperatesCounted Has Tells q g w c core core' after =
     → GoesOn Tells g (operated q.effect q.reg g w (chain_end_fields (counted_address c)))
     (formed_mid core (counted_address c) refs) core' after w
 
--- an instruction from its address on
+-- an instruction, from its address on
 abbrev pub Addresses :
     (List Reference → Type 0) → (List Reference → Ended → Type 0) → Quick → RegsFields → ℕ
     → List ℕ → List ℕ → RegsFields → Type 0
 Addresses Has Tells q g w core core' after =
     Goes Has Tells g (addressed q.effect q.reg g w) core core' after w
 
--- an instruction from its row on, with the right to privileged instructions or without
+-- an instruction, from its row on, whether or not it may be privileged
 abbrev pub Decodes :
     (List Reference → Type 0) → (List Reference → Ended → Type 0) → RegsFields → ℕ → List ℕ
     → List ℕ → RegsFields → Type 0
@@ -72,11 +72,11 @@ Decodes Has Tells g w core core' after =
     (privileged : Bool)
     → Goes Has Tells g (decoded g w privileged (decode w)) core core' after w
 
--- the word is no LDBR
+-- the word is not an LDBR
 abbrev pub IsNoLdbr : ℕ → Type 0
 IsNoLdbr w = (n : ℕ) → decode w ≡ Some (effect.Ldbr, n) → ⊥
 
--- a whole step, of a word that is no LDBR
+-- a whole step, of a word that is not an LDBR
 pub record Steps (Has : List Reference → Type 0) (Tells : List Reference → Ended → Type 0)
     (g : RegsFields) (core core' : List ℕ) (after : RegsFields) : Type 0 where
   pub word : ℕ

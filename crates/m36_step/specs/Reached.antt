@@ -1,4 +1,4 @@
--- An operand that is there, and how the program of an operation goes on from it.
+-- An operand that was reached, and how the program of an operation continues from it.
 use Rattle.std.specs.Prelude.{ℕ, ◌≡◌, List, length, Result, Ok, Err}
 use Rattle.m36_inst.specs.Operands.{takes_direct}
 use Rattle.m36_inst.specs.declared.effect.Effect.{Effect}
@@ -25,13 +25,13 @@ use Rattle.m36_step.specs.declared.operated.Part as code
 use Rattle.m36_step.specs.declared.operated.Part.TheVariants as part
 use Rattle.m36_step.specs.declared.operated.Reached.{Reached}
 
--- where the operand is refused, the program ends
+-- the operand is refused, and the program ends
 abbrev pub refused_end :
     Formed → List ℕ → List Reference → Fault → Ran (Result Performed Halt) (List ℕ)
 refused_end f core refs fault =
     record { value = Err (halt.Fault fault); mid = formed_mid core f refs }
 
--- Nothing is to be written: the effect follows.
+-- Nothing will be written; the effect follows.
 abbrev pub unwritten_end :
     Effect → ℕ → RegsFields → Formed → List ℕ → List Reference → Operand36 → Result Reached Fault
     → Ran (Result Performed Halt) (List ℕ)
@@ -40,7 +40,7 @@ unwritten_end e n g f core refs o (Ok u) =
     refs
 unwritten_end e n g f core refs o (Err fault) = refused_end f core refs fault
 
--- So many words are to be written, and their places are claimed behind that of the tally word.
+-- `count` words will be written, and their places are claimed after that of the tally word.
 abbrev pub written_end :
     Effect → ℕ → RegsFields → Formed → ℕ → List ℕ → List Reference → Operand36
     → Result Reached Fault → Ran (Result Performed Halt) (List ℕ)
@@ -51,7 +51,7 @@ written_end e n g f count core refs o (Ok u) =
     (standing core (claims_with f u.place count) refs)
 written_end e n g f count core refs o (Err fault) = refused_end f core refs fault
 
--- by operand kind
+-- the continuation, by the kind of the operand
 abbrev pub reached_end :
     Effect → ℕ → RegsFields → Formed → Operand → List ℕ → List Reference → Operand36
     → Result Reached Fault → Ran (Result Performed Halt) (List ℕ)
@@ -71,7 +71,8 @@ reached_end e n g f kind.Rwl core refs o u =
     written_end e n g f (words_written kind.Rwl) core refs o u
 reached_end e n g f _ core refs o u = unwritten_end e n g f core refs o u
 
--- A program that references its operand goes on as the code does, whatever the instruction.
+-- A program that references its operand continues as the code does, for every instruction.
+-- `Reads`: nothing will be written. `Writes`: `count` words will be written.
 abbrev pub Reads :
     (Effect → ℕ → Operation) → RegsFields → Formed → List ℕ → List Reference → List ℕ
     → List Reference → Operand36 → Result Reached Fault → Type 0
@@ -86,7 +87,7 @@ Writes program g f count core refs core' refs' o u =
     (e : Effect) (n : ℕ)
     → ran_from g (program e n) f core refs ≡ written_end e n g f count core' refs' o u
 
--- the code's part for one of the definitions, and for that which an operand kind writes
+-- the code's part for one of the definitions, and for the one that an operand kind writes
 abbrev pub code_part : Part → code.Part
 code_part Whole = part.Whole
 code_part Left = part.Left
@@ -95,11 +96,11 @@ code_part Right = part.Right
 abbrev pub part_for : Operand → code.Part
 part_for operand = code_part (part_written operand)
 
--- what the code's effect is given, or the fault
+-- the operand that the effect gets, or the fault
 abbrev pub fields_reached : Operand36 → Result Reached Fault → Result OperandFields Fault
 fields_reached o (Ok u) = Ok (operand_fields o)
 fields_reached o (Err fault) = Err fault
 
--- A direct operand is given to the code's effect as to that of the definitions.
+-- The code gives a direct operand to the effect as the definitions do.
 abbrev pub DirectOperand : Effect → RegsFields → ℕ → Operand36 → Result Reached Fault → Type 0
 DirectOperand e g w o u = fields_reached o u ≡ takes_word e g w (takes_direct e)

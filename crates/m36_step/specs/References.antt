@@ -1,5 +1,5 @@
--- How core serves the references of an operand, at the end of an address chain that has claimed its
--- tally word alone.
+-- How core serves the references of an operand, in a step that has claimed only the tally word of
+-- its address.
 use Rattle.std.specs.Prelude.{ℕ, ◌≡◌, List, [], Result, Ok, Err}
 use Rattle.m36_desc.specs.Fields.{SdwFields}
 use Rattle.m36_model.specs.Act.{Read, Write}
@@ -16,7 +16,7 @@ use Rattle.m36_walk.specs.Served.{standing, sdw_in, answer_of_words}
 use Rattle.m36_ea.specs.Formed.{formed_mid}
 use Rattle.m36_step.specs.Operated.{claims_with}
 
--- words that are read, or the refusal
+-- the answer to a Read: the words, or the refusal
 abbrev pub read_served :
     SdwFields → List ℕ → Formed → List Reference → Result (List ℕ) Fault → Served (List ℕ)
 read_served d core f refs (Ok words) =
@@ -33,7 +33,7 @@ ServesRead g f count m refs core refs' words =
     serve core_store g (formed_mid m.core f refs) (request_at Read (chain_end_fields f) count)
     ≡ read_served (sdw_in m f.last.at.seg) core f refs' words
 
--- words that are to be written, by the place of the first, or the refusal
+-- the answer to a Write, given the place of the first word, or the refusal
 abbrev pub write_served :
     SdwFields → List ℕ → Formed → ℕ → List Reference → Result ℕ Fault → Served (List ℕ)
 write_served d core f count refs (Ok place) =

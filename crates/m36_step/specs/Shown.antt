@@ -1,4 +1,4 @@
--- A step of which no more is told than a line shows.
+-- Steps of which only what a trace line shows is recorded.
 use Rattle.std.specs.Prelude.{ℕ, List, [], None}
 use Rattle.m36_model.specs.Registers.{RegsFields}
 use Rattle.m36_model.specs.Step.{program}
@@ -8,15 +8,15 @@ use Rattle.m36_model.specs.declared.record.Shown.{Shown}
 use Rattle.m36_step.specs.Ended.{EndsSo}
 use Rattle.m36_step.specs.declared.ended.Ended.{Ended}
 
--- the end that is shown
+-- the end that is recorded
 abbrev pub shown_end : Shown → Ended
 shown_end shown = record { word = shown.word; at = shown.at; outcome = shown.outcome }
 
--- what shows no step yet
+-- the empty value, with the place of the instruction
 abbrev pub unshown : RegsFields → Shown
 unshown g = record { word = None; at = None; outcome = Next; ppr = g.ppr }
 
--- A step ends so, with some references.
+-- The step ends in this way, with some references.
 pub record EndsShown (g : RegsFields) (core core' : List ℕ) (after : RegsFields) (e : Ended) : Type 0 where
   pub refs : List Reference
   pub ends : EndsSo g (program g) core [] core' refs after e

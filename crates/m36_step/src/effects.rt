@@ -1,4 +1,4 @@
-//! The effect of an instruction on an operand that is there.
+//! The effect of an instruction, given its operand.
 
 ghost use Rattle.std.specs.Prelude.{ℕ, ◌≡◌, ◌≢◌, ◌<◌, Ok, IfOk, IfErr, IsTrue};
 ghost use Rattle.m36_inst.specs.Groups.{is_pointer, is_control};
@@ -17,7 +17,7 @@ ghost use Rattle.m36_xfer.specs.ControlInstructions.{is_transfer};
 use m36_inst::{Effect, Row};
 use m36_model::{Fault, Final, Formed, Held, Operand36, Regs};
 
-/// The registers with tally runout as a tally word has set it.
+/// The registers with the tally runout indicator that the tally word has set.
 fn with_runout(regs: &Regs, runout: bool) -> Regs
     ensures { result ≡ with_tally runout regs.now }
 {
@@ -26,7 +26,7 @@ fn with_runout(regs: &Regs, runout: bool) -> Regs
     after
 }
 
-/// Whether an instruction is one on pointer registers.
+/// Whether an instruction is a pointer register instruction.
 fn is_pointer(effect: Effect) -> bool
     ensures { result ≡ is_pointer effect }
 {
@@ -44,7 +44,7 @@ fn is_pointer(effect: Effect) -> bool
     )
 }
 
-/// Whether an instruction is one of control, or a privileged one that has an address.
+/// Whether an instruction is a control instruction, or a privileged instruction with an address.
 fn is_control(effect: Effect) -> bool
     ensures { result ≡ is_control effect }
 {
@@ -74,7 +74,7 @@ fn is_control(effect: Effect) -> bool
     )
 }
 
-/// An instruction on pointer registers, done in the registers.
+/// Executes a pointer register instruction in the registers.
 fn execute_pointer(
     row: &Row,
     regs: &mut Regs,
@@ -100,8 +100,8 @@ fn execute_pointer(
     }
 }
 
-/// A transfer that changes where the next instruction stands, and nothing else, done in the registers. It is done here and not by
-/// `execute_control`, whose answer has all registers.
+/// Executes a transfer that changes only the address of the next instruction. It is separate from
+/// `execute_control`, whose result contains all registers and would be copied.
 fn execute_transfer(row: &Row, regs: &mut Regs, last: &Final, put: &mut Held) -> bool
     requires group { IsTrue (is_transfer row.now.effect) }
     ensures value { (o : OperandFields)
@@ -115,7 +115,7 @@ fn execute_transfer(row: &Row, regs: &mut Regs, last: &Final, put: &mut Held) ->
     false
 }
 
-/// An instruction of control, done in the registers.
+/// Executes a control instruction in the registers.
 fn execute_control(
     row: &Row,
     regs: &mut Regs,
@@ -141,7 +141,7 @@ fn execute_control(
     }
 }
 
-/// An instruction, done in the registers as they are.
+/// Executes an instruction with an address in the registers.
 #[tactic(auto, using(crate::proofs::Groups::data_else))]
 fn execute(
     row: &Row,
@@ -170,7 +170,8 @@ fn execute(
     m36_xdata::exec_in_place(row, regs, last, operand, put)
 }
 
-/// An instruction, done in the registers. Tally runout is set before it, but where it is refused.
+/// Executes an instruction with an address in the registers. Tally runout is set before it, unless
+/// the instruction is refused.
 #[tactic(auto, unfolding(m36_model::specs::Step::tallied))]
 pub(crate) fn effect(
     row: &Row,

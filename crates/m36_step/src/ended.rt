@@ -1,4 +1,4 @@
-//! How a step ends.
+//! The end of a step.
 
 ghost use Rattle.std.specs.Prelude.{◌≡◌};
 ghost use Rattle.m36_model.specs.Modification.{here, fault_here};
@@ -9,12 +9,12 @@ ghost use Rattle.m36_step.specs.Ended.{halted_end};
 use m36_model::{At, Fault, Final, Halt, Outcome, Regs};
 use m36_word::Word;
 
-/// The end of a step: what its record says, but for the references and the registers.
+/// The end of a step: its record without the references and the registers.
 #[derive(Clone, Copy)]
 pub(crate) struct Ended {
-    /// The instruction's word; None where its fetch was refused.
+    /// The instruction's word; None if its fetch was refused.
     pub(crate) word: Option<Word>,
-    /// The end of the address chain; None where none was formed or it did not end.
+    /// The end of the address chain; None if no address was formed, or the chain did not end.
     pub(crate) at: Option<Final>,
     pub(crate) outcome: Outcome,
 }
@@ -39,7 +39,7 @@ fn outcome_of(halt: Halt) -> Outcome
     }
 }
 
-/// A step that is refused.
+/// The end of a step that is refused.
 pub(crate) fn halted(word: Option<Word>, at: Option<Final>, halt: Halt) -> Ended
     ensures { result ≡ halted_end word at halt }
 {
@@ -50,7 +50,8 @@ pub(crate) fn halted(word: Option<Word>, at: Option<Final>, halt: Halt) -> Ended
     }
 }
 
-/// The outcome of a step that has its effect: an overflow is a fault, at the instruction, where the overflow mask is off.
+/// The outcome of a step whose effect is complete. An overflow is a fault at the instruction if
+/// the overflow mask is off.
 #[inline(always)]
 pub(crate) fn outcome_by(place: At, mask: bool, overflow: bool) -> Outcome
     ensures { (g : RegsFields) → place ≡ here g → result ≡ outcome_after overflow mask g }

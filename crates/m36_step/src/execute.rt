@@ -1,5 +1,5 @@
-//! The parts of a step, in order: the fetch, the instruction's row, the right to it, its address, its operation, and its
-//! words.
+//! The parts of a step, in order: the fetch, the instruction's row, the privilege check, the
+//! address, the operation, and the words that are written.
 
 ghost use Rattle.std.specs.Prelude.{◌≡◌, ◌≢◌, ◌==◌, ◌+◌, ◌<◌, ◌≤◌, [], ◌∷◌, ◌++◌, length};
 ghost use Rattle.m36_inst.specs.Instruction.{inst_of};
@@ -23,8 +23,9 @@ use m36_model::{At, Final, Formed, Halt, Held, Kind, Reference, Refs, Regs, Stop
 use m36_walk::Walk;
 use m36_word::Word;
 
-/// The end of a step whose effect the registers have taken; `place` is where its instruction stands. LDBR may have changed the
-/// descriptor segment base register, and then the walk goes on by it and keeps nothing of what was found by the one before.
+/// The end of a step whose effect is in the registers. The instruction was at `place`. If LDBR has
+/// changed the descriptor segment base register, the walk takes the new value and forgets
+/// everything that it found with the old one.
 fn completed(
     walk: &mut Walk,
     regs: &Regs,
@@ -50,7 +51,8 @@ fn completed(
     }
 }
 
-/// The operation of an instruction whose address is formed: the operand, the effect, and the words that it writes.
+/// Executes an instruction whose address is formed: its operand, its effect, and the words that it
+/// writes.
 pub(crate) fn operated(
     walk: &mut Walk,
     regs: &mut Regs,
@@ -82,7 +84,7 @@ pub(crate) fn operated(
     }
 }
 
-/// An instruction that forms an address.
+/// Executes an instruction that forms an address.
 fn addressed(
     walk: &mut Walk,
     regs: &mut Regs,
@@ -106,7 +108,7 @@ fn addressed(
     }
 }
 
-/// MME, DRL and DIS form no address.
+/// The halt of MME, DRL or DIS, which form no address.
 fn no_address(regs: &Regs, effect: Effect) -> Halt
     ensures { result ≡ at_once effect regs.now }
 {
@@ -117,7 +119,7 @@ fn no_address(regs: &Regs, effect: Effect) -> Halt
     }
 }
 
-/// An instruction that nothing refuses before its address.
+/// Executes an instruction that has passed the privilege check.
 fn started(
     walk: &mut Walk,
     regs: &mut Regs,
@@ -141,7 +143,7 @@ fn started(
     }
 }
 
-/// An instruction of the table, which may be privileged. The bit tells whether it may be executed then.
+/// Executes an instruction of the table. `privileged` says whether it may be a privileged one.
 fn admitted(
     walk: &mut Walk,
     regs: &mut Regs,
@@ -167,7 +169,8 @@ fn admitted(
     started(walk, regs, word, inst, row, refs)
 }
 
-/// The instruction in a word. The bit tells whether it may be privileged.
+/// Decodes and executes the instruction in a word. `privileged` says whether it may be a
+/// privileged one.
 fn decoded(walk: &mut Walk, regs: &mut Regs, word: Word, privileged: bool, refs: &mut Refs) -> Ended
     requires dbr { walk.old.dbr ≡ regs.old.dbr }
     requires room { length refs.old.items ≤ 4 }
@@ -182,7 +185,7 @@ fn decoded(walk: &mut Walk, regs: &mut Regs, word: Word, privileged: bool, refs:
     }
 }
 
-/// One step: it fetches the instruction that stands, and executes it.
+/// One step: fetches the current instruction, and executes it.
 pub(crate) fn execute(walk: &mut Walk, regs: &mut Regs, refs: &mut Refs) -> Ended
     requires dbr { walk.old.dbr ≡ regs.old.dbr }
     requires room { length refs.old.items ≤ 3 }

@@ -1,4 +1,4 @@
-//! Quick steps, one after another, of which nothing is told.
+//! Quick steps, one after another, without records.
 
 ghost use Rattle.std.specs.Prelude.{ℕ, ◌≡◌, ◌<◌, ◌≤◌};
 ghost use Rattle.m36_model.specs.Core.{core_store};
@@ -12,7 +12,8 @@ use crate::recorder::Untold;
 use m36_model::Regs;
 use m36_walk::Walk;
 
-/// Takes quick steps, at most so many, as long as the next one is a quick one. The answer is how many were taken.
+/// Takes at most `most` steps, as long as the next one is quick. Returns the number of steps
+/// taken.
 pub(crate) fn hurried(walk: &mut Walk, regs: &mut Regs, most: u32) -> u32
     requires dbr { walk.old.dbr ≡ regs.old.dbr }
     ensures few { result ≤ most }

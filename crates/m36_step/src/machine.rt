@@ -28,8 +28,9 @@ use m36_word::{NoMemory, Word};
 use std::alloc::Global;
 use std::marker::Model;
 
-/// Core memory and the registers of a processor, and how its run of turns has ended, if it has. The walk finds segments by
-/// the descriptor segment base register of the registers. Steps do not look at how the run has ended: turns do.
+/// A machine: core memory, the registers of a processor, and how its run of turns has ended, if it
+/// has. The walk finds segments by the descriptor segment base register of these registers. Steps
+/// ignore how the run has ended; turns check it.
 #[derive(Drop)]
 pub struct Machine {
     walk: Walk,
@@ -51,7 +52,7 @@ impl Model for Machine {
     ghost invariant = { λ m. m.walk.dbr ≡ m.regs.dbr };
 }
 
-/// A step that is not quick, told in the record.
+/// Takes a step that is not quick, and records it.
 #[inline(never)]
 fn told_else(walk: &mut Walk, regs: &mut Regs, told: &mut StepRecord)
     requires dbr { walk.old.dbr ≡ regs.old.dbr }
@@ -65,7 +66,7 @@ fn told_else(walk: &mut Walk, regs: &mut Regs, told: &mut StepRecord)
     tell(told, &ended);
 }
 
-/// One step, told in the record but for where the instruction stood and the registers after it.
+/// Takes one step, and records it without the place of the instruction and the registers after it.
 #[inline(always)]
 fn told_step(walk: &mut Walk, regs: &mut Regs, told: &mut StepRecord)
     requires dbr { walk.old.dbr ≡ regs.old.dbr }
@@ -81,7 +82,7 @@ fn told_step(walk: &mut Walk, regs: &mut Regs, told: &mut StepRecord)
     told_else(walk, regs, told)
 }
 
-/// Copies the registers field by field. LLVM copies a struct of this size by a call.
+/// Copies the registers field by field. LLVM would copy a struct of this size by a call.
 #[inline(always)]
 fn copy_registers(from: &Regs, to: &mut Regs)
     ensures copied { to.new ≡ from.now }
@@ -95,8 +96,8 @@ fn copy_registers(from: &Regs, to: &mut Regs)
     to.ind = from.ind;
 }
 
-/// One step of a walk and registers with the same descriptor segment base register, told in a record that an earlier step
-/// may have filled.
+/// Takes one step, and overwrites `told` with its record. The walk and the registers have the same
+/// descriptor segment base register.
 fn take_step(walk: &mut Walk, regs: &mut Regs, told: &mut StepRecord)
     requires dbr { walk.old.dbr ≡ regs.old.dbr }
     ensures told { told.new
@@ -110,7 +111,7 @@ fn take_step(walk: &mut Walk, regs: &mut Regs, told: &mut StepRecord)
     copy_registers(regs, &mut told.after);
 }
 
-/// A record that tells of no step yet.
+/// An empty record, to be overwritten.
 fn untold(regs: &Regs) -> StepRecord
     ensures { result ≡ untold_record regs.now }
 {
@@ -127,7 +128,8 @@ fn untold(regs: &Regs) -> StepRecord
 impl Machine {
     ghost use Rattle.m36_step.specs.Lending.{LendsCore};
 
-    /// A machine with this core and these registers. Both have the same descriptor segment base register.
+    /// A machine with this core and these registers. Both have the same descriptor segment base
+    /// register.
     pub fn new(walk: Walk, regs: Regs) -> Machine
         requires { walk.dbr ≡ regs.dbr }
         ensures state { result.state ≡ record { regs = regs; store = walk.core } }
@@ -148,8 +150,8 @@ impl Machine {
         Machine::new(Walk::new(core, regs.dbr), regs)
     }
 
-    /// One step. The record is that of the written step, and the machine is left in the state after it. Where the audit
-    /// conditions hold before a step that executes no LDBR, they hold after it.
+    /// Takes one step, and returns its record. If the audit conditions hold before a step that
+    /// executes no LDBR, they hold after it.
     pub fn step(&mut self) -> StepRecord
         ensures told { result ≡ record_of core_store self.old.state }
         ensures state { self.new.state ≡ state_after core_store self.old.state }
@@ -161,8 +163,8 @@ impl Machine {
         told
     }
 
-    /// One step, told in place: the record becomes that of the written step, whatever it told before. So a run needs one
-    /// record, and the list of references in it is neither made nor copied in a step.
+    /// Takes one step, and overwrites `told` with its record. So a run needs only one record, and
+    /// its list of references is neither created nor copied in a step.
     #[inline]
     pub fn step_into(&mut self, told: &mut StepRecord)
         ensures told { told.new ≡ record_of core_store self.old.state }
@@ -175,7 +177,7 @@ impl Machine {
         take_step(walk, regs, told)
     }
 
-    /// One step, of which no more is told than its line shows: with the registers after it.
+    /// Takes one step, and records only what its trace line shows, besides the registers after it.
     #[inline]
     pub fn step_shown(&mut self, shown: &mut Shown)
         ensures shown { shown.new ≡ shown_of (record_of core_store self.old.state) }
@@ -187,7 +189,7 @@ impl Machine {
         take_shown(walk, regs, shown)
     }
 
-    /// What `step_shown` may fill. It shows no step.
+    /// An empty value for `step_shown` to overwrite.
     pub fn unshown(&self) -> Shown
         ensures { result ≡ unshown self.now.state.regs }
     {
@@ -199,9 +201,9 @@ impl Machine {
         }
     }
 
-    /// Takes steps, at most so many, as long as the next one is quick: pages in front answer all its references, nothing
-    /// refuses it, and the next instruction follows. The answer is how many were taken; none of them is told, and none
-    /// executes an LDBR.
+    /// Takes at most `most` steps, as long as the next one is quick: pages in front answer all its
+    /// references, nothing refuses it, and the next instruction follows. Returns the number of
+    /// steps taken. They are not recorded, and none of them executes an LDBR.
     #[inline]
     pub fn hurry(&mut self, most: u32) -> u32
         ensures few { result ≤ most }
@@ -216,7 +218,7 @@ impl Machine {
         hurried(walk, regs, most)
     }
 
-    /// Notes the outcome of a step before which the run of turns had not ended.
+    /// Stores how a step ended the run, if it did. The run of turns had not ended before.
     #[inline]
     fn note(&mut self, outcome: Outcome)
         requires { self.old.ended ≡ None }
@@ -230,7 +232,7 @@ impl Machine {
         }
     }
 
-    /// A turn that is no step, or whose step finds no record to fill.
+    /// Takes a turn that is not a step, or a step with no record to overwrite.
     #[cold]
     #[inline(never)]
     #[tactic(auto, unfolding(crate::specs::MachineTurn::machine_turn, crate::specs::MachineTurn::machine_after))]
@@ -247,15 +249,14 @@ impl Machine {
         };
     }
 
-    /// A record for `step_into` to fill: it has the registers as they stand, and tells of no step.
+    /// An empty record with the current registers, for `step_into` to overwrite.
     pub fn untold(&self) -> StepRecord
         ensures { result ≡ untold_record self.now.state.regs }
     {
         untold(&self.regs)
     }
 
-    /// Moves on to the next instruction without executing the one that stands: the instruction counter goes up by 1
-    /// modulo 2^18.
+    /// Skips the current instruction: the instruction counter increases by 1, modulo 2^18.
     #[tactic(auto, unfolding(m36_model::specs::Results::moved_on))]
     pub fn skip(&mut self)
         ensures state { self.new.state
@@ -266,8 +267,8 @@ impl Machine {
         self.regs.ppr.ic = (ic + 1) % (1 << 18);
     }
 
-    /// Exchanges the registers with others, as where another process is to run on the same core. From here on segments are
-    /// found by the descriptor segment base register of those that were taken in.
+    /// Exchanges the registers with others, to run another process on the same core. Segments are
+    /// then found by the descriptor segment base register of the new registers.
     pub fn swap(&mut self, regs: &mut Regs)
         ensures state { self.new.state ≡ record { regs = regs.old; store = self.old.state.store } }
         ensures ended { self.new.ended ≡ self.old.ended }
@@ -280,14 +281,14 @@ impl Machine {
         *regs = before;
     }
 
-    /// The registers as they stand.
+    /// The current registers.
     pub fn regs(&self) -> &Regs
         ensures { result.now ≡ self.now.state.regs }
     {
         &self.regs
     }
 
-    /// Core and the descriptor segment base register as they stand.
+    /// The current core, with the descriptor segment base register.
     pub fn walk(&self) -> &Walk
         ensures { result.now
             ≡ record { core = self.now.state.store; dbr = self.now.state.regs.dbr } }
@@ -328,7 +329,8 @@ impl Stepper for Machine {
 
     ghost content = { λ m seg word. content core_store m.state seg word };
 
-    /// A step, until one has ended the run: from then on each turn tells how, and changes nothing.
+    /// A step, until one has ended the run; from then on each turn reports the end and changes
+    /// nothing.
     #[inline]
     #[tactic(auto, unfolding(crate::specs::MachineTurn::machine_turn, crate::specs::MachineTurn::machine_after))]
     fn turn_into(&mut self, turn: &mut Turn) {
@@ -342,7 +344,7 @@ impl Stepper for Machine {
         }
     }
 
-    /// A machine does not go back.
+    /// A machine cannot go back.
     fn back(&mut self, _n: u32) -> BackAnswer {
         BackAnswer::Unable
     }

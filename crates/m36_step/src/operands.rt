@@ -1,4 +1,4 @@
-//! Operands that are read, and operands that are to be written.
+//! Reads operands, and claims the places of operands that will be written.
 
 ghost use Rattle.std.specs.Prelude.{ℕ, ◌≡◌, ◌+◌, ◌<◌, ◌≤◌, ◌^◌, IfOk, IsTrue, length};
 ghost use Rattle.m36_model.specs.OperandHeld.{is_empty, is_word, is_pair, is_block};
@@ -16,7 +16,8 @@ use crate::references::{hold_words, read_block, read_pair, read_word};
 use m36_model::{Fault, Formed, Held, Operand36, Refs, Regs};
 use m36_walk::Walk;
 
-/// Gives words that are read, with the first ring bracket of their segment or a new ring.
+/// Fills an operand with words that were read, and with the first ring bracket of their segment or
+/// a new ring.
 #[inline(always)]
 pub(crate) fn give(got: Held, ring: u8, operand: &mut Operand36)
     requires { ring < 2 ^ 3 }
@@ -30,7 +31,7 @@ pub(crate) fn give(got: Held, ring: u8, operand: &mut Operand36)
     };
 }
 
-/// Nothing is to be written.
+/// The result for an operand that is not written.
 pub(crate) fn unwritten() -> Reached
     ensures place { result.place ≡ 0 }
     ensures part { result.part ≡ part.Whole }
@@ -41,7 +42,7 @@ pub(crate) fn unwritten() -> Reached
     }
 }
 
-/// A word is read.
+/// Reads a word.
 #[tactic(auto, using(crate::proofs::Reaching::reaching), unfolding(m36_walk::specs::Runs::LiesIn))]
 pub(crate) fn reach_word(
     walk: &mut Walk,
@@ -71,7 +72,7 @@ pub(crate) fn reach_word(
     }
 }
 
-/// A pair is read.
+/// Reads a pair.
 #[tactic(auto, using(crate::proofs::Reaching::reaching), unfolding(m36_walk::specs::Runs::LiesIn))]
 pub(crate) fn reach_pair(
     walk: &mut Walk,
@@ -102,7 +103,7 @@ pub(crate) fn reach_pair(
     }
 }
 
-/// A block is read.
+/// Reads a block.
 #[tactic(auto, using(crate::proofs::Reaching::reaching), unfolding(m36_walk::specs::Runs::LiesIn))]
 pub(crate) fn reach_block(
     walk: &mut Walk,
@@ -134,7 +135,7 @@ pub(crate) fn reach_block(
     }
 }
 
-/// Words are to be written.
+/// Claims the places of `count` words that will be written.
 #[tactic(auto, using(crate::proofs::Reaching::reaching), unfolding(m36_walk::specs::Runs::LiesIn))]
 pub(crate) fn reach_written(
     walk: &mut Walk,
@@ -169,7 +170,7 @@ pub(crate) fn reach_written(
     }
 }
 
-/// A word is read, and then it is to be written.
+/// Reads a word, and claims its place to write it.
 #[tactic(auto, using(crate::proofs::Reaching::reaching), unfolding(m36_walk::specs::Runs::LiesIn))]
 pub(crate) fn reach_changed(
     walk: &mut Walk,

@@ -13,12 +13,13 @@ use m36_inst::Row;
 use m36_model::{Formed, Halt, Held, Operand36, Refs, Regs};
 use m36_walk::Walk;
 
-/// Operates on the operand at a formed address. `walk` has the descriptor segment of `regs`, and the step has at most 38
-/// completed references; at most 2 are added.
+/// Executes an instruction on the operand at a formed address. `walk` has the descriptor segment
+/// of `regs`. The step has completed at most 38 references before; at most 2 are added.
 ///
-/// The answer, core, the registers and the completed references are those of the operation. A refusal leaves the registers as
-/// they were, and core but for the marks of the references that were completed. No word is written yet: the words are put into
-/// `put`, and where they stand, and which part of them is written, is in the answer.
+/// The result, core, the registers and the completed references are those of the operation. A
+/// refusal leaves the registers unchanged, and core except for marks. The words are not written
+/// yet: they are put into `put`, and the result says at which place they have to be written, and
+/// which part of each.
 pub(crate) fn operate(
     walk: &mut Walk,
     regs: &mut Regs,

@@ -1,7 +1,8 @@
-//! An operand that is there, and what an operation on it comes to.
+//! The results of reaching an operand and of operating on it.
 //!
-//! The words of an operand and the words to be written stand apart from these, in the function that joins the parts: both have
-//! room for a block, and would be copied with each answer.
+//! The words of an operand and the words to write are not in these results, but in variables of
+//! the function that joins the parts: both have room for a block, which would be copied with each
+//! result.
 
 /// Which part of a word is written.
 #[derive(Clone, Copy, PartialEq, Eq)]
@@ -11,22 +12,21 @@ pub(crate) enum Part {
     Right,
 }
 
-/// An operand that is there: where the words that its effect gives are to be written.
+/// An operand that was reached: where the words of the effect have to be written.
 #[derive(Clone, Copy)]
 pub(crate) struct Reached {
-    /// The place of the first word to be written; 24 bits. Where nothing is written it is 0.
+    /// The place in core of the first word to write; 24 bits. It is 0 if nothing is written.
     pub(crate) place: u32,
     pub(crate) part: Part,
 }
 
-/// An operation that nothing has refused, and whose effect the registers have taken: where the words that it gives are to be
-/// written.
+/// An operation whose effect is in the registers: where its words have to be written.
 #[derive(Clone, Copy)]
 pub(crate) struct Operated {
-    /// The place of the first word; 24 bits. Where nothing is written it is 0.
+    /// The place in core of the first word; 24 bits. It is 0 if nothing is written.
     pub(crate) place: u32,
-    /// Of what is not the whole word, the effect gives a half, right-justified.
+    /// The part of the word to write. For a half, the effect gives the half right-justified.
     pub(crate) part: Part,
-    /// An overflow is to be reported.
+    /// Whether overflow has to be reported.
     pub(crate) overflow: bool,
 }

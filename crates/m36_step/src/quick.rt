@@ -1,7 +1,7 @@
-//! A quick step: one that pages in front answer, and that nothing refuses.
+//! A quick step: one whose references pages in front answer, and that nothing refuses.
 //!
-//! All that may refuse it is asked first. False says that the step is another, and then nothing has changed: it is taken from
-//! its beginning by `execute`.
+//! All checks are made first. False: the step is not quick, and nothing has changed; `execute`
+//! then takes it from its beginning.
 
 ghost use Rattle.std.specs.Prelude.{◌≡◌, ◌<◌, ◌^◌, None, Ok, Some, IsTrue, IsFalse, length, slice_index};
 ghost use Rattle.m36_inst.specs.Quick.{IsQuick};
@@ -25,9 +25,9 @@ use m36_model::{At, Final, Kind, Regs};
 use m36_walk::Walk;
 use m36_word::Word;
 
-/// The operation of an instruction whose group is not in `operated`, by the parts of its final
-/// address. It is a function of its own because `operated` with all groups is too large to be
-/// inlined: the compiler then ignores `inline(always)`.
+/// Executes an instruction whose group is not in `operated`, given the parts of its final address.
+/// It is a separate function because `operated` with all groups would be too large to be inlined:
+/// the compiler then ignores `inline(always)`.
 #[inline(never)]
 fn operated_apart<R: Recorder>(
     walk: &mut Walk,
@@ -77,7 +77,7 @@ fn operated_apart<R: Recorder>(
     }
 }
 
-/// The operation of an instruction whose address has no tally word, and is no direct operand.
+/// Executes an instruction whose address has no tally word and is not a direct operand.
 #[inline(always)]
 fn operated<R: Recorder>(
     walk: &mut Walk,
@@ -112,7 +112,7 @@ fn operated<R: Recorder>(
     }
 }
 
-/// An instruction with a direct operand: those that read a word take one.
+/// Executes an instruction with a direct operand, if it is one that reads a word.
 #[inline(always)]
 fn operated_directly<R: Recorder>(
     walk: &mut Walk,
@@ -146,7 +146,7 @@ fn operated_directly<R: Recorder>(
     }
 }
 
-/// An instruction whose address counts a tally word, where it reads a word or stores one.
+/// Executes an instruction whose address counts a tally word, if it reads a word or stores one.
 #[inline(never)]
 fn counted<R: Recorder>(
     walk: &mut Walk,
@@ -181,7 +181,7 @@ fn counted<R: Recorder>(
     }
 }
 
-/// An instruction whose tag reads an indirect word.
+/// Executes an instruction whose tag is not one of register modification.
 #[inline(never)]
 fn chained<R: Recorder>(
     walk: &mut Walk,
@@ -215,7 +215,7 @@ fn chained<R: Recorder>(
     }
 }
 
-/// An instruction from its address on.
+/// Executes an instruction, from its address on.
 #[inline(always)]
 fn addressed<R: Recorder>(
     walk: &mut Walk,
@@ -245,7 +245,7 @@ fn addressed<R: Recorder>(
     }
 }
 
-/// The instruction in a word.
+/// Decodes and executes the instruction in a word.
 #[inline(always)]
 fn decoded<R: Recorder>(walk: &mut Walk, regs: &mut Regs, rec: &mut R, word: Word) -> bool
     requires dbr { walk.old.dbr ≡ regs.old.dbr }
@@ -262,7 +262,7 @@ fn decoded<R: Recorder>(walk: &mut Walk, regs: &mut Regs, rec: &mut R, word: Wor
     addressed(walk, regs, rec, word, row)
 }
 
-/// The instruction at a place.
+/// Executes the instruction at a place in core.
 #[inline(always)]
 fn fetched<R: Recorder>(walk: &mut Walk, regs: &mut Regs, rec: &mut R, place: u32) -> bool
     requires dbr { walk.old.dbr ≡ regs.old.dbr }
@@ -282,7 +282,7 @@ fn fetched<R: Recorder>(walk: &mut Walk, regs: &mut Regs, rec: &mut R, place: u3
     decoded(walk, regs, rec, word)
 }
 
-/// A quick step whose instruction lies in another page than the one before it.
+/// Takes a quick step whose instruction is in another page than the one before it.
 #[inline(never)]
 fn quick_elsewhere<R: Recorder>(walk: &mut Walk, regs: &mut Regs, rec: &mut R) -> bool
     requires dbr { walk.old.dbr ≡ regs.old.dbr }
@@ -300,8 +300,8 @@ fn quick_elsewhere<R: Recorder>(walk: &mut Walk, regs: &mut Regs, rec: &mut R) -
     }
 }
 
-/// One step, where pages in front answer all its references and nothing refuses it. False says that it is another, and then
-/// nothing has changed but what stands in the recorder.
+/// Takes one step, if pages in front answer all its references and nothing refuses it. False: it
+/// is not such a step, and nothing has changed except the recorder.
 #[inline(always)]
 pub(crate) fn quick<R: Recorder>(walk: &mut Walk, regs: &mut Regs, rec: &mut R) -> bool
     requires dbr { walk.old.dbr ≡ regs.old.dbr }

@@ -1,7 +1,8 @@
 //! Quick operations on single words whose address counts a tally word.
 //!
-//! The tally word is written before the operand, and the effect sees the tally runout indicator as the count has set it. The
-//! operand of a quick step is another word than the tally word.
+//! The tally word is written before the operand, and the effect uses the tally runout indicator
+//! that the count has set. An instruction that reads its operand is quick only if the operand is
+//! not the tally word.
 
 ghost use Rattle.std.specs.Prelude.{◌≡◌, ◌<◌, None, IsTrue, IsFalse, length};
 ghost use Rattle.m36_inst.specs.Quick.{IsQuick};
@@ -26,7 +27,7 @@ fn tally_runout(regs: &Regs) -> bool
     ind.tally
 }
 
-/// Puts tally runout on or off.
+/// Sets or clears tally runout.
 #[inline(always)]
 #[tactic(auto, unfolding(m36_model::specs::Step::tallied))]
 fn set_tally(regs: &mut Regs, runout: bool)
@@ -36,7 +37,7 @@ fn set_tally(regs: &mut Regs, runout: bool)
     regs.ind.tally = runout;
 }
 
-/// An instruction that reads a word.
+/// Executes an instruction that reads a word.
 #[inline(always)]
 pub(crate) fn read_counted<R: Recorder>(
     walk: &mut Walk,
@@ -82,7 +83,7 @@ pub(crate) fn read_counted<R: Recorder>(
     true
 }
 
-/// An instruction that stores a word.
+/// Executes an instruction that stores a word.
 #[inline(always)]
 pub(crate) fn store_counted<R: Recorder>(
     walk: &mut Walk,

@@ -12,7 +12,7 @@ use m36_model::{Final, Kind, Regs};
 use m36_walk::{Walk, first_at};
 use m36_word::Word;
 
-/// An instruction that reads a pair.
+/// Executes an instruction that reads a pair.
 #[inline(always)]
 pub(crate) fn pair_operand<R: Recorder>(
     walk: &mut Walk,
@@ -48,7 +48,7 @@ pub(crate) fn pair_operand<R: Recorder>(
     true
 }
 
-/// An instruction that stores a pair.
+/// Executes an instruction that stores a pair.
 #[inline(always)]
 #[tactic(auto, unfolding(m36_walk::specs::Runs::LiesIn, m36_model::specs::Place::wrapped))]
 pub(crate) fn stored_pair<R: Recorder>(
@@ -84,7 +84,7 @@ pub(crate) fn stored_pair<R: Recorder>(
     true
 }
 
-/// CALL6.
+/// Executes CALL6.
 #[inline(always)]
 pub(crate) fn called<R: Recorder>(
     walk: &mut Walk,
@@ -115,7 +115,7 @@ pub(crate) fn called<R: Recorder>(
     true
 }
 
-/// RTCD.
+/// Executes RTCD.
 #[inline(always)]
 pub(crate) fn returned<R: Recorder>(
     walk: &mut Walk,

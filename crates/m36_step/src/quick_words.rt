@@ -15,7 +15,7 @@ use m36_model::{Final, Kind, Regs};
 use m36_walk::Walk;
 use m36_word::Word;
 
-/// An instruction that reads a word.
+/// Executes an instruction that reads a word.
 #[inline(always)]
 pub(crate) fn read_operand<R: Recorder>(
     walk: &mut Walk,
@@ -51,7 +51,7 @@ pub(crate) fn read_operand<R: Recorder>(
     true
 }
 
-/// An instruction that stores a word.
+/// Executes an instruction that stores a word.
 #[inline(always)]
 pub(crate) fn stored_operand<R: Recorder>(
     walk: &mut Walk,
@@ -85,7 +85,7 @@ pub(crate) fn stored_operand<R: Recorder>(
     true
 }
 
-/// An instruction that reads a word and writes it.
+/// Executes an instruction that reads and writes a word.
 #[inline(always)]
 pub(crate) fn changed_operand<R: Recorder>(
     walk: &mut Walk,
@@ -124,7 +124,7 @@ pub(crate) fn changed_operand<R: Recorder>(
     true
 }
 
-/// An instruction that stores the left half of a word.
+/// Executes an instruction that stores the left half of a word.
 #[inline(always)]
 pub(crate) fn upper_operand<R: Recorder>(
     walk: &mut Walk,
@@ -158,7 +158,7 @@ pub(crate) fn upper_operand<R: Recorder>(
     true
 }
 
-/// An instruction that stores the right half of a word.
+/// Executes an instruction that stores the right half of a word.
 #[inline(always)]
 pub(crate) fn lower_operand<R: Recorder>(
     walk: &mut Walk,
@@ -192,7 +192,7 @@ pub(crate) fn lower_operand<R: Recorder>(
     true
 }
 
-/// An instruction that loads its address.
+/// Executes an instruction that loads its address.
 #[inline(always)]
 pub(crate) fn address_operand<R: Recorder>(
     walk: &mut Walk,
@@ -219,7 +219,7 @@ pub(crate) fn address_operand<R: Recorder>(
     true
 }
 
-/// A shift, which uses its address alone.
+/// Executes a shift, which uses only its address.
 #[inline(always)]
 pub(crate) fn shift_operand<R: Recorder>(
     walk: &mut Walk,
@@ -246,7 +246,7 @@ pub(crate) fn shift_operand<R: Recorder>(
     true
 }
 
-/// A transfer.
+/// Executes a transfer.
 #[inline(always)]
 pub(crate) fn target_operand<R: Recorder>(
     walk: &mut Walk,

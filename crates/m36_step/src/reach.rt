@@ -1,4 +1,4 @@
-//! The operand of an instruction, by its kind.
+//! Reaches the operand of an instruction, by its kind.
 
 ghost use Rattle.std.specs.Prelude.{ℕ, ◌≡◌, ◌≢◌, ◌+◌, ◌<◌, ◌≤◌, ◌^◌, IfOk, length};
 ghost use Rattle.m36_inst.specs.Lookup.{IsRow};
@@ -25,7 +25,7 @@ use m36_walk::Walk;
 use m36_word::Word;
 use m36_xfer::is_absa;
 
-/// An operand that stands in a segment, or an address or a target.
+/// Reaches an operand in a segment, or an address or a target.
 fn reach_by_kind(
     walk: &mut Walk,
     regs: &Regs,
@@ -68,8 +68,8 @@ fn reach_by_kind(
     }
 }
 
-/// A direct operand: the word of an instruction that reads one. NOP takes it and looks at nothing, and every other
-/// instruction refuses it.
+/// Takes a direct operand: the word, if the instruction reads one. NOP accepts and ignores it;
+/// every other instruction refuses it with fault 10, illegal procedure.
 fn reach_direct(
     row: &Row,
     regs: &Regs,
@@ -99,7 +99,7 @@ fn reach_direct(
     }
 }
 
-/// The operand of an instruction. Core is written by no more than the marks of the references that are completed.
+/// Reaches the operand of an instruction. The only changes of core are marks.
 #[tactic(auto, using(crate::proofs::Direct::direct_reached), unfolding(m36_model::specs::Step::operate, m36_walk::specs::Runs::LiesIn))]
 pub(crate) fn reach(
     walk: &mut Walk,

@@ -1,4 +1,4 @@
-//! What a step leaves of itself: its references, and how it ended.
+//! What is recorded of a step: its references, and how it ended.
 
 ghost use Rattle.std.specs.Prelude.{ℕ, ◌≡◌, ◌+◌, ◌<◌, ◌≤◌, List, [], ◌∷◌, ◌++◌};
 ghost use Rattle.m36_model.specs.declared.place.Reference.{Reference};
@@ -7,24 +7,24 @@ ghost use Rattle.m36_step.specs.Quick.{next_end};
 use m36_model::{At, Final, Kind, Outcome, Reference, StepRecord};
 use m36_word::Word;
 
-/// Notes the references of a quick step as it goes, and its end. What stands in it after a step that was not quick does not
-/// matter.
+/// Records the references of a quick step as they are completed, and the end of the step. The
+/// content of a recorder after a step that was not quick is unspecified.
 pub(crate) trait Recorder {
     ghost use Rattle.std.specs.Prelude.{ℕ, List};
     ghost use Rattle.m36_model.specs.Fields.{PprFields};
     ghost use Rattle.m36_model.specs.declared.place.Reference.{Reference};
     ghost use Rattle.m36_step.specs.declared.ended.Ended.{Ended};
 
-    /// How many references it has room for no more.
+    /// The number of references that are stored, 0 if it stores none. There is room for 40.
     ghost taken: { Self → ℕ };
 
-    /// Where the instruction stood, if it says so.
+    /// The place of the instruction, if the recorder has it.
     ghost place: { Self → PprFields };
 
-    /// What it says once these references are completed.
+    /// What holds of the recorder once these references are completed.
     ghost has: { Self → List Reference → Type 0 };
 
-    /// What it says once the step has ended so, with these references.
+    /// What holds of the recorder once the step has ended in this way, with these references.
     ghost tells: { Self → List Reference → Ended → Type 0 };
 
     /// Adds a completed reference.
@@ -35,14 +35,14 @@ pub(crate) trait Recorder {
         ensures taken { taken self.new ≤ taken self.old + 1 }
         ensures place { place self.new ≡ place self.old };
 
-    /// Notes the end of a step that goes on.
+    /// Records the end of a step whose outcome is Next.
     fn end(&mut self, word: Word, last: &Final)
         ensures tells { (refs : List Reference) → has self.old refs
             → tells self.new refs (next_end word last.now) }
         ensures place { place self.new ≡ place self.old };
 }
 
-/// A recorder that notes nothing.
+/// A recorder that records nothing.
 #[derive(Clone, Copy)]
 pub(crate) struct Untold;
 

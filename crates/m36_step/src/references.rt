@@ -1,4 +1,4 @@
-//! The references of an operand: words that are read, and words that are to be written.
+//! The references of an operand: reads, and writes whose words follow later.
 
 ghost use Rattle.std.specs.Prelude.{ℕ, ◌≡◌, ◌+◌, ◌<◌, ◌≤◌, ◌^◌, [], ◌∷◌, ◌++◌, IfOk, length};
 ghost use Rattle.m36_word.specs.Pairs.{pair_words};
@@ -13,7 +13,7 @@ use m36_model::{At, Fault, Final, Formed, Kind, Refs, Regs};
 use m36_walk::{Walk, first_at};
 use m36_word::{Pair, Word};
 
-/// The word that an address ends at.
+/// The address of the word that an address chain ends at.
 pub(crate) fn end_at(formed: &Formed) -> At
     ensures { result ≡ formed.now.last.at }
 {
@@ -21,7 +21,8 @@ pub(crate) fn end_at(formed: &Formed) -> At
     last.at
 }
 
-/// Adds a completed reference to so many words, of which one is told.
+/// Adds a completed reference to `count` words, at the address of the first, given the address of
+/// one of them.
 #[inline(always)]
 pub(crate) fn complete(refs: &mut Refs, kind: Kind, at: At, count: u8)
     requires room { length refs.old.items < 40 }
@@ -113,7 +114,7 @@ pub(crate) fn read_block(
     }
 }
 
-/// Examines a Write of 1, 2 or 16 words of an operand. The answer is the place of the first.
+/// Checks a Write of 1, 2 or 16 words of an operand. Returns the place in core of the first.
 #[inline(always)]
 pub(crate) fn hold_words(
     walk: &mut Walk,
@@ -143,7 +144,7 @@ pub(crate) fn hold_words(
     }
 }
 
-/// The word of a final address.
+/// The address of the word that a final address names.
 #[inline(always)]
 pub(crate) fn final_at(last: &Final) -> At
     ensures { result ≡ last.now.at }

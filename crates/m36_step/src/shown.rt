@@ -1,4 +1,5 @@
-//! A step of which no more is told than a line shows: its word, the final address, its outcome and where it stood.
+//! Steps of which only what a trace line shows is recorded: the word, the final address, the
+//! outcome and the place of the instruction.
 
 ghost use Rattle.std.specs.Prelude.{ℕ, ◌≡◌, ◌<◌, ◌≤◌, List, [], ◌∷◌, ◌++◌};
 ghost use Rattle.m36_model.specs.Core.{core_store};
@@ -38,7 +39,7 @@ impl Recorder for Shown {
     }
 }
 
-/// A step that is not quick.
+/// Takes a step that is not quick.
 #[inline(never)]
 fn shown_else(walk: &mut Walk, regs: &mut Regs, shown: &mut Shown)
     requires dbr { walk.old.dbr ≡ regs.old.dbr }
@@ -53,7 +54,7 @@ fn shown_else(walk: &mut Walk, regs: &mut Regs, shown: &mut Shown)
     shown.outcome = ended.outcome;
 }
 
-/// One step, shown but for where its instruction stood.
+/// Takes one step, and records it without the place of its instruction.
 #[inline(always)]
 fn shown_step(walk: &mut Walk, regs: &mut Regs, shown: &mut Shown)
     requires dbr { walk.old.dbr ≡ regs.old.dbr }
@@ -67,8 +68,8 @@ fn shown_step(walk: &mut Walk, regs: &mut Regs, shown: &mut Shown)
     shown_else(walk, regs, shown)
 }
 
-/// One step of a walk and registers with the same descriptor segment base register. It is shown in what an earlier step may
-/// have filled.
+/// Takes one step, and overwrites `shown` with it. The walk and the registers have the same
+/// descriptor segment base register.
 pub(crate) fn take_shown(walk: &mut Walk, regs: &mut Regs, shown: &mut Shown)
     requires dbr { walk.old.dbr ≡ regs.old.dbr }
     ensures shown { shown.new ≡ shown_of

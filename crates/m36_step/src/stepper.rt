@@ -1,4 +1,4 @@
-//! Machines that are stepped.
+//! The traits of machines that are stepped.
 
 ghost use Rattle.std.specs.Prelude.{ℕ, ◌≡◌, ◌<◌, ◌≤◌, ◌^◌, ◌⊎◌, Option, IfOk};
 ghost use Rattle.m36_step.specs.Answers.{Interrupts, IsDone, IsService, IsStep, IsStepOrEnd};
@@ -8,8 +8,8 @@ use m36_model::Regs;
 use m36_word::{NoMemory, Word};
 use std::alloc::Global;
 
-/// A machine that is stepped. A turn is a step, or a service that the step before it calls for, or says that the run has
-/// ended.
+/// A machine that is stepped. A turn is a step, a service that the step before it calls for, or
+/// the report that the run has ended.
 pub trait Stepper {
     ghost use Rattle.m36_model.specs.Registers.{RegsFields};
     ghost use Rattle.m36_step.specs.declared.turns.Turn.{Turn};
@@ -18,21 +18,21 @@ pub trait Stepper {
     /// What a turn may answer, and the state that it leaves.
     ghost next: { Self → Turn → Self → Type 0 };
 
-    /// What going back so many steps may answer, and the state that it leaves.
+    /// What going back by n steps may answer, and the state that it leaves.
     ghost went: { Self → ℕ → BackAnswer → Self → Type 0 };
 
     /// The registers.
     ghost regs: { Self → RegsFields };
 
-    /// The word of a segment, where it has a place.
+    /// The word of a segment, if it has a place.
     ghost content: { Self → ℕ → ℕ → Option ℕ };
 
-    /// One turn, told in place: whatever `turn` told before goes. Where that was a step, its record is filled anew, and so
-    /// whoever takes many turns keeps one `Turn` for all of them.
+    /// Takes one turn, and overwrites `turn` with it. If `turn` is a step, its record is reused,
+    /// so a caller that takes many turns keeps one `Turn` for all of them.
     fn turn_into(&mut self, turn: &mut Turn)
         ensures { next self.old turn.new self.new };
 
-    /// One turn.
+    /// Takes one turn.
     fn turn(&mut self) -> Turn
         ensures { next self.old result self.new }
     {
@@ -41,21 +41,22 @@ pub trait Stepper {
         turn
     }
 
-    /// Goes back so many steps.
+    /// Goes back by `n` steps.
     fn back(&mut self, n: u32) -> BackAnswer
         ensures { went self.old n result self.new };
 
-    /// The registers as they stand.
+    /// The current registers.
     fn regs(&self) -> &Regs
         ensures { result.now ≡ regs self.now };
 
-    /// The word of a segment, whoever asks for it; None where it has no place. Nothing changes, and no mark is set.
+    /// The word of a segment, without access checks; None if it has no place. Nothing changes, and
+    /// no mark is set.
     fn content(&self, seg: u16, word: u32) -> Option<Word>
         requires seg { seg < 2 ^ 15 }
         requires word { word < 2 ^ 18 }
         ensures { result ≡ content self.now seg word };
 
-    /// Whoever has not gone back stays as he is.
+    /// `back` changes nothing unless it answers Done.
     ghost stays: { (before : Self) (n : ℕ) (answer : BackAnswer) (after : Self)
         → went before n answer after → IsDone answer ⊎ (after ≡ before) };
 
@@ -69,7 +70,7 @@ pub trait Stepper {
         → next first one second → next second two third → Interrupts one → IsStep two → ⊥ };
 }
 
-/// A machine whose turns are a function of its state, and of which there may be a second one.
+/// A machine whose turns are a function of its state, and which can be copied.
 pub trait Replay: Stepper {
     ghost use Rattle.m36_step.specs.declared.turns.Turn.{Turn};
     ghost use Rattle.m36_step.specs.Answers.{IsOn};
@@ -78,15 +79,15 @@ pub trait Replay: Stepper {
     /// What the turn from a state answers.
     ghost answer: { Self → Turn };
 
-    /// The state that it leaves.
+    /// The state that the turn from a state leaves.
     ghost after: { Self → Self };
 
-    /// A second machine in the same state. The error is want of memory alone.
+    /// A second machine in the same state. Fails only with `NoMemory`.
     fn copy(&self, alloc: Global) -> Result<Self, NoMemory>
         ensures { IfOk result (λ other. other ≡ self.now) };
 
-    /// Takes turns, at most so many, each of which is a step after which another follows. The answer is how many were taken,
-    /// which may be none; nothing is told of them.
+    /// Takes at most `most` turns, each of which is a step with the outcome Next. Returns the
+    /// number of turns taken, which may be 0. They are not recorded.
     fn hurry(&mut self, most: u32) -> u32
         ensures few { result ≤ most }
         ensures state { self.new ≡ repeated after result self.old }
@@ -103,6 +104,6 @@ pub trait Replay: Stepper {
     /// The turn of a state is one that the machine may take from it.
     ghost possible: { (state : Self) → Self.next state (answer state) (after state) };
 
-    /// A turn is a step, or an end with which nothing changes.
+    /// A turn is a step, or an end that changes nothing.
     ghost kept: { (state : Self) → IsStepOrEnd (after state ≡ state) (answer state) };
 }

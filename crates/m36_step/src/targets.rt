@@ -16,7 +16,7 @@ use crate::references::end_at;
 use m36_model::{Fault, Formed, Held, Operand36, Regs};
 use m36_walk::Walk;
 
-/// A place in core. Core has at most 2^24 words.
+/// Fills an operand with a place in core. Core has at most 2^24 words.
 fn give_place(walk: &Walk, place: u32, operand: &mut Operand36)
     requires { place < length walk.now.core }
     ensures operand { operand_fields operand.new ≡ place_only place }
@@ -30,7 +30,7 @@ fn give_place(walk: &Walk, place: u32, operand: &mut Operand36)
     };
 }
 
-/// The address alone is used; ABSA asks for its place in core.
+/// Reaches an operand of which only the address is used. For ABSA this includes its place in core.
 #[tactic(auto, using(crate::proofs::Reaching::reaching), unfolding(m36_walk::specs::Runs::LiesIn, m36_walk::specs::Runs::run_from))]
 pub(crate) fn reach_address(
     walk: &mut Walk,
@@ -62,7 +62,7 @@ pub(crate) fn reach_address(
     }
 }
 
-/// A transfer that is taken examines its target, and one that is not taken does not.
+/// Checks the target of a transfer that is taken. One that is not taken is not checked.
 #[tactic(auto, using(crate::proofs::Reaching::reaching), unfolding(m36_walk::specs::Runs::LiesIn))]
 pub(crate) fn reach_target(
     walk: &mut Walk,
@@ -95,7 +95,7 @@ pub(crate) fn reach_target(
     }
 }
 
-/// CALL6 examines its target, and the target gives the new ring.
+/// Checks the target of CALL6, which determines the new ring.
 #[tactic(auto, using(crate::proofs::Reaching::reaching), unfolding(m36_walk::specs::Runs::LiesIn))]
 pub(crate) fn reach_call(
     walk: &mut Walk,

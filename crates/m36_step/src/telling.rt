@@ -1,4 +1,4 @@
-//! The end of a step, told in its record.
+//! Records the end of a step.
 
 ghost use Rattle.std.specs.Prelude.{◌≡◌};
 ghost use Rattle.m36_step.specs.Ended.{ended_of};
@@ -6,7 +6,7 @@ ghost use Rattle.m36_step.specs.Ended.{ended_of};
 use crate::ended::Ended;
 use m36_model::StepRecord;
 
-/// Tells the end of a step in its record.
+/// Stores the end of a step into its record.
 pub(crate) fn tell(told: &mut StepRecord, ended: &Ended)
     ensures ended { ended_of told.new ≡ ended.now }
     ensures refs { told.new.refs ≡ told.old.refs }

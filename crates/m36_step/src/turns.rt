@@ -1,4 +1,4 @@
-//! What a turn of a machine answers, and what going back answers.
+//! The answers of a turn and of going back.
 
 use arrayvec::ArrayVec;
 use m36_model::{At, End, LinkCode, StepRecord};
@@ -8,11 +8,11 @@ use std::marker::Model;
 /// A link service: a link was snapped for a ring, or refused.
 #[derive(Drop)]
 pub struct LinkNote {
-    /// The link as `name$entry`, up to 65 characters; `?` where the word is no link.
+    /// The link as `name$entry`, up to 65 characters; `?` if the word is not a link.
     pub name: ArrayVec<u8, 65>,
-    /// The pair that stands in place of the link from here on, or why there is none.
+    /// The pair that replaces the link, or the reason why there is none.
     pub answer: Result<Pair, LinkCode>,
-    /// The word of the link, as the fault named it.
+    /// The address of the link word, as the fault reported it.
     pub at: At,
     /// The ring for which the link is snapped; 3 bits.
     pub ring: u8,
@@ -43,32 +43,32 @@ impl Model for ConsoleNote {
     ghost view = { λ n. n.bytes.items };
 }
 
-/// What a turn answers.
+/// The answer of a turn.
 #[derive(Drop)]
 pub enum Turn {
     /// A step was taken.
     Stepped(StepRecord),
-    /// A link was snapped, or refused, and then the next turn answers Ended.
+    /// A link was snapped, or refused; after a refusal the next turn answers Ended.
     Linked(LinkNote),
-    /// The console has written.
+    /// The console service has written characters.
     Console(ConsoleNote),
-    /// The run has ended. Nothing has changed from the second such answer on.
+    /// The run has ended. After the first such answer the state is fixed.
     Ended(End),
-    /// No more steps can be counted. Nothing has changed.
+    /// The count of steps is at its maximum. Nothing has changed.
     Full,
-    /// A service found no memory. Nothing has changed.
+    /// A service ran out of memory. Nothing has changed.
     NoMemory,
 }
 
-/// What going back answers.
+/// The answer of going back.
 #[derive(Clone, Copy, PartialEq, Eq)]
 pub enum BackAnswer {
-    /// The machine stands so many steps earlier.
+    /// The machine is in the state n steps earlier.
     Done,
-    /// Only so many steps were taken. Nothing has changed.
+    /// Fewer steps were taken, namely this many. Nothing has changed.
     Before(u64),
-    /// This machine does not go back. Nothing has changed.
+    /// This machine cannot go back. Nothing has changed.
     Unable,
-    /// No memory was found. Nothing has changed.
+    /// Out of memory. Nothing has changed.
     NoMemory,
 }

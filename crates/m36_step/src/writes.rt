@@ -1,4 +1,4 @@
-//! The words of an instruction, written together once nothing can refuse it.
+//! Writes the words of an instruction, all together, once nothing can refuse it any more.
 
 ghost use Rattle.std.specs.Prelude.{◌≡◌, ◌<◌, ◌^◌, length};
 ghost use Rattle.m36_model.specs.Act.{Whole, Left, Right};
@@ -17,7 +17,7 @@ use m36_model::{Formed, Held};
 use m36_walk::Walk;
 use m36_word::{Pair, Word};
 
-/// A word with another left half.
+/// A word with its left half replaced.
 #[inline(always)]
 fn with_left(old: Word, half: Word) -> Word
     requires { half < 2 ^ 18 }
@@ -26,7 +26,7 @@ fn with_left(old: Word, half: Word) -> Word
     Word::low((half.value() << 18) + old.value() % (1 << 18))
 }
 
-/// A word with another right half.
+/// A word with its right half replaced.
 #[inline(always)]
 fn with_right(old: Word, half: Word) -> Word
     requires { half < 2 ^ 18 }
@@ -35,7 +35,7 @@ fn with_right(old: Word, half: Word) -> Word
     Word::low((old.value() >> 18 << 18) + half.value())
 }
 
-/// A word with a part of it written.
+/// A word with this part replaced.
 #[inline(always)]
 fn with_part(part: Part, old: Word, value: Word) -> Word
     requires { PartHolds part value }
@@ -48,7 +48,7 @@ fn with_part(part: Part, old: Word, value: Word) -> Word
     }
 }
 
-/// Writes a word, or a half into the word as it stands.
+/// Writes a word, or replaces a half of the word in core.
 #[inline(always)]
 pub(crate) fn write_word(walk: &mut Walk, place: u32, part: Part, value: Word)
     requires place { place < length walk.old.core }
@@ -75,7 +75,7 @@ fn write_block(walk: &mut Walk, place: u32, block: &[Pair; 8])
     walk.store_block(place, block);
 }
 
-/// Writes the words that an effect gives, or its half.
+/// Writes the words that an effect gives, or the half.
 #[tactic(auto, unfolding(m36_model::specs::Core::core_put, m36_walk::specs::Runs::run_from, m36_walk::specs::Runs::LiesIn))]
 fn write_operand(walk: &mut Walk, operated: &Operated, put: &Held)
     requires run { LiesIn (length walk.old.core) operated.now.place

@@ -8,7 +8,7 @@ use Rattle.m36_text.proofs.DigitLaws.{length_octal}
 use Rattle.m36_trace.specs.Spaced.{spaced, all_triples}
 use Rattle.m36_trace.specs.declared.triples.TheConstants.{TRIPLES}
 
--- the table is computed
+-- the table has its defined values
 pub triples : TRIPLES ≡ all_triples
 unfolding all_triples octal_text digits
 triples = refl
@@ -30,7 +30,7 @@ triple_low v =
     let c : 48 + v % 512 / 1 % 8 ≡ 48 + v / 1 % 8 = omega arith in
     λ i. a i ∷ (b i ∷ (c i ∷ []))
 
--- a word is four times three digits, and a half twice
+-- a word is four groups of three digits, and a half is two
 word_by_threes :
     (w : ℕ) → word_text w ≡ ((octal_text 3 (w / 2 ^ 27) ++ octal_text 3 (w / 2 ^ 18)) ++ octal_text 3 (w / 2 ^ 9)) ++ octal_text 3 w
 unfolding octal_text digits
@@ -54,7 +54,7 @@ half_by_threes h =
     let c : 48 + h / 8 ^ 3 % 8 ≡ 48 + h / 2 ^ 9 / 1 % 8 = omega arith in
     λ i. a i ∷ (b i ∷ (c i ∷ octal_text 3 h))
 
--- what was put at a place is three digits and a space, of which the digits come first
+-- three digits and a space were written at an index; the digits come first
 pub digits_put :
     (place v : ℕ) (old new triple : List ℕ)
     → ((count : ℕ) → count ≤ 4 → take (place + count) new ≡ take place old ++ take count triple)

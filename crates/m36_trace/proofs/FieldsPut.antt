@@ -24,7 +24,7 @@ use Rattle.m36_trace.specs.TraceLine.{fields_by, line_of, shown_line, word_of_se
 two_put : (before a b : List ℕ) → (before ++ a) ++ spaced b ≡ before ++ spaced (a ++ b)
 two_put before a b = simp append_assoc
 
--- a front of eight bytes, and a word
+-- a front part of eight bytes, and a word number
 pub place_put :
     (place ring mark seg word end : ℕ) (front start first last : List ℕ)
     → ((count : ℕ) → count ≤ 8 → take (place + count) first ≡ take place start ++ take count front)
@@ -95,7 +95,7 @@ final_is ring seg None front = refl
 front_place : (ring seg word : ℕ) → kept_place ring 32 seg word ≡ octal_text 1 ring ++ 32 ∷ word_of_segment seg word
 front_place ring seg word = simp append_assoc
 
--- what is kept by the values of a step that another may follow is its line
+-- the kept parts of a step whose outcome is Next, with its other values, give its line
 kept_is :
     (n address_ring address_seg : ℕ) (ppr : PprFields) (word : Option ℕ) (at : Option FinalFields) (after : RegsFields)
     → HasFront address_ring address_seg at
@@ -153,7 +153,7 @@ shown_pushes done old new text n shown after serves pushed =
 
 pub ruleset pushing = (shown_pushes)
 
--- what is kept serves, where the number is short
+-- the kept parts can be used if the number is short
 pub set_serves :
     (short : Bool) (text : TraceText) (n : ℕ) (ppr : PprFields) (at : Option FinalFields) (outcome : Outcome) (after : RegsFields)
     → OnTrue short (text.number.next ≡ n + 1) → text.place.ring ≡ ppr.prr → text.place.seg ≡ ppr.psr

@@ -1,4 +1,4 @@
--- The number of a step in decimal, and how it becomes that of the next.
+-- The number of a step in decimal, and how it becomes the next number.
 use Rattle.std.proofs.Common.{◌≡◌, ℕ, zero, suc, ◌+◌, ◌-◌, ◌/◌, ◌%◌, ◌^◌, ◌<◌, ◌≤◌, List, [], ◌∷◌, ◌++◌, length, take, drop, map, set, get_or, refl, sym, ap, subst, ◌∙◌, arith, length-append}
 use Rattle.std.specs.Int.Digits.{digits_of}
 use Rattle.std.proofs.lemmas.Int.Digits.{length-digits_of-le}
@@ -27,7 +27,7 @@ decimal_short n below =
 pub decimal_some : (n : ℕ) → 0 < length (decimal_text n)
 decimal_some n = omega (arith, length_decimal n)
 
--- digits that were put first, and a space
+-- digits that were written first, and a space
 pub digits_put :
     (bytes digits copied : List ℕ) (size : ℕ)
     → copied ≡ digits → size ≡ length digits → 0 < size → size < length bytes
@@ -41,7 +41,7 @@ digits_put bytes digits copied size is many some within =
     ∙ take_more_set (put_mid 0 size bytes copied) size 32 (omega arith)
     ∙ ap (λ l. l ++ 32 ∷ []) (take_at copied (post_of 0 size bytes) size (sym same) ∙ is)
 
--- how the digits of a number lie, of which the last is at a place
+-- the digits of n, the last of them at index `last`, and a space
 record LiesAt (bytes : List ℕ) (last n : ℕ) : Type 0 where
   pub place : last ≡ length (front n)
   pub text : take (last + 2) bytes ≡ (front n ++ (48 + n % 10) ∷ []) ++ 32 ∷ []
@@ -108,8 +108,8 @@ unfolding decimal_text
 decimal_all zero some = absurd (omega arith)
 decimal_all (suc v) some = refl
 
--- Below the digits that became zeros the digits of a number are left to be raised by 1: then all digits are those of the number
--- after n.
+-- The digits after `place` have become zeros, and those up to `place` are to be increased by 1 as a number: then all
+-- digits are those of n + 1.
 pub record Carries (all : List ℕ) (place n : ℕ) : Type 0 where
   pub left : ℕ
   pub inside : place + 1 < length all
@@ -130,7 +130,7 @@ carry_start all last n is size =
           ∙ ap (λ l. decimal_text (n + 1) ++ l) (drop_at d (32 ∷ []) (last + 1) end);
     }
 
--- where the last of those digits is, and what comes before it
+-- the index of the last of those digits, and what precedes it
 record EndsAt (all : List ℕ) (place m : ℕ) : Type 0 where
   pub before : take place all ≡ front m
   pub size : length (front m) ≡ place
@@ -159,7 +159,7 @@ some_tens zero place many some =
     absurd (omega (arith, none, many))
 some_tens (suc v) place many some = omega arith
 
--- a nine becomes a zero, and the digits before it are left
+-- a nine becomes a zero, and the digits before it are still to be increased
 pub carry_more :
     (all : List ℕ) (place n : ℕ)
     → Carries all place n → 0 < place → get_or all place 0 ≡ 57 → Carries (set all place 48) (place - 1) n
@@ -193,7 +193,7 @@ carry_more all place n c some nine =
           ∙ c.rest;
     }
 
--- another digit is raised by 1, and that is all
+-- a digit other than nine is increased by 1, and the carry ends
 pub carry_end :
     (all : List ℕ) (place n digit : ℕ)
     → Carries all place n → digit ≡ get_or all place 0 → digit < 57

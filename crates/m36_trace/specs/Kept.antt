@@ -1,4 +1,4 @@
--- What is kept of a trace line from one step to the next, as a line with what a step tells.
+-- A trace line made of the kept parts and the other values of a step.
 use Rattle.std.specs.Prelude.{ℕ, ◌≡◌, List, ◌++◌, ◌+◌, ◌-◌, Option, codes}
 use Rattle.m36_text.specs.Digits.{decimal_text, word_text}
 use Rattle.m36_text.specs.Lines.{as_line}
@@ -11,8 +11,8 @@ use Rattle.m36_trace.specs.Spaced.{spaced, kept_place, kept_final, HasFront}
 use Rattle.m36_trace.specs.TraceLine.{instruction_text, indicators_text}
 use Rattle.m36_trace.specs.declared.text.TraceText.{TraceText}
 
--- a line by its number, the ring and segment of the instruction and of the address, A and Q, and by
--- what is not kept
+-- a line whose outcome is Next, from its number, the ring and segment number of the instruction
+-- and of the address, A, Q, and the values that are not kept
 unfoldable pub kept_by : ℕ → ℕ → ℕ → ℕ → ℕ → ℕ → ℕ → ℕ → Option ℕ → Option FinalFields → Ind
     → List ℕ
 kept_by n ring seg address_ring address_seg a q ic word at ind =
@@ -29,7 +29,7 @@ kept_line text ppr word at after =
     kept_by (text.number.next - 1) text.place.ring text.place.seg
     text.address.ring text.address.seg text.a.of text.q.of ppr.ic word at after.ind
 
--- What is kept serves for the line of step n.
+-- The kept parts are those of the line of step n, and its outcome is Next.
 pub record Serves (text : TraceText) (n : ℕ) (ppr : PprFields) (at : Option FinalFields)
     (outcome : Outcome) (after : RegsFields) : Type 0 where
   pub number : text.number.next ≡ n + 1

@@ -1,26 +1,26 @@
--- The fields of a trace line as they are written one after the other.
+-- The fields of a trace line, in the form in which they are written one after the other.
 use Rattle.std.specs.Prelude.{ℕ, ◌≡◌, List, [], ◌∷◌, ◌++◌, map, Option, Some, None, codes}
 use Rattle.std.specs.List.{range_with_len}
 use Rattle.m36_text.specs.Digits.{octal_text, segment_digits, word_text, half_text}
 use Rattle.m36_model.specs.Fields.{FinalFields}
 
--- a field with the space after it
+-- a field and a space
 abbrev pub spaced : List ℕ → List ℕ
 spaced field = field ++ 32 ∷ []
 
--- the numbers below 512, each in three octal digits with a space after them
+-- the numbers below 512, each in three octal digits and a space
 unfoldable pub all_triples : List (List ℕ)
 all_triples = map (λ v. spaced (octal_text 3 v)) (range_with_len 0 512)
 
--- a ring and a segment with a character between them, and the bar before a word of the segment
+-- a ring and a segment number with a character between them, and the bar before the word number
 abbrev pub front_text : ℕ → ℕ → ℕ → List ℕ
 front_text ring mark seg = octal_text 1 ring ++ (mark ∷ (octal_text segment_digits seg ++ codes "|"))
 
--- the same with a word of the segment
+-- the same with the word number
 abbrev pub kept_place : ℕ → ℕ → ℕ → ℕ → List ℕ
 kept_place ring mark seg word = front_text ring mark seg ++ half_text word
 
--- an address by the ring and segment that are kept, or the operand that the address itself is
+-- an address with the kept ring and segment number, or the direct operand
 abbrev pub kept_operand : ℕ → ℕ → ℕ → Option ℕ → List ℕ
 kept_operand ring seg word (Some operand) = codes "=" ++ word_text operand
 kept_operand ring seg word None = kept_place ring 58 seg word
@@ -29,7 +29,7 @@ abbrev pub kept_final : ℕ → ℕ → Option FinalFields → List ℕ
 kept_final ring seg (Some end) = kept_operand ring seg end.at.word end.direct
 kept_final ring seg None = codes "-"
 
--- the ring and segment that are kept are those of the final address, where there is one
+-- the kept ring and segment number are those of the final address, if there is one
 abbrev pub HasFront : ℕ → ℕ → Option FinalFields → Type 0
 HasFront ring seg (Some end) = (ring ≡ end.at.ring) × (seg ≡ end.at.seg)
 HasFront ring seg None = Unit {0}

@@ -1,4 +1,4 @@
--- The trace line of a step: its fields in order, parted by one space.
+-- The trace line of a step: its fields in order, separated by one space.
 use Rattle.std.specs.Prelude.{ℕ, Bool, List, [], ◌∷◌, ◌++◌, Option, Some, None, codes}
 use Rattle.std.specs.Prelude.{if◌then◌else◌, ◌==◌}
 use Rattle.m36_text.specs.Digits.{octal_text, decimal_text, segment_digits, word_text, half_text}
@@ -15,30 +15,30 @@ use Rattle.m36_model.specs.declared.outcome.Outcome.TheVariants.{Next, Faulted, 
 use Rattle.m36_model.specs.declared.record.StepRecord.{StepRecord}
 use Rattle.m36_model.specs.declared.record.Shown.{Shown}
 
--- a segment and a word of it
+-- a segment number, a bar and a word number
 abbrev pub word_of_segment : ℕ → ℕ → List ℕ
 word_of_segment seg word = octal_text segment_digits seg ++ codes "|" ++ half_text word
 
--- the instruction's word, or a dash where the fetch failed
+-- the instruction's word, or a dash if the fetch was refused
 abbrev pub instruction_text : Option ℕ → List ℕ
 instruction_text (Some word) = word_text word
 instruction_text None = codes "-"
 
--- the ring and the address
+-- the ring, a colon and the address
 abbrev pub address_text : AtFields → List ℕ
 address_text at = octal_text 1 at.ring ++ codes ":" ++ word_of_segment at.seg at.word
 
--- an address, or the operand that the address itself is
+-- an address, or an equals sign and the direct operand
 abbrev pub operand_text : AtFields → Option ℕ → List ℕ
 operand_text at (Some word) = codes "=" ++ word_text word
 operand_text at None = address_text at
 
--- the final address, or a dash where none was formed
+-- the final address, or a dash if no address was formed
 abbrev pub final_text : Option FinalFields → List ℕ
 final_text (Some final) = operand_text final.at final.direct
 final_text None = codes "-"
 
--- an indicator's letter where it is on, and a point where it is off
+-- an indicator's letter if it is on, and a point if it is off
 abbrev pub letter : List ℕ → Bool → List ℕ
 letter name on = if on then name else codes "."
 
@@ -48,7 +48,7 @@ indicators_text i =
     letter (codes "z") i.zero ++ letter (codes "n") i.negative ++ letter (codes "c") i.carry
     ++ letter (codes "o") i.overflow ++ letter (codes "m") i.mask ++ letter (codes "t") i.tally
 
--- a fault by its number, and an access violation by its own number too
+-- a fault with its number; an access violation also with its own number
 abbrev pub fault_text : Fault → List ℕ
 fault_text f =
     if f.number == access_violation
@@ -60,7 +60,7 @@ stop_text Dis = codes "dis"
 stop_text Operation = codes "stop operation"
 stop_text Tag = codes "stop tag"
 
--- an outcome, with the text of the one that another step may follow
+-- an outcome, with `next` as the text of Next
 abbrev pub outcome_with : List ℕ → Outcome → List ℕ
 outcome_with next Next = next
 outcome_with next (Faulted f) = fault_text f
@@ -69,8 +69,8 @@ outcome_with next (Stopped s) = stop_text s
 abbrev pub outcome_text : Outcome → List ℕ
 outcome_text outcome = outcome_with (codes "next") outcome
 
--- The fields of step n: where the instruction stood, its word, the final address, the outcome, and
--- A, Q and the indicators after the step.
+-- The fields of step n: its number, the place of the instruction, its word, the final address, A,
+-- Q and the indicators after the step, and the outcome.
 abbrev pub fields_by : ℕ → PprFields → Option ℕ → Option FinalFields → Outcome → RegsFields
     → List (List ℕ)
 fields_by n ppr word at outcome after =
@@ -91,7 +91,7 @@ fields n r = fields_by n r.ppr r.word r.at r.outcome r.after
 unfoldable pub line_of : ℕ → StepRecord → List ℕ
 line_of n r = joined_by_spaces (fields n r)
 
--- the line of step n by what a record shows, and the registers after the step
+-- the line of step n, from what a trace line shows and the registers after the step
 unfoldable pub shown_line : ℕ → Shown → RegsFields → List ℕ
 shown_line n shown after =
     joined_by_spaces (fields_by n shown.ppr shown.word shown.at shown.outcome after)

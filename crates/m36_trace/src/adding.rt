@@ -1,4 +1,4 @@
-//! A trace line that is added to a block of lines.
+//! Adds a trace line to a block of lines.
 
 ghost use Rattle.std.specs.Prelude.{[], ◌∷◌, ◌++◌, ◌≡◌, ◌<◌, length};
 ghost use Rattle.std.specs.Bool.{OnTrue, OnFalse};
@@ -13,8 +13,8 @@ use arrayvec::ArrayString;
 use m36_model::{Regs, Shown, StepRecord};
 use m36_outside::{Block, Put, Sink};
 
-/// Adds the line of step n with its line feed to a block, as one piece. Of one step after the other only what has changed is
-/// spelled anew.
+/// Adds the line of step n, with its line feed, to a block as one piece. Only what has changed
+/// since the line before is spelled again.
 #[inline(always)]
 #[tactic(auto, using(crate::proofs::FieldsPut::adding))]
 pub fn add_step<S: Sink>(
@@ -35,7 +35,7 @@ pub fn add_step<S: Sink>(
     }
 }
 
-/// The same by what a record shows of the step, and the registers after it.
+/// As `add_step`, given what a trace line shows of the step, and the registers after it.
 #[inline(always)]
 #[tactic(auto, using(crate::proofs::FieldsPut::adding))]
 pub fn add_shown<S: Sink>(
@@ -57,8 +57,8 @@ pub fn add_shown<S: Sink>(
     }
 }
 
-/// Adds the line of step n with its line feed to a block, as `add_shown` does, where there is room for it and what is kept
-/// of earlier lines serves for it. Otherwise the block is as it was.
+/// As `add_shown`, but without an output: adds the line only if the block has room for it and the
+/// kept parts can be used for it. Otherwise the block is unchanged.
 #[inline(always)]
 #[tactic(auto, using(crate::proofs::FieldsPut::pushing))]
 pub fn push_shown(
@@ -79,7 +79,7 @@ pub fn push_shown(
     }
 }
 
-// Adds a line for which nothing is kept.
+// Adds a line without the kept parts.
 #[inline(never)]
 fn add_other<S: Sink>(n: u64, told: &StepRecord, block: &mut Block, out: &mut S) -> Put
     ensures adds { Adds result block.old block.new (as_line (line_of n told.now) ∷ [])
@@ -104,7 +104,7 @@ fn add_other_shown<S: Sink>(
     add_whole(shown_line(n, shown, after), block, out)
 }
 
-// Adds a whole line with its line feed.
+// Adds a line that was made as a whole, with its line feed.
 fn add_whole<S: Sink>(mut line: ArrayString<160>, block: &mut Block, out: &mut S) -> Put
     requires { length line.bytes < 160 }
     ensures adds { Adds result block.old block.new (as_line line.bytes ∷ [])

@@ -1,6 +1,7 @@
-//! Octal digits of words and places, as arrays of characters.
+//! Octal digits of words and addresses, as arrays of characters.
 //!
-//! They are written out digit by digit, since a line has about fifty of them and is made for every step.
+//! The code computes each digit separately and has no loop, since a line has about fifty digits
+//! and is made for every step.
 
 ghost use Rattle.std.specs.Prelude.{◌≡◌, ◌+◌, ◌≤◌, ◌<◌, ◌%◌, ◌^◌, ◌++◌, length, IsAscii};
 ghost use Rattle.m36_text.specs.Digits.{octal_text, word_text, character};
@@ -18,7 +19,7 @@ pub fn last_digit(v: u64) -> u8
     b'0' + (v % 8) as u8
 }
 
-/// A ring in one digit.
+/// A ring, in one digit.
 #[tactic(auto, unfolding(m36_text::specs::Digits::octal_text, m36_text::specs::Digits::digits))]
 pub fn ring_digit(ring: u8) -> [u8; 1]
     requires { ring < 2 ^ 3 }
@@ -27,7 +28,7 @@ pub fn ring_digit(ring: u8) -> [u8; 1]
     [b'0' + ring]
 }
 
-/// A word in twelve digits.
+/// A word, in twelve digits.
 #[tactic(auto, unfolding(m36_text::specs::Digits::octal_text, m36_text::specs::Digits::digits))]
 pub fn word_digits(word: Word) -> [u8; 12]
     ensures { result ≡ word_text word }
@@ -49,7 +50,7 @@ pub fn word_digits(word: Word) -> [u8; 12]
     ]
 }
 
-/// A segment in five digits and a word of it in six.
+/// A segment number in five digits, a bar, and a word number in six.
 #[tactic(auto, unfolding(m36_text::specs::Digits::octal_text, m36_text::specs::Digits::digits))]
 pub fn place_digits(seg: u16, word: u32) -> [u8; 12]
     ensures { result ≡ word_of_segment seg word }
@@ -72,7 +73,7 @@ pub fn place_digits(seg: u16, word: u32) -> [u8; 12]
     ]
 }
 
-/// Puts characters at the end of a line that has room for them.
+/// Appends characters to a line that has room for them.
 pub fn put_characters<const CAP: usize, const N: usize>(
     line: &mut ArrayString<CAP>,
     characters: &[u8; N],

@@ -7,7 +7,7 @@ use crate::fields::{put_decimal, put_fault, stop_name};
 use arrayvec::ArrayString;
 use m36_model::Outcome;
 
-// Puts how a run ended, by its last outcome.
+// Appends how a run ended, given its last outcome.
 fn put_ending(line: &mut ArrayString<160>, last: Outcome)
     requires room { length line.old.bytes + 47 ≤ 160 }
     ensures text { line.new.bytes ≡ line.old.bytes ++ ending_text last }
@@ -20,7 +20,8 @@ fn put_ending(line: &mut ArrayString<160>, last: Outcome)
     }
 }
 
-/// The end line of a run of so many steps, without a line feed, by the last outcome. It has at most 72 bytes.
+/// The end line of a run of `steps` steps, given the last outcome; without a line feed. It has at
+/// most 72 bytes.
 #[tactic(auto, unfolding(crate::specs::EndLine::end_line_of), using(crate::proofs::Lines::ended_in_turn))]
 pub fn end_line(last: Outcome, steps: u64) -> ArrayString<160>
     ensures text { result.bytes ≡ end_line_of last steps }

@@ -1,4 +1,4 @@
-//! The fields of a trace line, each put at the end of a line that has room for it.
+//! Appends the fields of a trace line to a line that has room for them.
 
 ghost use Rattle.std.specs.Prelude.{◌≡◌, ◌+◌, ◌≤◌, ◌<◌, ◌^◌, ◌++◌, length};
 ghost use Rattle.m36_text.specs.Digits.{octal_text, decimal_text, word_text};
@@ -12,10 +12,10 @@ use m36_model::{At, Fault, Final, Ind, Outcome, Stop};
 use m36_text::decimal;
 use m36_word::Word;
 
-/// The number of an access violation.
+/// The number of the access violation fault.
 const ACCESS_VIOLATION: u8 = 20;
 
-/// Puts a ring, which has one digit.
+/// Appends a ring, in one digit.
 #[tactic(auto, using(m36_text::proofs::DigitLaws::octal_ascii))]
 pub fn put_ring<const CAP: usize>(line: &mut ArrayString<CAP>, ring: u8)
     requires ring { ring < 2 ^ 3 }
@@ -26,7 +26,7 @@ pub fn put_ring<const CAP: usize>(line: &mut ArrayString<CAP>, ring: u8)
     put_characters(line, &ring_digit(ring));
 }
 
-/// Puts a word, which has twelve digits.
+/// Appends a word, in twelve digits.
 #[tactic(auto, using(m36_text::proofs::DigitLaws::octal_ascii))]
 pub fn put_word(line: &mut ArrayString<160>, word: Word)
     requires room { length line.old.bytes + 12 ≤ 160 }
@@ -36,7 +36,7 @@ pub fn put_word(line: &mut ArrayString<160>, word: Word)
     put_characters(line, &word_digits(word));
 }
 
-/// Puts a segment and a word of it, at the end of any text that has room for them.
+/// Appends a segment number and a word number to any text that has room for them.
 #[tactic(auto, using(crate::proofs::Ascii::place_is_ascii))]
 pub fn put_place<const CAP: usize>(line: &mut ArrayString<CAP>, seg: u16, word: u32)
     requires seg { seg < 2 ^ 15 }
@@ -48,7 +48,7 @@ pub fn put_place<const CAP: usize>(line: &mut ArrayString<CAP>, seg: u16, word: 
     put_characters(line, &place_digits(seg, word));
 }
 
-/// Puts the instruction's word.
+/// Appends the instruction's word, or a dash if there is none.
 pub fn put_instruction(line: &mut ArrayString<160>, word: Option<Word>)
     requires room { length line.old.bytes + 12 ≤ 160 }
     ensures text { line.new.bytes ≡ line.old.bytes ++ instruction_text word }
@@ -60,7 +60,7 @@ pub fn put_instruction(line: &mut ArrayString<160>, word: Option<Word>)
     }
 }
 
-/// Puts an address with its ring, at the end of any text that has room for them.
+/// Appends an address with its ring to any text that has room for it.
 pub fn put_address<const CAP: usize>(line: &mut ArrayString<CAP>, at: At)
     requires room { length line.old.bytes + 14 ≤ CAP }
     ensures text { line.new.bytes ≡ line.old.bytes ++ address_text at }
@@ -71,7 +71,7 @@ pub fn put_address<const CAP: usize>(line: &mut ArrayString<CAP>, at: At)
     put_place(line, at.seg, at.word);
 }
 
-/// Puts the final address, or the operand that the address itself is.
+/// Appends the final address or the direct operand, or a dash if no address was formed.
 pub fn put_final(line: &mut ArrayString<160>, end: Option<Final>)
     requires room { length line.old.bytes + 14 ≤ 160 }
     ensures text { line.new.bytes ≡ line.old.bytes ++ final_text end }
@@ -83,7 +83,7 @@ pub fn put_final(line: &mut ArrayString<160>, end: Option<Final>)
     }
 }
 
-/// Puts an address, or an operand that an address is.
+/// Appends an address, or an equals sign and the direct operand.
 pub fn put_operand(line: &mut ArrayString<160>, at: At, direct: Option<Word>)
     requires room { length line.old.bytes + 14 ≤ 160 }
     ensures text { line.new.bytes ≡ line.old.bytes ++ operand_text at direct }
@@ -98,7 +98,7 @@ pub fn put_operand(line: &mut ArrayString<160>, at: At, direct: Option<Word>)
     }
 }
 
-/// Puts the letter of an indicator that is on, and a point for one that is off.
+/// Appends the letter of an indicator that is on, or a point for one that is off.
 pub fn put_indicator<const CAP: usize>(line: &mut ArrayString<CAP>, name: &str, on: bool)
     requires one { length name.now ≡ 1 }
     requires room { length line.old.bytes < CAP }
@@ -108,7 +108,7 @@ pub fn put_indicator<const CAP: usize>(line: &mut ArrayString<CAP>, name: &str, 
     line.push_str(if on { name } else { "." });
 }
 
-/// Puts the six indicators, at the end of any text that has room for them.
+/// Appends the six indicators to any text that has room for them.
 pub fn put_indicators<const CAP: usize>(line: &mut ArrayString<CAP>, ind: &Ind)
     requires room { length line.old.bytes + 6 ≤ CAP }
     ensures text { line.new.bytes ≡ line.old.bytes ++ indicators_text ind.now }
@@ -122,7 +122,7 @@ pub fn put_indicators<const CAP: usize>(line: &mut ArrayString<CAP>, ind: &Ind)
     put_indicator(line, "t", ind.tally);
 }
 
-/// Puts a decimal number.
+/// Appends a decimal number.
 pub fn put_decimal(line: &mut ArrayString<160>, v: u64)
     requires room { length line.old.bytes + 20 ≤ 160 }
     ensures text { line.new.bytes ≡ line.old.bytes ++ decimal_text v }
@@ -131,7 +131,7 @@ pub fn put_decimal(line: &mut ArrayString<160>, v: u64)
     line.push_str(decimal(v).as_str());
 }
 
-/// Puts the number of a fault, and for an access violation which one.
+/// Appends the number of a fault and, for an access violation, its own number after a point.
 pub fn put_fault(line: &mut ArrayString<160>, fault: Fault)
     requires room { length line.old.bytes + 47 ≤ 160 }
     ensures text { line.new.bytes ≡ line.old.bytes ++ fault_text fault }
@@ -157,7 +157,7 @@ pub fn stop_name(stop: Stop) -> &'static str
     }
 }
 
-/// Puts the outcome.
+/// Appends the outcome.
 pub fn put_outcome(line: &mut ArrayString<160>, outcome: Outcome)
     requires room { length line.old.bytes + 47 ≤ 160 }
     ensures text { line.new.bytes ≡ line.old.bytes ++ outcome_text outcome }

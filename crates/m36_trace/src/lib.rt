@@ -1,14 +1,20 @@
-//! The trace line: what one step of the machine did, as a line of text; and the end line of a run.
+//! The trace line, which says what one step of the machine did; and the end line of a run.
 //!
-//! A trace line has nine fields, parted by one space: the step's number from 1; the procedure ring; segment and word of the
-//! instruction; its word; the final address; A; Q; the indicators; the outcome. Numbers of words and places are octal,
-//! those of steps and faults decimal. A, Q and the indicators are those after the step. [`line`] gives exactly this
-//! text. [`add_step`] and [`add_shown`] add it with its line feed to a block of lines, and spell only what is not that of the
-//! line before, which they keep in a [`TraceText`]. [`push_shown`] does so where the block has room, and needs no output. An end line says how a run ended, and after how many steps:
-//! [`end_line`]. Neither takes memory. Who writes other lines takes a segment with a word of it from [`put_place`] or
-//! [`place_digits`], with the ring from [`put_address`], and the indicators from [`put_indicators`].
+//! A trace line has nine fields, separated by one space: the number of the step, from 1; the
+//! procedure ring; segment and word number of the instruction; its word; the final address; A; Q;
+//! the indicators; the outcome. Words and addresses are octal, the numbers of steps and faults
+//! decimal. A, Q and the indicators are those after the step. [`line`] gives exactly this text.
 //!
-//! The registers are those of the Honeywell 6180, Multics Processor Manual AL39; the lines are this simulator's own.
+//! [`add_step`] and [`add_shown`] add the line with its line feed to a block of lines. They keep
+//! parts of the line before in a [`TraceText`], and spell only what has changed. [`push_shown`]
+//! does the same without an output, if the block has room. An end line says how a run ended, and
+//! after how many steps: [`end_line`]. No line takes memory.
+//!
+//! Other crates that write lines use [`put_place`] or [`place_digits`] for a segment and a word of
+//! it, [`put_address`] for these with the ring, and [`put_indicators`].
+//!
+//! The registers are those of the Honeywell 6180, Multics Processor Manual AL39; the lines are
+//! this simulator's own.
 #![tactic(auto)]
 
 pub mod adding;

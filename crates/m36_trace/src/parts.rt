@@ -1,5 +1,5 @@
-//! What is kept of a trace line from one step to the next: parts, each with the value that it spells. A value that has not
-//! changed is not spelled anew.
+//! The parts of a trace line that are kept from one step to the next, each with the value that it
+//! spells. A value that has not changed is not spelled again.
 
 ghost use Rattle.std.specs.Prelude.{◌≡◌, ◌+◌, ◌-◌, ◌≤◌, ◌<◌, ◌^◌, ◌++◌, length, take, get_or};
 ghost use Rattle.std.specs.Bool.{OnTrue, OnFalse};
@@ -11,16 +11,16 @@ use crate::triples::put_word;
 use m36_text::decimal;
 use m36_word::Word;
 
-/// The first number that has too many digits for its part.
+/// The least number that has too many digits for its part.
 const TOO_LONG: u64 = 1_000_000_000_000_000;
 
-/// The number of a step, in decimal, and a space.
+/// The number of a step in decimal, and a space.
 #[derive(Drop)]
 pub struct NumberPart {
     pub bytes: [u8; 16],
-    /// The place of the last digit.
+    /// The index of the last digit.
     pub last: usize,
-    /// The number after it.
+    /// The number plus 1.
     pub next: u64,
     ghost short: { last < 15 },
     ghost some: { 0 < next },
@@ -38,8 +38,8 @@ impl NumberPart {
         }
     }
 
-    /// Spells a number, and answers whether it has few enough digits. That of the next step mostly differs in its last
-    /// digit alone.
+    /// Spells a number, and returns whether it has at most 15 digits. Mostly it is the number of
+    /// the next step, which differs only in its last digit.
     #[inline(always)]
     pub fn set(&mut self, n: u64) -> bool
         ensures { OnTrue result (self.new.next ≡ n + 1) }
@@ -51,7 +51,7 @@ impl NumberPart {
         self.set_else(n)
     }
 
-    // Spells a number that is not the next, or where another digit than the last differs.
+    // Spells a number that is not the next one, or that differs in more than the last digit.
     #[inline(never)]
     fn set_else(&mut self, n: u64) -> bool
         ensures { OnTrue result (self.new.next ≡ n + 1) }
@@ -66,7 +66,7 @@ impl NumberPart {
         true
     }
 
-    // Spells the next number, where it has as many digits.
+    // Spells the next number, if it has as many digits.
     fn carry(&mut self) -> bool
         requires { self.old.next < TOO_LONG }
         ensures going { OnTrue result (self.new.next ≡ self.old.next + 1) }
@@ -81,7 +81,7 @@ impl NumberPart {
         true
     }
 
-    // Spells the next number, which differs in the last digit alone.
+    // Spells the next number, which differs only in the last digit.
     #[inline(always)]
     fn count(&mut self)
         requires { get_or self.old.bytes self.old.last 0 < 57 }
@@ -103,7 +103,8 @@ impl NumberPart {
     }
 }
 
-// Makes the digits of a number, of which the last is at a place, those of the next number, where it has as many.
+// Replaces the digits of a number, with the last at index `last`, by those of the next number, if
+// it has as many.
 fn raise(bytes: &mut [u8; 16], last: usize, _n: u64) -> bool
     requires last { last < 15 }
     requires spelled { take (last + 2) bytes.old ≡ spaced (decimal_text _n) }
@@ -121,7 +122,7 @@ fn raise(bytes: &mut [u8; 16], last: usize, _n: u64) -> bool
     true
 }
 
-// Writes digits and a space, and answers where the last digit is.
+// Writes digits and a space, and returns the index of the last digit.
 
 fn put_digits(bytes: &mut [u8; 16], digits: &[u8]) -> usize
     requires some { 0 < length digits.now }
@@ -135,7 +136,7 @@ fn put_digits(bytes: &mut [u8; 16], digits: &[u8]) -> usize
     count - 1
 }
 
-/// A ring and a segment with a character between them, and the bar before a word of the segment.
+/// A ring and a segment number with a character between them, and the bar before the word number.
 #[derive(Drop)]
 pub struct FrontPart<const MARK: u8> {
     pub bytes: [u8; 8],
@@ -153,7 +154,7 @@ impl<const MARK: u8> FrontPart<MARK> {
         }
     }
 
-    /// Spells a ring and a segment, which mostly stay.
+    /// Spells a ring and a segment number, which mostly have not changed.
     #[inline(always)]
     pub fn set(&mut self, seg: u16, ring: u8)
         requires { ring < 2 ^ 3 }

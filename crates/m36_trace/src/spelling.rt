@@ -1,5 +1,6 @@
-//! The fields of a trace line, each written at a place with the space after it. Each answers where that ends. A kept part is
-//! written whole, over what comes after it, since the next field is written there.
+//! Writes the fields of a trace line into a buffer, each at an index and with a space after it.
+//! Each function returns the index after the space. A kept part is written with its padding; the
+//! next field overwrites that.
 
 ghost use Rattle.std.specs.Prelude.{◌≡◌, ◌+◌, ◌-◌, ◌≤◌, ◌++◌, [], ◌∷◌, length, take, codes};
 ghost use Rattle.m36_text.specs.Digits.{decimal_text, word_text};
@@ -13,12 +14,13 @@ use m36_model::{Final, Ind};
 use m36_outside::spelled::put_at;
 use m36_word::Word;
 
-/// What is between a ring and its segment: where the instruction was, and in an address.
+/// The character between a ring and its segment: a space for the instruction, a colon in an
+/// address.
 pub const SPACE: u8 = b' ';
 
 pub const COLON: u8 = b':';
 
-/// The number of the step, at the beginning.
+/// Writes the number of the step at the beginning.
 #[inline(always)]
 pub fn put_number(into: &mut [u8], number: &NumberPart) -> usize
     requires { 16 ≤ length into.old }
@@ -29,7 +31,7 @@ pub fn put_number(into: &mut [u8], number: &NumberPart) -> usize
     number.last + 2
 }
 
-/// A ring and a segment that are kept, and a word of the segment.
+/// Writes a kept ring and segment number, and a word number.
 #[inline(always)]
 #[tactic(auto, using(crate::proofs::FieldsPut::place_put))]
 pub fn put_place<const MARK: u8>(
@@ -57,7 +59,7 @@ fn put_dash(into: &mut [u8], place: usize) -> usize
     place + 2
 }
 
-/// The instruction's word.
+/// Writes the instruction's word, or a dash.
 #[inline(always)]
 pub fn put_instruction(into: &mut [u8], place: usize, word: Option<Word>) -> usize
     requires { place + 13 ≤ length into.old }
@@ -70,7 +72,7 @@ pub fn put_instruction(into: &mut [u8], place: usize, word: Option<Word>) -> usi
     }
 }
 
-// A word after an equals sign.
+// Writes an equals sign and a word.
 #[inline(always)]
 #[tactic(auto, using(crate::proofs::FieldsPut::operand_put))]
 fn put_operand(into: &mut [u8], place: usize, word: Word) -> usize
@@ -83,7 +85,8 @@ fn put_operand(into: &mut [u8], place: usize, word: Word) -> usize
     put_word(into, place + 1, word)
 }
 
-/// The final address, whose ring and segment are kept, or the operand that the address itself is.
+/// Writes the final address, whose ring and segment number are kept, or the direct operand, or a
+/// dash.
 #[inline(always)]
 pub fn put_final(
     into: &mut [u8],
@@ -105,7 +108,7 @@ pub fn put_final(
     }
 }
 
-/// A word that is kept.
+/// Writes a kept word.
 #[inline(always)]
 pub fn put_kept(into: &mut [u8], place: usize, part: &WordPart) -> usize
     requires { place + 16 ≤ length into.old }
@@ -116,7 +119,7 @@ pub fn put_kept(into: &mut [u8], place: usize, part: &WordPart) -> usize
     place + 13
 }
 
-/// The letter of an indicator that is on, and a point for one that is off.
+/// The letter of an indicator that is on, or a point for one that is off.
 #[inline(always)]
 fn letter(name: u8, on: bool) -> u8
     ensures { result ∷ [] ≡ letter (name ∷ []) on }
@@ -124,7 +127,7 @@ fn letter(name: u8, on: bool) -> u8
     if on { name } else { b'.' }
 }
 
-/// The indicators, and that another step may follow, with the line feed.
+/// Writes the indicators, the outcome `next` and the line feed.
 #[inline(always)]
 pub fn put_last(into: &mut [u8], place: usize, ind: &Ind) -> usize
     requires { place + 12 ≤ length into.old }

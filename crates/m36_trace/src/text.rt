@@ -1,4 +1,4 @@
-//! The trace line of a step, of which parts are kept from one step to the next.
+//! The trace line of a step, with parts that are kept from one step to the next.
 
 ghost use Rattle.std.specs.Prelude.{◌≡◌, ◌≤◌, length, take};
 ghost use Rattle.std.specs.Bool.{OnTrue};
@@ -14,7 +14,8 @@ use m36_outside::Spelled;
 use m36_outside::spelled::SHORT;
 use m36_word::Word;
 
-/// What is kept of a trace line: the number of the step, the ring and segment of the instruction and of the address, A and Q.
+/// The kept parts of a trace line: the number of the step, the ring and segment number of the
+/// instruction and of the address, A and Q.
 #[derive(Drop)]
 pub struct TraceText {
     number: NumberPart,
@@ -25,7 +26,7 @@ pub struct TraceText {
 }
 
 impl TraceText {
-    /// What is kept before the first step.
+    /// The kept parts before the first step.
     pub fn new() -> TraceText {
         TraceText {
             number: NumberPart::new(),
@@ -36,8 +37,8 @@ impl TraceText {
         }
     }
 
-    /// Spells what is kept of the line of step n, and answers whether it serves for that line: another step may follow, and the
-    /// number has at most 15 digits.
+    /// Sets the kept parts to those of step n, and returns whether they can be used for its line:
+    /// if the outcome is Next and the number has at most 15 digits.
     #[inline(always)]
     pub fn set(
         &mut self,
@@ -72,7 +73,7 @@ fn set_address(front: &mut FrontPart<COLON>, end: &Option<Final>)
     }
 }
 
-// Writes a line by what is kept of it, and what is told of the step besides.
+// Writes a line, given its kept parts and the other values of the step.
 #[inline(always)]
 #[tactic(auto, unfolding(crate::specs::Kept::kept_by))]
 fn put_line(
@@ -96,7 +97,7 @@ fn put_line(
     put_last(into, place, &after.ind)
 }
 
-/// The line of a step that is told in a record.
+/// The line of a step, given its record.
 #[derive(Drop)]
 pub(crate) struct StepLine<'a> {
     pub(crate) text: &'a TraceText,
@@ -114,7 +115,7 @@ impl<'a> Spelled for StepLine<'a> {
     }
 }
 
-/// The line of a step, by what a record shows of it and the registers after it.
+/// The line of a step, given what a trace line shows of it and the registers after it.
 #[derive(Drop)]
 pub(crate) struct ShownLine<'a> {
     pub(crate) text: &'a TraceText,

@@ -12,7 +12,7 @@ use arrayvec::ArrayString;
 use m36_model::{Final, Outcome, Ppr, Regs, Shown, StepRecord};
 use m36_word::Word;
 
-// The trace line of step `n`, by what is told of the step.
+// The trace line of step `n`, given the values that it shows.
 #[tactic(auto, using(crate::proofs::Lines::put_in_turn))]
 fn line_by(
     n: u64,
@@ -55,7 +55,7 @@ pub fn line(n: u64, r: &StepRecord) -> ArrayString<160>
     line_by(n, &r.ppr, r.word, r.at, r.outcome, &r.after)
 }
 
-/// The same by what a record shows, and the registers after the step.
+/// As `line`, given what a trace line shows of the step, and the registers after it.
 #[tactic(auto, unfolding(crate::specs::TraceLine::shown_line))]
 pub fn shown_line(n: u64, shown: &Shown, after: &Regs) -> ArrayString<160>
     ensures text { result.bytes ≡ shown_line n shown.now after.now }

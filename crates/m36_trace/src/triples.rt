@@ -1,4 +1,4 @@
-//! Three octal digits by one look-up.
+//! Three octal digits by one table look-up.
 
 ghost use Rattle.std.specs.Prelude.{◌≡◌, ◌+◌, ◌≤◌, ◌<◌, ◌++◌, length, take};
 ghost use Rattle.m36_text.specs.Digits.{octal_text, word_text, half_text};
@@ -10,7 +10,7 @@ use m36_word::Word;
 /// Three digits and a space.
 type Triple = [u8; 4];
 
-/// The numbers below 512, each in three digits with a space after them.
+/// The numbers below 512, each in three digits and a space.
 static TRIPLES: [Triple; 512] = [
     *b"000 ", *b"001 ", *b"002 ", *b"003 ", *b"004 ", *b"005 ", *b"006 ", *b"007 ", *b"010 ",
     *b"011 ", *b"012 ", *b"013 ", *b"014 ", *b"015 ", *b"016 ", *b"017 ", *b"020 ", *b"021 ",
@@ -77,7 +77,7 @@ fn triples() -> &'static [Triple; 512]
     &TRIPLES
 }
 
-/// A number of nine bits in three digits, with a space after them.
+/// A number of nine bits, in three digits and a space.
 #[inline(always)]
 #[tactic(auto, using(crate::proofs::ByThrees::triple_of))]
 fn triple(v: u64) -> &'static Triple
@@ -87,7 +87,7 @@ fn triple(v: u64) -> &'static Triple
     &triples()[v as usize]
 }
 
-/// Writes the last three octal digits of a number at a place, and a space after them.
+/// Writes the last three octal digits of a number at an index, and a space after them.
 #[inline(always)]
 fn put_triple(into: &mut [u8], place: usize, v: u64)
     requires { place + 4 ≤ length into.old }
@@ -97,7 +97,8 @@ fn put_triple(into: &mut [u8], place: usize, v: u64)
     put_at(into, place, triple(v % 512));
 }
 
-/// Writes a word in twelve digits at a place, and a space after them. It answers where the space ends.
+/// Writes a word in twelve digits at an index, and a space after them. Returns the index after the
+/// space.
 #[inline(always)]
 pub fn put_word(into: &mut [u8], place: usize, word: Word) -> usize
     requires { place + 13 ≤ length into.old }
@@ -112,7 +113,8 @@ pub fn put_word(into: &mut [u8], place: usize, word: Word) -> usize
     place + 13
 }
 
-/// Writes a number of 18 bits in six digits at a place, and a space after them. It answers where the space ends.
+/// Writes a number of 18 bits in six digits at an index, and a space after them. Returns the index
+/// after the space.
 #[inline(always)]
 pub fn put_half(into: &mut [u8], place: usize, half: u32) -> usize
     requires { place + 7 ≤ length into.old }

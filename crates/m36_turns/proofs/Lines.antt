@@ -11,13 +11,13 @@ pub linked_in_turn :
     ≡ join_with_byte 32 (codes "link" ∷ ring ∷ place ∷ name ∷ answer ∷ [])
 linked_in_turn ring place name answer = simp append_assoc
 
--- those of an end line
+-- the fields of an end line
 pub ended_in_turn :
     (service code count : List ℕ)
     → (((codes "end " ++ service) ++ code) ++ (32 ∷ [])) ++ count ≡ join_with_byte 32 (codes "end" ∷ (service ++ code) ∷ count ∷ [])
 ended_in_turn service code count = simp append_assoc
 
--- a character put completes a line as it did
+-- an appended character completes the line as before
 pub put_on :
     (line next all : List ℕ) (c : ℕ) (rest : List ℕ)
     → next ≡ line ++ console_character c → line ++ flat_map console_character (c ∷ rest) ≡ all

@@ -1,5 +1,5 @@
--- The lines of services and of the end of a run, without their line feeds; and what is written of a
--- turn: its line, with its line feed.
+-- The lines of services and of the end of a run, without line feeds; and what is written for a
+-- turn: its line, with a line feed.
 use Rattle.std.specs.Prelude.{ℕ, ◌+◌, Bool, ◌||◌, nat_le, nat_eq, if◌then◌else◌, List, [], ◌∷◌}
 use Rattle.std.specs.Prelude.{◌++◌, codes, Result, Ok, Err}
 use Rattle.std.specs.List.{flat_map}
@@ -18,7 +18,7 @@ use Rattle.m36_step.specs.declared.turns.Turn.TheVariants.{NoMemory}
 use Rattle.m36_trace.specs.EndLine.{ending_text, end_line_with}
 use Rattle.m36_trace.specs.TraceLine.{line_of, word_of_segment}
 
--- ---- a link service: the ring, the word of the link, the link, and the pair or the code
+-- ---- a link service: the ring, the address of the link word, the link, and the pair or the code
 
 abbrev pub link_code_text : LinkCode → List ℕ
 link_code_text L1 = codes "L1"
@@ -43,8 +43,8 @@ link_line_of n =
 
 -- ---- a console service: the characters
 
--- octal 40 to 176 stand as they are, but a backslash; it and all others stand as a backslash and
--- three octal digits
+-- a backslash and every character outside octal 40 to 176 becomes a backslash and three octal
+-- digits
 abbrev pub is_escaped : ℕ → Bool
 is_escaped c = nat_eq c 92 || nat_le c 31 || nat_le 127 c
 
@@ -54,7 +54,7 @@ console_character c = if is_escaped c then 92 ∷ octal_text 3 c else c ∷ []
 unfoldable pub console_line_of : List ℕ → List ℕ
 console_line_of characters = codes "console " ++ flat_map console_character characters
 
--- ---- the end of a run: how it ended, and after how many steps
+-- ---- the end of a run: how it ended, and the number of steps
 
 abbrev pub end_text : End → List ℕ
 end_text (end.Fault fault) = ending_text (Faulted fault)
@@ -65,9 +65,9 @@ end_text end.Console = codes "console"
 unfoldable pub run_end_line_of : End → ℕ → List ℕ
 run_end_line_of how steps = end_line_with (end_text how) steps
 
--- ---- what is written of a turn before which so many steps were taken
+-- ---- what is written for a turn, if `taken` steps were taken before it
 
--- A step and a service have a line each, in one piece; that of a step has its number.
+-- A step and a service have one line each, in one piece; that of a step has its number.
 abbrev pub turn_pieces : ℕ → Turn → List (List ℕ)
 turn_pieces taken (Stepped told) = as_line (line_of (taken + 1) told) ∷ []
 turn_pieces taken (Linked note) = as_line (link_line_of note) ∷ []

@@ -14,7 +14,7 @@ fn is_escaped(character: u8) -> bool
     character == b'\\' || character <= 31 || 127 <= character
 }
 
-// Puts a character as it is, or as a backslash and three octal digits.
+// Appends a character as it is, or as a backslash and three octal digits.
 #[tactic(auto, unfolding(crate::specs::TurnLines::console_character))]
 fn put_character(line: &mut ArrayVec<u8, 1040>, character: u8)
     requires { length line.old.items + 4 ≤ 1040 }

@@ -10,7 +10,7 @@ use m36_model::{End, Outcome};
 use m36_text::decimal;
 use m36_trace::end_line;
 
-// An end line of a service that was refused.
+// The end line of a run that ended because a service was refused.
 #[tactic(auto, using(crate::proofs::Lines::ended_in_turn))]
 fn service_end_line(service: &str, code: &str, steps: u64) -> ArrayString<160>
     requires service { length service.now ≤ 20 }
@@ -27,7 +27,8 @@ fn service_end_line(service: &str, code: &str, steps: u64) -> ArrayString<160>
     line
 }
 
-/// The end line of a run that has ended so, after so many steps, without a line feed. It has at most 72 bytes.
+/// The end line of a run that ended in this way after `steps` steps, without a line feed. It has
+/// at most 72 bytes.
 #[tactic(auto, unfolding(crate::specs::TurnLines::run_end_line_of, m36_trace::specs::EndLine::end_line_of))]
 pub fn run_end_line(how: End, steps: u64) -> ArrayString<160>
     ensures text { result.bytes ≡ run_end_line_of how steps }

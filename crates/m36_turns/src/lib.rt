@@ -1,8 +1,10 @@
-//! The lines of turns that are no steps: what a link service and a console service did, and how a run ended.
+//! The lines of turns that are not steps: what a link service or a console service did, and how a
+//! run ended.
 //!
-//! What is promised: each line is exactly the text of its note, without its line feed, and has a bounded length. No line
-//! takes memory. A step's own line is that of `m36_trace`; `turn_pieces` of `specs/TurnLines.antt` is what traces and
-//! sessions write of a turn. `put` is how lines are written, for those who write lines of their own.
+//! The contract: each line is exactly the text of its note, without a line feed, and has a bounded
+//! length. No line takes memory. `m36_trace` makes the line of a step. `turn_pieces` of
+//! `specs/TurnLines.antt` is what traces and sessions write for a turn. Crates that write other
+//! lines can use `put`.
 //!
 //! The lines are this simulator's own.
 #![tactic(auto)]

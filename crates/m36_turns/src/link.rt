@@ -28,7 +28,7 @@ pub(crate) fn link_code_name(code: LinkCode) -> &'static str
     }
 }
 
-// Puts the segment and the word of a place.
+// Appends a segment number and a word number.
 fn put_place(line: &mut ArrayVec<u8, 160>, at: At)
     requires { length line.old.items + 12 ≤ 160 }
     ensures text { line.new.items ≡ line.old.items ++ word_of_segment at.seg at.word }
@@ -56,7 +56,7 @@ fn put_pair(line: &mut ArrayVec<u8, 160>, pair: Pair)
     put_word(line, pair.odd);
 }
 
-// Puts the pair, or the name of the code.
+// Appends the pair, or the name of the code.
 fn put_answer(line: &mut ArrayVec<u8, 160>, answer: &Result<Pair, LinkCode>)
     requires { length line.old.items + 25 ≤ 160 }
     ensures text { line.new.items ≡ line.old.items ++ link_answer_text answer.now }

@@ -1,10 +1,10 @@
-//! Bytes put at the end of a line.
+//! Appends bytes to a line.
 
 ghost use Rattle.std.specs.Prelude.{◌≡◌, ◌+◌, ◌≤◌, ◌++◌, length};
 
 use arrayvec::ArrayVec;
 
-/// Puts bytes at the end of a line that has room for them.
+/// Appends bytes to a line that has room for them.
 pub fn put<const N: usize>(line: &mut ArrayVec<u8, N>, bytes: &[u8])
     requires { length line.old.items + length bytes.now ≤ N }
     ensures text { line.new.items ≡ line.old.items ++ bytes.now }

@@ -72,12 +72,12 @@ follow_next_piece (piece.Got count) into old new did = follow_one (Input (take c
 follow_next_piece piece.End into old new did = follow_one (Input []) old new did
 follow_next_piece piece.Failed into old new did = follow_one InputFailed old new did
 
--- ---- what is noted, and what the objects recorded
+-- ---- the events, and what the objects logged
 
 same : {A : Type 0} (old new : List A) → new ≡ old → new ≡ old ++ []
 same old new is = is ∙ sym (append-nil old)
 
--- an event, and all else that it is not
+-- the logs after one event: an entry of its kind, and every other log unchanged
 pub record LogsOne (event : Event) (old new : Seen) : Type 0 where
   pub all : new.events ≡ old.events ++ event ∷ []
   pub reads : new.reads ≡ old.reads ++ read_of event

@@ -1,4 +1,4 @@
--- Puts of a piece and of a block: what the sink says of them is what a world says.
+-- Puts of a piece and of a block: the contract of the sink gives that of the world.
 use Rattle.std.proofs.Common.{◌≡◌, ℕ, ◌≤◌, ◌<◌, ◌^◌, ◌⊎◌, List, [], ◌∷◌, ◌++◌, length, Option, refl, sym, ap}
 use Rattle.std.proofs.Common.{subst, ◌∙◌, inl, inr, arith, length-append}
 use Rattle.std.proofs.lemmas.List.{append-nil, append_assoc}
@@ -45,7 +45,7 @@ put_did Failed piece old events outputs written faults says took cause count bou
   };
 }
 
--- what is observed after pieces, each written whole
+-- what is observed after these pieces were written, each as a whole
 pub after_pieces : Seen → List (List ℕ) → Seen
 after_pieces old pieces =
     after_put old (old.events ++ outputs pieces) (old.outputs ++ pieces) (appended (joined pieces) old.written)
@@ -125,7 +125,7 @@ put_block_did Failed pieces old events outs written faults says took cause count
   rest = λ i. after_put old (noted i) outs written faults;
 }
 
--- ---- what pieces that were written whole leave
+-- ---- what is unchanged after pieces that were written as a whole
 
 pub pieces_done :
     (pieces : List (List ℕ)) (old new : Seen) → Follow (outputs pieces) old new → new ≡ after_pieces old pieces

@@ -1,4 +1,4 @@
--- What each event did to what is observed of the outside.
+-- What each event did to the record of all that is observed of the outside.
 use Rattle.std.specs.Prelude.{ℕ, ◌≡◌, ◌≤◌, ◌<◌, ◌^◌, List, [], ◌∷◌, ◌++◌, IfSome}
 use Rattle.std.specs.Io.KnownBytes.{IsAtEnd}
 use Rattle.m36_outside.specs.Counts.{Rose}
@@ -14,7 +14,8 @@ use Rattle.m36_world.specs.declared.event.Event.{Event}
 use Rattle.m36_world.specs.declared.event.Event.TheVariants.{FileRead, FileWrite, Output}
 use Rattle.m36_world.specs.declared.event.Event.TheVariants.{OutputFailed, Input, InputFailed}
 
--- A file was read, or the read failed. Each `rest` says that everything else is as it was.
+-- A file was read, or the read failed. Here and below, `rest` says that everything else is
+-- unchanged.
 pub record IsFileRead (name : List ℕ) (answer : ReadAnswer) (old new : Seen) : Type 0 where
   pub content : IfSome old.files (λ files. ReadSays answer (files name))
   pub limit : IsWithinLimit answer
@@ -26,7 +27,7 @@ pub record IsFileRead (name : List ℕ) (answer : ReadAnswer) (old new : Seen) :
     read_faults = new.read_faults;
   }
 
--- A file was written, or the write failed and no file differs.
+-- A file was written, or the write failed and no file changed.
 pub record IsFileWrite (name content : List ℕ) (answer : WriteAnswer) (old new : Seen)
     : Type 0 where
   pub files : WriteSays answer old.files new.files name content
@@ -39,7 +40,7 @@ pub record IsFileWrite (name content : List ℕ) (answer : WriteAnswer) (old new
     write_faults = new.write_faults;
   }
 
--- A piece of output was written whole.
+-- A piece of output was written as a whole.
 pub record IsOutput (piece : List ℕ) (old new : Seen) : Type 0 where
   pub bound : new.output_faults < 2 ^ 64
   pub rest : new ≡ record (noted (Output piece) old) {
@@ -47,8 +48,8 @@ pub record IsOutput (piece : List ℕ) (old new : Seen) : Type 0 where
     written = appended piece old.written;
   }
 
--- Writing pieces of output failed: the output took some of them, and a first part of the next, and
--- what is written grew by a first part of them all.
+-- Writing pieces of output failed. The output logged some of them and a prefix of the next, and
+-- what is written grew by a prefix of their concatenation.
 pub record IsOutputFailed (pieces : List (List ℕ)) (old new : Seen) : Type 0 where
   pub took : TakesSome old.outputs new.outputs pieces
   pub grew : GrewWithin old.written new.written (joined pieces)
@@ -61,7 +62,7 @@ pub record IsOutputFailed (pieces : List (List ℕ)) (old new : Seen) : Type 0 w
     output_faults = new.output_faults;
   }
 
--- A piece of input was taken. It is empty only where nothing is left.
+-- A piece of input was consumed. It is empty only if nothing was left.
 pub record IsInput (piece : List ℕ) (old new : Seen) : Type 0 where
   pub left : old.left ≡ preceded piece new.left
   pub end : piece ≡ [] → IsAtEnd old.left
@@ -71,7 +72,7 @@ pub record IsInput (piece : List ℕ) (old new : Seen) : Type 0 where
     left = new.left;
   }
 
--- The input could not be read, and nothing was taken from it.
+-- The input could not be read, and nothing was consumed.
 pub record IsInputFailed (old new : Seen) : Type 0 where
   pub cause : Rose old.input_faults new.input_faults
   pub count : old.input_faults ≤ new.input_faults

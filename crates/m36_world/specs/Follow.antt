@@ -5,7 +5,7 @@ use Rattle.m36_world.specs.Seen.{Seen}
 use Rattle.m36_world.specs.declared.event.Event.{Event}
 use Rattle.m36_world.specs.declared.event.Event.TheVariants.{Output}
 
--- One thing was done, and then the rest.
+-- First `first` happened, and then `rest`.
 pub record Next (first rest : Seen → Seen → Type 0) (old new : Seen) : Type 0 where
   pub between : Seen
   pub begins : first old between

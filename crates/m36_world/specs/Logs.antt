@@ -1,4 +1,4 @@
--- What events mean for the objects' own records of their calls.
+-- What events mean for the logs that the objects keep of their own calls.
 use Rattle.std.specs.Prelude.{ℕ, ◌≡◌, List, [], ◌∷◌, ◌++◌}
 use Rattle.std.specs.List.{flat_map}
 use Rattle.m36_outside.specs.FolderCalls.{Asked, Wrote}
@@ -8,7 +8,7 @@ use Rattle.m36_world.specs.declared.event.Event.{Event}
 use Rattle.m36_world.specs.declared.event.Event.TheVariants.{FileRead, FileWrite, Output}
 use Rattle.m36_world.specs.declared.event.Event.TheVariants.{OutputFailed, Input, InputFailed}
 
--- the read of a file that an event is, if it is one
+-- the entry of an event in the log of reads, if it is a read
 abbrev pub read_of : Event → List Asked
 read_of (FileRead name answer) = (name, answer) ∷ []
 read_of (FileWrite name content answer) = []
@@ -17,7 +17,7 @@ read_of (OutputFailed pieces) = []
 read_of (Input piece) = []
 read_of InputFailed = []
 
--- the write of a file
+-- its entry in the log of writes, if it is a write
 abbrev pub write_of : Event → List Wrote
 write_of (FileRead name answer) = []
 write_of (FileWrite name content answer) = (name, content, answer) ∷ []
@@ -26,7 +26,7 @@ write_of (OutputFailed pieces) = []
 write_of (Input piece) = []
 write_of InputFailed = []
 
--- the piece of input
+-- its entry in the log of pieces of input, if it is one
 abbrev pub input_of : Event → List (List ℕ)
 input_of (FileRead name answer) = []
 input_of (FileWrite name content answer) = []
@@ -35,7 +35,7 @@ input_of (OutputFailed pieces) = []
 input_of (Input piece) = piece ∷ []
 input_of InputFailed = []
 
--- The pieces that the output took in an event.
+-- The output logged the pieces that this event put.
 abbrev pub Takes : Event → List (List ℕ) → List (List ℕ) → Type 0
 Takes (FileRead name answer) old new = new ≡ old
 Takes (FileWrite name content answer) old new = new ≡ old
@@ -44,7 +44,7 @@ Takes (OutputFailed pieces) old new = TakesSome old new pieces
 Takes (Input piece) old new = new ≡ old
 Takes InputFailed old new = new ≡ old
 
--- The output took these pieces, one event after another.
+-- The output logged the pieces of these events, one event after another.
 pub record TakesNext (event : Event) (rest : List (List ℕ) → List (List ℕ) → Type 0)
     (old new : List (List ℕ)) : Type 0 where
   pub between : List (List ℕ)
@@ -55,7 +55,7 @@ unfoldable pub TakesAll : List Event → List (List ℕ) → List (List ℕ) →
 TakesAll [] old new = new ≡ old
 TakesAll (event ∷ events) old new = TakesNext event (TakesAll events) old new
 
--- All events are noted, and each object recorded its calls among them. The world holds the same
+-- All events were appended, and each object logged its calls among them. The world holds the same
 -- references.
 pub record Logs (events : List Event) (old new : Seen) : Type 0 where
   pub all : new.events ≡ old.events ++ events

@@ -1,4 +1,4 @@
--- The events of each call, by its answer.
+-- The events that each call logs, by its answer.
 use Rattle.std.specs.Prelude.{ℕ, List, [], ◌∷◌, take}
 use Rattle.m36_outside.specs.declared.lines.Piece.{Piece}
 use Rattle.m36_outside.specs.declared.lines.Piece.TheVariants as piece

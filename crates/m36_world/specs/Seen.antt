@@ -4,10 +4,11 @@ use Rattle.m36_outside.specs.Files.{Files}
 use Rattle.m36_outside.specs.FolderCalls.{Asked, Wrote}
 use Rattle.m36_world.specs.declared.event.Event.{Event}
 
--- Everything that happened, in order; what the folder, the output and the input each recorded of
--- their own calls, in order; the files, all that is written and all input that is left, where they
--- are known; how many reads, writes, puts and takings of input failed; and the names of the
--- references by which the world holds its objects, of which a world that owns them has none.
+-- `events`: all events, in order. `reads`, `writes`, `outputs`, `inputs`: what the folder, the
+-- output and the input each logged of their own calls, in order. `files`, `written`, `left`: the
+-- files, all that is written and the input that is left, each if it is known. The four counts: how
+-- many reads, writes, puts and calls for input failed. `references`: the names of the references
+-- by which the world holds its objects; a world that owns them has none.
 pub record Seen : Type 0 where
   pub events : List Event
   pub reads : List Asked
@@ -23,6 +24,6 @@ pub record Seen : Type 0 where
   pub input_faults : ℕ
   pub references : List ℕ
 
--- the same with one more event
+-- the record with one more event
 abbrev pub noted : Event → Seen → Seen
 noted event seen = record seen { events = seen.events ++ event ∷ [] }

@@ -1,4 +1,4 @@
-//! A world that holds its objects by reference.
+//! A world that borrows its objects.
 
 ghost use Rattle.std.specs.Prelude.{[], ◌∷◌, ◌≡◌};
 
@@ -8,7 +8,7 @@ use crate::world::World;
 use m36_outside::{Block, Folder, Lines, Passed, Piece, Put, ReadAnswer, Sink, WriteAnswer};
 use std::alloc::Global;
 
-/// A caller's folder, input and output, with the events since they were borrowed.
+/// A folder, an input and an output of the caller, with the events since they were borrowed.
 #[derive(Drop)]
 pub struct Borrowed<'a, F, L, S> {
     folder: &'a mut F,
@@ -18,7 +18,7 @@ pub struct Borrowed<'a, F, L, S> {
 }
 
 impl<'a, F: Folder, L: Lines, S: Sink> Borrowed<'a, F, L, S> {
-    /// These objects. No event is noted yet.
+    /// Borrows these objects. The list of events is empty.
     pub fn new(folder: &'a mut F, input: &'a mut L, output: &'a mut S) -> Borrowed<'a, F, L, S>
         ensures folder { result.folder.now ≡ folder.old }
         ensures same_folder { result.folder.ghost_name ≡ folder.entry.ghost_name }

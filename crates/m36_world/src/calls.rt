@@ -1,4 +1,4 @@
-//! The calls of a world, as they are noted.
+//! The calls of a world, as they are logged.
 
 use crate::event::Event;
 use m36_outside::{Block, Entries, Piece, Put, ReadAnswer, WriteAnswer};

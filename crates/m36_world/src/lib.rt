@@ -4,8 +4,8 @@
 //! in one trait, and one ghost record, `Seen`, of all that is observed of the outside:
 //!
 //! - each [`Event`], in the order in which it happened,
-//! - what the folder, the output and the input each recorded of their own calls,
-//! - the files, the output and the input that is left, where they are known,
+//! - what the folder, the output and the input each logged of their own calls,
+//! - the files, the output and the input that is left, if they are known,
 //! - four counts of faults, and the names of the references that the world holds, if it holds any.
 //!
 //! Each call has one clause, which says what the call did to that record.
@@ -17,22 +17,24 @@
 //! | `put`, `put_block` | an `Output` for each piece, or one `OutputFailed` with all pieces |
 //! | `next_piece` | `Input` with the piece, which is empty at the end, or `InputFailed` |
 //!
-//! For each event a record says what it did (`IsFileRead`, `IsOutputFailed`, ..): the facts that
-//! the traits of `m36_outside` give of the call, and one equation, `rest`, by which everything else
-//! in `Seen` is as it was. `Did` is one of these records, by the event; `Follow` is `Did` for a
-//! list of events, one after another. So one clause says what a function did to the outside, and
-//! in which order. An event is noted after the call that it records, and no memory holds it.
+//! For each event a record says what it did (`IsFileRead`, `IsOutputFailed`, ..). It has the facts
+//! that the traits of `m36_outside` promise for the call, and one equation, `rest`, by which
+//! everything else in `Seen` is unchanged. `Did` selects the record by the event. `Follow` is
+//! `Did` for a list of events, one after another. So one clause says what a function did to the
+//! outside, and in which order. An event is logged after the call that it records, and takes no
+//! memory.
 //!
-//! A call that fails to write output is one event. Such a call may write some of the pieces, and a
-//! first part of the next. Which of them the output took, and how much was written, is in
-//! `IsOutputFailed`: two facts, since an output need not record what it takes as it is written.
+//! A call that fails to write output is one event. Such a call may write some of the pieces and a
+//! prefix of the next. `IsOutputFailed` says which of them the output took, and by how much the
+//! written text grew. These are two facts, since the log of an output need not agree with what is
+//! written.
 //!
 //! | World | Its objects | Names of references |
 //! |---|---|---|
 //! | [`Outside`] | it owns them | none |
 //! | [`Borrowed`] | the caller lends them | those of the folder, the input and the output |
 //!
-//! Both are proved over any folder, input and output. Each event keeps the names of the references.
+//! Both are proved for any folder, input and output. Each event keeps the names of the references.
 //! So a caller who lends its objects to a function that is generic over [`World`] knows from
 //! `Follow` that the world still holds its own references after the call, and what they hold then
 //! (`follow_logs` in `proofs/Following.antt`; `world.rt` of `outside_tests` is a worked caller).

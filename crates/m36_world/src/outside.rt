@@ -18,7 +18,7 @@ pub struct Outside<F, L, S> {
 }
 
 impl<F: Folder, L: Lines, S: Sink> Outside<F, L, S> {
-    /// These objects. No event is noted yet.
+    /// Takes these objects. The list of events is empty.
     pub fn new(folder: F, input: L, output: S) -> Outside<F, L, S>
         ensures folder { result.folder ≡ folder }
         ensures input { result.input ≡ input }

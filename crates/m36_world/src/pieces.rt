@@ -3,7 +3,7 @@
 use m36_outside::{Passed, Text};
 use std::marker::Model;
 
-/// A list of pieces that no memory holds, seen as that list.
+/// A list of pieces that takes no memory; the view is that list.
 #[derive(Drop)]
 pub struct Pieces {
     pieces: Passed<Text>,

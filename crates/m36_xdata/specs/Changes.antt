@@ -1,5 +1,5 @@
--- What the code's changes are: the effects of the definitions, on the registers that the
--- instruction began with.
+-- How the changes of the code map to the effects of the definitions, on the registers before the
+-- instruction.
 use Rattle.std.specs.Prelude.{◌≡◌, ℕ, Bool, List, [], ◌∷◌, Result, Ok, Err}
 use Rattle.m36_word.specs.Pairs.{pair_words}
 use Rattle.m36_model.specs.Registers.{RegsFields}
@@ -35,17 +35,17 @@ changed c g =
       overflow = c.overflow;
     }
 
--- an effect that is not refused, on these registers
+-- The change is the effect that the definition gives on these registers, which is not refused.
 abbrev pub Gives : Change → RegsFields → Result EffectFields ℕ → Type 0
 Gives c g definition = Ok (changed c g) ≡ refused_here g definition
 
--- the same of an effect that may be refused
+-- the effect of a change, or the fault, on these registers
 abbrev pub answer_changed : Result Change Fault → RegsFields → Result EffectFields Fault
 answer_changed (Ok c) g = Ok (changed c g)
 answer_changed (Err f) g = Err f
 
--- Registers that stood as g, and stand as g' after the code's effect, with the words that it puts
--- and whether it overflows. A refused effect leaves them.
+-- The code has left the registers g', from g, and puts these words and this overflow: this is the
+-- effect of the definition. If the instruction is refused, the registers are unchanged.
 abbrev pub LeavesSo :
     RegsFields → RegsFields → Held → Result Bool Fault → Result EffectFields Fault → Type 0
 LeavesSo g g' put (Ok overflow) definition =

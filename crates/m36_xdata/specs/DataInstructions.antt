@@ -4,7 +4,7 @@ use Rattle.std.specs.Prelude.{Bool, true, false}
 use Rattle.m36_inst.specs.declared.effect.Effect.{Effect}
 use Rattle.m36_inst.specs.declared.effect.Effect.TheVariants as effect
 
--- DIV alone may be refused.
+-- Only DIV may be refused.
 abbrev pub is_never_refused : Effect → Bool
 is_never_refused effect.Div = false
 is_never_refused _ = true

@@ -1,4 +1,4 @@
--- The code's registers are those of the definitions.
+-- How the registers of the code map to those of the definitions.
 use Rattle.std.specs.Prelude.{◌≡◌, ℕ, ◌<◌, List, length, IsTrue}
 use Rattle.m36_model.specs.declared.effects.Held.{Held}
 use Rattle.m36_model.specs.OperandHeld.{is_word, is_pair}
@@ -13,20 +13,23 @@ working register.Q = Q
 working register.Aq = AQ
 working (register.X n) = X n
 
--- There are eight index registers.
+-- An index register has a number below 8.
 abbrev pub IsRegister : Register → Type 0
 IsRegister register.A = Unit {0}
 IsRegister register.Q = Unit {0}
 IsRegister register.Aq = Unit {0}
 IsRegister (register.X n) = n < 8
 
--- the words that are read for an operand of a register's width, and those that hold such a number
+-- the operand has as many words as the register's width requires: a pair for AQ, and otherwise one
+-- word
 abbrev pub HoldsNumber : Register → Held → Type 0
 HoldsNumber register.A h = IsTrue (is_word h)
 HoldsNumber register.Q h = IsTrue (is_word h)
 HoldsNumber register.Aq h = IsTrue (is_pair h)
 HoldsNumber (register.X n) h = IsTrue (is_word h)
 
+-- the words to write for a number of a register: a pair for AQ, a half for an index register, and
+-- otherwise one word
 abbrev pub PutsNumber : Register → List ℕ → Type 0
 PutsNumber register.A words = length words ≡ 1
 PutsNumber register.Q words = length words ≡ 1

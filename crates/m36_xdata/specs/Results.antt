@@ -1,4 +1,4 @@
--- The code's results are those of the definitions.
+-- How the results of the code map to those of the definitions.
 use Rattle.m36_model.specs.Arithmetic.{SumFields}
 use Rattle.m36_xdata.specs.declared.numbers.Computed.{Computed}
 

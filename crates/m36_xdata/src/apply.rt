@@ -1,4 +1,4 @@
-//! A change, made to the registers.
+//! Applies a change to the registers.
 
 ghost use Rattle.std.specs.Prelude.{◌≡◌, ◌+◌, ◌%◌, ◌^◌};
 ghost use Rattle.m36_model.specs.Results.{with_indicators, moved_on, words_of_held};
@@ -7,7 +7,7 @@ ghost use Rattle.m36_xdata.specs.Changes.{changed, stored, taken};
 use crate::changes::{Change, Stored, Taken};
 use m36_model::{Held, Ind, Regs};
 
-/// Puts a new value into the registers that take one.
+/// Stores the new value into its registers.
 #[tactic(auto, unfolding(m36_model::specs::Results::with_value))]
 fn take(new: Taken, regs: &mut Regs)
     ensures { regs.new ≡ taken new regs.old }
@@ -24,7 +24,7 @@ fn take(new: Taken, regs: &mut Regs)
     }
 }
 
-/// Sets the indicators, and moves on to the next instruction.
+/// Sets the indicators, and advances the instruction counter to the next instruction.
 #[tactic(auto, unfolding(m36_model::specs::Results::moved_on))]
 fn move_on(ind: Ind, regs: &mut Regs)
     ensures { regs.new ≡ moved_on (with_indicators ind regs.old) }
@@ -44,8 +44,8 @@ fn held(put: Stored) -> Held
     }
 }
 
-/// Makes a change to the registers, which then stand at the next instruction. What is left to do is to write the words that
-/// are put into `put`, and to report overflow where the answer says so.
+/// Applies a change to the registers, and advances the instruction counter. The words to write are
+/// put into `put`; the caller has to write them, and to report overflow if the result is true.
 #[tactic(auto, unfolding(m36_model::specs::Results::moved_on, m36_model::specs::Results::with_value))]
 #[inline(always)]
 pub fn applied(c: &Change, regs: &mut Regs, put: &mut Held) -> bool

@@ -11,7 +11,7 @@ use m36_arith::{
     and_not18, and_not36, and_not72, and18, and36, and72, or18, or36, or72, xor18, xor36, xor72,
 };
 
-/// The bits that are on in both numbers.
+/// The bits that are 1 in both numbers.
 pub fn both(r: Register, x: u128, y: u128) -> u128
     requires first { x < 2 * half (working r) }
     requires second { y < 2 * half (working r) }
@@ -25,7 +25,7 @@ pub fn both(r: Register, x: u128, y: u128) -> u128
     }
 }
 
-/// The bits that are on in either number.
+/// The bits that are 1 in either number.
 pub fn either(r: Register, x: u128, y: u128) -> u128
     requires first { x < 2 * half (working r) }
     requires second { y < 2 * half (working r) }
@@ -39,7 +39,7 @@ pub fn either(r: Register, x: u128, y: u128) -> u128
     }
 }
 
-/// The bits that differ in the two numbers.
+/// The bits in which the two numbers differ.
 pub fn differing(r: Register, x: u128, y: u128) -> u128
     requires first { x < 2 * half (working r) }
     requires second { y < 2 * half (working r) }
@@ -53,7 +53,7 @@ pub fn differing(r: Register, x: u128, y: u128) -> u128
     }
 }
 
-/// The bits that are on in the first number and off in the second.
+/// The bits that are 1 in the first number and 0 in the second.
 pub fn first_alone(r: Register, x: u128, y: u128) -> u128
     requires first { x < 2 * half (working r) }
     requires second { y < 2 * half (working r) }

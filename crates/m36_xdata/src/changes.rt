@@ -1,22 +1,23 @@
-//! What a data instruction changes. It is small, and is made in the registers in place, which are many.
+//! What a data instruction changes: a small value, which is then applied to the registers in
+//! place.
 
 ghost use Rattle.std.specs.Prelude.{◌<◌, ◌^◌};
 
 use m36_model::Ind;
 use m36_word::{Pair, Word};
 
-/// An index register and its new number.
+/// An index register and its new value.
 #[derive(Clone, Copy)]
 pub struct NewIndex {
-    /// The new number; 18 bits.
+    /// The new value; 18 bits.
     pub value: u32,
-    /// The number of the register, below 8.
+    /// The register, 0 to 7.
     pub n: u8,
     ghost value_fits: { value < 2 ^ 18 },
     ghost n_fits: { n < 8 },
 }
 
-/// The registers that take a new value.
+/// The new values of registers.
 #[derive(Clone, Copy)]
 pub enum Taken {
     Nothing,
@@ -24,7 +25,7 @@ pub enum Taken {
     A(Word),
     /// The quotient register.
     Q(Word),
-    /// Both: the accumulator is the even word.
+    /// Both, as a pair: the accumulator takes the even word.
     Aq(Pair),
     X(NewIndex),
 }
@@ -37,13 +38,13 @@ pub enum Stored {
     Two(Pair),
 }
 
-/// What a data instruction changes, beside the instruction counter.
+/// What a data instruction changes, except for the instruction counter.
 #[derive(Clone, Copy)]
 pub struct Change {
     pub taken: Taken,
     pub put: Stored,
-    /// The indicators as they are to be.
+    /// The new indicators.
     pub ind: Ind,
-    /// An overflow is to be reported.
+    /// Whether overflow has to be reported.
     pub overflow: bool,
 }

@@ -1,4 +1,4 @@
-//! Comparisons and tests, which change indicators alone, but for SZNC, which clears the word too.
+//! Comparisons and tests. They change only indicators, except SZNC, which also clears the word.
 
 ghost use Rattle.std.specs.Prelude.{◌≡◌, IsTrue, length};
 ghost use Rattle.m36_model.specs.OperandHeld.{is_word};
@@ -18,7 +18,7 @@ use crate::results::sets;
 use m36_model::{Operand36, Regs};
 use m36_word::Word;
 
-/// CMPX: register and operand are compared.
+/// CMPX: compares the register with the operand.
 #[tactic(auto, unfolding(m36_model::specs::Compares::compare))]
 pub fn compare(r: Register, given: &Operand36, regs: &Regs) -> Change
     requires register { IsRegister r }
@@ -36,7 +36,7 @@ pub fn compare(r: Register, given: &Operand36, regs: &Regs) -> Change
     )
 }
 
-/// SZNC: the word is tested, and becomes 0.
+/// SZNC: sets zero and negative for the word, and clears it.
 #[tactic(auto, unfolding(m36_model::specs::Compares::test_and_clear))]
 pub fn test_and_clear(given: &Operand36, regs: &Regs) -> Change
     requires { IsTrue (is_word given.now.got) }
@@ -57,7 +57,8 @@ pub fn test_and_clear(given: &Operand36, regs: &Regs) -> Change
     }
 }
 
-/// CMK: A and the word, where Q has no mask bit, are tested for difference.
+/// CMK: sets zero and negative for the bits in which A and the word differ, except where Q has a
+/// mask bit.
 #[tactic(auto, unfolding(m36_model::specs::Compares::compare_masked))]
 pub fn compare_masked(given: &Operand36, regs: &Regs) -> Change
     requires { IsTrue (is_word given.now.got) }
@@ -74,7 +75,7 @@ pub fn compare_masked(given: &Operand36, regs: &Regs) -> Change
     sets(zn(Register::A, seen, indicators(regs)), regs)
 }
 
-/// CANA, CANQ, CANAQ, CANX: register and operand, bit by bit, are tested.
+/// CANA, CANQ, CANAQ, CANX: sets zero and negative for register AND operand.
 #[tactic(auto, unfolding(m36_model::specs::Compares::test_and))]
 pub fn test_and(r: Register, given: &Operand36, regs: &Regs) -> Change
     requires register { IsRegister r }
@@ -93,7 +94,7 @@ pub fn test_and(r: Register, given: &Operand36, regs: &Regs) -> Change
     )
 }
 
-/// CNAA, CNAQ, CNAAQ, CNAX: register and not operand.
+/// CNAA, CNAQ, CNAAQ, CNAX: sets zero and negative for register AND NOT operand.
 #[tactic(auto, unfolding(m36_model::specs::Compares::test_and_not))]
 pub fn test_and_not(r: Register, given: &Operand36, regs: &Regs) -> Change
     requires register { IsRegister r }

@@ -17,7 +17,7 @@ fn either(first: bool, second: bool) -> bool
     first || second
 }
 
-/// Zero and negative by a number of a register's width.
+/// Sets zero and negative for a number of a register's width.
 #[tactic(auto, unfolding(m36_model::specs::Results::zn))]
 pub fn zn(r: Register, v: u128, ind: Ind) -> Ind
     ensures { result ≡ zn (half (working r)) v ind }
@@ -29,7 +29,7 @@ pub fn zn(r: Register, v: u128, ind: Ind) -> Ind
     }
 }
 
-/// Zero, negative and carry.
+/// Sets zero, negative and carry.
 #[tactic(auto, unfolding(m36_model::specs::Results::zn_carry))]
 pub fn zn_carry(s: Computed, ind: Ind) -> Ind
     ensures { result ≡ zn_carry (sum_fields s) ind }
@@ -42,7 +42,7 @@ pub fn zn_carry(s: Computed, ind: Ind) -> Ind
     }
 }
 
-/// Zero and negative; overflow where it is put on.
+/// Sets zero and negative. Overflow is set if the result overflows, and otherwise unchanged.
 #[tactic(auto, unfolding(m36_model::specs::Results::zn_overflow))]
 pub fn zn_overflow(s: Computed, ind: Ind) -> Ind
     ensures { result ≡ zn_overflow (sum_fields s) ind }
@@ -55,7 +55,8 @@ pub fn zn_overflow(s: Computed, ind: Ind) -> Ind
     }
 }
 
-/// Zero, negative and carry; overflow where it is put on.
+/// Sets zero, negative and carry. Overflow is set if the result overflows, and otherwise
+/// unchanged.
 #[tactic(auto, unfolding(m36_model::specs::Results::zn_carry_overflow))]
 pub fn zn_carry_overflow(s: Computed, ind: Ind) -> Ind
     ensures { result ≡ zn_carry_overflow (sum_fields s) ind }
@@ -69,7 +70,7 @@ pub fn zn_carry_overflow(s: Computed, ind: Ind) -> Ind
     }
 }
 
-/// Zero, negative and carry by a comparison.
+/// Sets zero, negative and carry for a comparison.
 #[tactic(auto, unfolding(m36_model::specs::Results::compared))]
 pub fn compared(c: Compare, ind: Ind) -> Ind
     ensures { result ≡ compared c ind }
@@ -82,7 +83,7 @@ pub fn compared(c: Compare, ind: Ind) -> Ind
     }
 }
 
-/// Only zero.
+/// Sets or clears zero.
 pub fn with_zero(zero: bool, ind: Ind) -> Ind
     ensures { result ≡ with_zero zero ind }
 {

@@ -1,4 +1,4 @@
-//! The instructions by what they do.
+//! Dispatch: which function executes which instruction.
 
 ghost use Rattle.std.specs.Prelude.{◌≡◌, ◌<◌, IsTrue, IfOk};
 ghost use Rattle.m36_inst.specs.Groups.{is_data};
@@ -104,12 +104,14 @@ fn changed_by(row: &Row, regs: &Regs, given: &Operand36) -> Change
     }
 }
 
-/// A data instruction, done in the registers, by the final address and the operand. The words of the operand are those that the
-/// instruction reads. The words to write are put into `put`, and the answer is whether overflow is to be reported.
+/// Executes a data instruction in the registers, given the final address and the operand. The
+/// operand has the words that the instruction reads. The words to write are put into `put`.
+/// Returns whether overflow has to be reported.
 ///
 /// # Errors
 ///
-/// Fault 14, divide check, at the instruction: DIV is given 0, or its quotient does not fit. The registers stay.
+/// Fault 14, divide check, at the instruction: the divisor of DIV is 0, or its quotient does not
+/// fit. The registers are unchanged.
 #[tactic(auto, unfolding(m36_model::specs::Effect::exec))]
 pub fn exec_in_place(
     row: &Row,
@@ -208,12 +210,14 @@ pub fn exec_in_place(
     }
 }
 
-/// The effect of a data instruction: the new registers, the words to write, and whether overflow is to be reported, by the
-/// registers, the final address and the operand. The words of the operand are those that the instruction reads.
+/// The effect of a data instruction on these registers, given the final address and the operand:
+/// the new registers, the words to write, and whether overflow has to be reported. The operand has
+/// the words that the instruction reads.
 ///
 /// # Errors
 ///
-/// Fault 14, divide check, at the instruction: DIV is given 0, or its quotient does not fit.
+/// Fault 14, divide check, at the instruction: the divisor of DIV is 0, or its quotient does not
+/// fit.
 pub fn exec(row: &Row, regs: &Regs, f: &Final, operand: Operand36) -> Result<Effect36, Fault>
     requires data { IsTrue (is_data row.now.effect) }
     requires reg { row.now.reg < 8 }

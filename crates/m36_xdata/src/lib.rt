@@ -1,10 +1,12 @@
-//! Data instructions of the Honeywell 6180: loads, stores, sums, shifts, products, comparisons and booleans.
+//! Data instructions of the Honeywell 6180: loads, stores, sums, shifts, products, comparisons and
+//! Boolean operations.
 //!
-//! [`exec`] gives exactly the effect that the instruction's equations say: the new registers and the words to write, or the
-//! fault 14, divide check, where DIV is given 0 or its quotient does not fit. [`exec_in_place`] does the same in the
-//! registers as they are. The arithmetic is that of `m36_arith`.
+//! [`exec`] gives exactly the effect that the instruction's equations define: the new registers
+//! and the words to write. It refuses only DIV, with fault 14, divide check, if the divisor is 0
+//! or the quotient does not fit. [`exec_in_place`] does the same directly in the registers. The
+//! arithmetic is that of `m36_arith`.
 //!
-//! The frequent instructions are done by `m36_frequent`, and the others here.
+//! `m36_frequent` executes the frequent instructions, and this crate all others.
 //!
 //! Source: Multics Processor Manual AL39, "Fixed-point instructions" and "Boolean instructions".
 #![tactic(auto)]

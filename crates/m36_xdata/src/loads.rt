@@ -17,7 +17,7 @@ use crate::results::{new_value, sets, takes};
 use m36_model::{Ind, Operand36, Regs};
 use m36_word::{Field, Word};
 
-/// LCA, LCQ, LCAQ, LCX: the register becomes the negative of the operand.
+/// LCA, LCQ, LCAQ, LCX: loads the negative of the operand into the register.
 #[tactic(auto, unfolding(m36_model::specs::Loads::load_complement))]
 pub fn load_complement(r: Register, given: &Operand36, regs: &Regs) -> Change
     requires register { IsRegister r }
@@ -36,7 +36,7 @@ pub fn load_complement(r: Register, given: &Operand36, regs: &Regs) -> Change
     )
 }
 
-/// LDAC, LDQC: the register becomes the word, and the word becomes 0.
+/// LDAC, LDQC: loads the word into the register, and clears the word.
 #[tactic(auto, unfolding(m36_model::specs::Loads::load_and_clear))]
 pub fn load_and_clear(r: Register, given: &Operand36, regs: &Regs) -> Change
     requires register { IsRegister r }
@@ -68,7 +68,7 @@ fn indicators_of(w: Word) -> Ind
     }
 }
 
-/// LDI: the indicators become their bits of the word.
+/// LDI: loads the indicators from their bits of the word.
 #[tactic(auto, unfolding(m36_model::specs::Loads::load_indicators))]
 pub fn load_indicators(given: &Operand36, regs: &Regs) -> Change
     requires { IsTrue (is_word given.now.got) }

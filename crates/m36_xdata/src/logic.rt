@@ -15,7 +15,7 @@ use crate::registers::{Register, indicators, number_in};
 use crate::results::{puts, takes_tested};
 use m36_model::{Operand36, Regs};
 
-/// ANX: the register becomes register and operand.
+/// ANX: register AND operand, into the register.
 #[tactic(auto, unfolding(m36_model::specs::Logic::and_register))]
 pub fn and_register(r: Register, given: &Operand36, regs: &Regs) -> Change
     requires register { IsRegister r }
@@ -27,7 +27,7 @@ pub fn and_register(r: Register, given: &Operand36, regs: &Regs) -> Change
     takes_tested(r, both(r, number_in(r, regs), number_got(r, given)), regs)
 }
 
-/// ORX: the register becomes register or operand.
+/// ORX: register OR operand, into the register.
 #[tactic(auto, unfolding(m36_model::specs::Logic::or_register))]
 pub fn or_register(r: Register, given: &Operand36, regs: &Regs) -> Change
     requires register { IsRegister r }
@@ -39,7 +39,7 @@ pub fn or_register(r: Register, given: &Operand36, regs: &Regs) -> Change
     takes_tested(r, either(r, number_in(r, regs), number_got(r, given)), regs)
 }
 
-/// ERX: the register becomes register exclusive or operand.
+/// ERX: register XOR operand, into the register.
 #[tactic(auto, unfolding(m36_model::specs::Logic::xor_register))]
 pub fn xor_register(r: Register, given: &Operand36, regs: &Regs) -> Change
     requires register { IsRegister r }
@@ -55,7 +55,7 @@ pub fn xor_register(r: Register, given: &Operand36, regs: &Regs) -> Change
     )
 }
 
-/// Bits that go into the operand.
+/// Writes a number of the register's width into the operand, and sets zero and negative for it.
 fn bits_into_operand(r: Register, v: u128, regs: &Regs) -> Change
     requires { v < 2 * half (working r) }
     ensures value { Gives result regs.now (bits_into_operand (working r) v regs.now) }
@@ -64,7 +64,7 @@ fn bits_into_operand(r: Register, v: u128, regs: &Regs) -> Change
     puts(r, v, zn(r, v, indicators(regs)), false, regs)
 }
 
-/// ANSA, ANSQ, ANSX: the operand becomes register and operand.
+/// ANSA, ANSQ, ANSX: register AND operand, into the operand.
 #[tactic(auto, unfolding(m36_model::specs::Logic::and_storage))]
 pub fn and_storage(r: Register, given: &Operand36, regs: &Regs) -> Change
     requires register { IsRegister r }
@@ -76,7 +76,7 @@ pub fn and_storage(r: Register, given: &Operand36, regs: &Regs) -> Change
     bits_into_operand(r, both(r, number_in(r, regs), number_got(r, given)), regs)
 }
 
-/// ORSA, ORSQ, ORSX: the operand becomes register or operand.
+/// ORSA, ORSQ, ORSX: register OR operand, into the operand.
 #[tactic(auto, unfolding(m36_model::specs::Logic::or_storage))]
 pub fn or_storage(r: Register, given: &Operand36, regs: &Regs) -> Change
     requires register { IsRegister r }
@@ -88,7 +88,7 @@ pub fn or_storage(r: Register, given: &Operand36, regs: &Regs) -> Change
     bits_into_operand(r, either(r, number_in(r, regs), number_got(r, given)), regs)
 }
 
-/// ERSA, ERSQ, ERSX: the operand becomes register exclusive or operand.
+/// ERSA, ERSQ, ERSX: register XOR operand, into the operand.
 #[tactic(auto, unfolding(m36_model::specs::Logic::xor_storage))]
 pub fn xor_storage(r: Register, given: &Operand36, regs: &Regs) -> Change
     requires register { IsRegister r }

@@ -14,7 +14,7 @@ use m36_arith::{
 };
 use m36_word::{Pair, Word};
 
-/// What an operation gives.
+/// The result of an operation, for any register's width.
 #[derive(Clone, Copy)]
 pub struct Computed {
     pub value: u128,
@@ -24,7 +24,7 @@ pub struct Computed {
     pub overflow: bool,
 }
 
-/// The word that is a number.
+/// The word with this value.
 pub fn word(v: u128) -> Word
     requires { v < 2 ^ 36 }
     ensures { result ≡ v }
@@ -32,7 +32,7 @@ pub fn word(v: u128) -> Word
     Word::low(v as u64)
 }
 
-/// The pair that is a number.
+/// The pair with this value.
 pub fn pair(v: u128) -> Pair
     requires { v < 2 ^ 72 }
     ensures { number_of result ≡ v }
@@ -40,7 +40,7 @@ pub fn pair(v: u128) -> Pair
     Pair::of_value(v)
 }
 
-/// What an operation on words gives.
+/// The result of an operation on words.
 pub fn of_words(s: Sum36) -> Computed
     ensures value { sum_fields result ≡ s }
     ensures bound { result.value < 2 ^ 36 }
@@ -54,7 +54,7 @@ pub fn of_words(s: Sum36) -> Computed
     }
 }
 
-/// What an operation on pairs gives.
+/// The result of an operation on pairs.
 pub fn of_pairs(s: Sum72) -> Computed
     ensures value { sum_fields result ≡ s }
     ensures bound { result.value < 2 ^ 72 }
@@ -68,7 +68,7 @@ pub fn of_pairs(s: Sum72) -> Computed
     }
 }
 
-/// What an operation on halves gives.
+/// The result of an operation on halves.
 pub fn of_halves(s: Sum18) -> Computed
     ensures value { sum_fields result ≡ s }
     ensures bound { result.value < 2 ^ 18 }
@@ -82,7 +82,7 @@ pub fn of_halves(s: Sum18) -> Computed
     }
 }
 
-/// The sum of two numbers and a carry.
+/// The sum of two numbers, plus 1 if `carry_in`.
 pub fn sum(r: Register, x: u128, y: u128, carry_in: bool) -> Computed
     requires first { x < 2 * half (working r) }
     requires second { y < 2 * half (working r) }
@@ -96,7 +96,7 @@ pub fn sum(r: Register, x: u128, y: u128, carry_in: bool) -> Computed
     }
 }
 
-/// The first number less the second and a borrow of 1 where there is one.
+/// The first number minus the second, minus 1 if `borrow`.
 pub fn difference(r: Register, x: u128, y: u128, borrow: bool) -> Computed
     requires first { x < 2 * half (working r) }
     requires second { y < 2 * half (working r) }
@@ -110,7 +110,7 @@ pub fn difference(r: Register, x: u128, y: u128, borrow: bool) -> Computed
     }
 }
 
-/// The negative of a number.
+/// The negative of a number, in two's complement.
 pub fn negation(r: Register, x: u128) -> Computed
     requires { x < 2 * half (working r) }
     ensures value { sum_fields result ≡ negation (half (working r)) x }

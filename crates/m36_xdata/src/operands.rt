@@ -1,4 +1,4 @@
-//! Operand words, as numbers of a register's width.
+//! The operand as a number of a register's width.
 
 ghost use Rattle.std.specs.Prelude.{◌≡◌, ◌*◌, ◌^◌, ◌<◌, IsTrue};
 ghost use Rattle.m36_model.specs.OperandHeld.{is_word, is_pair};
@@ -28,7 +28,8 @@ fn pair_got(given: &Operand36) -> u128
     given.got.pair().value()
 }
 
-/// The operand of a register: the word, the pair, or bits 0 to 17 of the word.
+/// The operand for a register: the word, the pair or, for an index register, bits 0 to 17 of the
+/// word.
 pub fn number_got(r: Register, given: &Operand36) -> u128
     requires { HoldsNumber r given.now.got }
     ensures value { result ≡ operand (working r) (operand_fields given.now) }
@@ -41,7 +42,7 @@ pub fn number_got(r: Register, given: &Operand36) -> u128
     }
 }
 
-/// The words to write that hold a number of a register's width.
+/// The words to write for a number of a register's width.
 pub fn held(r: Register, v: u128) -> Stored
     requires { v < 2 * half (working r) }
     ensures value { stored result ≡ words (working r) v }

@@ -18,7 +18,7 @@ use m36_frequent::quotient;
 use m36_model::{At, Fault, Operand36, Regs};
 use m36_word::Pair;
 
-/// MPY: AQ becomes Q times the word.
+/// MPY: Q times the word, into AQ.
 #[tactic(auto, unfolding(m36_model::specs::Products::multiply))]
 pub fn multiply(given: &Operand36, regs: &Regs) -> Change
     requires { IsTrue (is_word given.now.got) }
@@ -40,7 +40,7 @@ fn here(regs: &Regs) -> At
     }
 }
 
-/// DIV: Q becomes Q over the word, and A the remainder.
+/// DIV: Q divided by the word, into Q, with the remainder in A.
 ///
 /// # Errors
 ///

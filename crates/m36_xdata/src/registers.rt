@@ -1,4 +1,4 @@
-//! The registers that data instructions work on, as numbers of their widths.
+//! The registers of data instructions, as numbers of their widths.
 
 ghost use Rattle.std.specs.Prelude.{◌≡◌, ◌*◌, ◌^◌, ◌<◌};
 ghost use Rattle.m36_model.specs.Results.{half, value};
@@ -7,13 +7,14 @@ ghost use Rattle.m36_xdata.specs.Registers.{working, IsRegister};
 use m36_frequent::pair;
 use m36_model::{Ind, Regs};
 
-/// A register: the accumulator, the quotient register, both as one number of 72 bits, or an index register.
+/// A register: the accumulator, the quotient register, both as one number of 72 bits, or an index
+/// register.
 #[derive(Clone, Copy)]
 pub enum Register {
     A,
     Q,
     Aq,
-    /// Its number, below 8.
+    /// The index register with this number, 0 to 7.
     X(u8),
 }
 
@@ -24,7 +25,7 @@ pub fn indicators(regs: &Regs) -> Ind
     regs.ind
 }
 
-/// The number in a register.
+/// The value of a register as a number.
 pub fn number_in(r: Register, regs: &Regs) -> u128
     requires { IsRegister r }
     ensures value { result ≡ value (working r) regs.now }
@@ -38,7 +39,8 @@ pub fn number_in(r: Register, regs: &Regs) -> u128
     }
 }
 
-/// Half of the range of a register's numbers.
+/// Half of the range of a register's numbers: 2^35, 2^71 or 2^17. Numbers from there on are
+/// negative.
 pub fn half_of(r: Register) -> u128
     ensures { result ≡ half (working r) }
 {

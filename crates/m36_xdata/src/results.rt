@@ -1,4 +1,4 @@
-//! What most effects come to: a register takes a number, indicators are set, or words are written.
+//! The forms of most effects: a register takes a number, indicators are set, or words are written.
 
 ghost use Rattle.std.specs.Prelude.{◌≡◌, ◌*◌, ◌<◌, [], length};
 ghost use Rattle.m36_model.specs.Results.{half, words, takes, with_indicators, with_value, becomes};
@@ -13,7 +13,7 @@ use crate::operands::held;
 use crate::registers::{Register, indicators};
 use m36_model::{Ind, Regs};
 
-/// A number in a register.
+/// The change of a register to a number.
 #[tactic(auto, unfolding(m36_model::specs::Results::with_value))]
 pub fn new_value(r: Register, v: u128, regs: &Regs) -> Taken
     requires register { IsRegister r }
@@ -44,7 +44,7 @@ pub fn takes(r: Register, v: u128, ind: Ind, overflow: bool, regs: &Regs) -> Cha
     }
 }
 
-/// A register takes a number, which sets zero and negative.
+/// A register takes a number, and zero and negative are set for it.
 pub fn takes_tested(r: Register, v: u128, regs: &Regs) -> Change
     requires register { IsRegister r }
     requires number { v < 2 * half (working r) }
@@ -67,7 +67,7 @@ pub fn sets(ind: Ind, regs: &Regs) -> Change
     }
 }
 
-/// A number of a register's width goes into the operand, and these indicators are set.
+/// A number of a register's width is written into the operand, and these indicators are set.
 pub fn puts(r: Register, v: u128, ind: Ind, overflow: bool, regs: &Regs) -> Change
     requires { v < 2 * half (working r) }
     ensures value { Gives result regs.now

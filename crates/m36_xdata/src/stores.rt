@@ -39,7 +39,7 @@ fn indicators_half(ind: Ind) -> Word
     )
 }
 
-/// STI: bits 18 to 35 of the word become the indicators.
+/// STI: writes the indicators into bits 18 to 35 of the word.
 #[tactic(auto, unfolding(m36_model::specs::Stores::store_indicators))]
 pub fn store_indicators(regs: &Regs) -> Change
     ensures value { Gives result regs.now (store_indicators regs.now) }
@@ -65,7 +65,7 @@ fn chosen(first: bool, a: Word, b: Word) -> Word
     if first { a } else { b }
 }
 
-/// STAC: where the word is 0 it becomes A, and else stays; zero tells which.
+/// STAC: stores A if the word is 0, and otherwise leaves the word. Zero says whether A was stored.
 #[tactic(auto, unfolding(m36_model::specs::Stores::store_where_zero))]
 pub fn store_where_zero(given: &Operand36, regs: &Regs) -> Change
     requires { IsTrue (is_word given.now.got) }
@@ -83,7 +83,8 @@ pub fn store_where_zero(given: &Operand36, regs: &Regs) -> Change
     }
 }
 
-/// STACQ: where the word equals Q it becomes A, and else stays; zero tells which.
+/// STACQ: stores A if the word equals Q, and otherwise leaves the word. Zero says whether A was
+/// stored.
 #[tactic(auto, unfolding(m36_model::specs::Stores::store_where_equal))]
 pub fn store_where_equal(given: &Operand36, regs: &Regs) -> Change
     requires { IsTrue (is_word given.now.got) }

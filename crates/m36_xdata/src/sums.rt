@@ -78,7 +78,7 @@ fn add_number(r: Register, v: u128, regs: &Regs) -> Change
     into_register(r, sum(r, number_in(r, regs), v, false), regs)
 }
 
-/// ADX: register plus operand.
+/// ADX: register plus operand, into the register.
 pub fn add(r: Register, given: &Operand36, regs: &Regs) -> Change
     requires register { IsRegister r }
     requires got { HoldsNumber r given.now.got }
@@ -102,7 +102,7 @@ fn sign_extended(w: Word) -> u128
     }
 }
 
-/// ADL: AQ plus the word with its sign extended.
+/// ADL: AQ plus the word with its sign extended, into AQ.
 pub fn add_low(given: &Operand36, regs: &Regs) -> Change
     requires { IsTrue (is_word given.now.got) }
     ensures value { Gives result regs.now
@@ -112,7 +112,7 @@ pub fn add_low(given: &Operand36, regs: &Regs) -> Change
     add_number(Register::Aq, sign_extended(word_got(given)), regs)
 }
 
-/// ADLA, ADLQ, ADLAQ, ADLX: register plus operand, without overflow.
+/// ADLA, ADLQ, ADLAQ, ADLX: register plus operand, into the register, without overflow.
 #[tactic(auto, unfolding(m36_model::specs::Sums::add_logical))]
 pub fn add_logical(r: Register, given: &Operand36, regs: &Regs) -> Change
     requires register { IsRegister r }
@@ -128,7 +128,7 @@ pub fn add_logical(r: Register, given: &Operand36, regs: &Regs) -> Change
     )
 }
 
-/// AWCA, AWCQ: register plus operand, plus 1 where carry is on.
+/// AWCA, AWCQ: register plus operand, plus 1 if carry is on, into the register.
 #[tactic(auto, unfolding(m36_model::specs::Sums::add_with_carry))]
 pub fn add_with_carry(r: Register, given: &Operand36, regs: &Regs) -> Change
     requires register { IsRegister r }
@@ -144,7 +144,7 @@ pub fn add_with_carry(r: Register, given: &Operand36, regs: &Regs) -> Change
     )
 }
 
-/// SBX: register minus operand.
+/// SBX: register minus operand, into the register.
 #[tactic(auto, unfolding(m36_model::specs::Sums::subtract))]
 pub fn subtract(r: Register, given: &Operand36, regs: &Regs) -> Change
     requires register { IsRegister r }
@@ -160,7 +160,7 @@ pub fn subtract(r: Register, given: &Operand36, regs: &Regs) -> Change
     )
 }
 
-/// SBLA, SBLQ, SBLAQ, SBLX: register minus operand, without overflow.
+/// SBLA, SBLQ, SBLAQ, SBLX: register minus operand, into the register, without overflow.
 #[tactic(auto, unfolding(m36_model::specs::Sums::subtract_logical))]
 pub fn subtract_logical(r: Register, given: &Operand36, regs: &Regs) -> Change
     requires register { IsRegister r }
@@ -176,7 +176,7 @@ pub fn subtract_logical(r: Register, given: &Operand36, regs: &Regs) -> Change
     )
 }
 
-/// SWCA, SWCQ: register minus operand, and minus 1 where carry is off.
+/// SWCA, SWCQ: register minus operand, minus 1 if carry is off, into the register.
 #[tactic(auto, unfolding(m36_model::specs::Sums::subtract_with_carry))]
 pub fn subtract_with_carry(r: Register, given: &Operand36, regs: &Regs) -> Change
     requires register { IsRegister r }
@@ -193,7 +193,7 @@ pub fn subtract_with_carry(r: Register, given: &Operand36, regs: &Regs) -> Chang
     )
 }
 
-/// ASX: the operand becomes register plus operand.
+/// ASX: register plus operand, into the operand.
 #[tactic(auto, unfolding(m36_model::specs::Sums::add_to_storage))]
 pub fn add_to_storage(r: Register, given: &Operand36, regs: &Regs) -> Change
     requires register { IsRegister r }
@@ -209,7 +209,7 @@ pub fn add_to_storage(r: Register, given: &Operand36, regs: &Regs) -> Change
     )
 }
 
-/// SSA, SSQ, SSX: the operand becomes register minus operand.
+/// SSA, SSQ, SSX: register minus operand, into the operand.
 #[tactic(auto, unfolding(m36_model::specs::Sums::subtract_stored))]
 pub fn subtract_stored(r: Register, given: &Operand36, regs: &Regs) -> Change
     requires register { IsRegister r }
@@ -225,7 +225,7 @@ pub fn subtract_stored(r: Register, given: &Operand36, regs: &Regs) -> Change
     )
 }
 
-/// NEG, NEGL: the register becomes its negative.
+/// NEG, NEGL: the negative of the register, into the register.
 #[tactic(auto, unfolding(m36_model::specs::Sums::negate))]
 pub fn negate(r: Register, regs: &Regs) -> Change
     requires { IsRegister r }

@@ -4,7 +4,7 @@ use Rattle.std.specs.Prelude.{Bool, true, false}
 use Rattle.m36_inst.specs.declared.effect.Effect.{Effect}
 use Rattle.m36_inst.specs.declared.effect.Effect.TheVariants as effect
 
--- those that change where the next instruction stands, and nothing else
+-- those that change only the address of the next instruction
 abbrev pub is_transfer : Effect → Bool
 is_transfer effect.Tra = true
 is_transfer effect.Tze = true

@@ -1,4 +1,4 @@
-//! Call and return, which alone change the ring of execution.
+//! Call and return: the only instructions that change the ring of execution.
 
 ghost use Rattle.std.specs.Prelude.{◌≡◌, ◌<◌, ◌^◌, Ok, IsTrue, map};
 ghost use Rattle.m36_model.specs.Modification.{pair_ring};
@@ -10,7 +10,8 @@ ghost use Rattle.m36_model.specs.CallReturn.{return_ring, pointer_in_ring};
 use m36_desc::{Its, Ptr};
 use m36_model::{Effect36, Final, Held, Operand36, Ppr, Regs};
 
-/// CALL6: control goes to the final address in the new ring, with the base of a stack of that ring in PR7.
+/// CALL6: transfers to the final address in the new ring, and sets PR7 to the base of a stack of
+/// that ring.
 #[tactic(auto, unfolding(m36_model::specs::CallReturn::call))]
 pub fn call(regs: &Regs, f: &Final, ring: u8) -> Effect36
     requires { ring < 2 ^ 3 }
@@ -44,7 +45,8 @@ pub(crate) fn stack_pointer(regs: &Regs, ring: u8) -> Ptr
     }
 }
 
-/// Where the ring stays, the caller's stack goes on; else it is the stack that the DBR gives to the new ring.
+/// The segment of the stack: if the ring does not change, the one that PR6 points to; otherwise
+/// the stack of the new ring that the DBR defines.
 #[inline(always)]
 fn stack_segment(regs: &Regs, ring: u8) -> u16
     requires { ring < 2 ^ 3 }
@@ -58,7 +60,8 @@ fn stack_segment(regs: &Regs, ring: u8) -> u16
     }
 }
 
-/// RTCD: control goes to the pointer of a pair, and no pointer register keeps another ring than the new one.
+/// RTCD: transfers to the pointer of a pair, and sets the ring of every pointer register to the
+/// new ring.
 #[tactic(auto, unfolding(m36_model::specs::CallReturn::return_to))]
 pub fn return_to(regs: &Regs, f: &Final, operand: &Operand36) -> Effect36
     requires { IsTrue (is_pair operand.now.got) }
@@ -80,7 +83,8 @@ pub fn return_to(regs: &Regs, f: &Final, operand: &Operand36) -> Effect36
     }
 }
 
-/// The greatest of the pair's ring, the ring of the reference and the first bracket of the pair's segment.
+/// The maximum of the pair's ring, the ring of the reference and the first ring bracket of the
+/// pair's segment.
 fn return_ring(its: &Its, f: &Final, operand: &Operand36) -> u8
     ensures value { result ≡ return_ring its.now f.now (operand_fields operand.now) }
     ensures bound { result < 2 ^ 3 }
@@ -88,7 +92,7 @@ fn return_ring(its: &Its, f: &Final, operand: &Operand36) -> u8
     greatest_ring(its, f, operand.ring)
 }
 
-/// The same, by the first bracket of the pair's segment.
+/// As `return_ring`, given the first ring bracket of the pair's segment.
 #[inline(always)]
 pub(crate) fn greatest_ring(its: &Its, f: &Final, segment_ring: u8) -> u8
     requires { segment_ring < 2 ^ 3 }
@@ -99,7 +103,7 @@ pub(crate) fn greatest_ring(its: &Its, f: &Final, segment_ring: u8) -> u8
     at.ring.max(segment_ring).max(its.ring)
 }
 
-/// The pointers in another ring.
+/// The pointers with their rings replaced.
 #[inline(always)]
 pub(crate) fn all_in_ring(pointers: &[Ptr; 8], ring: u8) -> [Ptr; 8]
     requires { ring < 2 ^ 3 }

@@ -1,4 +1,4 @@
-//! The instructions by what they do.
+//! Dispatch: which function executes which instruction.
 
 ghost use Rattle.std.specs.Prelude.{◌≡◌, ◌<◌, IsTrue, IfOk};
 ghost use Rattle.m36_inst.specs.Groups.{is_control};
@@ -17,8 +17,9 @@ use crate::transfers::{
 use m36_inst::{Effect, Row};
 use m36_model::{Effect36, Fault, Final, Operand36, Regs};
 
-/// The effect of a control instruction: the new registers and the words to write, by the registers, the final address
-/// and the operand. The words of the operand are those that the instruction reads. None of these refuses its operand.
+/// The effect of a control instruction on these registers, given the final address and the
+/// operand: the new registers and the words to write. The operand has the words that the
+/// instruction reads. No control instruction refuses its operand.
 pub fn exec(row: &Row, regs: &Regs, f: &Final, operand: Operand36) -> Result<Effect36, Fault>
     requires control { IsTrue (is_control row.now.effect) }
     requires reg { row.now.reg < 8 }

@@ -11,14 +11,14 @@ use m36_inst::Effect;
 use m36_model::{Effect36, Held, Operand36, Regs};
 use m36_word::Word;
 
-/// Whether an instruction asks for the place in core of its final address. Only ABSA does.
+/// Whether an instruction needs the core address of its final address. Only ABSA does.
 pub fn is_absa(effect: Effect) -> bool
     ensures { result ≡ is_absa effect }
 {
     matches!(effect, Effect::Absa)
 }
 
-/// LDBR: the descriptor segment base register from a pair.
+/// LDBR: loads the descriptor segment base register from a pair.
 #[tactic(auto, unfolding(m36_model::specs::Privileged::load_dbr))]
 pub fn load_dbr(regs: &Regs, operand: &Operand36) -> Effect36
     requires { IsTrue (is_pair operand.now.got) }
@@ -29,7 +29,7 @@ pub fn load_dbr(regs: &Regs, operand: &Operand36) -> Effect36
     Effect36::completed(after)
 }
 
-/// SDBR: the descriptor segment base register as a pair.
+/// SDBR: stores the descriptor segment base register as a pair.
 #[tactic(auto, unfolding(m36_model::specs::Privileged::store_dbr))]
 pub fn store_dbr(regs: &Regs) -> Effect36
     ensures { Ok (effect_fields result) ≡ store_dbr regs.now }
@@ -38,7 +38,7 @@ pub fn store_dbr(regs: &Regs) -> Effect36
     Effect36::completed_with(*regs, Held::Two(dbr.to_words()))
 }
 
-/// ABSA: a place in core, in the first 24 bits of A.
+/// ABSA: loads a core address into the first 24 bits of A.
 #[tactic(auto, unfolding(m36_model::specs::Privileged::load_absolute_address, m36_model::specs::Results::with_value, m36_model::specs::Results::zn))]
 pub fn load_absolute_address(regs: &Regs, operand: &Operand36) -> Effect36
     ensures { Ok (effect_fields result)

@@ -1,4 +1,4 @@
-//! Call and return, done in the registers as they are.
+//! Call and return, executed directly in the registers.
 
 ghost use Rattle.std.specs.Prelude.{ℕ, ◌≡◌, ◌<◌, ◌^◌};
 ghost use Rattle.m36_inst.specs.declared.effect.Effect.TheVariants as effect;
@@ -11,8 +11,8 @@ use m36_desc::Its;
 use m36_model::{Final, Regs};
 use m36_word::Pair;
 
-/// CALL6, done in the registers: control goes to the final address in the new ring, with the base of a stack of that
-/// ring in PR7.
+/// CALL6: transfers to the final address in the new ring, and sets PR7 to the base of a stack of
+/// that ring.
 #[inline(always)]
 #[tactic(auto, unfolding(m36_model::specs::Effect::exec, m36_model::specs::CallReturn::call, m36_model::specs::Pointers::with_pr))]
 pub fn enter(regs: &mut Regs, f: &Final, ring: u8)
@@ -29,8 +29,8 @@ pub fn enter(regs: &mut Regs, f: &Final, ring: u8)
     regs.ppr.prr = ring;
 }
 
-/// RTCD, done in the registers: control goes to the pointer of a pair, and no pointer register keeps another ring than
-/// the new one. `segment_ring` is the first ring bracket of the pair's segment.
+/// RTCD: transfers to the pointer of a pair, and sets the ring of every pointer register to the
+/// new ring. `segment_ring` is the first ring bracket of the pair's segment.
 #[inline(always)]
 #[tactic(auto, unfolding(m36_model::specs::Effect::exec, m36_model::specs::CallReturn::return_to))]
 pub fn leave(regs: &mut Regs, f: &Final, pair: Pair, segment_ring: u8)

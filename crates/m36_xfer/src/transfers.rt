@@ -15,7 +15,8 @@ use m36_desc::Ptr;
 use m36_inst::Effect;
 use m36_model::{Effect36, Final, Held, Regs};
 
-/// Whether a transfer is taken, by the indicators. Every instruction but the conditional transfers is taken.
+/// Whether a transfer is taken, by the indicators. It is true for every instruction that is not a
+/// conditional transfer.
 #[tactic(auto, unfolding(m36_model::specs::Transfers::is_taken))]
 #[inline(always)]
 pub fn is_taken(effect: Effect, regs: &Regs) -> bool
@@ -37,8 +38,8 @@ pub fn is_taken(effect: Effect, regs: &Regs) -> bool
     }
 }
 
-/// Whether an instruction is TRA or a conditional transfer but TOV. These change where the next instruction stands, and nothing
-/// else.
+/// Whether an instruction is TRA or a conditional transfer other than TOV. These change only the
+/// address of the next instruction.
 #[inline(always)]
 pub fn is_transfer(effect: Effect) -> bool
     ensures { result ≡ is_transfer effect }
@@ -58,7 +59,7 @@ pub fn is_transfer(effect: Effect) -> bool
     )
 }
 
-/// Goes to the final address, or on to the next instruction.
+/// Transfers to the final address, or continues with the next instruction.
 #[tactic(auto, unfolding(m36_model::specs::Transfers::transfer_where, m36_model::specs::Transfers::gone_to, m36_model::specs::Results::moved_on))]
 #[inline(always)]
 fn go(taken: bool, regs: &mut Regs, f: &Final)
@@ -74,8 +75,8 @@ fn go(taken: bool, regs: &mut Regs, f: &Final)
     }
 }
 
-/// TRA and the conditional transfers except TOV, done in the registers. `taken` says whether the
-/// transfer is taken. They store no words.
+/// Executes TRA or a conditional transfer other than TOV. `taken` says whether the transfer is
+/// taken. No words are written.
 #[tactic(auto, unfolding(m36_model::specs::Effect::exec))]
 #[inline(always)]
 pub fn transfer(effect: Effect, taken: bool, regs: &mut Regs, f: &Final)
@@ -101,7 +102,7 @@ pub fn transfer(effect: Effect, taken: bool, regs: &mut Regs, f: &Final)
     }
 }
 
-/// TRA and the conditional transfers but TOV.
+/// TRA and the conditional transfers other than TOV.
 #[tactic(auto, unfolding(m36_model::specs::Transfers::transfer_where))]
 pub fn transfer_where(taken: bool, regs: &Regs, f: &Final) -> Effect36
     ensures { Ok (effect_fields result) ≡ transfer_where taken f.now regs.now }
@@ -113,7 +114,7 @@ pub fn transfer_where(taken: bool, regs: &Regs, f: &Final) -> Effect36
     }
 }
 
-/// TOV, which puts overflow off where it is taken.
+/// TOV, which clears overflow if it is taken.
 #[tactic(auto, unfolding(m36_model::specs::Transfers::transfer_on_overflow))]
 pub fn transfer_on_overflow(taken: bool, regs: &Regs, f: &Final) -> Effect36
     ensures { Ok (effect_fields result) ≡ transfer_on_overflow taken f.now regs.now }
@@ -125,7 +126,7 @@ pub fn transfer_on_overflow(taken: bool, regs: &Regs, f: &Final) -> Effect36
     }
 }
 
-/// TSX: the word of the next instruction goes to an index register.
+/// TSX: stores the word number of the next instruction into an index register.
 #[tactic(auto, unfolding(m36_model::specs::Transfers::transfer_and_set_index))]
 pub fn transfer_and_set_index(regs: &Regs, n: u8, f: &Final) -> Effect36
     requires { n < 8 }
@@ -134,7 +135,7 @@ pub fn transfer_and_set_index(regs: &Regs, n: u8, f: &Final) -> Effect36
     goes_to(&regs.with_index(n, next_word(regs)), f)
 }
 
-/// TSP: the place of the next instruction goes to a pointer register.
+/// TSP: stores a pointer to the next instruction into a pointer register.
 #[tactic(auto, unfolding(m36_model::specs::Transfers::transfer_and_set_pointer))]
 pub fn transfer_and_set_pointer(regs: &Regs, n: u8, f: &Final) -> Effect36
     requires { n < 8 }
@@ -150,7 +151,7 @@ pub fn transfer_and_set_pointer(regs: &Regs, n: u8, f: &Final) -> Effect36
     goes_to(&regs.with_pointer(n, next), f)
 }
 
-/// An effect that leaves these registers, but for the next instruction, which is that at the final address.
+/// The effect of a transfer to the final address; the other registers are `regs`.
 #[tactic(auto, unfolding(m36_model::specs::Transfers::gone_to))]
 fn goes_to(regs: &Regs, f: &Final) -> Effect36
     ensures { Ok (effect_fields result) ≡ goes_to f.now regs.now }

@@ -1,4 +1,4 @@
--- A list of eight is its eight elements: the pointer registers, and the pairs of a block.
+-- A list of length eight is its eight elements: the pointer registers, and the pairs of a block.
 use Rattle.std.proofs.Common.{ℕ, ◌≡◌, List, length, map, max, refl, ◌∙◌}
 use Rattle.m36_word.specs.declared.pair.Pair.{Pair}
 use Rattle.m36_desc.specs.Fields.{PtrFields}

@@ -1,4 +1,4 @@
--- How many words a pointer instruction puts, by the effect that it has.
+-- The number of words that a pointer instruction writes, by its effect.
 use Rattle.std.proofs.Common.{ℕ, ◌≡◌, ◌∙◌, ap, List, Result, Ok, Err, IfOk, IsTrue, length}
 use Rattle.m36_inst.specs.Groups.{is_pointer}
 use Rattle.m36_inst.specs.Operands.{operand_of}
@@ -13,12 +13,12 @@ use Rattle.m36_model.specs.declared.effects.Effect36.{Effect36}
 use Rattle.m36_model.specs.declared.outcome.Fault.{Fault}
 use Rattle.m36_model.proofs.PutLaw.{PutsSo, puts_so}
 
--- as many as are put, by what is put
+-- two equal effects write the same number of words
 same_count : (n : ℕ) (g : RegsFields) (x : Effect36) (v : Result EffectFields ℕ) → answer_fields (Ok x) ≡ refused_here g v → PutsSo n v → length (words_of_held x.put) ≡ n
 same_count n g x (Ok y) h p = let e : words_of_held x.put ≡ y.put = cc in ap length e ∙ p
 same_count n g x (Err number) h p = cc
 
--- none of them puts a half
+-- no pointer instruction writes a half
 no_half : (e : Effect) (words : List ℕ) → IsTrue (is_pointer e) → length words ≡ words_written (operand_of e) → PutsFor (operand_of e) words
 no_half effect.EppN words p h = h
 no_half effect.EpbpN words p h = h

@@ -8,7 +8,7 @@ use Rattle.m36_desc.specs.Descriptors.{ptr_of, its_of_ptr, its_pair}
 abbrev pub pair_of_pointer : PtrFields → Pair
 pair_of_pointer p = its_pair (its_of_ptr p)
 
--- the pointer of a pair, in its ring or another, whichever is greater
+-- the pointer of a pair, whose ring is raised to at least this one
 abbrev pub pointer_of_pair : ℕ → Pair → PtrFields
 pointer_of_pair ring p =
     let pointer = ptr_of p.even p.odd in record pointer { ring = max ring pointer.ring }

@@ -1,4 +1,4 @@
-//! The instructions by what they do.
+//! Dispatch: which function executes which instruction.
 
 ghost use Rattle.std.specs.Prelude.{◌≡◌, ◌<◌, IsTrue, IfOk};
 ghost use Rattle.m36_inst.specs.Groups.{is_pointer};
@@ -15,12 +15,13 @@ use crate::stores::{store_base_pointer, store_control, store_pointer, store_poin
 use m36_inst::{Effect, Row};
 use m36_model::{Effect36, Fault, Final, Operand36, Regs};
 
-/// The effect of a pointer register instruction: the new registers and the words to write, by the registers, the final
-/// address and the operand. The words of the operand are those that the instruction reads.
+/// The effect of a pointer register instruction on these registers, given the final address and
+/// the operand: the new registers and the words to write. The operand has the words that the
+/// instruction reads.
 ///
 /// # Errors
 ///
-/// Fault 5, command, at the instruction: LPRP is given no packed pointer.
+/// Fault 5, command, at the instruction: the word of LPRP is not a packed pointer.
 pub fn exec(row: &Row, regs: &Regs, f: &Final, operand: Operand36) -> Result<Effect36, Fault>
     requires pointer { IsTrue (is_pointer row.now.effect) }
     requires reg { row.now.reg < 8 }

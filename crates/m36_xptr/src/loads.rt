@@ -15,7 +15,7 @@ use m36_desc::Ptr;
 use m36_model::{Effect36, Fault, Final, Operand36, Regs};
 use m36_word::{Field, Word};
 
-/// EPP: the final address.
+/// EPP: loads the final address.
 #[tactic(auto, unfolding(m36_model::specs::Pointers::load_pointer))]
 pub fn load_pointer(regs: &Regs, n: u8, f: &Final) -> Effect36
     requires { n < 8 }
@@ -31,7 +31,7 @@ pub fn load_pointer(regs: &Regs, n: u8, f: &Final) -> Effect36
     Effect36::completed(regs.with_pointer(n, pointer))
 }
 
-/// EPBP: the base of the final address's segment.
+/// EPBP: loads the base of the final address's segment: word 0, bit 0.
 #[tactic(auto, unfolding(m36_model::specs::Pointers::load_base_pointer))]
 pub fn load_base_pointer(regs: &Regs, n: u8, f: &Final) -> Effect36
     requires { n < 8 }
@@ -47,7 +47,7 @@ pub fn load_base_pointer(regs: &Regs, n: u8, f: &Final) -> Effect36
     Effect36::completed(regs.with_pointer(n, base))
 }
 
-/// LPRI: all pointer registers from a block of ITS pairs.
+/// LPRI: loads all pointer registers from a block of ITS pairs.
 #[tactic(auto, unfolding(m36_model::specs::Pointers::load_pointers))]
 pub fn load_pointers(regs: &Regs, f: &Final, operand: &Operand36) -> Effect36
     requires { IsTrue (is_block operand.now.got) }
@@ -57,8 +57,8 @@ pub fn load_pointers(regs: &Regs, f: &Final, operand: &Operand36) -> Effect36
     Effect36::completed(with_pointers(regs, raised_pointers(f, operand)))
 }
 
-/// The pointers of a block of ITS pairs, each in the greatest of its pair's ring, the ring of the reference and the
-/// first bracket of the block's segment.
+/// The pointers of a block of ITS pairs. Each ring is the maximum of the pair's ring, the ring of
+/// the reference and the first ring bracket of the block's segment.
 fn raised_pointers(f: &Final, operand: &Operand36) -> [Ptr; 8]
     requires { IsTrue (is_block operand.now.got) }
     ensures { result ≡ pointers_in (operand_fields operand.now) f.now }
@@ -66,7 +66,7 @@ fn raised_pointers(f: &Final, operand: &Operand36) -> [Ptr; 8]
     pointers(operand.got.block(), raised_ring(f, operand))
 }
 
-/// The ring of the reference, raised to the first bracket of the operand's segment.
+/// The maximum of the ring of the reference and the first ring bracket of the operand's segment.
 fn raised_ring(f: &Final, operand: &Operand36) -> u8
     ensures ring { result ≡ max f.now.at.ring operand.now.ring }
     ensures bound { result < 2 ^ 3 }
@@ -75,8 +75,8 @@ fn raised_ring(f: &Final, operand: &Operand36) -> u8
     at.ring.max(operand.ring)
 }
 
-/// LPRP: a packed pointer, in the ring of the reference. A word whose first two bits are both on is no packed pointer,
-/// and the fault is command.
+/// LPRP: loads a packed pointer, in the ring of the reference. If the first two bits of the word
+/// are both 1, it is not a packed pointer, and the fault is command.
 #[tactic(auto, unfolding(m36_model::specs::Pointers::load_packed))]
 pub fn load_packed(regs: &Regs, n: u8, f: &Final, word: Word) -> Result<Effect36, Fault>
     requires { n < 8 }
@@ -88,7 +88,8 @@ pub fn load_packed(regs: &Regs, n: u8, f: &Final, word: Word) -> Result<Effect36
     Ok(Effect36::completed(regs.with_pointer(n, unpacked(word, f))))
 }
 
-/// EPAQ: segment and ring of the final address in A, its word and bit in Q.
+/// EPAQ: loads segment and ring of the final address into A, its word and bit into Q. Zero is set
+/// if both are 0.
 #[tactic(auto, unfolding(m36_model::specs::Pointers::load_address_pair))]
 pub fn load_address_pair(regs: &Regs, f: &Final) -> Effect36
     ensures { Ok (effect_fields result) ≡ load_address_pair regs.now f.now }
@@ -103,7 +104,7 @@ pub fn load_address_pair(regs: &Regs, f: &Final) -> Effect36
     Effect36::completed(after)
 }
 
-/// The fault of an operand that the instruction does not take.
+/// Fault 5, command, at the instruction: it does not accept its operand.
 fn command_fault(regs: &Regs) -> Fault
     ensures { result ≡ fault_here command regs.now }
 {
@@ -114,8 +115,8 @@ fn command_fault(regs: &Regs) -> Fault
     }
 }
 
-/// The pointer that a packed pointer means. Of the segment number it has 12 bits; where these are all ones, so are the
-/// three before them.
+/// The pointer that a packed pointer encodes. It has 12 bits of the segment number; if these are
+/// all 1, so are the three before them.
 fn unpacked(word: Word, f: &Final) -> Ptr
     ensures { result ≡ packed_of word f.now.at.ring }
 {

@@ -1,4 +1,4 @@
-//! Pointer registers among the registers, and in words.
+//! Pointer registers, and their encoding in words.
 
 ghost use Rattle.std.specs.Prelude.{◌≡◌, ◌<◌, ◌^◌, map, length};
 ghost use Rattle.m36_xptr.specs.PointerPairs.{pair_of_pointer, pointer_of_pair};
@@ -14,7 +14,7 @@ const NULL: Ptr = Ptr {
     bit: 0,
 };
 
-/// The registers with other pointers in all pointer registers.
+/// The registers with these pointers in the pointer registers.
 pub fn with_pointers(regs: &Regs, pointers: [Ptr; 8]) -> Regs
     ensures { result ≡ record regs.now { pr = pointers } }
 {
@@ -23,7 +23,7 @@ pub fn with_pointers(regs: &Regs, pointers: [Ptr; 8]) -> Regs
     after
 }
 
-/// The ITS pairs of all pointer registers.
+/// The ITS pairs of these pointers.
 pub fn pairs(pointers: &[Ptr; 8]) -> [Pair; 8]
     ensures each { result ≡ map pair_of_pointer pointers.now }
     ensures count { length pointers.now ≡ 8 }
@@ -38,7 +38,7 @@ pub fn pairs(pointers: &[Ptr; 8]) -> [Pair; 8]
     pairs
 }
 
-/// The pointers of eight ITS pairs, each in its own ring or in `ring`, whichever is greater.
+/// The pointers of eight ITS pairs. Each ring is the maximum of the pair's ring and `ring`.
 pub fn pointers(block: &[Pair; 8], ring: u8) -> [Ptr; 8]
     requires { ring < 2 ^ 3 }
     ensures each { result ≡ map (pointer_of_pair ring) block.now }

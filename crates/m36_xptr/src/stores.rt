@@ -1,4 +1,4 @@
-//! Stores of pointer registers, and of a pointer to the instructions that follow.
+//! Stores of pointer registers, and of a pointer to an instruction.
 
 ghost use Rattle.std.specs.Prelude.{◌≡◌, ◌<◌, Ok};
 ghost use Rattle.m36_model.specs.Results.{effect_fields};
@@ -10,7 +10,7 @@ use m36_desc::Ptr;
 use m36_model::{Effect36, Held, Regs};
 use m36_word::{Pair, Word};
 
-/// SPRI0 to SPRI7: a pointer register as an ITS pair.
+/// SPRI0 to SPRI7: stores a pointer register as an ITS pair.
 #[tactic(auto, unfolding(m36_model::specs::Pointers::store_pointer))]
 pub fn store_pointer(regs: &Regs, n: u8) -> Effect36
     requires { n < 8 }
@@ -20,7 +20,7 @@ pub fn store_pointer(regs: &Regs, n: u8) -> Effect36
     Effect36::completed_with(*regs, Held::Two(pair))
 }
 
-/// SPBP0 to SPBP7: the base of a pointer register's segment as an ITS pair.
+/// SPBP0 to SPBP7: stores the base of a pointer register's segment as an ITS pair.
 #[tactic(auto, unfolding(m36_model::specs::Pointers::store_base_pointer))]
 pub fn store_base_pointer(regs: &Regs, n: u8) -> Effect36
     requires { n < 8 }
@@ -33,7 +33,7 @@ pub fn store_base_pointer(regs: &Regs, n: u8) -> Effect36
     Effect36::completed_with(*regs, Held::Two(pair))
 }
 
-/// SPRI: all pointer registers as a block of ITS pairs.
+/// SPRI: stores all pointer registers as a block of ITS pairs.
 #[tactic(auto, unfolding(m36_model::specs::Pointers::store_pointers), using(crate::proofs::Eight::words_of_registers))]
 pub fn store_pointers(regs: &Regs) -> Effect36
     ensures { Ok (effect_fields result) ≡ store_pointers regs.now }
@@ -42,7 +42,8 @@ pub fn store_pointers(regs: &Regs) -> Effect36
     Effect36::completed_with(*regs, Held::Block(block))
 }
 
-/// STCD: the ITS pair of the second instruction from here, in the ring of execution.
+/// STCD: stores an ITS pair with the address of the instruction after the next one, in the ring of
+/// execution.
 #[tactic(auto, unfolding(m36_model::specs::Pointers::store_control))]
 pub fn store_control(regs: &Regs) -> Effect36
     ensures { Ok (effect_fields result) ≡ store_control regs.now }

@@ -5,7 +5,7 @@ use Rattle.m36_back.proofs.kept.drop_later.Given as goal
 abbrev pub decreases-kept : goal.decreases-kept
 decreases-kept g l = l.n
 
--- what is left was kept
+-- the states that are left were kept before
 abbrev pub invariant-kept : goal.invariant-kept
 invariant-kept g l = record {
   within : l.n ≤ length l.kept.items;

@@ -5,7 +5,7 @@ use Rattle.m36_back.proofs.replaying.replay.Given as goal
 abbrev pub decreases-turns : goal.decreases-turns
 decreases-turns g l = l.left
 
--- so many turns were taken as are no longer left
+-- turns minus left turns were taken
 abbrev pub invariant-turns : goal.invariant-turns
 invariant-turns g l = record {
   within : l.left ≤ l.turns;

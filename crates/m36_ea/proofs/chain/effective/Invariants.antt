@@ -6,7 +6,7 @@ use Rattle.m36_walk.specs.Served.{standing}
 use Rattle.m36_ea.specs.Formed.{formed_from}
 use Rattle.m36_ea.proofs.chain.effective.Given as goal
 
--- The chain from here on gives what the whole chain gives.
+-- The rest of the chain gives what the whole chain gives.
 abbrev pub invariant-loop-last : goal.invariant-loop-last
 invariant-loop-last l = record {
   same : formed_from l.fn.regs l.fn.inst l.fn.walk.core l.fn.refs.items ≡ run core_store l.fn.regs (chain l.left l.fn.regs l.tpr) (standing l.walk.core [] l.refs.items);

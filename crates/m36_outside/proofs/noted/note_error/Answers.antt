@@ -1,4 +1,4 @@
--- The error that was noted is a signal, or it is none.
+-- The logged error is a signal, or it is not.
 use Rattle.m36_outside.proofs.Signalled.{noted_signal, noted_fault}
 use Rattle.m36_outside.proofs.noted.note_error.Goals as goal
 

@@ -1,4 +1,4 @@
--- What was noted of the reader is noted behind what was there.
+-- The log of the reader is appended to the log that was there.
 use Rattle.m36_outside.proofs.FilesGiven.{opened_gives}
 use Rattle.m36_outside.proofs.Signalled.{open_error_behind}
 use Rattle.m36_outside.proofs.reading.read_alone.Goals as goal

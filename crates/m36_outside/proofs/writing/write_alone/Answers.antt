@@ -1,4 +1,4 @@
--- What was noted of the writer is noted behind what was there.
+-- The log of the writer is appended to the log that was there.
 use Rattle.m36_outside.proofs.Signalled.{put_error_behind}
 use Rattle.m36_outside.proofs.Takes.{put_says_behind}
 use Rattle.m36_outside.proofs.writing.write_alone.Goals as goal

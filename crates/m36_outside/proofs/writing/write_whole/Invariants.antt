@@ -3,7 +3,7 @@ use Rattle.std.specs.Io.KnownBytes.{Appends}
 use Rattle.m36_outside.specs.Signals.{Signals}
 use Rattle.m36_outside.proofs.writing.write_whole.Given as goal
 
--- So many of the bytes were written, from the beginning on, and nothing was flushed.
+-- The first `done` bytes were written, and nothing was flushed.
 abbrev pub invariant-loop-done : goal.invariant-loop-done
 invariant-loop-done g l = record {
   taken : l.notes.taken.entries ≡ l.fn.notes.taken.entries ++ take l.done l.bytes;

@@ -1,4 +1,4 @@
--- What is told of the file is told of the folder.
+-- What holds for the log of the file holds for that of the folder.
 use Rattle.std.proofs.Common.{ℕ, ◌≤◌, [], ◌∷◌, ◌++◌, ap, subst, ◌∙◌}
 use Rattle.m36_outside.specs.Given.{ReadGives}
 use Rattle.m36_outside.specs.ReadAnswer.{ReadHasCause}

@@ -5,7 +5,7 @@ use Rattle.m36_outside.specs.Written.{Grew}
 use Rattle.m36_outside.specs.MemSink.{block_fails, after_block}
 use Rattle.m36_outside.proofs.memory_sink.MemSinkSink.put_block.Given as goal
 
--- So many of the pieces were put, from the beginning on.
+-- The first `place` pieces were put.
 abbrev pub invariant-loop-place : goal.invariant-loop-place
 invariant-loop-place l = record {
   says : Grew (Some l.fn.self.bytes) (Some l.self.bytes) (joined (take l.place l.block));

@@ -3,7 +3,7 @@ use Rattle.m36_outside.specs.Passing.{joined}
 use Rattle.m36_outside.specs.Written.{Grew}
 use Rattle.m36_outside.proofs.sink.Sink.put_block.Given as goal
 
--- So many of the pieces were put, from the beginning on.
+-- The first `place` pieces were put.
 abbrev pub invariant-loop-place : goal.invariant-loop-place
 invariant-loop-place g l = record {
   says : Grew (g.Self.Sink.written l.fn.self) (g.Self.Sink.written l.self) (joined (take l.place l.block));

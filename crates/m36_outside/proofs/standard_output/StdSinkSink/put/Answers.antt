@@ -1,4 +1,4 @@
--- What was written is noted as one piece.
+-- What was written is logged as one piece.
 use Rattle.std.proofs.Common.{ℕ, ◌≤◌, [], ◌∷◌, ◌++◌, ap, subst, ◌∙◌}
 use Rattle.m36_outside.specs.Put.{PutHasCause}
 use Rattle.m36_outside.specs.System.{PutHasError}

@@ -1,4 +1,4 @@
--- What was written is noted in pieces.
+-- What was written is logged in pieces.
 use Rattle.std.proofs.Common.{ℕ, ◌≤◌, ◌<◌, ◌++◌, Some, length, ap, subst, ◌∙◌, rules, arith}
 use Rattle.m36_outside.specs.Block.{parts}
 use Rattle.m36_outside.specs.Put.{PutSays, PutHasCause}

@@ -1,4 +1,4 @@
--- The conditions of the audit are kept, by the law and since the state that is left is that of the step.
+-- The conditions of the audit are kept, by the law, since the state after the call is that of the step.
 use Rattle.std.proofs.Common.{ℕ, List, ◌∙◌, ap, sym, subst}
 use Rattle.m36_model.specs.Audit.{IsAudited}
 use Rattle.m36_model.specs.Core.{core_store}
