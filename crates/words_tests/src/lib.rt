@@ -1,5 +1,5 @@
-//! Tests of the lowest crates: words, core, texts, descriptors, instructions, and descriptor and page
-//! tables. Expected values were worked out by hand.
+//! Tests of the lowest crates: words, core, texts, descriptors, instructions, and descriptor and
+//! page tables. Expected values were worked out by hand.
 #![tactic(auto)]
 
 #[cfg(test)]
