@@ -1,4 +1,4 @@
-//! Texts of access lists, users and what they may do, worked out by hand.
+//! Access lists: texts that are read or refused, users, and what users may do.
 
 use m36_acl::{Acl, AclFault, AclSegment, Term, User};
 use m36_outside::Text;
@@ -6,7 +6,7 @@ use m36_word::NoMemory;
 use std::alloc::Global;
 use std::test::Fail;
 
-// Two segments, of which one has two terms.
+// Four segments: one with two terms, two with one term, and one without terms.
 const LISTS: &str = "segment >udd>demo main
 term Jones.Demo.* null
 term *.Demo.* re
@@ -24,12 +24,12 @@ fn read(alloc: Global, text: &[u8]) -> Result<Acl, AclFault> {
     Acl::read(alloc, text)
 }
 
-// What is told of a text.
+// The fault of a text, if it is refused.
 fn told(alloc: Global, text: &[u8]) -> Option<AclFault> {
     read(alloc, text).err()
 }
 
-/// Texts, and what is told of each.
+/// A text, and its fault if it is refused.
 const TEXTS: &[(&str, Option<AclFault>)] = &[
     ("", None),
     (LISTS, None),
@@ -71,7 +71,7 @@ fn texts_with_their_codes(rt: HostRuntime) {
     }
 }
 
-// A segment with terms of these tags.
+// A text with one segment and a term for each tag.
 fn with_tags(alloc: Global, tags: &[u8]) -> Result<Text, NoMemory> {
     let mut text = Text::from_bytes(alloc, b"segment >a b\n")?;
     for tag in tags {
@@ -82,7 +82,7 @@ fn with_tags(alloc: Global, tags: &[u8]) -> Result<Text, NoMemory> {
     Ok(text)
 }
 
-/// The tags of terms, and what is told of a segment with these.
+/// The tags of a segment's terms, and the fault of the text if it is refused.
 const TAGS: &[(&str, Option<AclFault>)] = &[
     ("abcdefghijklmnop", None),
     ("abcdefghijklmnopq", Some(AclFault::C1(18))),
@@ -98,7 +98,7 @@ fn sixteen_terms_at_most(rt: HostRuntime) -> Result<(), NoMemory> {
     Ok(())
 }
 
-/// Texts, and whether each is a user.
+/// A text, and whether it is a user.
 const USERS: &[(&str, bool)] = &[
     ("Smith.Demo.a", true),
     ("A.B.c", true),
@@ -122,10 +122,10 @@ fn users_by_their_form(rt: HostRuntime) {
     }
 }
 
-/// Whether a user may read, execute and write, and the place of the term that decides.
+/// Whether a user may read, execute and write, and the index of the term that decides.
 type Granted = (bool, bool, bool, Option<usize>);
 
-/// Directories, names and users, and what each user may do there.
+/// The directory and name of a segment, a user, and what the user may do.
 const MODES: &[(&str, &str, &str, Granted)] = &[
     (
         ">udd>demo",
@@ -174,10 +174,10 @@ fn modes_of_users(rt: HostRuntime) -> Result<(), Fail> {
     Ok(())
 }
 
-/// The lines of the segments.
+/// The line numbers of the segments of `LISTS`.
 const LINES: &[u32] = &[1, 4, 6, 8];
 
-/// The users of the terms of `main`.
+/// The access names of the terms of `main`.
 const TERMS: &[&str] = &["Jones.Demo.*", "*.Demo.*"];
 
 fn have_lines(segments: &[AclSegment], lines: &[u32]) -> bool {

@@ -1,4 +1,4 @@
-//! Boot texts and look-ups worked out by hand.
+//! Catalogs: boot texts that are read or refused, and lookups.
 
 use m36_dir::{Catalog, CatalogFault, Mode, SegKind, Segment};
 use m36_outside::Text;
@@ -6,7 +6,7 @@ use m36_word::NoMemory;
 use std::alloc::Global;
 use std::test::Fail;
 
-// The lines of the text that the others are made of.
+// The lines of a correct boot text. The other texts are variants of it.
 const FRAMES: &str = "frames 24";
 
 const WORK: &str = "work >udd>demo";
@@ -21,7 +21,8 @@ const START: &str = "start 4 main$start";
 
 const LINES: &[&str] = &[FRAMES, WORK, LIBRARY, MAIN, CONSOLE, START];
 
-// The lines, each with its line feed; a line that ends with `%` lacks its line feed and what stands for it.
+// The text of these lines. Each gets a line feed, except that a line that ends with `%` gets none
+// and loses the `%`.
 fn text_of(alloc: Global, lines: &[&str]) -> Result<Text, NoMemory> {
     let mut text = Text::new(alloc);
     for line in lines {
@@ -45,12 +46,12 @@ fn read(alloc: Global, lines: &[&str]) -> Result<Catalog, CatalogFault> {
     Catalog::read(alloc, bytes)
 }
 
-// What is told of lines.
+// The fault of a boot text with these lines, if it is refused.
 fn told(alloc: Global, lines: &[&str]) -> Option<CatalogFault> {
     read(alloc, lines).err()
 }
 
-/// A line of the text that is changed, counted from 0; what it becomes, and what is told then.
+/// The index of the line that is changed, the new line, and the fault of the text if it is refused.
 const CHANGED: &[(usize, &str, Option<CatalogFault>)] = &[
     (0, "frames 0024", None),
     (0, "frames 00000000000000000000000024", None),
@@ -107,7 +108,7 @@ const CHANGED: &[(usize, &str, Option<CatalogFault>)] = &[
     (5, "start 4 main$start%", Some(CatalogFault::D1(6))),
 ];
 
-// The text with one line changed.
+// `LINES` with one line replaced.
 fn changed(alloc: Global, place: usize, line: &'static str) -> Result<Vec<&'static str>, NoMemory> {
     let mut lines = Vec::new(alloc);
     for (i, old) in LINES.iter().enumerate() {
@@ -125,7 +126,7 @@ fn texts_with_one_line_changed(rt: HostRuntime) -> Result<(), NoMemory> {
     Ok(())
 }
 
-/// The line that a letter stands for.
+/// The line that a letter of `OTHERS` means.
 fn line_of(letter: u8) -> &'static str {
     match letter {
         b'F' => FRAMES,
@@ -168,7 +169,7 @@ fn lines_of(alloc: Global, letters: &str) -> Result<Vec<&'static str>, NoMemory>
     Ok(lines)
 }
 
-/// Texts by the letters of their lines, where `.` is an empty line; and what is told of each.
+/// A text by the letters of its lines (`.` is an empty line), and its fault if it is refused.
 const OTHERS: &[(&str, Option<CatalogFault>)] = &[
     ("", Some(CatalogFault::D6(1))),
     ("F", Some(CatalogFault::D6(2))),
@@ -200,14 +201,15 @@ fn texts_with_other_lines(rt: HostRuntime) -> Result<(), NoMemory> {
     Ok(())
 }
 
-/// How many libraries a text has, the letter of the line behind them, and what is told of it.
+/// The number of libraries of a text, the letter of the line after them, and the fault of the text
+/// if it is refused.
 const LIBRARIES: &[(u32, u8, Option<CatalogFault>)] = &[
     (15, b'L', None),
     (16, b'L', Some(CatalogFault::D5(19))),
     (16, b'N', Some(CatalogFault::D3(19))),
 ];
 
-// A text with so many libraries, and then a line.
+// The lines of a text with `count` libraries and then the line of `letter`.
 fn with_libraries(alloc: Global, count: u32, letter: u8) -> Result<Vec<&'static str>, NoMemory> {
     let mut lines = lines_of(alloc, "FW")?;
     for _ in 0..count {
@@ -228,7 +230,7 @@ fn libraries(rt: HostRuntime) -> Result<(), NoMemory> {
     Ok(())
 }
 
-// The catalog in which is looked.
+// A catalog in which `main` has the second name `start`.
 fn sought(alloc: Global) -> Result<Catalog, Fail> {
     let lines = lines_of(alloc, "FWLCMsS")?;
     Ok(read(alloc, &lines)?)
@@ -256,7 +258,7 @@ fn heads(rt: HostRuntime) -> Result<(), Fail> {
     Ok(())
 }
 
-/// Directories, names, and the segment that is found.
+/// The number of a directory, a name, and the number of the segment that is found.
 const FOUND: &[(u16, &[u8], Option<usize>)] = &[
     (0, b"con_", Some(0)),
     (1, b"main", Some(1)),

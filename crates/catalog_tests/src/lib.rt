@@ -1,4 +1,5 @@
-//! Tests of boot texts and access lists.
+//! Tests of catalogs, which are read from boot texts, and of access lists. Expected values were
+//! worked out by hand.
 #![tactic(auto)]
 
 #[cfg(test)]

@@ -1,11 +1,12 @@
-//! Calls over files and output in memory. What is expected was worked out by hand.
+//! Commands over one file: images, processes, objects, sources and bind files, with their output,
+//! their refusals and failing calls.
 
 use crate::memory::{Due, File, Place, SURE, comes_with};
 use m36_reading::Code;
 use m36_word::NoMemory;
 use std::alloc::Global;
 
-/// Loads the number 5, and halts.
+/// An image that loads the number 5 and stops.
 pub(crate) const LEAST: &[u8] = b"core 1
 dbr 000000000000 000000200000
 start 00001 0 000000
@@ -19,7 +20,7 @@ const LEAST_OUTPUT: &[u8] = b"audit yes
 end dis 2
 ";
 
-/// A segment with a page, in which a zero is stored.
+/// An image with a paged segment, which stores a zero in it.
 const PAGED: &[u8] = b"core 2
 dbr 000000000000 000000200000
 start 00001 0 000000
@@ -34,7 +35,7 @@ const PAGED_OUTPUT: &[u8] = b"audit yes
 end dis 2
 ";
 
-/// Transfers to itself.
+/// An image whose only instruction transfers to itself.
 const ENDLESS: &[u8] = b"core 1
 dbr 000000000000 000000200000
 start 00001 0 000000
@@ -42,7 +43,7 @@ at 00000002 000000400004 000006700000
 at 00000040 000000710000
 ";
 
-/// Segment 1 lies on its own page table.
+/// An image whose segment 2 is on the page table of segment 1.
 const LAID: &[u8] = b"core 3
 dbr 000000000000 000000200000
 start 00001 4 000000
@@ -55,7 +56,7 @@ const LAID_OUTPUT: &[u8] = b"audit no A3 00000100
 end fault 20.2 1
 ";
 
-/// The page table of segment 1 lies on a descriptor.
+/// An image in which the page table of segment 1 is a word of a descriptor.
 const SHARED_TABLE: &[u8] = b"core 3
 dbr 000000000000 000000200000
 start 00001 4 000000
@@ -63,7 +64,7 @@ at 00000002 000000104444 000005100000
 at 00000010 000040000000
 ";
 
-/// Two segments have one page.
+/// An image in which two segments share a page.
 const SHARED_PAGE: &[u8] = b"core 3
 dbr 000000000000 000000200000
 start 00001 4 000000
@@ -71,7 +72,8 @@ at 00000002 000001004444 000005100000 000001014444 000005100000
 at 00000100 000040000004 000040000004
 ";
 
-/// Brackets out of order, an open segment that outer rings may call, and no stack for them: segments 1, 2 and 2.
+/// An image that breaks three conditions: segment 1 has brackets out of order; segment 2 may be
+/// called from outer rings at every word; and there is no stack for such calls.
 const SEGMENTS: &[u8] = b"core 1
 dbr 000000000000 000000200000
 start 00001 4 000000
@@ -80,7 +82,7 @@ at 00000002 000000405444 000005300000 000000400054 000003300000
 
 const SEGMENTS_OUTPUT: &[u8] = b"audit no A1 00001\naudit no A5 00002\naudit no A6 00002\n";
 
-/// Two processes that take a lock: one has it.
+/// Two processes that try to take a lock. The first gets it.
 const LOCK: &[u8] = b"core 1
 process 000000000000 000000200000 00001 4 000000
 process 000000200000 000000200000 00001 4 000000
@@ -100,7 +102,7 @@ const LOCK_OUTPUT: &[u8] = b"audit yes
 end schedule 6
 ";
 
-/// The same with other brackets of the second process's segment 2.
+/// As `LOCK`, but segment 2 of the second process has other brackets.
 const LOOSE: &[u8] = b"core 1
 process 000000000000 000000200000 00001 4 000000
 process 000000200000 000000200000 00001 4 000000
@@ -110,7 +112,7 @@ at 00000040 000004761000 000004235000 100000354100 000002710000 000002000000
 turns 3 0 1
 ";
 
-/// A process that there is not.
+/// As `LOCK`, but the schedule names a process that does not exist.
 const NO_PROCESS: &[u8] = b"core 1
 process 000000000000 000000200000 00001 4 000000
 process 000000200000 000000200000 00001 4 000000
@@ -120,7 +122,7 @@ at 00000040 000004761000 000004235000 100000354100 000002710000 000002000000
 turns 3 0 2
 ";
 
-/// The object of an empty source: 18 words, of which two fill nine bytes.
+/// The object of an empty source: 18 words, two of which fill nine bytes.
 const EMPTY: &[u8] = &[
     0, 0, 0, 0, 0, 0, 0, 0, 0, // two words of the definition section
     0, 0, 0, 0, 0, 0, 0x20, 0, 0, // the linkage section: 000000000000 000010000000
@@ -141,7 +143,7 @@ symbol 000012 000001
 entrybound 000000
 ";
 
-/// Commands over a folder with the file `f`: what that has, the number of the status, and what is written.
+/// A command, the content of the file `f`, the number of the status, and the output.
 const IMAGES: &[(&[u8], &[u8], u8, &[u8])] = &[
     (b"bare f", LEAST, 0, LEAST_OUTPUT),
     (b"bare f", PAGED, 0, PAGED_OUTPUT),
@@ -168,7 +170,7 @@ fn writes_outputs(rt: HostRuntime) -> Result<(), NoMemory> {
     Ok(())
 }
 
-/// Commands over a folder with one file, which print the object `e`.
+/// A command that prints the object `e`, and the only file of the folder.
 const PRINTS: &[(&[u8], File)] = &[(b"print e", (b"e", EMPTY)), (b"alm e", (b"e.alm", b""))];
 
 #[test]
@@ -192,7 +194,7 @@ fn ends_at_the_limit(rt: HostRuntime) -> Result<(), NoMemory> {
     Ok(())
 }
 
-/// Commands that refuse the file `f`: the one file that is there, and why.
+/// A command that refuses the file `f`, the only file of the folder, and the reason.
 const IMAGES_REFUSED: &[(&[u8], File, Place)] = &[
     (b"bare f", (b"e", LEAST), (Code::F1, 0, 0)),
     (b"audit f", (b"f", b"core 0\n"), (Code::I2, 1, 0)),
@@ -201,7 +203,7 @@ const IMAGES_REFUSED: &[(&[u8], File, Place)] = &[
     (b"procs f", (b"f", b"core 1\n"), (Code::P1, 2, 0)),
 ];
 
-/// What `e` has where `print e` refuses it, and why.
+/// The content of `e`, and the reason for which `print e` refuses it.
 const PRINTS_REFUSED: &[(&[u8], Place)] = &[
     (b"", (Code::O1, 0, 0)),
     (b"\0\0\0\0\x10", (Code::O1, 1, 0)),
@@ -209,7 +211,7 @@ const PRINTS_REFUSED: &[(&[u8], Place)] = &[
     (b"\0\0\0\0\0\0", (Code::T3, 6, 0)),
 ];
 
-/// The one file that is there where `alm e` refuses `e.alm`, and why.
+/// The only file of a folder, and the reason for which `alm e` refuses `e.alm`.
 const SOURCES_REFUSED: &[(File, Place)] = &[
     ((b"e.alm", b"a: nop 0\na: nop 0\n"), (Code::E5, 2, 1)),
     ((b"e.alm", b" lda b\n"), (Code::E6, 1, 6)),
@@ -217,7 +219,7 @@ const SOURCES_REFUSED: &[(File, Place)] = &[
     ((b"e", b""), (Code::F1, 0, 0)),
 ];
 
-/// The one file that is there where `bind e` refuses a file, which that is, and why.
+/// The only file of a folder, the file that `bind e` refuses, and the reason.
 const BINDS_REFUSED: &[(File, &[u8], Place)] = &[
     ((b"e", b""), b"e.bind", (Code::F1, 0, 0)),
     ((b"e.bind", b"object e\nobject e\n"), b"e", (Code::F1, 0, 0)),
@@ -278,13 +280,14 @@ fn refuses_binds(rt: HostRuntime) -> Result<(), NoMemory> {
     Ok(())
 }
 
-/// The least length of a file that is too large, what it has, the command, the file's name, and the code.
+/// The least length in bytes of a file that is too large, its repeated byte, the command, the
+/// file's name, and the code.
 const LARGE: &[(usize, u8, &[u8], &[u8], Code)] = &[
     (16_777_217, b'0', b"bare f", b"f", Code::F2),
     (1_179_653, 0, b"print e", b"e", Code::F3),
 ];
 
-// Whether a file of so many equal bytes is refused so.
+// Whether a command refuses a file of `length` equal bytes with this code.
 fn is_too_large(
     alloc: Global,
     (length, byte): (usize, u8),
@@ -308,8 +311,9 @@ fn refuses_large_files(rt: HostRuntime) -> Result<(), NoMemory> {
     Ok(())
 }
 
-/// Commands over a folder with one file: the read, the write and the put that fails, 0 for none; the number of the status, how
-/// much is written, and whether the object is there then.
+/// A command, the only file of the folder, the numbers of the read, the write and the put that fail
+/// (0 for none), the number of the status, the length of the output in bytes, and whether the
+/// folder has the object `e` afterwards.
 type Faulty<'a> = (&'a [u8], File<'a>, (u32, u32, u32), u8, usize, bool);
 
 const FAULTS: &[Faulty] = &[

@@ -1,10 +1,10 @@
-//! Folders that boot, and what is written of their sources. What is expected was worked out by hand.
+//! Booted folders: their runs and traces, and what commands print of their sources.
 
 use crate::memory::{Due, World, comes_to};
 use m36_word::NoMemory;
 use std::alloc::Global;
 
-/// Writes `hello` through a gate, and stops through it.
+/// Writes `hello` through a gate, and stops through the same gate.
 const MAIN: &[u8] = b" entry start
 start: epaq 0,ic
  lprp4 pr7|22,*au
@@ -25,7 +25,8 @@ wr: mme 0
  rtcd pr6|20
 ";
 
-/// Overwrites the odd word of a link before it is snapped, and then asks for a link where there is none.
+/// Overwrites the odd word of a link before the link is snapped, then refers through a word that
+/// looks like a link and is none.
 const CHANGES: &[u8] = b" entry start
 start: stz pr4|9
  lda con_$stop
@@ -49,7 +50,7 @@ segment >sss con_ con_ object rep 0 0 5
 start 4 main$start
 ";
 
-/// The folder of `HELLO`, in a core where each of its pages finds a frame.
+/// The folder of `HELLO` with enough core for all its pages.
 const WIDE: &[u8] = b"frames 400
 work >udd>demo
 library >sss
@@ -66,7 +67,8 @@ segment >sss con_ con_ gate rep 0 0 5
 start 4 main$start
 ";
 
-/// The directory of the caller has another `con_`, which has no entry `write`.
+/// The folder of `HELLO`, but the directory of the caller has another `con_` without an entry
+/// `write`.
 const OTHER: &[u8] = b"frames 24
 work >udd>demo
 library >sss
@@ -143,8 +145,8 @@ console ok\\012
 end dis 4
 ";
 
-/// The definition section has two words, the definition of `start` two, and its name two. The
-/// symbol section has one relocation, of the address of `msg`.
+/// The definition section has six words: two of its own, two of the definition of `start`, and two
+/// of its name. The symbol section has one relocation, of the address of `msg`.
 const ONE_PRINT: &[u8] = b"object one 28
 text 000000 000005
 definition 000005 000006
@@ -185,7 +187,8 @@ link 000012 b$x 000000 00
 
 const BIND: &[u8] = b"version 2\nobject m\nretain go\n";
 
-/// Bound in version 2 the link is first, and the two static words have a section of their own.
+/// The bound object has version 2: the link comes first, and the two static words are in the static
+/// section.
 const BOUND: &[u8] = b"object c 34
 text 000000 000002
 definition 000002 000011
@@ -199,7 +202,7 @@ link 000010 b$x 000000 00
 000001 400010235120 lda pr4|8,*
 ";
 
-/// Has one link, to its own static words.
+/// A source with one link, to its own static words.
 const OWN: &[u8] = b" use static
  dec 5
  use text
@@ -214,7 +217,7 @@ segment >t own own object re 4 4 4
 start 4 own$go
 ";
 
-/// The linkage section has ten words, and the static words follow it.
+/// In memory the static words follow the linkage section of ten words.
 const OWN_TRACE: &[u8] = b"audit yes
 1 4 00100|000000 400010235120 - 000000000000 000000000000 ...... fault 24
 link 4 00024|002010 *static$ 000024400043 002012000000
@@ -232,8 +235,10 @@ const ASSEMBLIES: &[&[u8]] = &[
     b"alm own",
 ];
 
-// Whether a command comes to what is due over a folder of these sources, assembled, and a boot text, where a read and a put
-// fail. The sources are read first, so the boot text is the seventh file.
+// Whether a command gives the expected result over a folder with a boot text and these sources,
+// which are assembled first. `read` and `put` are the numbers of the read and the put that fail (0
+// for none). The six assemblies each make a read, so the boot text is the seventh file that is
+// read.
 fn command_comes_to(
     alloc: Global,
     boot: &[u8],
@@ -259,7 +264,7 @@ fn command_comes_to(
     comes_to(alloc, command, &world, due)
 }
 
-/// The boot text, the command, the number of the status, and what is written.
+/// The boot text, the command, the number of the status, and the output.
 type Row<'a> = (&'a [u8], &'a [u8], u8, &'a [u8]);
 
 const BOOTS: &[Row] = &[
@@ -299,7 +304,7 @@ fn boots_folders(rt: HostRuntime) -> Result<(), NoMemory> {
     Ok(())
 }
 
-/// The sources with all that a command writes of them.
+/// Commands over the sources, with their whole output.
 const SOURCES: &[Row] = &[
     (ONE_BOOT, b"run", 0, b"audit yes\nok\nend dis 4\n"),
     (ONE_BOOT, b"trace", 0, ONE_TRACE),
@@ -321,7 +326,8 @@ fn writes_of_sources(rt: HostRuntime) -> Result<(), NoMemory> {
     Ok(())
 }
 
-/// A run whose second read fails, or a put, 0 for none: the number of the status, and how much is written.
+/// The numbers of the read and the put of a run that fail (0 for none), the number of the status,
+/// and the length of the output in bytes. Read 8 is the second of the run.
 const FAULTS: &[(u32, u32, u8, usize)] = &[
     (8, 0, 2, 0),
     (0, 1, 3, 0),

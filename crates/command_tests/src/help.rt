@@ -1,4 +1,4 @@
-//! The help, and the commands that are read.
+//! The help lists exactly the commands that are accepted.
 
 use crate::memory::words;
 use m36_help::help;
@@ -7,7 +7,7 @@ use m36_top::command_of;
 use m36_word::NoMemory;
 use std::alloc::Global;
 
-/// Each command that is read, in words.
+/// A command line for each command.
 const READ: &[&[u8]] = &[
     b"bare f",
     b"audit f",
@@ -22,14 +22,14 @@ const READ: &[&[u8]] = &[
     b"make 1",
 ];
 
-// The command that a line of the list of commands names, behind two blanks.
+// The command that a line of the help's list names, after two blanks.
 fn named_in(line: &[u8]) -> Option<&[u8]> {
     let rest = line.get(2..)?;
     let end = place_of(rest, b' ')?;
     rest.get(..end)
 }
 
-// How many lines the list of commands has, and how many of them name this one.
+// How many lines the help's list of commands has, and how many of them name this command.
 fn lines_of(text: &[u8], name: &[u8]) -> (usize, usize) {
     let mut is_list = false;
     let mut all: usize = 0;
@@ -49,7 +49,8 @@ fn lines_of(text: &[u8], name: &[u8]) -> (usize, usize) {
     (all, named)
 }
 
-// Whether a command is read, and the list of commands has a line of its name among as many as are read.
+// Whether a command is accepted, and the help's list has one line for it and as many lines as
+// `READ`.
 fn is_listed(alloc: Global, text: &[u8], command: &[u8]) -> Result<bool, NoMemory> {
     let words = words(alloc, command)?;
     let [name, ..] = words.as_slice() else {

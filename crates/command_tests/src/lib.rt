@@ -1,4 +1,5 @@
-//! Tests of commands, over files and output in memory.
+//! Tests of commands over files, input and output in memory. Expected values were worked out by
+//! hand, except where a module says otherwise.
 #![tactic(auto)]
 
 #[cfg(test)]

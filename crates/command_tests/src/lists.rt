@@ -1,15 +1,15 @@
-//! Folders with access lists. What is expected was worked out by hand.
+//! Folders with access lists.
 
 use crate::memory::{Due, SURE, World, comes_to};
 use m36_word::NoMemory;
 use std::alloc::Global;
 
-/// Stops at once.
+/// A program that stops at once.
 const MAIN: &[u8] = b" entry start
 start: dis 0
 ";
 
-/// Writes into another segment.
+/// A program that writes into another segment.
 const GO: &[u8] = b" entry go
 go: stz dat$
 ";
@@ -42,18 +42,20 @@ segment >t dat
 term *.*.* r
 ";
 
-/// A segment that is not in the catalog, and then a line of no form.
+/// Access lists with a segment that is not in the catalog.
 const UNKNOWN: &[u8] = b"segment >t other
 segment >t go
 ";
 
+/// Access lists with a wrong line after such a segment.
 const WRONG: &[u8] = b"segment >t other
 segment
 ";
 
 const ASSEMBLIES: &[&[u8]] = &[b"alm main", b"alm go"];
 
-// Whether a command comes to what is due over a folder of the sources, assembled, with a boot text and access lists.
+// Whether a command gives the expected result over a folder with the assembled sources, a boot text
+// and access lists.
 fn says<'a>(
     alloc: Global,
     (boot, lists): (&'a [u8], &'a [u8]),
@@ -75,7 +77,7 @@ fn says<'a>(
     comes_to(alloc, command, &world, due)
 }
 
-/// The boot text and the access lists, the command, the number of the status, and what is written.
+/// The boot text and the access lists, the command, the number of the status, and the output.
 const RIGHTS: &[((&[u8], &[u8]), &[u8], u8, &[u8])] = &[
     (
         (BOOT, LISTS),

@@ -1,4 +1,4 @@
-//! Folders that are made. The lines, counts and words are those that another program gave.
+//! The command `make`. Expected lines, counts and lengths are those of another program.
 
 use crate::memory::{has_file, words};
 use m36_outside::{Folder, MemFolder, MemSink, ReadAnswer, SureLines, Text};
@@ -27,7 +27,7 @@ loop: eax1 774,x1
  end
 ";
 
-// Calls the words over a folder: the number of the status.
+// Calls the command with these words over a folder. Returns the number of the status.
 fn call(
     alloc: Global,
     words: &[Text],
@@ -37,13 +37,13 @@ fn call(
     let mut lines = SureLines::new(alloc, &[])?;
     let status = m36(alloc, words, folder, &mut lines, out);
     let number = status.number();
-    // Dropped by calls: so the drops are proved once for their types. So below.
+    // Dropped by calls, so that the drops are proved once for their types; also below.
     drop(status);
     drop(lines);
     Ok(number)
 }
 
-// Makes the files of a seed in a folder: the number of the status.
+// Makes the files of seed 1 in a folder. Returns the number of the status.
 fn make(alloc: Global, folder: &mut MemFolder, out: &mut MemSink) -> Result<u8, NoMemory> {
     let words = words(alloc, b"make 1")?;
     let told = call(alloc, words.as_slice(), folder, out);
@@ -51,7 +51,8 @@ fn make(alloc: Global, folder: &mut MemFolder, out: &mut MemSink) -> Result<u8, 
     told
 }
 
-// Whether the making in a folder, where puts of these numbers fail, ends with this number of the status and has put this.
+// Whether `make 1` over a folder ends with the number `due` of the status and has put `written`.
+// `failing` are the numbers of the puts that fail.
 fn makes(
     alloc: Global,
     folder: &mut MemFolder,
@@ -66,7 +67,7 @@ fn makes(
     Ok(number? == due && is_written)
 }
 
-// The folder as it is made where the write behind the last fails.
+// The folder that `make 1` leaves when no write of it fails. A write after the last one would fail.
 fn whole(alloc: Global) -> Result<MemFolder, Fail> {
     let mut folder = MemFolder::new(alloc, &[], &[FILES + 1])?;
     match makes(alloc, &mut folder, &[], 0, SUMMARY) {
@@ -82,7 +83,7 @@ fn whole(alloc: Global) -> Result<MemFolder, Fail> {
     }
 }
 
-// How many bytes a file has; None where there is no such file.
+// The length of a file in bytes; `None` if there is no such file.
 fn length_of(alloc: Global, folder: &mut MemFolder, name: &[u8]) -> Option<usize> {
     match folder.read(alloc, name) {
         ReadAnswer::Read(text) => {
@@ -94,7 +95,7 @@ fn length_of(alloc: Global, folder: &mut MemFolder, name: &[u8]) -> Option<usize
     }
 }
 
-/// Files, and how many bytes each has.
+/// The name of a file, and its length in bytes.
 const LENGTHS: &[(&[u8], Option<usize>)] = &[
     (b"g0", Some(198)),
     (b"stop_", Some(104)),
@@ -121,10 +122,10 @@ fn makes_a_folder(rt: HostRuntime) -> Result<(), Fail> {
     Ok(())
 }
 
-/// How many files are made: 65 sources, the object of each, the data and the boot text.
+/// How many files are made: 65 sources, 65 objects, the data file and the boot text.
 const FILES: u32 = 132;
 
-// The name of a program, or of the gate behind the 64 programs, with this end.
+// The name of a program, or of the gate after the 64 programs, with this ending.
 fn name_with(alloc: Global, number: u32, end: &[u8]) -> Result<Text, NoMemory> {
     let mut name = Text::new(alloc);
     if number < 64 {
@@ -137,7 +138,7 @@ fn name_with(alloc: Global, number: u32, end: &[u8]) -> Result<Text, NoMemory> {
     Ok(name)
 }
 
-// The name of the file that is written behind so many others.
+// The name of the file that is written after `written` others.
 fn name_behind(alloc: Global, written: u32) -> Result<Text, NoMemory> {
     if written < 65 {
         name_with(alloc, written, b".alm")
@@ -150,7 +151,7 @@ fn name_behind(alloc: Global, written: u32) -> Result<Text, NoMemory> {
     }
 }
 
-// Whether a file is there, and has what it has in the whole folder.
+// Whether a file exists and has the same content as in the whole folder.
 fn is_whole(alloc: Global, folder: &mut MemFolder, whole: &mut MemFolder, name: &[u8]) -> bool {
     match whole.read(alloc, name) {
         ReadAnswer::Read(text) => {
@@ -166,7 +167,7 @@ fn is_absent(alloc: Global, folder: &mut MemFolder, name: &[u8]) -> bool {
     matches!(folder.read(alloc, name), ReadAnswer::Absent)
 }
 
-// Whether the file behind so many others is there as in the whole folder, or is not there.
+// Whether the file that is written after `place` others is as in the whole folder, or absent.
 fn is_due(
     alloc: Global,
     folder: &mut MemFolder,
@@ -184,7 +185,7 @@ fn is_due(
     Ok(told)
 }
 
-// Whether the first so many files are there as in the whole folder, and none of the others.
+// Whether the first `count` files are as in the whole folder, and the others are absent.
 fn has_first(
     alloc: Global,
     folder: &mut MemFolder,
@@ -199,7 +200,8 @@ fn has_first(
     Ok(true)
 }
 
-// Whether the making in this folder, where a put fails, ends with WriteFault, has put this by then, and has left so many files.
+// Whether `make 1` over this folder ends with WriteFault because a put fails, has put `written` by
+// then, and has left the first `count` files.
 fn ends_in(
     alloc: Global,
     folder: &mut MemFolder,
@@ -212,8 +214,8 @@ fn ends_in(
     Ok(is_told && matches!(has_first(alloc, folder, whole, count), Ok(true)))
 }
 
-// Whether the making where a write or a put of these numbers fails, 0 for none, ends with WriteFault, has put this by then,
-// and has left the first so many files and no others.
+// Whether `make 1` ends with WriteFault if the write or the put with this number fails (0 for
+// none), has put `written` by then, and has left the first `count` files and no others.
 fn ends_behind(
     alloc: Global,
     whole: &mut MemFolder,
@@ -239,7 +241,7 @@ fn writes_fail_in_turn(rt: HostRuntime) -> Result<(), Fail> {
     Ok(())
 }
 
-/// The put that fails, and what is written by then.
+/// The number of the put that fails, and the output before it.
 const PUTS: &[(u32, &[u8])] = &[
     (1, b""),
     (2, b"segments 66\n"),

@@ -1,4 +1,5 @@
-//! Commands over files, input and output in memory, and what they have to come to.
+//! Calls commands over files, input and output in memory, and compares the results with expected
+//! ones.
 
 use m36_outside::{Folder, MemFolder, MemLines, MemSink, ReadAnswer, SureLines, SureSink, Text};
 use m36_reading::{Code, Status};
@@ -7,48 +8,48 @@ use m36_top::top::m36;
 use m36_word::NoMemory;
 use std::alloc::Global;
 
-/// A file: its name and what it has.
+/// A file: its name and its content.
 pub(crate) type File<'a> = (&'a [u8], &'a [u8]);
 
-/// The numbers of the read, the write, the put and the piece of the input that fail, 0 for none.
+/// The numbers of the read, the write, the put and the piece of input that fail (0 for none).
 pub(crate) type Failing = (u32, u32, u32, u32);
 
 pub(crate) const SURE: Failing = (0, 0, 0, 0);
 
-/// The code of a file that is refused, and its place and column.
+/// The code with which a file is refused, the place and the column.
 pub(crate) type Place = (Code, u32, u32);
 
-/// What a command is called over.
+/// The folder, the input and the failures for a call of a command.
 #[derive(Clone, Copy)]
 pub(crate) struct World<'a> {
     pub files: &'a [File<'a>],
-    /// Commands that are called before; what they put is not kept.
+    /// Commands that are called first. Their output is dropped.
     pub before: &'a [&'a [u8]],
     pub input: &'a [u8],
     pub failing: Failing,
 }
 
-/// What a command has to come to.
+/// The expected result of a command.
 #[derive(Clone, Copy)]
 pub(crate) enum Due<'a> {
-    /// The number of the status, and what is written.
+    /// The number of the status, and the output.
     Writes(u8, &'a [u8]),
-    /// The number of the status, and how what is written begins and ends.
+    /// The number of the status, and the beginning and the end of the output.
     Begins(u8, &'a [u8], &'a [u8]),
-    /// The number of the status, and how much is written.
+    /// The number of the status, and the length of the output in bytes.
     Length(u8, usize),
-    /// The same, and a file and whether the folder has it then.
+    /// As `Length`, and a file and whether the folder has it afterwards.
     Leaves(u8, usize, File<'a>, bool),
-    /// The name of the file that is refused, and why. Nothing is written.
+    /// The name of the file that is refused, and the reason. There is no output.
     Refuses(&'a [u8], Place),
-    /// The line of the status, and what is written.
+    /// The line of the status, and the output.
     Reports(&'a [u8], &'a [u8]),
 }
 
-/// The most bytes that are written here.
+/// The room of the output in bytes.
 const ROOM: usize = 10_000_000;
 
-/// The words of a command: each stands behind one blank, but the first.
+/// The words of a command, separated by one blank each.
 pub(crate) fn words(alloc: Global, command: &[u8]) -> Result<Vec<Text>, NoMemory> {
     let mut words = Vec::new(alloc);
     for word in command.split(|byte| *byte == b' ') {
@@ -57,12 +58,12 @@ pub(crate) fn words(alloc: Global, command: &[u8]) -> Result<Vec<Text>, NoMemory
     Ok(words)
 }
 
-/// Whether a file is there and has this content.
+/// Whether the folder has a file with this name and content.
 pub(crate) fn has_file(alloc: Global, folder: &mut MemFolder, name: &[u8], content: &[u8]) -> bool {
     match folder.read(alloc, name) {
         ReadAnswer::Read(text) => {
             let told = text.bytes() == content;
-            // Dropped by a call: so the drop is proved once for its type. So below.
+            // Dropped by a call, so that the drop is proved once for its type; also below.
             drop(text);
             told
         }
@@ -70,7 +71,7 @@ pub(crate) fn has_file(alloc: Global, folder: &mut MemFolder, name: &[u8], conte
     }
 }
 
-/// Whether a status has this line.
+/// Whether this is the line of a status.
 pub(crate) fn has_line(alloc: Global, status: &Status, line: &[u8]) -> bool {
     match report(alloc, status) {
         Ok(text) => {
@@ -91,7 +92,7 @@ fn is_refusal(status: &Status, name: &[u8], place: Place) -> bool {
     }
 }
 
-/// Whether this is what a command has come to.
+/// Whether the result of a command is the expected one.
 fn is_met(
     alloc: Global,
     due: Due,
@@ -115,7 +116,7 @@ fn is_met(
     }
 }
 
-/// Calls words over the folder; what they put and come to is not kept.
+/// Calls the command with these words over the folder. Drops its output and its status.
 fn call_words_before(
     alloc: Global,
     words: &[Text],
@@ -128,7 +129,7 @@ fn call_words_before(
     Ok(())
 }
 
-/// Calls a command over the folder.
+/// As `call_words_before`, for a command in one text.
 fn call_before(alloc: Global, command: &[u8], folder: &mut MemFolder) -> Result<(), NoMemory> {
     let words = words(alloc, command)?;
     let told = call_words_before(alloc, words.as_slice(), folder);
@@ -146,7 +147,7 @@ fn fill(alloc: Global, folder: &mut MemFolder, world: &World) -> Result<(), NoMe
     Ok(())
 }
 
-/// Calls words over the folder, once it is filled, and over the input.
+/// Fills the folder, and calls the command with these words over it and the input.
 fn call(
     alloc: Global,
     words: &[Text],
@@ -162,7 +163,7 @@ fn call(
     Ok(status)
 }
 
-/// Whether words come to what is due over this folder and this output.
+/// Whether a command gives the expected result over this folder and this output.
 fn words_come_over(
     alloc: Global,
     words: &[Text],
@@ -177,7 +178,7 @@ fn words_come_over(
     Ok(told)
 }
 
-/// The same over an output of its own.
+/// As `words_come_over`, with a new output.
 fn words_come_in(
     alloc: Global,
     words: &[Text],
@@ -192,7 +193,7 @@ fn words_come_in(
     told
 }
 
-/// Whether words come to what is due.
+/// As `words_come_in`, with a new folder.
 pub(crate) fn words_come_to(
     alloc: Global,
     words: &[Text],
@@ -206,7 +207,7 @@ pub(crate) fn words_come_to(
     told
 }
 
-/// Whether a command comes to what is due.
+/// As `words_come_to`, for a command in one text.
 pub(crate) fn comes_to(
     alloc: Global,
     command: &[u8],
@@ -219,7 +220,7 @@ pub(crate) fn comes_to(
     told
 }
 
-/// Whether a command comes to what is due over a folder with one file.
+/// Whether a command gives the expected result over a folder with one file, and no input.
 pub(crate) fn comes_with(
     alloc: Global,
     command: &[u8],

@@ -1,4 +1,4 @@
-//! The line of a status.
+//! The lines of statuses.
 
 use crate::memory::has_line;
 use m36_outside::Text;

@@ -1,4 +1,4 @@
-//! Sessions by the words of the command line. What is expected was worked out by hand.
+//! Sessions, by the command `debug f`.
 
 use crate::calls::LEAST;
 use crate::memory::{Due, World, comes_to};
@@ -6,13 +6,15 @@ use m36_outside::Text;
 use m36_word::NoMemory;
 use std::alloc::Global;
 
-/// The least image, and lines whose answers are known.
+/// Lines of a session over the least image.
 const SESSION: &[u8] = b"step 1\nwhere\nfly\nquit\n";
 
+/// The answers to `SESSION`.
 const WRITTEN: &[u8] =
     b"1 0 00001|000000 000002235000 0:00001|000002 000000000005 000000000000 ...... next\n0 00001|000001\n? fly\n";
 
-// Whether a session over the least image as the file `f` comes to what is due, where a piece and a put fail, 0 for none.
+// Whether a session over the least image as the file `f` gives the expected result. `piece` and
+// `put` are the numbers of the piece of input and of the put that fail (0 for none).
 fn holds(
     alloc: Global,
     input: &[u8],
@@ -28,7 +30,8 @@ fn holds(
     comes_to(alloc, b"debug f", &world, due)
 }
 
-/// The lines, the piece and the put that fails, 0 for none, the number of the status, and what is written.
+/// The lines, the numbers of the piece and of the put that fail (0 for none), the number of the
+/// status, and the output.
 const SESSIONS: &[(&[u8], u32, u32, u8, &[u8])] = &[
     (SESSION, 0, 0, 0, WRITTEN),
     (b"", 0, 0, 0, b""),
@@ -47,7 +50,7 @@ fn holds_sessions(rt: HostRuntime) -> Result<(), NoMemory> {
     Ok(())
 }
 
-// Lines that are longer than a session takes.
+// Input that is longer than a session takes.
 fn long_input(alloc: Global) -> Result<Text, NoMemory> {
     let mut content = Text::from_bytes(alloc, b"where\n")?;
     for _ in 0..1025 {

@@ -1,11 +1,12 @@
-//! Lists of words, in and out of the set.
+//! Command lines that are accepted, and others that are not (status 1).
 
 use crate::calls::LEAST;
 use crate::memory::{Due, SURE, World, comes_with, words_come_to};
 use m36_word::NoMemory;
 use std::alloc::Global;
 
-/// The words of a command, each behind one blank but the first; the number of the status, and how much is written.
+/// The words of a command, separated by one blank each, the number of the status, and the length of
+/// the output in bytes.
 type Asked<'a> = (&'a [u8], u8, usize);
 
 /// Runs of a bare image.
@@ -48,7 +49,7 @@ const IMAGES: &[Asked] = &[
     (b"bare f --user=A.B.c", 1, 0),
 ];
 
-/// Commands over a file, and some over the folder.
+/// Commands over a file, and some over a folder.
 const FILES: &[Asked] = &[
     (b"audit f", 0, 10),
     (b"audit -- f", 0, 10),
@@ -76,7 +77,7 @@ const FILES: &[Asked] = &[
     (b"audit f f", 1, 0),
 ];
 
-/// Other commands, and words that are none.
+/// Other commands, and words that are no command.
 const OTHERS: &[Asked] = &[
     (b"make", 1, 0),
     (b"make f", 1, 0),
@@ -116,7 +117,7 @@ const OTHERS: &[Asked] = &[
     (b"-- bare f", 1, 0),
 ];
 
-// Whether words come to this over the least image as the file `f`.
+// Whether a command has this result over a folder with the least image as the file `f`.
 fn answers(alloc: Global, (command, number, written): Asked) -> Result<bool, NoMemory> {
     let due = Due::Length(number, written);
     comes_with(alloc, command, (b"f", LEAST), SURE, due)

@@ -1,4 +1,5 @@
-//! Values worked out by hand: numbers in octal, and the letters of what is on, of zero, negative, carry and overflow.
+//! Arithmetic of 18, 36 and 72 bits. Numbers are octal. The letters `z`, `n`, `c` and `o` name the
+//! indicators that are on after an operation: zero, negative, carry, overflow.
 
 ghost use Rattle.std.specs.Prelude.{◌<◌, ◌^◌};
 
@@ -23,7 +24,7 @@ fn pair(v: u128) -> Pair {
     Pair::of_value(v)
 }
 
-/// The letters of what is on.
+/// Whether `letters` names exactly the indicators that are on.
 fn are(letters: &str, zero: bool, negative: bool, carry: bool, overflow: bool) -> bool {
     let on = letters.as_bytes();
     on.contains(&b'z') == zero
@@ -32,7 +33,7 @@ fn are(letters: &str, zero: bool, negative: bool, carry: bool, overflow: bool) -
         && on.contains(&b'o') == overflow
 }
 
-/// What an operation gave: the number in all its bits, and what is on.
+/// The result of an operation: its bits as an unsigned number, and the indicators.
 #[derive(Clone, Copy)]
 struct Found {
     value: u128,
@@ -85,7 +86,8 @@ enum Operation {
     Neg72,
 }
 
-/// An operation, its numbers, whether a carry or a borrow comes in; the result, and what is on.
+/// An operation, its two numbers, whether a carry or borrow comes in, the result, and the
+/// indicators.
 const SUMS: &[(Operation, u128, u128, bool, u128, &str)] = &[
     (
         Operation::Add36,
@@ -160,7 +162,7 @@ fn sum(operation: Operation, x: u128, y: u128, carry: bool) -> Found {
     }
 }
 
-/// The bits of a number, a shift, the number, and the count; the result, and what is on.
+/// The width in bits, a shift, the number, the count, the result, and the indicators.
 const SHIFTS: &[(u8, Shift, u128, u32, u128, &str)] = &[
     (36, Shift::Left, 0o200000000000, 1, 0o400000000000, "nc"),
     (36, Shift::Left, 1, 36, 0, "zc"),
@@ -185,7 +187,7 @@ fn shift(bits: u8, shift: Shift, v: u128, count: u32) -> Found {
     }
 }
 
-/// Whether this was found, with what its letters say on.
+/// Whether the result is `value` with the indicators that `letters` names.
 fn is_found(found: Found, value: u128, letters: &str) -> bool {
     found.value == value
         && are(
@@ -217,7 +219,7 @@ fn shifts_come_to(rt: HostRuntime) {
     }
 }
 
-/// The bits of two numbers, the numbers, and what is on.
+/// The width in bits, the two numbers compared, and the indicators.
 const COMPARISONS: &[(u8, u128, u128, &str)] = &[
     (36, 0o400000000000, 1, "nc"),
     (36, 7, 7, "zc"),
@@ -241,7 +243,7 @@ const PRODUCTS: &[(u128, u128, u128)] = &[
     (0o777777777777, 0, 0),
 ];
 
-/// A dividend, a divisor, and the quotient and the remainder.
+/// A dividend, a divisor, and the quotient and remainder; none for a divide check.
 const QUOTIENTS: &[(u128, u128, Option<(u64, u64)>)] = &[
     (7, 0o777777777775, Some((0o777777777776, 1))),
     (0o777777777771, 3, Some((0o777777777776, 0o777777777777))),
@@ -291,7 +293,7 @@ enum Boolean {
     AndNot,
 }
 
-/// An operation on two numbers of 18, of 36 or of 72 bits, and its result.
+/// The width in bits, an operation, its two numbers, and the result.
 const BOOLEANS: &[(u8, Boolean, u128, u128, u128)] = &[
     (36, Boolean::And, 0o1100, 0o1010, 0o1000),
     (36, Boolean::Or, 0o1100, 0o1010, 0o1110),

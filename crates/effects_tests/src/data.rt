@@ -1,4 +1,5 @@
-//! Effects worked out by hand. Each begins at word 5 of segment 1 in ring 4, with all that is not named 0.
+//! Effects of data instructions. Each is executed at word 5 of segment 1 in ring 4. Registers that
+//! a row does not name are 0.
 
 ghost use Rattle.std.specs.Prelude.{ℕ, ◌<◌, IsTrue};
 ghost use Rattle.std.specs.Bool.{OnTrue};
@@ -19,10 +20,10 @@ const GREATEST: u64 = 0o377777777777;
 
 const ONES: u64 = 0o777777777777;
 
-/// A, Q and X3.
+/// The values of A, Q and X3.
 type Numbers = (u64, u64, u32);
 
-/// What an instruction puts.
+/// What an instruction stores: nothing, one word or a pair.
 #[derive(Clone, Copy)]
 enum Put {
     Nothing,
@@ -41,7 +42,7 @@ fn held(put: Put) -> Held {
     }
 }
 
-/// The indicators whose letters these are: zero, negative, carry, overflow, tally.
+/// The indicators named by letters: zero, negative, carry, overflow, tally runout.
 fn indicators(letters: &str) -> Ind {
     let on = letters.as_bytes();
     Ind {
@@ -94,7 +95,7 @@ fn at(word: u32) -> Final {
     }
 }
 
-/// What an instruction comes to with the word of its final address and what it has read.
+/// The effect of an instruction, given the word number of its final address and what it has read.
 fn effect_of(effect: Effect, reg: u8, regs: &Regs, word: u32, got: Held) -> Result<Effect36, Fault>
     requires data { IsTrue (is_data effect) }
     requires reg { reg < 8 }
@@ -127,12 +128,12 @@ fn gives(found: &Result<Effect36, Fault>, regs: Regs, put: Held, overflow: bool)
     }
 }
 
-/// An instruction with the number of its register, the registers before, the word that it reads, the registers and the
-/// indicators after, what it puts, and whether it overflows with a fault.
+/// An instruction with its register number, the registers before, the word that it reads, the
+/// registers and indicators after, what it stores, and whether it ends with an overflow fault.
 type OfWord<'a> = ((Effect, u8), Numbers, u64, (Numbers, &'a str), (Put, bool));
 
 const OF_WORDS: &[OfWord] = &[
-    // The least number is below 1, though the difference of the two is not negative.
+    // The least number is less than 1, but their difference, which overflows, is not negative.
     (
         (Effect::Cmpa, 0),
         (LEAST, 0, 0),
@@ -227,7 +228,7 @@ const OF_WORDS: &[OfWord] = &[
     ),
 ];
 
-/// Whether an instruction is one of the table.
+/// Whether an instruction is one of `OF_WORDS`: a data instruction that reads one word.
 fn is_of_word(effect: Effect) -> bool
     ensures data { OnTrue result (IsTrue (is_data effect)) }
     ensures got { (w : ℕ) → OnTrue result (HoldsFor (operand_of effect) (held.One w)) }
@@ -250,7 +251,7 @@ fn is_of_word(effect: Effect) -> bool
     )
 }
 
-/// What an instruction of the table comes to.
+/// The effect of an instruction that reads the word `v`.
 fn of_word((effect, reg): (Effect, u8), regs: &Regs, v: u64) -> Option<Result<Effect36, Fault>> {
     if is_of_word(effect) {
         let got = Held::One(Word::low(v));
@@ -293,8 +294,9 @@ fn quotient_refused(rt: HostRuntime) {
     assert!(rt; is_divide_check_at_5(refused));
 }
 
-/// An instruction that reads nothing, the registers and the indicators before, the word of its final address, the registers
-/// and the indicators after, and what it puts. None overflows with a fault.
+/// An instruction that reads nothing, the registers and indicators before, the word number of its
+/// final address, the registers and indicators after, and what it stores. None of them ends with an
+/// overflow fault.
 type OfAddress<'a> = (Effect, (Numbers, &'a str), u32, (Numbers, &'a str), Put);
 
 const OF_ADDRESSES: &[OfAddress] = &[
@@ -349,7 +351,7 @@ const OF_ADDRESSES: &[OfAddress] = &[
     ),
 ];
 
-/// Whether an instruction is one of the table.
+/// Whether an instruction is one of `OF_ADDRESSES`: a data instruction that reads nothing.
 fn is_of_address(effect: Effect) -> bool
     ensures data { OnTrue result (IsTrue (is_data effect)) }
     ensures got { OnTrue result (HoldsFor (operand_of effect) held.Empty) }
@@ -366,7 +368,7 @@ fn is_of_address(effect: Effect) -> bool
     )
 }
 
-/// What an instruction of the table comes to.
+/// The effect of an instruction whose final address has the word number `word`.
 fn of_address(effect: Effect, regs: &Regs, word: u32) -> Option<Result<Effect36, Fault>> {
     if is_of_address(effect) {
         return Some(effect_of(effect, 0, regs, word, Held::Empty));

@@ -1,4 +1,5 @@
-//! Tests of arithmetic and of the effects of instructions.
+//! Tests of arithmetic and of the effects of data, pointer and control instructions. Expected
+//! values were worked out by hand.
 #![tactic(auto)]
 
 #[cfg(test)]

@@ -1,4 +1,5 @@
-//! Worked pointer instructions. Words are octal, as the manual lays out ITS pairs and packed pointers.
+//! Effects of pointer instructions. Words are octal, in the manual's formats of ITS pairs and
+//! packed pointers.
 
 ghost use Rattle.std.specs.Prelude.{◌<◌, IsTrue};
 ghost use Rattle.m36_inst.specs.Groups.{is_pointer};
@@ -12,7 +13,7 @@ use m36_model::{At, Effect36, Fault, Final, Held, Ind, Operand36, Ppr, Regs};
 use m36_word::{Pair, Word};
 use m36_xptr::exec;
 
-/// Bit 9 of word 22 of segment 123, from ring 4.
+/// A final address: bit 9 of word octal 22 of segment octal 123, in ring 4.
 const THERE: Final = Final {
     direct: None,
     at: At {
@@ -23,7 +24,7 @@ const THERE: Final = Final {
     bit: 9,
 };
 
-/// In ring 4, at the last word but one of segment 1.
+/// Registers in ring 4, at the last word but one of segment 1.
 fn registers() -> Regs {
     let none = Ptr {
         word: 0,
@@ -85,7 +86,7 @@ fn effect_of(effect: Effect, reg: u8, regs: &Regs, got: Held) -> Result<Effect36
     exec(&row, regs, &THERE, operand)
 }
 
-/// The registers behind an instruction; those before it where it is refused.
+/// The registers after an instruction, or those before it if it faults.
 fn loaded(effect: Effect, reg: u8, got: Held) -> Regs
     requires pointer { IsTrue (is_pointer effect) }
     requires reg { reg < 8 }
@@ -98,7 +99,7 @@ fn loaded(effect: Effect, reg: u8, got: Held) -> Regs
     }
 }
 
-/// What an instruction puts that reads nothing; None where it is refused.
+/// What an instruction that reads nothing stores, or `None` if it faults.
 fn stored(effect: Effect, reg: u8, regs: &Regs) -> Option<Held>
     requires pointer { IsTrue (is_pointer effect) }
     requires reg { reg < 8 }
@@ -170,8 +171,8 @@ fn packed_pointer_refused(rt: HostRuntime) {
     assert!(rt; refused == Err(command));
 }
 
-/// Packed pointers, and the words of the pair of each. The short segment number 7777 stands for 77777, and no other is
-/// extended.
+/// A packed pointer, and the two words of the same pointer as a pair. In a packed pointer the
+/// segment number octal 7777 means 77777; every other number means itself.
 const PACKED: &[(u64, u64, u64)] = &[
     (0o127777000100, 0o077777400043, 0o000100012000),
     (0o007776000100, 0o007776400043, 0o000100000000),
@@ -189,7 +190,7 @@ fn packed_pointers(rt: HostRuntime) {
     }
 }
 
-/// Pairs of rings 0 to 7; the last is no pair by a segment, and has a tag.
+/// Pairs with rings 0 to 7. The last one is no ITS pair, and has a tag.
 fn given() -> [Pair; 8] {
     [
         pair(0o000123000043, 0o000022011000),
@@ -203,7 +204,8 @@ fn given() -> [Pair; 8] {
     ]
 }
 
-/// The pairs of those pointers, read in ring 4 from a segment whose first bracket is 1.
+/// The pairs that LPRI has loaded from `given`, read in ring 4 from a segment whose first bracket
+/// is 1, and stored again.
 fn raised() -> [Pair; 8] {
     [
         pair(0o000123400043, 0o000022011000),
@@ -217,7 +219,7 @@ fn raised() -> [Pair; 8] {
     ]
 }
 
-/// The rings of those pointers.
+/// The rings of the loaded pointers.
 const RINGS: &[u8] = &[4, 4, 4, 4, 4, 5, 6, 7];
 
 #[test]

@@ -1,4 +1,5 @@
-//! Worked control instructions. Words are octal, as the manual lays out ITS pairs and descriptors.
+//! Effects of control instructions. Words are octal, in the manual's formats of ITS pairs and
+//! descriptors.
 
 ghost use Rattle.std.specs.Prelude.{◌<◌, ◌^◌, IsTrue};
 ghost use Rattle.m36_inst.specs.Groups.{is_control};
@@ -20,7 +21,8 @@ const NOTHING_ON: Ind = Ind {
     tally: false,
 };
 
-/// At word 3 of segment 1 in a ring. Pointer registers point to segment 5 in that ring; stacks are segments 10 to 17.
+/// Registers at word 3 of segment 1 in a ring. All pointer registers point to segment 5 in that
+/// ring. The stacks are segments octal 10 to 17.
 fn registers(ring: u8) -> Regs
     requires { ring < 2 ^ 3 }
 {
@@ -57,7 +59,9 @@ fn pair(even: u64, odd: u64) -> Pair {
     }
 }
 
-/// An instruction whose final address is word 1 of segment 3 in the ring of execution, with the ring of its operand.
+/// The effect of an instruction whose final address is word 1 of segment 3 in the ring of
+/// execution. `ring` is the ring that CALL6 enters, or the first bracket of the segment that RTCD
+/// reads from.
 fn effect_of(effect: Effect, reg: u8, regs: &Regs, got: Held, ring: u8) -> Result<Effect36, Fault>
     requires control { IsTrue (is_control effect) }
     requires reg { reg < 8 }
@@ -89,7 +93,7 @@ fn effect_of(effect: Effect, reg: u8, regs: &Regs, got: Held, ring: u8) -> Resul
     exec(&row, regs, &last, operand)
 }
 
-/// The registers behind an instruction; those before it where it is refused.
+/// The registers after an instruction, or those before it if it faults.
 fn after(effect: Effect, reg: u8, before: &Regs, got: Held, ring: u8) -> Regs
     requires control { IsTrue (is_control effect) }
     requires reg { reg < 8 }
@@ -107,17 +111,18 @@ fn stands_at(regs: &Regs, seg: u16, ring: u8, word: u32) -> bool {
     ppr.psr == seg && ppr.prr == ring && ppr.ic == word
 }
 
-/// Whether a pointer register points to a word, and no bit behind its first.
+/// Whether a pointer register points to bit 0 of a word.
 fn points_to(pointer: Ptr, seg: u16, ring: u8, word: u32) -> bool {
     pointer.seg == seg && pointer.ring == ring && pointer.word == word && pointer.bit == 0
 }
 
-/// The ring of the caller, the ring that is entered, and the segment of the stack: in another ring that of the entered
-/// ring, in the same that of PR6.
+/// The ring of the caller, the ring that is entered, and the segment of PR7 afterwards: the stack
+/// of the entered ring if it is another ring, otherwise the segment of PR6.
 const CALLS: &[(u8, u8, u16)] = &[(4, 0, 0o10), (3, 3, 5)];
 
-/// The ring that returns, the pair, and the first bracket of its segment, for a return to ring 4: by the pair's ring, by the
-/// ring of the reference, and by the first bracket.
+/// The ring that returns, the even word of the return pointer, and the first bracket of the segment
+/// that the pointer is read from. Each row returns to ring 4: because of the ring in the pointer,
+/// the ring of the reference, or that bracket.
 const RETURNS: &[(u8, u64, u8)] = &[
     (0, 0o000001400043, 0),
     (4, 0o000001000043, 0),
@@ -224,7 +229,8 @@ fn absolute_address(rt: HostRuntime) {
     assert!(rt; found.ind.negative && !found.ind.zero);
 }
 
-/// Conditional transfers, and whether each is taken where its indicators are on; where they are off it is the opposite.
+/// Conditional transfers, and whether each is taken if its indicators are on. With its indicators
+/// off it is the opposite.
 const CONDITIONS: &[(Effect, bool)] = &[
     (Effect::Tze, true),
     (Effect::Tmi, true),

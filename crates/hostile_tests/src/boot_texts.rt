@@ -1,4 +1,4 @@
-//! A folder that boots, with one line of its boot text changed.
+//! A folder that boots, and changes of one line of its boot text with which it is refused.
 
 use crate::rows::{assembled, called};
 use m36_outside::{MemSink, SureFolder, Text};
@@ -20,7 +20,7 @@ const TWICE: &[u8] = b"segment >udd>demo main main object re 4 4 4
 segment >udd>demo main main object re 4 4 4
 ";
 
-/// The place of a line, what stands there instead, the code, and the number of the line that is told.
+/// The index of a line, the text in its place, the code, and the line number that is reported.
 type Change<'a> = (usize, &'a [u8], Code, u32);
 
 const CHANGES: &[Change] = &[
@@ -34,7 +34,7 @@ const CHANGES: &[Change] = &[
     (0, b"frames 23\n", Code::U1, 0),
 ];
 
-/// The boot text with the line at a place replaced.
+/// The boot text with one line replaced.
 fn changed(alloc: Global, place: usize, other: &[u8]) -> Result<Text, NoMemory> {
     let mut text = Text::new(alloc);
     for (number, line) in LINES.iter().enumerate() {
@@ -58,7 +58,7 @@ fn is_refused(status: &Status, code: Code, line: u32) -> bool {
     }
 }
 
-/// Whether a change is told, and nothing is put.
+/// Whether a change is refused with its code and line, and nothing is put.
 fn is_told(
     alloc: Global,
     folder: &mut SureFolder,

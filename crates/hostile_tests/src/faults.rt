@@ -1,4 +1,4 @@
-//! Each read, each write and each put of a command fails in turn.
+//! Commands in which each read, each write and each put fails in turn.
 
 use crate::rows::{File, OBJECTS, OTHERS, RUNS, Row, assembled, called, is_there};
 use m36_outside::{Folder, MemFolder, MemSink, ReadAnswer, SureFolder, SureSink};
@@ -6,7 +6,7 @@ use m36_word::NoMemory;
 use std::alloc::Global;
 use std::process::Abort;
 
-/// The read, the write or the put of this number fails.
+/// The read, write or put with this number fails.
 #[derive(Clone, Copy)]
 enum Fault {
     Read(u32),
@@ -14,7 +14,7 @@ enum Fault {
     Put(u32),
 }
 
-/// The numbers of the read, of the write and of the put that fail, 0 for none.
+/// The numbers of the read, the write and the put that fail (0 for none).
 fn numbers(fault: Fault) -> (u32, u32, u32) {
     match fault {
         Fault::Read(number) => (number, 0, 0),
@@ -23,7 +23,7 @@ fn numbers(fault: Fault) -> (u32, u32, u32) {
     }
 }
 
-/// Puts the objects in, and the files of a row.
+/// Adds the objects and the files of a row to a folder.
 fn fill(
     alloc: Global,
     folder: &mut MemFolder,
@@ -50,7 +50,7 @@ fn is_among(name: &[u8], files: &[File]) -> bool {
     false
 }
 
-/// Whether a folder has these files, but for those that are among others by their names.
+/// Whether a folder has these files. Those whose names are among `others` are not checked.
 fn has_files<F: Folder>(alloc: Global, folder: &mut F, files: &[File], others: &[File]) -> bool {
     for (name, content) in files {
         if !is_among(name, others) && !is_there(alloc, folder, name, content) {
@@ -60,7 +60,8 @@ fn has_files<F: Folder>(alloc: Global, folder: &mut F, files: &[File], others: &
     true
 }
 
-/// Whether the first so many of its files are written, and the others of the folder are as they were.
+/// Whether the first `count` files that a row writes are written, and the other files of the row
+/// are unchanged.
 fn has_written(alloc: Global, folder: &mut MemFolder, row: &Row, count: usize) -> bool {
     let written = row.writes.get(..count).unwrap_or(row.writes);
     has_files(alloc, folder, written, &[]) && has_files(alloc, folder, row.files, written)
@@ -76,13 +77,13 @@ fn line_count(text: &[u8]) -> u32 {
     count
 }
 
-/// Whether the first so many lines of a text are written, and nothing else.
+/// Whether exactly the first `count` lines of a text are written.
 fn are_first(written: &[u8], count: u32, text: &[u8]) -> bool {
     let is_whole = written.is_empty() || written.ends_with(b"\n");
     is_whole && text.starts_with(written) && line_count(written) == count
 }
 
-/// Whether a fault is told as it has to be. A read that is never made does not fail.
+/// Whether a command with a failing call ends as it must. A read that is never made does not fail.
 fn is_due(
     alloc: Global,
     (row, fault): (&Row, Fault),
@@ -107,7 +108,7 @@ fn is_due(
     }
 }
 
-/// Whether a command comes to what is due where a call fails.
+/// Calls a command with a failing call. Returns whether it ends as it must.
 fn comes_to(
     alloc: Global,
     row: &Row,
@@ -128,7 +129,7 @@ fn comes_to(
     ))
 }
 
-/// The kinds of calls.
+/// A kind of call of the outside.
 #[derive(Clone, Copy)]
 enum Kind {
     Reads,
@@ -144,7 +145,7 @@ fn failing(kind: Kind, number: u32) -> Fault {
     }
 }
 
-/// How many calls of a kind a command makes, and of reads one more.
+/// How many calls of a kind to let fail: all that the command makes, and for reads one more.
 fn count(row: &Row, kind: Kind) -> u32 {
     match kind {
         Kind::Reads => row.reads.saturating_add(1),
@@ -153,7 +154,8 @@ fn count(row: &Row, kind: Kind) -> u32 {
     }
 }
 
-/// The number of the first call of a kind which fails and is not told as it has to be; 0 where each is.
+/// The number of the first call of a kind after whose failure the command does not end as it must;
+/// 0 if there is none.
 fn wrong_call(
     alloc: Global,
     row: &Row,
@@ -168,7 +170,7 @@ fn wrong_call(
     Ok(0)
 }
 
-/// Each call of each command fails in turn.
+/// Lets each call of each command fail in turn, and asserts that the command ends as it must.
 fn fail_in_turn(rt: &impl Abort, alloc: Global, rows: &[Row]) -> Result<(), NoMemory> {
     let mut objects = assembled(alloc)?;
     for row in rows {
@@ -190,7 +192,7 @@ fn calls_of_others_fail_in_turn(rt: HostRuntime) -> Result<(), NoMemory> {
     fail_in_turn(&rt, rt.alloc(), OTHERS)
 }
 
-/// Whether a command comes to what is due over a folder and an output that never fail.
+/// Whether a command has its status and writes its files if no call fails.
 fn succeeds(alloc: Global, folder: &mut SureFolder, row: &Row) -> Result<bool, NoMemory> {
     for (name, content) in row.files {
         folder.add(name, content)?;
@@ -199,7 +201,7 @@ fn succeeds(alloc: Global, folder: &mut SureFolder, row: &Row) -> Result<bool, N
     Ok(status.number() == row.status && has_files(alloc, folder, row.writes, &[]))
 }
 
-/// Each command succeeds over one folder.
+/// Asserts that the commands, over one folder, have their statuses and write their files.
 fn succeed(rt: &impl Abort, alloc: Global, rows: &[Row]) -> Result<(), NoMemory> {
     let mut folder = assembled(alloc)?;
     for row in rows {

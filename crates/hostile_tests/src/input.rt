@@ -1,22 +1,24 @@
-//! Each piece of the input of a session fails in turn, and each put.
+//! Sessions in which each piece of input and each put fails in turn.
 
 use crate::rows::{LEAST, held};
 use m36_outside::{MemFolder, MemLines, MemSink, Text};
 use m36_word::NoMemory;
 use std::alloc::Global;
 
-/// The answers to `step 1`, `where` and `fly`; to `quit` there is none.
+/// The answers to `step 1`, `where` and `fly`. `quit` has no answer.
 const ANSWERS: &[&[u8]] = &[
     b"1 0 00001|000000 000002235000 0:00001|000002 000000000005 000000000000 ...... next\n",
     b"0 00001|000001\n",
     b"? fly\n",
 ];
 
-/// 700 lines of six bytes each fill a buffer of 4,096 bytes and a part of another, and the third piece is the end. The
-/// number of the piece that fails, the status, and how many lines are answered: those that are whole by then.
+/// The number of the piece that fails, the number of the status, and how many lines are answered:
+/// those that are complete by then. The input has 700 lines of six bytes. They fill a buffer of
+/// 4,096 bytes and a part of another, so the third piece is the end.
 const PIECES: &[(u32, u8, usize)] = &[(1, 2, 0), (2, 2, 682), (3, 2, 700), (4, 0, 700)];
 
-/// Holds a session over the least image, where the piece of this number fails, 0 for none: the number of the status.
+/// Holds a session over the least image, with the number of the piece that fails (0 for none).
+/// Returns the number of the status.
 fn hold(
     alloc: Global,
     content: &[u8],
@@ -30,7 +32,8 @@ fn hold(
     Ok(status.number())
 }
 
-/// Whether a session whose piece and put of these numbers fail, 0 for none, ends with this status and writes this.
+/// Whether a session ends with this number of the status and writes `want`. `piece` and `put` are
+/// the numbers of the piece and the put that fail (0 for none).
 fn comes_to(
     alloc: Global,
     content: &[u8],

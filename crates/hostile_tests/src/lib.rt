@@ -1,5 +1,5 @@
-//! Tests of commands over changed files, and with each call of the outside failing in turn. Files, input and output are in
-//! memory.
+//! Tests of commands with wrong boot texts, and with each call of the folder, the input and the
+//! output failing in turn. Files, input and output are in memory.
 #![tactic(auto)]
 
 #[cfg(test)]

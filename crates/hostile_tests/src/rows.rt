@@ -1,4 +1,5 @@
-//! Commands over files in memory, with all that each of them reads, writes and puts. It was worked out by hand.
+//! Commands over files in memory, with all that each of them reads, writes and puts, worked out by
+//! hand.
 
 use m36_outside::{Folder, Lines, ReadAnswer, Sink, SureFolder, SureLines, SureSink, Text};
 use m36_reading::Status;
@@ -6,26 +7,27 @@ use m36_top::top::m36;
 use m36_word::NoMemory;
 use std::alloc::Global;
 
-/// A name and what the file has.
+/// A file: its name and its content.
 pub(crate) type File<'a> = (&'a [u8], &'a [u8]);
 
-/// A command and what it comes to.
+/// A command, and its expected calls and status.
 pub(crate) struct Row<'a> {
-    /// The words, each behind one blank but the first.
+    /// The words, separated by one blank each.
     pub words: &'a [u8],
-    /// The files of the folder, beside the objects of the sources.
+    /// The files of the folder, in addition to the objects of the sources.
     pub files: &'a [File<'a>],
-    /// The files that it writes.
+    /// The files that the command writes.
     pub writes: &'a [File<'a>],
-    /// What it puts, each line one piece.
+    /// Its output. Each line is one piece.
     pub lines: &'a [u8],
-    /// How many files it reads.
+    /// The number of files that it reads.
     pub reads: u32,
     /// The number of its status.
     pub status: u8,
 }
 
-/// Writes `hello` through a gate, and stops through it; the gate; and two sources without a line.
+/// A program that writes `hello` through a gate and stops through it; the gate; and two empty
+/// sources.
 const SOURCES: &[File] = &[
     (
         b"main.alm",
@@ -55,7 +57,7 @@ wr: mme 0
     (b"f.alm", b""),
 ];
 
-/// The object of a source without a line: 18 words, of which two fill nine bytes.
+/// The object of an empty source: 18 words, two of which fill nine bytes.
 const EMPTY: &[u8] = &[
     0, 0, 0, 0, 0, 0, 0, 0, 0, // two words of the definition section
     0, 0, 0, 0, 0, 0, 0x20, 0, 0, // the linkage section: 000000000000 000010000000
@@ -89,7 +91,7 @@ start 4 main$start
 ",
 );
 
-/// The gate as an object, whose call limiter is not used.
+/// The folder of `HELLO` with the gate as an object, so that its call limiter is not used.
 const OPEN: File = (
     b"boot",
     b"frames 24
@@ -111,7 +113,7 @@ term *.*.* re
 ",
 );
 
-/// Two processes that take a lock: one has it.
+/// Two processes that try to take a lock. The first gets it.
 const LOCK: File = (
     b"lock",
     b"core 1
@@ -256,7 +258,7 @@ pub(crate) const OTHERS: &[Row] = &[
     },
 ];
 
-/// The words of a command line: each stands behind one blank, but the first.
+/// The words of a command line, separated by one blank each.
 fn words_of(alloc: Global, command: &[u8]) -> Result<Vec<Text>, NoMemory> {
     let mut words = Vec::new(alloc);
     for word in command.split(|byte| *byte == b' ') {
@@ -265,7 +267,7 @@ fn words_of(alloc: Global, command: &[u8]) -> Result<Vec<Text>, NoMemory> {
     Ok(words)
 }
 
-/// Calls the simulator over a folder and an input.
+/// Calls a command over a folder, an input and an output.
 pub(crate) fn held<F: Folder, L: Lines, S: Sink>(
     alloc: Global,
     command: &[u8],
@@ -277,7 +279,7 @@ pub(crate) fn held<F: Folder, L: Lines, S: Sink>(
     Ok(m36(alloc, words.as_slice(), folder, lines, out))
 }
 
-/// Calls the simulator over a folder, without input.
+/// Calls a command over a folder and an output, with an empty input.
 pub(crate) fn called<F: Folder, S: Sink>(
     alloc: Global,
     command: &[u8],
@@ -306,7 +308,7 @@ const ASSEMBLIES: &[&[u8]] = &[b"alm main", b"alm con_", b"alm e", b"alm f"];
 /// The names of the objects.
 pub(crate) const OBJECTS: &[&[u8]] = &[b"main", b"con_", b"e", b"f"];
 
-/// The sources, each with its object beside it.
+/// A folder with the sources and their objects.
 pub(crate) fn assembled(alloc: Global) -> Result<SureFolder, NoMemory> {
     let mut folder = SureFolder::new(alloc)?;
     assemble(alloc, &mut folder)?;

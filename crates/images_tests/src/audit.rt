@@ -1,4 +1,4 @@
-//! Small images that break a condition each, and some that break none. Findings are worked out by hand.
+//! Small images that each break one or two of the audit's conditions, and some that break none.
 
 use Segment::{Code, Disordered, Paged, Stack, Text, Whole};
 use m36_audit::{Verdict, audit};
@@ -7,41 +7,43 @@ use m36_desc::{Dbr, Ptw, Sdw};
 use m36_word::{NoMemory, Word};
 use std::alloc::Global;
 
-/// A live segment: mostly its number, the address where it or its page table lies, and its bound in blocks of 16 words.
+/// A segment that is present. The three numbers of the first variants are its number, the address
+/// of its first word or its page table, and its bound field (one less than its blocks of 16 words).
 #[derive(Clone, Copy)]
 enum Segment {
-    /// Of ring 4, to be read and written.
+    /// An unpaged segment of ring 4 that may be read and written.
     Whole(u32, u32, u16),
-    /// The same with a page table.
+    /// As `Whole`, but paged.
     Paged(u32, u32, u16),
-    /// The same with brackets out of order.
+    /// As `Whole`, with the brackets 4 3 4, which are out of order.
     Disordered(u32, u32, u16),
-    /// Segment 0 with these first two brackets, which may be read, and perhaps written.
+    /// Segment 0 with these first two brackets. It may be read, and written if the flag says so.
     Stack(u8, u8, bool),
-    /// Segment 1, which rings up to 5 may call, in 16 words at octal 40: open at every word or not.
+    /// Segment 1 of 16 words at octal 40, which rings up to 5 may call: at every word if the flag
+    /// is set, otherwise it is a gate.
     Code(bool),
-    /// The same, to be read alone.
+    /// As `Code(true)`, but it may only be read.
     Text,
 }
 
-/// An image of three frames: its descriptor segment, its segments, its page table words, each with the frame of its
-/// page, and what the audit finds in it, each a condition and a place.
+/// An image of three frames: its descriptor segment, its segments, its page table words (address
+/// and frame of the page), and the expected findings (condition and place).
 struct Image<'a>(Base, &'a [Segment], &'a [(u32, u8)], &'a [(u8, u32)]);
 
-/// Where the descriptor segment lies.
+/// The form and the place of the descriptor segment.
 #[derive(Clone, Copy)]
 enum Base {
     /// Unpaged at core word 0, with eight descriptors.
     Eight,
-    /// Of eight descriptors, with its page table at octal 100.
+    /// Paged, with eight descriptors and its page table at octal 100.
     Directory,
-    /// Of two pages, with its page table at octal 100.
+    /// Paged, with two pages and its page table at octal 100.
     TwoPages,
-    /// Its page table is a word of one of its descriptors.
+    /// Paged, with a page table that is a word of one of its own descriptors.
     Inside,
 }
 
-/// The descriptor segment register. The stacks are segments 0 to 7.
+/// The descriptor segment base register. The stacks are segments 0 to 7.
 fn dbr(base: Base) -> Dbr {
     let (addr, bnd, unpaged) = match base {
         Base::Eight => (0, 0, true),
@@ -119,7 +121,7 @@ fn called(sdw: Sdw, executable: bool, no_gate: bool) -> Sdw {
     }
 }
 
-/// The word of a page that is in a frame.
+/// The page table word of a page in `frame`.
 fn page_table_word(frame: u8) -> Word {
     let ptw = Ptw {
         addr: 16 * frame as u32,
@@ -137,7 +139,7 @@ fn put(core: &mut Core, place: u32, word: Word) {
     }
 }
 
-/// Puts the tables of an image into core. Paged descriptors lie in frame 1.
+/// Writes the tables of an image to core. Descriptors of a paged descriptor segment are in frame 1.
 fn put_tables(core: &mut Core, unpaged: bool, segments: &[Segment], pages: &[(u32, u8)]) {
     let first = if unpaged { 0 } else { 0o2000 };
     for segment in segments {
@@ -152,7 +154,7 @@ fn put_tables(core: &mut Core, unpaged: bool, segments: &[Segment], pages: &[(u3
     }
 }
 
-/// Whether these are found, each a condition and a place.
+/// Whether the verdict has exactly these findings, as conditions and places.
 fn are_found(verdict: &Verdict, expected: &[(u8, u32)]) -> bool {
     for (finding, (condition, place)) in verdict.findings.iter().zip(expected) {
         if finding.condition != *condition || finding.place != *place {
@@ -162,9 +164,9 @@ fn are_found(verdict: &Verdict, expected: &[(u8, u32)]) -> bool {
     verdict.findings.len() == expected.len() && verdict.yes() == expected.is_empty()
 }
 
-/// Of whole segments.
+/// Images without page tables.
 const WHOLE_SEGMENTS: &[Image] = &[
-    // The least image, and brackets 4 3 4 of two segments.
+    // The least image; two segments with the brackets 4 3 4.
     Image(Base::Eight, &[Whole(1, 0o40, 0)], &[], &[]),
     Image(
         Base::Eight,
@@ -172,7 +174,8 @@ const WHOLE_SEGMENTS: &[Image] = &[
         &[],
         &[(1, 2)],
     ),
-    // Outer rings may call it at every word, and ring 0 has no stack; then with a stack; then as a gate.
+    // Outer rings may call the segment at every word, and ring 0 has no stack; then ring 0 has a
+    // stack; then the segment is a gate.
     Image(Base::Eight, &[Code(true)], &[], &[(5, 1), (6, 1)]),
     Image(
         Base::Eight,
@@ -181,7 +184,8 @@ const WHOLE_SEGMENTS: &[Image] = &[
         &[(5, 1)],
     ),
     Image(Base::Eight, &[Stack(0, 0, true), Code(false)], &[], &[]),
-    // The stack cannot be written, or has brackets 0 4 4. Without the right to execute nothing is asked.
+    // The stack cannot be written, or has the brackets 0 4 4. A segment that may not be executed
+    // needs no stack.
     Image(
         Base::Eight,
         &[Stack(0, 0, false), Code(false)],
@@ -195,7 +199,8 @@ const WHOLE_SEGMENTS: &[Image] = &[
         &[(6, 1)],
     ),
     Image(Base::Eight, &[Text], &[], &[]),
-    // Segments side by side, and segments that meet. With brackets out of order the first has no words.
+    // Adjacent segments; segments that overlap; and the same where the first has brackets out of
+    // order, which are found instead.
     Image(
         Base::Eight,
         &[Whole(1, 0o40, 0), Whole(2, 0o60, 0)],
@@ -214,14 +219,15 @@ const WHOLE_SEGMENTS: &[Image] = &[
         &[],
         &[(1, 1)],
     ),
-    // On descriptors that are not live. At the last addresses it goes on at 0, and begins past the end of core.
+    // A segment on descriptors of absent segments; one at the last addresses, past the end of core,
+    // which goes on at address 0.
     Image(Base::Eight, &[Whole(1, 0o14, 0)], &[], &[(3, 0o14)]),
     Image(Base::Eight, &[Whole(1, 0o77777770, 0)], &[], &[(3, 0)]),
 ];
 
-/// Of page tables.
+/// Images with page tables.
 const TABLES: &[Image] = &[
-    // A segment on a page table, a page table on the descriptors, and two pages in one frame.
+    // A segment on a page table, a page table on the descriptors, and twice two pages in one frame.
     Image(
         Base::Eight,
         &[Paged(1, 0o100, 0), Whole(2, 0o100, 0)],
@@ -241,14 +247,15 @@ const TABLES: &[Image] = &[
         &[(0o100, 2), (0o101, 2)],
         &[(4, 0o4000)],
     ),
-    // Two page tables on one word, whose page is absent.
+    // Two page tables that share a word, whose page is absent.
     Image(
         Base::Eight,
         &[Paged(1, 0o100, 0), Paged(2, 0o100, 0)],
         &[],
         &[(2, 0o100)],
     ),
-    // Beside the page table of the descriptor segment, and on it; and that table is a word of a descriptor.
+    // A segment beside the page table of the descriptor segment, and one on it; then that page
+    // table is a word of a descriptor.
     Image(Base::Directory, &[Whole(1, 0o40, 0)], &[(0o100, 1)], &[]),
     Image(
         Base::Directory,
@@ -257,14 +264,15 @@ const TABLES: &[Image] = &[
         &[(3, 0o100)],
     ),
     Image(Base::Inside, &[], &[(0o2003, 1)], &[(2, 0o2003)]),
-    // Two pages of descriptors in one frame: two words of one table on one core word. The second page is absent.
+    // Two pages of descriptors in one frame, so that two descriptor words are one core word; then
+    // the second page is absent.
     Image(Base::TwoPages, &[], &[(0o100, 1), (0o101, 1)], &[]),
     Image(Base::TwoPages, &[], &[(0o100, 1)], &[]),
-    // It is past the end of core.
+    // The second page is past the end of core.
     Image(Base::TwoPages, &[], &[(0o100, 1), (0o101, 3)], &[]),
 ];
 
-/// Whether the audit of core finds these.
+/// Whether the audit of core has exactly these findings.
 fn finds(alloc: Global, core: &Core, dbr: Dbr, expected: &[(u8, u32)]) -> Result<bool, NoMemory> {
     let verdict = audit(alloc, core, dbr)?;
     let told = are_found(&verdict, expected);
@@ -272,14 +280,14 @@ fn finds(alloc: Global, core: &Core, dbr: Dbr, expected: &[(u8, u32)]) -> Result
     Ok(told)
 }
 
-/// Whether the audit of an image finds what it is to find.
+/// Whether the audit of an image has the expected findings.
 fn is_found(alloc: Global, image: &Image) -> Result<bool, NoMemory> {
     let Image(base, segments, pages, findings) = image;
     let dbr = dbr(*base);
     let mut core = Core::new(alloc, 3)?;
     put_tables(&mut core, dbr.unpaged, segments, pages);
     let told = finds(alloc, &core, dbr, findings);
-    // Dropped by a call: so the drop is proved once for its type. So above.
+    // Dropped by a call, so that the drop is proved once for its type; also above.
     drop(core);
     told
 }

@@ -1,4 +1,4 @@
-//! Images, and lines that are refused. What is expected was worked out by hand.
+//! Bare images: one that is read, single lines, and lines that are refused.
 
 use m36_core::Core;
 use m36_image::{
@@ -9,7 +9,7 @@ use m36_word::NoMemory;
 use std::alloc::Global;
 use std::process::Abort;
 
-// The first lines of an image: none, and one after the other.
+// First lines of an image: none, and then one more each time.
 const NOTHING: &[u8] = b"";
 
 const CORE: &[u8] = b"core 1\n";
@@ -18,10 +18,10 @@ const DBR: &[u8] = b"core 1\ndbr 000000000000 000000200000\n";
 
 const START: &[u8] = b"core 1\ndbr 000000000000 000000200000\nstart 00001 0 000000\n";
 
-/// Lines, what is wrong with the first that is refused, and its number.
+/// The rest of an image, the code of its refusal, and the number of the refused line.
 type Refused<'a> = (&'a [u8], ImageCode, u32);
 
-/// Behind no line.
+/// In place of the first line.
 const OF_CORE: &[Refused] = &[
     (b"", ImageCode::I1, 1),
     (b"\n", ImageCode::I1, 1),
@@ -39,7 +39,7 @@ const OF_CORE: &[Refused] = &[
     (b"core 18446744073709551617\n", ImageCode::I2, 1),
 ];
 
-/// Behind the size of core.
+/// After the line `core`.
 const OF_DBR: &[Refused] = &[
     (b"", ImageCode::I1, 2),
     (b"dbr 000000000000 000000200000", ImageCode::I1, 2),
@@ -50,7 +50,7 @@ const OF_DBR: &[Refused] = &[
     (b"start 00001 0 000000\n", ImageCode::I1, 2),
 ];
 
-/// Behind the descriptor segment too.
+/// After the lines `core` and `dbr`.
 const OF_START: &[Refused] = &[
     (b"", ImageCode::I1, 3),
     (b"start 1 0 000000\n", ImageCode::I1, 3),
@@ -59,7 +59,7 @@ const OF_START: &[Refused] = &[
     (b"start 00001 0\n", ImageCode::I1, 3),
 ];
 
-/// Behind the start too. Core has 1,024 words, the last of which is 1777.
+/// After the lines `core`, `dbr` and `start`. Core has 1,024 words; its last address is octal 1777.
 const OF_WORDS: &[Refused] = &[
     (b"core 1\n", ImageCode::I1, 4),
     (b"at 00000010\n", ImageCode::I1, 4),
@@ -96,7 +96,7 @@ const OF_WORDS: &[Refused] = &[
     ),
 ];
 
-// What is told of a text; of a long one, want of memory.
+// The refusal of a text, if it is refused. A text of over 1000 bytes answers `NoMemory`.
 fn refusal(alloc: Global, text: &[u8]) -> Result<Option<Refusal>, NoMemory> {
     if text.len() > 1000 {
         return Err(NoMemory);
@@ -141,7 +141,7 @@ at 00000000 000000000001
 at 00003776 000000000002 777777777777
 ";
 
-/// Words of its core.
+/// Some words of the core of `IMAGE`.
 const WORDS: &[(u32, u64)] = &[(0, 1), (1, 0), (0o3776, 2), (0o3777, 0o777777777777)];
 
 fn has_words(core: &Core, words: &[(u32, u64)]) -> bool {
@@ -188,7 +188,7 @@ fn reads_single_lines(rt: HostRuntime) {
     assert!(rt; is_word_17());
 }
 
-/// The first address that is free, a line, and the first that is free behind it.
+/// The first free address before a line, the line, and the first free address after it.
 const ENDS: &[(u32, &[u8], Result<u32, ImageCode>)] = &[
     (0o17, LINE, Ok(0o20)),
     (0o20, LINE, Err(ImageCode::I3)),

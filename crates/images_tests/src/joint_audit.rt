@@ -1,5 +1,5 @@
-//! Two processes on a core of two frames: images that share, and some that break a condition between them. Findings are
-//! worked out by hand.
+//! The joint audit of two processes on a core of two frames: images that share segments, and images
+//! that break a condition.
 
 use m36_audit::{Joint, joint};
 use m36_core::Core;
@@ -7,11 +7,12 @@ use m36_desc::Dbr;
 use m36_word::{NoMemory, Word};
 use std::alloc::Global;
 
-/// An image: words that are put behind those of `LOCK`, where the descriptors of the second process lie, and what the joint
-/// audit finds: a process or none, a condition and a place.
+/// An image: words written after those of `LOCK`, the address of the second process's descriptors,
+/// and the expected findings: a process if the finding is of one, a condition and a place.
 struct Image<'a>(&'a [(u32, u64)], u32, &'a [(Option<u8>, u8, u32)]);
 
-/// Each process has the segments 1 and 2 at octal 40 and 60, by equal descriptors at octal 2 and at octal 22.
+/// Words of the descriptors at octal 2 and 22. By them each process has segment 1 at octal 40 and
+/// segment 2 at octal 60.
 const LOCK: [(u32, u64); 8] = [
     (0o2, 0o000000404444),
     (0o3, 0o000006300000),
@@ -40,7 +41,7 @@ fn put(core: &mut Core, words: &[(u32, u64)]) {
     }
 }
 
-/// Whether these are found: a process or none, a condition and a place.
+/// Whether the joint audit has exactly these findings: process, condition and place.
 fn are_found(joint: &Joint, expected: &[(Option<u8>, u8, u32)]) -> bool {
     for (finding, (process, condition, place)) in joint.findings.iter().zip(expected) {
         if finding.process != *process
@@ -53,7 +54,7 @@ fn are_found(joint: &Joint, expected: &[(Option<u8>, u8, u32)]) -> bool {
     joint.findings.len() == expected.len() && joint.yes() == expected.is_empty()
 }
 
-/// Whether the joint audit of an image finds what it is to find.
+/// Whether the joint audit of an image has the expected findings.
 fn finds(alloc: Global, image: &Image) -> Result<bool, NoMemory> {
     let Image(words, second, expected) = image;
     let mut core = Core::new(alloc, 2)?;
@@ -66,13 +67,14 @@ fn finds(alloc: Global, image: &Image) -> Result<bool, NoMemory> {
 const IMAGES: &[Image] = &[
     // Both segments are shared.
     Image(&[], 0o20, &[]),
-    // Other brackets: the same words, but another segment.
+    // The second process has other brackets for the same words, so it is not the same segment.
     Image(&[(0o24, 0o000000604554)], 0o20, &[(None, 3, 0o60)]),
-    // One descriptor segment register twice.
+    // Both processes have the same descriptor segment.
     Image(&[], 0, &[(None, 2, 0)]),
     // A segment of the second process on the descriptors of the first.
     Image(&[(0o22, 0o000000004444)], 0o20, &[(None, 2, 0)]),
-    // A paged segment that is shared, with its page table; and one table of two segments.
+    // A paged segment that both share with its page table; then one page table of two different
+    // segments.
     Image(
         &[
             (0o6, 0o000001004444),
@@ -95,7 +97,7 @@ const IMAGES: &[Image] = &[
         0o20,
         &[(None, 2, 0o100), (None, 3, 0o2000)],
     ),
-    // Two segments of one process on a word that the other does not have.
+    // Two segments of one process overlap. The other process has neither.
     Image(
         &[
             (0o6, 0o000002004444),

@@ -1,4 +1,5 @@
-//! Tests of the audit, of images and of several processes.
+//! Tests of the audit, of the joint audit, of bare images, and of several processes on one core.
+//! Expected values were worked out by hand.
 #![tactic(auto)]
 
 #[cfg(test)]

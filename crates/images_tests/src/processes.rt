@@ -1,4 +1,4 @@
-//! Texts of processes, and what they do. What is expected was worked out by hand.
+//! Texts of processes: their runs, and lines that are refused.
 
 use m36_outside::{MemSink, Text};
 use m36_procs::{Procs, ProcsFault};
@@ -6,7 +6,7 @@ use m36_word::NoMemory;
 use std::alloc::Global;
 use std::process::Abort;
 
-// The first lines of texts: none; core; a process too; eight of them.
+// First lines of a text: none, `core`, `core` and one process, `core` and eight processes.
 const NOTHING: &[u8] = b"";
 
 const CORE: &[u8] = b"core 1\n";
@@ -24,7 +24,8 @@ process 000000000000 000000200000 00001 4 000000
 process 000000000000 000000200000 00001 4 000000
 ";
 
-/// Two processes that want a lock, which is a word of a segment that both have. A third has no segment 5.
+/// Two processes try to take a lock, a word of a segment that both have. A third process begins in
+/// a segment past its descriptor segment's bound.
 const LOCK: &[u8] = b"core 1
 process 000000000000 000000200000 00001 4 000000
 process 000000200000 000000200000 00001 4 000000
@@ -36,7 +37,7 @@ turns 3 0 1
 turns 2 2
 ";
 
-/// The third faults, and faults again.
+/// The output of `LOCK`. The third process faults at each of its turns.
 const LOCK_OUTPUT: &[u8] =
     b"0 1 4 00001|000000 000004761000 4:00001|000004 000000000000 000000000000 ...... next
 1 2 4 00001|000000 000004761000 4:00001|000004 000000000000 000000000000 ...... next
@@ -49,17 +50,17 @@ const LOCK_OUTPUT: &[u8] =
 end schedule 8
 ";
 
-/// Lines, and what is wrong with the first that is refused.
+/// The rest of a text, and its refusal with the number of the refused line.
 type Refused<'a> = (&'a [u8], ProcsFault);
 
-/// Behind no line.
+/// In place of the first line.
 const OF_CORE: &[Refused] = &[
     (b"", ProcsFault::P1(1)),
     (b"core 0\n", ProcsFault::P1(1)),
     (b"core 1", ProcsFault::P1(1)),
 ];
 
-/// Behind the size of core.
+/// After the line `core`.
 const OF_PROCESS: &[Refused] = &[
     (b"", ProcsFault::P1(2)),
     (b"at 00000000 000000000001\n", ProcsFault::P1(2)),
@@ -67,7 +68,7 @@ const OF_PROCESS: &[Refused] = &[
     (b"process 0 0 00001 4 000000\n", ProcsFault::P1(2)),
 ];
 
-/// Behind a process too. Core has 1,024 words, the last of which is 1777.
+/// After `core` and one process. Core has 1,024 words; its last address is octal 1777.
 const OF_OTHERS: &[Refused] = &[
     (b"", ProcsFault::P1(3)),
     (b"core 1\n", ProcsFault::P1(3)),
@@ -96,7 +97,7 @@ const OF_OTHERS: &[Refused] = &[
     ),
 ];
 
-/// Behind eight processes.
+/// After `core` and eight processes.
 const OF_TURNS: &[Refused] = &[
     (
         b"process 000000000000 000000200000 00001 4 000000\n",
@@ -105,7 +106,7 @@ const OF_TURNS: &[Refused] = &[
     (b"turns 1 7\nturns 1 8\n", ProcsFault::P2(11)),
 ];
 
-// What is told of a text; of a long one, want of memory.
+// The refusal of a text, if it is refused. A text of over 1000 bytes answers `NoMemory`.
 fn fault(alloc: Global, text: &[u8]) -> Option<ProcsFault> {
     if text.len() > 1000 {
         return Some(ProcsFault::NoMemory);
@@ -135,7 +136,8 @@ fn refuses_lines(rt: HostRuntime) -> Result<(), NoMemory> {
     refuse(&rt, rt.alloc(), EIGHT, OF_TURNS)
 }
 
-// Whether the processes stand so behind the schedule, where the second goes on with one event.
+// Whether core and registers are right after the schedule. Takes one more step of the second
+// process.
 fn stand_right(procs: &mut Procs) -> bool {
     if procs.core().len() != 1024 || procs.count() != 3 {
         return false;
@@ -146,12 +148,12 @@ fn stand_right(procs: &mut Procs) -> bool {
     lock == 0o2000000 && (told.ppr.ic, first.ic, second.ic) == (3, 3, 2)
 }
 
-/// How a run of the two processes has to end.
+/// How the run of `LOCK` is expected to end.
 #[derive(Clone, Copy)]
 enum Due {
-    /// By its schedule, with its lines written.
+    /// At the end of its schedule, with all lines written.
     Lines,
-    /// With a line that is not written.
+    /// Because a line cannot be written.
     Failure,
 }
 

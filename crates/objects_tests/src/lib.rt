@@ -1,4 +1,5 @@
-//! Tests of object segments.
+//! Tests of object segments: their parts, their encoding as words, and words that are refused.
+//! Expected words were worked out by hand.
 #![tactic(auto)]
 
 #[cfg(test)]

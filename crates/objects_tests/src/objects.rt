@@ -1,4 +1,4 @@
-//! Objects worked out by hand.
+//! Objects as lists of words, and changes of a word with which they are refused.
 
 use m36_word::{NoMemory, Word, Words};
 use obj36::{Object, ObjectFault, Section, object_laws};
@@ -26,7 +26,7 @@ const EMPTY: &[u64] = &[
     0o000013000000,
 ];
 
-/// One static word in a section of its own.
+/// Version 2: one static word, in the static section.
 const COUNTER: &[u64] = &[
     0o000000000000,
     0o000000000000,
@@ -50,7 +50,7 @@ const COUNTER: &[u64] = &[
     0o000014000000,
 ];
 
-/// Version 1: the entry `go`, the static word `cnt`, and links to `b$x` and to the own entry `go`.
+/// Version 1: the entry `go`, the static word `cnt`, and links to `b$x` and to its own entry `go`.
 const CALLER: &[u64] = &[
     0o400010054100,
     0o400012235120,
@@ -96,7 +96,7 @@ const CALLER: &[u64] = &[
     0o000043000000,
 ];
 
-/// Version 2: the same with other links, to `b$` and to the own static section.
+/// Version 2: as `CALLER`, but with links to `b$` and to its own static section.
 const NEWER: &[u64] = &[
     0o400000054100,
     0o400010235120,
@@ -141,7 +141,7 @@ const NEWER: &[u64] = &[
     0o000041000000,
 ];
 
-/// A word that is changed: its place, what it becomes, and the fault that is told.
+/// A change of one word: its index, its new value, and the fault with which the words are refused.
 type Change = (usize, u64, ObjectFault);
 
 const OF_EMPTY: &[Change] = &[
@@ -160,39 +160,41 @@ const OF_EMPTY: &[Change] = &[
 ];
 
 const OF_CALLER: &[Change] = &[
-    // The chain goes round, and the count is one short.
+    // The chain of definitions is a cycle; then its count is one too small.
     (7, 0o000002000001, ObjectFault::O5(3)),
     (3, 0o000002000001, ObjectFault::O5(3)),
-    // The chain leaves the section behind its last definition.
+    // The last definition leads past the section.
     (7, 0o000777000001, ObjectFault::O5(7)),
     // The expressions leave the section.
     (4, 0o000015000002, ObjectFault::O5(4)),
-    // The class static in version 1.
+    // A definition of the class static, which version 1 does not have.
     (7, 0o000000000003, ObjectFault::O5(7)),
-    // Both definitions have one name: at one place, at two, and at two with other padding.
+    // Both definitions have the same name: stored once, stored twice, stored twice with other
+    // padding.
     (8, 0o000010000012, ObjectFault::O5(13)),
     (14, 0o002147157000, ObjectFault::O5(13)),
     (14, 0o002147157001, ObjectFault::O5(13)),
-    // Names: with a character that may not stand there, with padding, empty, and past the section.
+    // Names: with a wrong character, with padding that is not zero, empty, and twice past the
+    // section.
     (14, 0o003143156055, ObjectFault::O6(14)),
     (15, 0o001142000001, ObjectFault::O6(15)),
     (16, 0o000000000000, ObjectFault::O6(16)),
     (9, 0o000004000077, ObjectFault::O6(9)),
     (12, 0o000077000002, ObjectFault::O6(12)),
-    // The section static in version 1, a type that there is not, a link that is not its own, and a first link behind
-    // an odd number of static words.
+    // The section static in version 1, an unknown type, a link with the expression of another link,
+    // and a first link after an odd number of static words.
     (11, 0o000005000002, ObjectFault::O7(11)),
     (11, 0o000002000000, ObjectFault::O7(11)),
     (28, 0o000010000020, ObjectFault::O7(27)),
     (18, 0o000013000002, ObjectFault::O7(18)),
-    // Relocations of one part, and in no section's words.
+    // Two relocations of the same part, and a relocation past the section's words.
     (33, 0o000000021000, ObjectFault::O8(0)),
     (34, 0o000003021000, ObjectFault::O8(0)),
 ];
 
 const OF_NEWER: &[Change] = &[
-    // The class past static, the section past static, a linkage section with other words than links, and an unused
-    // field that is not empty.
+    // A class above static, a section above static, a linkage section with other words than its
+    // head and links, and an unused field that is not zero.
     (7, 0o000000000004, ObjectFault::O5(7)),
     (11, 0o000001000003, ObjectFault::O7(11)),
     (17, 0o000012000002, ObjectFault::O7(17)),
@@ -208,7 +210,7 @@ fn are_words(words: &[Word], values: &[u64]) -> bool {
     words.len() == values.len()
 }
 
-// Puts the words of these numbers, of which one may be changed, behind others.
+// Appends the words of `values`, one of them changed if asked for.
 fn fill(words: &mut Words, values: &[u64], change: Option<(usize, u64)>) -> Result<(), NoMemory> {
     for (i, old) in values.iter().enumerate() {
         let value = match change {
@@ -220,25 +222,25 @@ fn fill(words: &mut Words, values: &[u64], change: Option<(usize, u64)>) -> Resu
     Ok(())
 }
 
-// The words of these numbers, of which one may be changed.
+// The words of `values`, one of them changed if asked for.
 fn changed(alloc: Global, values: &[u64], change: Option<(usize, u64)>) -> Result<Words, NoMemory> {
     let mut words = Words::new(alloc);
     match fill(&mut words, values, change) {
         Ok(()) => Ok(words),
         Err(error) => {
-            // Dropped by a call: so the drop is proved once for its type. So below.
+            // Dropped by a call, so that the drop is proved once for its type; also below.
             drop(words);
             Err(error)
         }
     }
 }
 
-// The words of these numbers.
+// The words of `values`.
 pub(crate) fn words_of(alloc: Global, values: &[u64]) -> Result<Words, NoMemory> {
     changed(alloc, values, None)
 }
 
-/// The object that words are read as, or the fault.
+/// The object that the words encode, or the fault. A list of over 1000 words answers `NoMemory`.
 fn read_as(alloc: Global, words: &[Word]) -> Result<Object, ObjectFault> {
     if words.len() > 1000 {
         return Err(ObjectFault::NoMemory);
@@ -246,14 +248,14 @@ fn read_as(alloc: Global, words: &[Word]) -> Result<Object, ObjectFault> {
     Object::read(alloc, words)
 }
 
-/// What is asked of the answer that words are given.
+/// The expected result of reading words.
 #[derive(Clone, Copy)]
 enum Due<'a> {
-    /// An object, and that these are its words.
+    /// An object that encodes to these words.
     Words(&'a [u64]),
-    /// The object of the caller above.
+    /// The object of `CALLER`.
     Caller,
-    /// That the words are refused with this fault.
+    /// A refusal with this fault.
     Refused(ObjectFault),
 }
 
@@ -297,7 +299,7 @@ fn is_so(alloc: Global, object: &Object, due: Due) -> bool {
     }
 }
 
-// Whether this is so of an object, which is then dropped.
+// Whether an object is as expected. Drops the object.
 fn was_so(alloc: Global, object: Object, due: Due) -> bool {
     let told = is_so(alloc, &object, due);
     drop(object);
@@ -308,7 +310,7 @@ fn is_refused(fault: ObjectFault, due: Due) -> bool {
     matches!(due, Due::Refused(expected) if expected == fault)
 }
 
-// Whether words are given the answer that is due.
+// Whether reading the words gives the expected result.
 fn answers(alloc: Global, words: &[Word], due: Due) -> bool {
     match read_as(alloc, words) {
         Ok(object) => was_so(alloc, object, due),
@@ -316,7 +318,7 @@ fn answers(alloc: Global, words: &[Word], due: Due) -> bool {
     }
 }
 
-// The same of the words of these numbers, of which one may be changed.
+// As `answers`, for the words of `values`, one of them changed if asked for.
 fn are_answered(
     alloc: Global,
     values: &[u64],
@@ -344,13 +346,13 @@ fn objects_are_read(rt: HostRuntime) -> Result<(), NoMemory> {
     Ok(())
 }
 
-// Whether words are refused with a change.
+// Whether the changed words are refused with the fault of the change.
 fn are_refused(alloc: Global, values: &[u64], change: Change) -> Result<bool, NoMemory> {
     let (place, value, fault) = change;
     are_answered(alloc, values, Some((place, value)), Due::Refused(fault))
 }
 
-// The place of the first of these changes with which words are not refused, if there is one.
+// The index of the first change with which the words are not refused as expected, if there is one.
 fn first_not_refused(
     alloc: Global,
     values: &[u64],

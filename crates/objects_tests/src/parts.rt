@@ -1,10 +1,10 @@
-//! Tables worked out by hand.
+//! Tables of definitions and of links.
 
 use m36_text::{HashSeed, Name};
 use m36_word::NoMemory;
 use obj36_parts::{Def, Defs, Link, Links, Named, Section};
 
-// A name; of a text that is none, the empty one.
+// The name that a text is, or the empty name if it is too long.
 fn name(text: &str) -> Name {
     Name::new(text.as_bytes()).unwrap_or_default()
 }
@@ -32,7 +32,7 @@ fn link(entry: &str) -> Link {
     }
 }
 
-// Adds a definition. Whether all have names of their own.
+// Adds a definition. Returns whether all names are different.
 fn add_definition(definitions: &mut Defs, text: &str) -> Result<bool, NoMemory> {
     definitions.push(definition(text))?;
     Ok(definitions.have_own_names())
@@ -46,12 +46,13 @@ fn finds_name(definitions: &Defs, text: &str) -> bool {
     definitions.find(&name(text)).is_some()
 }
 
-// Whether these are two names, of which one is found and another is not.
+// Whether the table has two different names, has `cnt`, and does not find `b`.
 fn has_names(definitions: &Defs) -> bool {
     has_name(definitions, "cnt") && !finds_name(definitions, "b") && definitions.names().len() == 2
 }
 
-// Adds definitions. Whether their names are found.
+// Adds three definitions, the last with the name of the first. Returns whether each lookup is
+// right.
 fn find_names(definitions: &mut Defs) -> Result<bool, NoMemory> {
     for (text, are_own) in [("go", true), ("cnt", true), ("go", false)].iter() {
         if add_definition(definitions, text)? != *are_own {
@@ -65,19 +66,19 @@ fn find_names(definitions: &mut Defs) -> Result<bool, NoMemory> {
 fn names_are_found(rt: HostRuntime) -> Result<(), NoMemory> {
     let mut definitions = Defs::new(rt.alloc(), HashSeed::of(b""));
     let told = find_names(&mut definitions);
-    // Dropped by a call: so the drop is proved once for its type. So below.
+    // Dropped by a call, so that the drop is proved once for its type; also below.
     drop(definitions);
     assert!(rt; told?);
     Ok(())
 }
 
-// Adds a copy of a link. Its place.
+// Adds a copy of a link. Returns the index of the first equal link.
 fn add_link(links: &mut Links, link: &Link) -> Result<Option<u64>, NoMemory> {
     links.push(link.copied())?;
     Ok(links.place(link))
 }
 
-// The same of the link to an entry.
+// As `add_link`, for the link to an entry of `b`.
 fn add_entry(links: &mut Links, entry: &str) -> Result<Option<u64>, NoMemory> {
     add_link(links, &link(entry))
 }
@@ -86,7 +87,7 @@ fn has_entry(links: &Links, entry: &str) -> bool {
     links.has(&link(entry))
 }
 
-// Adds links. Whether they are found.
+// Adds three links, the last equal to the first. Returns whether each lookup is right.
 fn find_links(links: &mut Links) -> Result<bool, NoMemory> {
     for (entry, place) in [("x", 0), ("y", 1), ("x", 0)].iter() {
         if add_entry(links, entry)? != Some(*place) {

@@ -1,4 +1,4 @@
-//! Lists of words worked out by hand.
+//! The parts and the checks of a list of words, by the functions that `Object::read` is made of.
 
 use crate::objects::words_of;
 use m36_word::{NoMemory, Word};
@@ -11,7 +11,7 @@ use obj36_read::spelling::fault_of_names;
 use obj36_read::tables::fault_of_tables;
 use std::alloc::Global;
 
-/// An object with one definition, `go` at word 0 of a text of one word.
+/// An object with a text of one word, and one definition: `go`, at word 0.
 const ENTRY: [u64; 22] = [
     0o000000710000,
     0o000002000001,
@@ -65,7 +65,7 @@ fn count_of_definitions(alloc: Global, words: &[Word]) -> Result<usize, NoMemory
     }
     let parts = parts_in(alloc, words)?;
     let count = parts.definitions.items().len();
-    // Dropped by a call: so the drop is proved once for its type. So below.
+    // Dropped by a call, so that the drop is proved once for its type.
     drop(parts);
     Ok(count)
 }

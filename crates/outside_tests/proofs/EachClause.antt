@@ -1,4 +1,4 @@
--- What the answers of a world's calls say, clause by clause.
+-- From what a call did to a world, the clauses of the trait of the object that was called.
 use Rattle.std.proofs.Common.{◌≡◌, ℕ, ◌≤◌, ◌<◌, ◌^◌, ◌⊎◌, List, [], length, Option, Some, None, refl, sym, ap, arith}
 use Rattle.m36_outside.specs.Passing.{joined, PieceGives, PutTakes, TakesLines}
 use Rattle.m36_outside.specs.Piece.{preceded, PieceSays, PieceHasCause}

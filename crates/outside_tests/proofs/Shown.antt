@@ -1,4 +1,4 @@
--- What a world that shows a file holds then.
+-- What changed in a world that showed a file: from the events to the lists of calls.
 use Rattle.std.proofs.Common.{◌≡◌, ℕ, List, [], ◌∷◌, ◌++◌, Result, Ok, Err, MatchResult, ap, sym, subst, ◌∙◌}
 use Rattle.std.proofs.lemmas.List.{append-nil}
 use Rattle.m36_outside.specs.FolderCalls.{Asked}
@@ -65,7 +65,7 @@ shown (Err answer) name old new some =
       references = logs.references;
     }
 
--- the same where the lists are those of other places
+-- `Through` for lists equal to the given ones
 pub through_at :
     (result : Result Put ReadAnswer) (name : List ℕ)
     (asked asked' at at' : List Asked) (taken taken' on on' : List (List ℕ))

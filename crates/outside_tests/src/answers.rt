@@ -1,9 +1,9 @@
-//! What reads of a folder answer.
+//! Compares the answers of a folder's reads with expected ones.
 
 use m36_outside::{Folder, ReadAnswer};
 use std::alloc::Global;
 
-/// What a read has to answer.
+/// The expected answer of a read.
 #[derive(Clone, Copy)]
 pub enum Due<'a> {
     Content(&'a [u8]),
@@ -28,11 +28,11 @@ pub fn is_due(answer: &ReadAnswer, due: Due) -> bool {
     }
 }
 
-/// Whether a read of a file is answered so.
+/// Whether a read of the file `name` gives the expected answer.
 pub fn reads<F: Folder>(folder: &mut F, alloc: Global, name: &[u8], due: Due) -> bool {
     let answer = folder.read(alloc, name);
     let told = is_due(&answer, due);
-    // Dropped by a call: so the drop is proved once for its type. So in the other files.
+    // Dropped by a call, so that the drop is proved once for its type; also in the other files.
     drop(answer);
     told
 }

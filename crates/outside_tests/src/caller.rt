@@ -1,4 +1,5 @@
-//! A caller over the traits alone, whose contract follows from theirs: it reads one file and puts two lines.
+//! A function over any folder and sink: it reads one file and puts two lines. Its contract follows
+//! from the contracts of the traits alone.
 
 ghost use Rattle.std.specs.Prelude.{ℕ, [], ◌∷◌, ◌++◌, ◌≡◌, List, Option, Some, IfSome, IfOk, IfErr, MatchResult};
 ghost use Rattle.m36_outside.specs.Passing.{TakesLines};
@@ -15,8 +16,9 @@ const END: &[u8] = b"end\n";
 
 /// Puts a file's content as a line, and then the last line.
 ///
-/// By `through`, whatever the folder and the sink are, one file was asked for, and what was taken are the lines by the
-/// answer. By `says`, where they tell their files and what is written, it is the file's content.
+/// `through` holds for any folder and sink: one file was asked for, and the sink took the two
+/// lines, or the part of them that its answer allows. `says` is for a folder whose files are in its
+/// view: the first line is the content of the file, and what is written grew by the lines.
 fn put_file<F: Folder, S: Sink>(
     alloc: Global,
     name: &[u8],
@@ -33,8 +35,10 @@ fn put_file<F: Folder, S: Sink>(
         (λ put. (bytes : List ℕ) × (files name.now ≡ Some bytes)
         × PutSays put (S.written out.old) (S.written out.new) (bytes ++ END.now))
         (λ answer. ReadSays answer (files name.now) × (S.written out.new ≡ S.written out.old))) }
-    ensures read_cause { IfErr result (λ answer. ReadHasCause answer (F.read_faults folder.old) (F.read_faults folder.new)) }
-    ensures write_cause { IfOk result (λ put. PutHasCause put (S.faults out.old) (S.faults out.new)) }
+    ensures read_cause { IfErr result (λ answer.
+        ReadHasCause answer (F.read_faults folder.old) (F.read_faults folder.new)) }
+    ensures write_cause { IfOk result (λ put.
+        PutHasCause put (S.faults out.old) (S.faults out.new)) }
 {
     match folder.read(alloc, name) {
         ReadAnswer::Read(text) => Ok(put_lines(text.bytes(), out)),
@@ -44,7 +48,8 @@ fn put_file<F: Folder, S: Sink>(
 
 /// Puts a line, and then the last line.
 fn put_lines<S: Sink>(line: &[u8], out: &mut S) -> Put
-    ensures through { TakesLines result (S.taken out.old) (S.taken out.new) (line.now ∷ END.now ∷ []) }
+    ensures through { TakesLines result
+        (S.taken out.old) (S.taken out.new) (line.now ∷ END.now ∷ []) }
     ensures says { PutSays result (S.written out.old) (S.written out.new) (line.now ++ END.now) }
     ensures cause { PutHasCause result (S.faults out.old) (S.faults out.new) }
 {
@@ -58,7 +63,8 @@ fn put_lines<S: Sink>(line: &[u8], out: &mut S) -> Put
     }
 }
 
-/// The room of the output, the put that fails, 0 for none, the answer, and what is written.
+/// The output's room in bytes, the number of the put that fails (0 for none), the expected answer,
+/// and what is written.
 const ROOMS: &[(usize, u32, Put, &[u8])] = &[
     (8, 0, Put::Done, b"dis\nend\n"),
     (7, 0, Put::Failed, b"dis\nend"),
@@ -66,7 +72,7 @@ const ROOMS: &[(usize, u32, Put, &[u8])] = &[
     (8, 2, Put::Failed, b"dis\n"),
 ];
 
-/// Whether a call of `put_file` comes to this.
+/// Whether a call of `put_file` returns what is expected.
 fn comes_to<F: Folder, S: Sink>(
     alloc: Global,
     name: &[u8],
@@ -84,7 +90,8 @@ fn comes_to<F: Folder, S: Sink>(
     told
 }
 
-/// Whether two calls over a folder whose second read fails answer so, and this is written behind each.
+/// Whether the first of two calls gives the answer of the row, the second fails because the
+/// folder's second read fails, and after each the output is that of the row.
 fn answers(
     alloc: Global,
     folder: &mut MemFolder,
@@ -121,7 +128,7 @@ fn gives_a_prefix(rt: HostRuntime) -> Result<(), NoMemory> {
     Ok(())
 }
 
-/// Whether a file is put as a whole, and another is absent.
+/// Whether a file is put as a whole, and a second file is absent.
 fn puts_whole(alloc: Global, folder: &mut SureFolder) -> Result<bool, NoMemory> {
     folder.add(b"a", b"dis\n")?;
     let mut out = SureSink::new();

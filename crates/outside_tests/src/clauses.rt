@@ -1,4 +1,5 @@
-//! Each call of a world, with every clause that the trait of its object has for it.
+//! Each call of a world with all clauses that the trait of the object has for it: the contract of a
+//! world implies those of a folder, an input and a sink.
 
 ghost use Rattle.std.specs.Prelude.{[], ◌∷◌, ◌++◌, ◌≡◌, ◌≤◌, ◌<◌, ◌^◌, ◌⊎◌, IfSome, length};
 ghost use Rattle.m36_outside.specs.Passing.{PieceGives, PutTakes, TakesLines, joined};

@@ -1,5 +1,5 @@
-//! Tests of the outside: folders, input and output in memory and of the system, a caller over their
-//! traits, and worlds, which are the three as one object.
+//! Tests of the outside: folders, input and output in memory and those of the operating system; a
+//! caller that knows only their traits; and worlds, which combine the three in one object.
 #![tactic(auto)]
 
 #[cfg(test)]

@@ -1,4 +1,5 @@
-//! Files, input and output in memory, some calls of which fail. What is expected was worked out by hand.
+//! Files, input and output in memory, with calls that fail. Expected values were worked out by
+//! hand.
 
 use crate::answers::{Due, reads};
 use m36_outside::{
@@ -9,7 +10,7 @@ use m36_word::NoMemory;
 use std::alloc::Global;
 use std::process::Abort;
 
-/// Adds bytes one by one, and then many.
+/// Adds two bytes one by one, and then six at once.
 fn grow(text: &mut Text) -> Result<(), NoMemory> {
     for byte in [b'm', b'3'] {
         text.push(byte)?;
@@ -37,16 +38,17 @@ fn text_grows_at_its_end(rt: HostRuntime) -> Result<(), NoMemory> {
     Ok(())
 }
 
-/// What is asked of a folder.
+/// A call of a folder, with its expected answer.
 #[derive(Clone, Copy)]
 enum Call<'a> {
-    /// A read of a file, and its answer.
+    /// The name of a file, and the answer of a read.
     Reads(&'a [u8], Due<'a>),
-    /// A write, and its answer.
+    /// The name of a file, its new content, and the answer of a write.
     Writes(&'a [u8], &'a [u8], WriteAnswer),
 }
 
-/// The calls of a folder with the file `boot`, where the second read, the first write and the third fail.
+/// Calls of a folder with the file `boot`. The second read fails, and so do the first write and the
+/// third.
 const CALLS: &[Call] = &[
     Call::Reads(b"boot", Due::Content(b"frames 24\n")),
     Call::Reads(b"boot", Due::Failed),
@@ -61,7 +63,7 @@ const CALLS: &[Call] = &[
     Call::Reads(b"main", Due::Content(b"y")),
 ];
 
-/// Whether a call is answered as it says.
+/// Whether a call gives its expected answer.
 fn is_answered(alloc: Global, folder: &mut MemFolder, call: &Call) -> bool {
     match call {
         Call::Reads(name, due) => reads(folder, alloc, name, *due),
@@ -89,7 +91,8 @@ fn listed_calls_fail(rt: HostRuntime) -> Result<(), NoMemory> {
     answered
 }
 
-/// The pieces of an input whose second call fails, and those of one that never fails: each answer, and the bytes.
+/// The answers of an input whose second call fails, and their bytes. An input that never fails
+/// gives the same without that row.
 const PIECES: &[(Piece, &[u8])] = &[
     (Piece::Got(7), b"step\nqu"),
     (Piece::Failed, b""),
@@ -118,7 +121,7 @@ fn input_gives_pieces(rt: HostRuntime) -> Result<(), NoMemory> {
     Ok(())
 }
 
-/// Pieces for five bytes of room, where the second put fails.
+/// Pieces put to an output with room for five bytes, whose second put fails, and the answers.
 const PUTS: &[(&[u8], Put)] = &[
     (b"abc", Put::Done),
     (b"x", Put::Failed),
@@ -147,10 +150,11 @@ fn output_fails_past_its_room(rt: HostRuntime) -> Result<(), NoMemory> {
     Ok(())
 }
 
-/// What is written behind each of three blocks of three pieces, for nine bytes of room, where the third put fails.
+/// What is written after each of three blocks of three pieces, in an output with room for nine
+/// bytes whose third put fails.
 const BLOCKS: &[&[u8]] = &[b"a\nb\n", b"a\nb\na\nb\nc", b"a\nb\na\nb\nc"];
 
-/// Whether three pieces are added to a block, which then fails.
+/// Whether three pieces can be added to a block, and handing over the block then fails.
 fn block_fails(out: &mut MemSink) -> bool {
     let mut block = Block::new();
     for piece in [b"a\n", b"b\n", b"c\n"] {

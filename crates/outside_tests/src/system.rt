@@ -1,4 +1,5 @@
-//! The files of the current directory, devices, the standard output, and the standard input, which is empty in tests.
+//! Files of the current directory, devices, standard output and standard input. The standard input
+//! is empty in tests.
 
 use crate::answers::{Due, reads};
 use m36_outside::{
@@ -11,7 +12,8 @@ use std::os::unix::fs::symlink;
 use std::process::Abort;
 use std::test::Fail;
 
-/// Whether a file that is absent takes each content and gives it back, of so many bytes at most.
+/// Whether a file, absent at first, can be written with each content and read back. A read of the
+/// last one is refused: it is longer than the longest file that can be read.
 fn keeps<'a, F: Folder>(
     folder: &mut F,
     alloc: Global,
@@ -51,7 +53,7 @@ fn directory_keeps<R: Files + Drop>(
 fn folder_keeps_a_file(rt: HostRuntime) -> Result<(), Fail> {
     let files = rt.clone()?;
     let large = vec![in rt.alloc(); b'x'; FILE_LIMIT + 1]?;
-    // A run that was killed may have left the file.
+    // The file is still there if an earlier run was killed.
     let _ = fs::remove_file(&rt, "m36_outside_file");
     let told = directory_keeps(files, rt.alloc(), &large[1..], &large);
     drop(large);
@@ -60,8 +62,8 @@ fn folder_keeps_a_file(rt: HostRuntime) -> Result<(), Fail> {
     Ok(())
 }
 
-/// Names of no file, and then those that the system refuses: a directory, and a name with a zero byte. What a read of each
-/// answers.
+/// Names, and the answers of reads. The first four are no names of files, so the file is absent.
+/// The last two are refused by the operating system: a directory, and a name with a zero byte.
 const NAMES: &[(&[u8], Due)] = &[
     (b"", Due::Absent),
     (b"/dev/null", Due::Absent),
@@ -71,7 +73,7 @@ const NAMES: &[(&[u8], Due)] = &[
     (b"a\0b", Due::Failed),
 ];
 
-/// A read of each name answers so, and a write fails.
+/// Asserts that a read of each name gives the expected answer, and that a write fails.
 fn names_are_refused<F: Folder>(rt: &impl Abort, folder: &mut F, alloc: Global) {
     for (name, due) in NAMES {
         assert!(rt;
@@ -90,7 +92,8 @@ fn folder_refuses_names(rt: HostRuntime) -> Result<(), Fail> {
     Ok(())
 }
 
-/// What a link leads to: a file, nothing, the device that takes every byte, and the one that is always full.
+/// Targets of a symbolic link: a file, a name without a file, the device that takes every byte, and
+/// the device that is always full.
 const LINKED: &[&str] = &[
     "m36_outside_source",
     "m36_outside_gone",
@@ -98,7 +101,7 @@ const LINKED: &[&str] = &[
     "/dev/full",
 ];
 
-/// Whether a write under the name of a link replaces the link, and no file that it leads to.
+/// Whether a write to the name of a link replaces the link and leaves its target alone.
 fn link_is_replaced<F: Folder>(
     rt: &impl Files,
     alloc: Global,
@@ -106,7 +109,7 @@ fn link_is_replaced<F: Folder>(
     to: &str,
 ) -> io::Result<bool> {
     fs::write(rt, "m36_outside_source", b"source\n")?;
-    // A run that was killed may have left the link.
+    // The link is still there if an earlier run was killed.
     let _ = fs::remove_file(rt, "m36_outside_link");
     symlink(rt, to, "m36_outside_link")?;
     let told = folder.write(alloc, b"m36_outside_link", b"object\n") == WriteAnswer::Written
@@ -149,7 +152,8 @@ fn folder_replaces_links(rt: HostRuntime) -> Result<(), Fail> {
     Ok(())
 }
 
-/// Whether a write goes on to the next spare name where files have the first two, which stay.
+/// Whether a write uses the third spare name if files with the first two exist, and leaves these
+/// files alone.
 fn spares_are_kept<F: Folder>(rt: &impl Files, alloc: Global, folder: &mut F) -> io::Result<bool> {
     let name = b"m36_outside_spared";
     for spare in [".m36-000", ".m36-001"] {
@@ -166,13 +170,14 @@ fn spares_are_kept<F: Folder>(rt: &impl Files, alloc: Global, folder: &mut F) ->
     Ok(told)
 }
 
-/// Whether a write that fails leaves what has the name, and no spare file: a directory has the name.
+/// Whether a write to the name of a directory fails, leaves the directory, and leaves no spare
+/// file.
 fn failure_changes_nothing<F: Folder>(
     rt: &impl Files,
     alloc: Global,
     folder: &mut F,
 ) -> io::Result<bool> {
-    // A run that was killed may have left the directory.
+    // The directory is still there if an earlier run was killed.
     let _ = fs::remove_dir(rt, "m36_outside_directory");
     fs::create_dir(rt, "m36_outside_directory")?;
     let told = folder.write(alloc, b"m36_outside_directory", b"x") == WriteAnswer::Failed
@@ -193,7 +198,7 @@ fn folder_uses_a_spare_file(rt: HostRuntime) -> Result<(), Fail> {
     Ok(())
 }
 
-/// Whether pieces are put, and a block of them twice.
+/// Whether two pieces and the same block twice are put without a failure.
 fn puts<S: Sink>(out: &mut S) -> bool {
     let mut block = Block::new();
     let mut told = block.add(b"end dis 2\n", out) == Put::Done;

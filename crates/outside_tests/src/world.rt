@@ -1,4 +1,4 @@
-//! A function over any world, and a caller who lends it a folder, an input and an output.
+//! A function over any world, and a caller that lends it a folder, an input and an output.
 
 ghost use Rattle.std.specs.Prelude.{ℕ, [], ◌∷◌, ◌++◌, ◌≡◌, List, MatchResult};
 ghost use Rattle.m36_outside.specs.Passing.{TakesLines};
@@ -29,7 +29,7 @@ fn show<W: World>(alloc: Global, name: &[u8], world: &mut W) -> Result<Put, Read
     }
 }
 
-/// The same with three objects of the caller, who knows what became of each.
+/// As `show`, over three objects of the caller. The contract says what happened to each of them.
 fn show_from<F: Folder, L: Lines, S: Sink>(
     alloc: Global,
     name: &[u8],
@@ -50,14 +50,15 @@ fn show_from<F: Folder, L: Lines, S: Sink>(
     show(alloc, name, &mut world)
 }
 
-/// The room of the output, the put that fails, 0 for none, the answer, and what is written.
+/// The output's room in bytes, the number of the put that fails (0 for none), the expected answer,
+/// and what is written.
 const ROOMS: &[(usize, u32, Put, &[u8])] = &[
     (8, 0, Put::Done, b"dis\n"),
     (3, 0, Put::Failed, b"dis"),
     (8, 1, Put::Failed, b""),
 ];
 
-/// Whether the file is shown so, and an absent one not at all.
+/// Whether a file is shown as the row says, and an absent file is not shown.
 fn is_shown(
     alloc: Global,
     folder: &mut SureFolder,
@@ -105,7 +106,8 @@ fn lent_objects_hold_what_was_done(rt: HostRuntime) -> Result<(), NoMemory> {
     Ok(())
 }
 
-/// A folder whose first write fails, an input whose second call fails, and room for 15 bytes.
+/// A folder whose first write fails, an input whose second call fails, and an output with room for
+/// 15 bytes.
 fn failing_world(alloc: Global) -> Result<Outside<MemFolder, MemLines, MemSink>, NoMemory> {
     let folder = MemFolder::new(alloc, &[], &[1])?;
     match MemLines::new(alloc, b"step\nquit\n", &[2]) {
@@ -124,7 +126,7 @@ fn failing_world(alloc: Global) -> Result<Outside<MemFolder, MemLines, MemSink>,
     }
 }
 
-/// Takes a piece of input and puts it, and answers whether that was done.
+/// Takes a piece of input and puts it. Returns whether both succeeded.
 fn echo_piece<W: World>(world: &mut W) -> bool {
     let mut buffer = [0; 4];
     match world.next_piece(&mut buffer) {
@@ -133,7 +135,7 @@ fn echo_piece<W: World>(world: &mut W) -> bool {
     }
 }
 
-/// Whether all pieces but the second are put.
+/// Whether the second of four calls fails, and the others put their pieces.
 fn echoes<W: World>(world: &mut W) -> bool {
     for want in [true, false, true, true] {
         if echo_piece(world) != want {
@@ -143,7 +145,7 @@ fn echoes<W: World>(world: &mut W) -> bool {
     true
 }
 
-/// Puts three pieces at once.
+/// Puts three pieces as one block.
 fn put_three<W: World>(world: &mut W) -> Put {
     let mut block = Block::new();
     for piece in [b"a\n", b"b\n", b"c\n"] {
@@ -152,7 +154,7 @@ fn put_three<W: World>(world: &mut W) -> Put {
     world.put_block(&block)
 }
 
-/// Whether a file is written at the second try, and read.
+/// Whether the first write of a file fails, the second succeeds, and a read gives its content.
 fn keeps_a_file<W: World>(alloc: Global, world: &mut W) -> bool {
     if world.write(alloc, b"x", b"1") != WriteAnswer::Failed {
         return false;

@@ -1,4 +1,4 @@
-//! Sources assembled by hand.
+//! The assembler: sources with their objects, and sources that are refused.
 
 use alm_asm::assemble;
 use alm_parse::{AlmFault, parse};
@@ -6,7 +6,7 @@ use m36_word::Word;
 use obj36::{Named, Object, Parts, Reloc};
 use std::alloc::{AllocError, Global};
 
-// The object of a source.
+// The object of a source. A source of over 2^17 bytes answers `NoMemory`.
 fn object_of(alloc: Global, source: &[u8]) -> Result<Object, AlmFault> {
     if source.len() > 1 << 17 {
         return Err(AlmFault::NoMemory);
@@ -24,14 +24,14 @@ fn are(words: &[Word], expected: &[u64]) -> bool {
     words.len() == expected.len()
 }
 
-/// What is asked of an object.
+/// What an object is expected to have.
 #[derive(Clone, Copy)]
 enum Due<'a> {
-    /// That these are its words.
+    /// These words.
     Words(&'a [u64]),
-    /// That this is its text.
+    /// This text section.
     Text(&'a [u64]),
-    /// That it has the parts below.
+    /// The parts of `PARTS`.
     Parts,
 }
 
@@ -50,10 +50,10 @@ fn is_so(alloc: Global, object: &Object, due: Due) -> bool {
     }
 }
 
-// Whether this is so of an object, which is then dropped.
+// Whether an object is as expected. Drops the object.
 fn was_so(alloc: Global, object: Object, due: Due) -> bool {
     let told = is_so(alloc, &object, due);
-    // Dropped by a call: so the drop is proved once for its type.
+    // Dropped by a call, so that the drop is proved once for its type.
     drop(object);
     told
 }
@@ -65,7 +65,7 @@ fn makes(alloc: Global, source: &[u8], due: Due) -> bool {
     }
 }
 
-/// Sources, and the whole object of each.
+/// A source, and all words of its object.
 const OBJECTS: &[(&[u8], &[u64])] = &[
     (
         b"",
@@ -92,7 +92,7 @@ fn objects(rt: HostRuntime) {
     }
 }
 
-/// Sources, and the text of the object of each.
+/// A source, and the text section of its object.
 const TEXTS: &[(&[u8], &[u64])] = &[
     (
         b" entry start\nstart: epaq 0,ic\n lprp4 pr7|22,*au\n epp2 msg\n lda 6,dl\n stcd pr6|20\n call6 con_$write\n call6 con_$stop\nmsg: aci \"hell\"\n oct 157012000000\n",
@@ -164,7 +164,7 @@ fn refuses(alloc: Global, source: &[u8], fault: AlmFault) -> bool {
     object_of(alloc, source).err() == Some(fault)
 }
 
-/// Sources that are refused, and the fault of each.
+/// A source that is refused, and its fault.
 const REFUSED: &[(&[u8], AlmFault)] = &[
     (b"a: nop 0\na: nop 0\n", AlmFault::E5(2, 1)),
     (b" entry a,a\na: nop 0\n", AlmFault::E5(1, 10)),
@@ -241,7 +241,7 @@ fn refusals(rt: HostRuntime) {
     }
 }
 
-// Symbols of which each is twice the one above and one more, where the first is refused.
+// Seventy symbols, each defined as twice the one before it plus one. The first one is refused.
 fn doublings(alloc: Global) -> Result<String, AllocError> {
     let mut source = String::from_str(alloc, " equ s0,nosuch\n")?;
     for i in 0..70u8 {
@@ -258,7 +258,7 @@ fn sums_on_a_refused_one(rt: HostRuntime) -> Result<(), AllocError> {
     Ok(())
 }
 
-// As many links as are in reach, behind an operand on a symbol that is refused.
+// As many links as an instruction can reach, after an operand whose symbol is refused.
 fn links_in_reach(alloc: Global) -> Result<String, AllocError> {
     let mut source = String::from_str(alloc, " lda s$+e\n")?;
     for i in 1..8189u16 {
@@ -278,13 +278,13 @@ fn no_link_on_a_refused_one(rt: HostRuntime) -> Result<(), AllocError> {
 const PARTS: &[u8] =
     b" segdef c,b\n entry a\na: zero a,c+5\nb: lda pr1|a\n entrybound\n lda x$y\n use link\nc: zero 0,b-a\n zero c,0\n dec -1\n";
 
-/// The static words of these parts.
+/// The static words of `PARTS`.
 const STATICS: &[u64] = &[1, 0o10000000, 0o777777777777, 0];
 
-/// The value of each definition, and whether it is an entry.
+/// The value of each definition of `PARTS`, and whether it is an entry.
 const DEFINITIONS: &[(u32, bool)] = &[(8, false), (1, false), (0, true)];
 
-/// The offset of each relocation, and its part.
+/// The offset of each relocation of `PARTS`, and its part of the word.
 const RELOCATIONS: &[(u32, u8)] = &[(0, 0), (0, 1), (1, 2), (2, 2), (9, 0)];
 
 fn are_defined(found: &[Named], expected: &[(u32, bool)]) -> bool {

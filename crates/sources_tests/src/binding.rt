@@ -1,9 +1,9 @@
-//! Bind files that are refused.
+//! The binder: bind files that are refused.
 
 use m36_bind::{BindFault, bind};
 use std::alloc::Global;
 
-/// Bind files over no objects, and why each is refused.
+/// A bind file, and its fault if no objects are given.
 const REFUSED: &[(&str, BindFault)] = &[
     ("", BindFault::B1(1)),
     ("version 2\njunk\nobject a\n", BindFault::B1(2)),
@@ -15,7 +15,8 @@ const REFUSED: &[(&str, BindFault)] = &[
     ("version 2\nobject a\nobject b\n", BindFault::B2(2)),
 ];
 
-// What is told of a bind file over no objects; of a long one, want of memory.
+// The fault of a bind file over no objects, if there is one. A bind file of over 1000 bytes answers
+// `NoMemory`.
 fn told(alloc: Global, text: &[u8]) -> Option<BindFault> {
     if text.len() > 1000 {
         return Some(BindFault::NoMemory);

@@ -1,10 +1,11 @@
-//! Files worked out by hand. The draws are computed by the recurrence elsewhere.
+//! The generator: draws and files of seeds. Expected draws were computed from the recurrence by
+//! other means; expected files were worked out by hand.
 
 use m36_gen::draws::{Draws, Sequence};
 use m36_gen::{File, make};
 use m36_word::NoMemory;
 
-/// Seeds, and the first three draws of each.
+/// A seed, and its first three draws.
 const DRAWS: &[(u64, Draws)] = &[
     (
         0,
@@ -39,7 +40,7 @@ fn draws_of_seeds(rt: HostRuntime) {
     }
 }
 
-/// Files of the seed 1: the place, the name and the content of each.
+/// Files of seed 1: index, name and content.
 const FILES: &[(usize, &[u8], &[u8])] = &[
     (
         0,
@@ -58,7 +59,7 @@ const FILES: &[(usize, &[u8], &[u8])] = &[
     ),
 ];
 
-// The content of the file at a place; None where it has another name.
+// The content of the file with the index `at`; `None` if it has another name.
 fn content_of<'a>(files: &'a [File], at: usize, name: &[u8]) -> Option<&'a [u8]> {
     let file = files.get(at)?;
     if file.name.bytes() == name {
@@ -85,7 +86,7 @@ fn are_zero(bytes: &[u8]) -> bool {
     bytes.iter().all(|byte| *byte == 0)
 }
 
-// The data are 65,792 words of 36 bits, all zero.
+// The data file has 65,792 words of 36 bits, all zero.
 #[test]
 fn data(rt: HostRuntime) -> Result<(), NoMemory> {
     let made = make(rt.alloc(), 7)?;

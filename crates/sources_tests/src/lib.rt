@@ -1,4 +1,5 @@
-//! Tests of sources, from tokens to bound objects.
+//! Tests of sources, from tokens to bound objects, and of generated folders. Expected values were
+//! worked out by hand.
 #![tactic(auto)]
 
 #[cfg(test)]

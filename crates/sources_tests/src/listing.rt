@@ -1,4 +1,4 @@
-//! Texts worked out by hand.
+//! Disassembly, prints and listings.
 
 use alm_parse::{Lines36, parse};
 use m36_list::{disassemble, disassembly_laws, listing, print};
@@ -8,7 +8,7 @@ use m36_word::{NoMemory, Word, Words};
 use obj36::{Def, Defs, Link, Links, Named, Object, Parts, Reloc, Relocs, Section};
 use std::alloc::Global;
 
-/// Words, and how each is disassembled.
+/// A word, and its disassembly.
 const WORDS: &[(u64, &str)] = &[
     (0o600005235120, "lda pr6|5,*"),
     (0o700026764161, "lprp4 pr7|22,*au"),
@@ -45,15 +45,15 @@ fn words_as_instructions(rt: HostRuntime) {
     disassembly_laws();
 }
 
-/// What an object is made of. Its definitions have the value 0.
+/// The parts of an object. All its definitions have the value 0.
 struct Sample {
     text: &'static [u64],
     statics: &'static [u64],
-    /// The name of each, its section, and whether it is an entry.
+    /// Name, section, and whether it is an entry.
     definitions: &'static [(&'static str, Section, bool)],
-    /// The name of each, its entry, and its expression, type, section and tag.
+    /// Segment, entry, added number, type, section and modifier.
     links: &'static [(&'static str, &'static str, u32, u8, Section, u8)],
-    /// The offset, section, part and target of each.
+    /// Offset, section, part and target section.
     relocations: &'static [(u32, Section, u8, Section)],
     entry_bound: u32,
     version: u8,
@@ -70,7 +70,7 @@ const NOTHING: Sample = Sample {
     version: 1,
 };
 
-/// A call of another object, and a count of its own.
+/// Version 2: a call of another object, and a static word of its own.
 const COUNTED: Sample = Sample {
     text: &[0o400010713120, 0o000000616000],
     statics: &[5],
@@ -84,7 +84,7 @@ const COUNTED: Sample = Sample {
     version: 2,
 };
 
-/// A static word, in version 2.
+/// Version 2: a static word.
 const STATIC: Sample = Sample {
     text: &[],
     statics: &[5],
@@ -95,7 +95,7 @@ const STATIC: Sample = Sample {
     version: 2,
 };
 
-/// Three words of text, and static words behind the links.
+/// Version 1: three words of text, and four static words, which are in the linkage section.
 const INNER: Sample = Sample {
     text: &[0o000006235007, 5, 7],
     statics: &[5, 0, 0, 0],
@@ -106,7 +106,7 @@ const INNER: Sample = Sample {
     version: 1,
 };
 
-/// Names, objects, and how each is printed.
+/// The name of an object, the object, and its print.
 const PRINTS: &[(&str, &Sample, &str)] = &[
     (
         "e",
@@ -139,7 +139,7 @@ link 000012 *static$cnt 000002 20
     ),
 ];
 
-/// Names, sources, the objects that are listed for them, and the listings.
+/// The name of an object, its source, the object, and the listing.
 const LISTINGS: &[(&str, &str, &Sample, &str)] = &[
     (
         "c",
@@ -237,7 +237,7 @@ fn add_relocations(
     Ok(())
 }
 
-// Fills empty parts with those of a sample.
+// Appends the parts of a sample to empty parts.
 fn fill(parts: &mut Parts, sample: &Sample) -> Result<(), NoMemory> {
     add_words(&mut parts.text, sample.text)?;
     add_words(&mut parts.statics, sample.statics)?;
@@ -246,7 +246,7 @@ fn fill(parts: &mut Parts, sample: &Sample) -> Result<(), NoMemory> {
     add_relocations(&mut parts.relocations, sample.relocations)
 }
 
-// Empty parts, but for the entry bound and the version of a sample.
+// Empty parts with the entry bound and the version of a sample.
 fn empty_parts(alloc: Global, sample: &Sample) -> Parts {
     Parts {
         text: Words::new(alloc),
@@ -264,14 +264,14 @@ fn parts_of(alloc: Global, sample: &Sample) -> Result<Parts, NoMemory> {
     match fill(&mut parts, sample) {
         Ok(()) => Ok(parts),
         Err(error) => {
-            // Dropped by a call: so the drop is proved once for its type.
+            // Dropped by a call, so that the drop is proved once for its type.
             drop(parts);
             Err(error)
         }
     }
 }
 
-// The print of an object, or its listing for these lines.
+// The print of an object, or its listing if the lines of its source are given.
 fn text_of(
     alloc: Global,
     name: &[u8],
@@ -284,14 +284,14 @@ fn text_of(
     }
 }
 
-// The same of the object of these parts; nothing where there is none.
+// As `text_of`, for the object of these parts; an empty text if the parts make no object.
 fn shown(
     alloc: Global,
     name: &[u8],
     lines: Option<&Lines36>,
     parts: Parts,
 ) -> Result<Text, NoMemory> {
-    // Dropped by calls: so the drops are proved once for their types.
+    // Dropped by calls, so that the drops are proved once for their types.
     if !parts.is_object() {
         drop(parts);
         return Ok(Text::new(alloc));
@@ -302,7 +302,7 @@ fn shown(
     told
 }
 
-// Whether the print of a sample, or its listing for these lines, is this.
+// Whether the print of a sample, or its listing if lines are given, is `expected`.
 fn shows(
     alloc: Global,
     name: &str,

@@ -1,4 +1,4 @@
-//! Sources read by hand.
+//! The parser: sources shown as text, and sources that are refused.
 
 use alm_parse::{AlmFault, Arg, Atom, Expr, Line36, Lines36, Span, parse};
 use m36_outside::Text;
@@ -6,7 +6,8 @@ use m36_text::{decimal, octal};
 use m36_word::NoMemory;
 use std::alloc::Global;
 
-// A source shown as text: for each line its number, its labels, its operation and its arguments, and a line feed.
+// A source as text. Each line has its number, its labels, its operation, its arguments and a line
+// feed:
 //
 //     3 loop: again: lda pr6|5-x [20]
 fn shown(alloc: Global, source: &Lines36) -> Result<Text, NoMemory> {
@@ -81,7 +82,7 @@ fn show_arg(text: &[u8], arg: &Arg, shown: &mut Text) -> Result<(), NoMemory> {
     }
 }
 
-// Each term has its sign before it, and a symbol quotation marks around it.
+// Appends the terms, each after its sign, and symbols in quotation marks.
 fn show_expr(text: &[u8], expr: &Expr, shown: &mut Text) -> Result<(), NoMemory> {
     for term in expr.items() {
         shown.push(if term.minus { b'-' } else { b'+' })?;
@@ -112,7 +113,7 @@ fn read(alloc: Global, source: &[u8]) -> Result<Lines36, AlmFault> {
     parse(alloc, source)
 }
 
-// Whether a source is read, and shown so.
+// Whether a source is parsed without a fault, and shown as `expected`.
 fn reads(alloc: Global, source: &[u8], expected: &[u8]) -> bool {
     match read(alloc, source) {
         Ok(lines) => are_shown_as(alloc, &lines, expected),
@@ -120,7 +121,7 @@ fn reads(alloc: Global, source: &[u8], expected: &[u8]) -> bool {
     }
 }
 
-/// Lines with an operand, and how each is shown.
+/// A line with an operand, and how it is shown.
 const OPERANDS: &[(&[u8], &[u8])] = &[
     (b" lda pr6|5,*\n", b"1 lda 6|+5 [20]\n"),
     (b" lprp4 pr7|22,*au", b"1 lprp4 7|+22 [61]\n"),
@@ -151,7 +152,7 @@ fn operands(rt: HostRuntime) {
     }
 }
 
-/// Sources, and how each is shown.
+/// A source with directives or empty lines, and how it is shown.
 const DIRECTIVES: &[(&[u8], &[u8])] = &[
     (b"", b""),
     (b"\n \t\"c\n\n", b"1\n2\n3\n"),
@@ -190,7 +191,7 @@ fn refuses(alloc: Global, source: &[u8], fault: AlmFault) -> bool {
     read(alloc, source).err() == Some(fault)
 }
 
-/// Sources with a byte that may not stand there.
+/// A source with a byte that is not allowed at its place, and its fault.
 const BYTES_REFUSED: &[(&[u8], AlmFault)] = &[
     (b"#a:", AlmFault::E1(1, 1)),
     (b" lda #", AlmFault::E1(1, 6)),
@@ -208,7 +209,7 @@ fn bytes_refused(rt: HostRuntime) {
     }
 }
 
-/// Sources with a line of no form.
+/// A source with a line that no rule allows, and its fault.
 const FORMS_REFUSED: &[(&[u8], AlmFault)] = &[
     (b" lda 5#", AlmFault::E2(1, 6)),
     (b" lda 5 6", AlmFault::E2(1, 6)),
@@ -248,7 +249,7 @@ fn forms_refused(rt: HostRuntime) {
     }
 }
 
-/// Sources with an operation that there is not, or with a number that is too large.
+/// A source with an unknown operation or a number out of range, and its fault.
 const OTHERS_REFUSED: &[(&[u8], AlmFault)] = &[
     (b" foo", AlmFault::E3(1, 2)),
     (b" lda+5", AlmFault::E3(1, 2)),

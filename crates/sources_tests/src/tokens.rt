@@ -1,4 +1,4 @@
-//! Tokens told by hand.
+//! Tokens: modifiers, and the pieces between separators.
 
 use alm_tokens::modifiers::tag_of;
 use alm_tokens::pieces::pieces_of;
@@ -6,7 +6,7 @@ use alm_tokens::{Parter, Piece, Span};
 use m36_word::NoMemory;
 use std::alloc::Global;
 
-/// Modifiers, and the tag of each.
+/// The text of a modifier, and its tag.
 const MODIFIERS: &[(&[u8], Option<u8>)] = &[
     (b"n", Some(0)),
     (b"7", Some(0o17)),
@@ -24,7 +24,7 @@ fn modifiers(rt: HostRuntime) {
     }
 }
 
-// How many pieces a text has.
+// How many pieces a text has between separators. A text of over 4000 bytes answers 0.
 fn count(alloc: Global, parter: Parter, text: &[u8]) -> Result<usize, NoMemory> {
     if text.len() > 4000 {
         return Ok(0);
@@ -37,7 +37,7 @@ fn count(alloc: Global, parter: Parter, text: &[u8]) -> Result<usize, NoMemory> 
     Ok(pieces.items().len())
 }
 
-/// Texts, and how many pieces each has.
+/// The separator, a text, and the number of its pieces.
 const PIECES: &[(Parter, &[u8], usize)] = &[
     (Parter::Comma, b"a,b", 2),
     (Parter::Comma, b"", 1),

@@ -1,4 +1,5 @@
-//! Worked addresses: a pair, chains of indirect words, a held register, tally words.
+//! Address formation: through an ITS pair, chains of indirect words, IR modification with its
+//! register kept until the end, and tally words.
 
 ghost use Rattle.std.specs.Prelude.{◌≡◌, ◌<◌, ◌^◌, [], IfOk};
 
@@ -12,10 +13,11 @@ use m36_walk::Walk;
 use m36_word::{NoMemory, Word};
 use std::alloc::Global;
 
-/// The segment that executes lies at core word octal 40, in ring 0, with all rights.
+/// The descriptor of segment 1, which executes: at core word octal 40, in ring 0, with all rights.
 const PROCEDURE: [(u32, u64); 2] = [(0o2, 0o000000400004), (0o3, 0o000027300000)];
 
-/// A walk by the registers over a frame with these words beside the descriptor of the procedure segment.
+/// A walk over one frame with the descriptor of segment 1 and these words. Its descriptor base is
+/// that of the registers.
 fn walk(alloc: Global, regs: &Regs, words: &[(u32, u64)]) -> Result<Walk, NoMemory>
     ensures { IfOk result (λ walk. walk.dbr ≡ regs.now.dbr) }
 {
@@ -25,7 +27,7 @@ fn walk(alloc: Global, regs: &Regs, words: &[(u32, u64)]) -> Result<Walk, NoMemo
     Ok(Walk::new(core, regs.dbr))
 }
 
-/// Registers at word 0 of segment 1 in a ring, with X1 and PR0.
+/// Registers at word 0 of segment 1 in a ring. All pointer registers are `pr0`.
 fn regs(ring: u8, x1: u32, pr0: Ptr) -> Regs
     requires ring { ring < 8 }
     requires x1 { x1 < 2 ^ 18 }
@@ -60,7 +62,7 @@ const TO_SEGMENT_2: Ptr = Ptr {
     bit: 0,
 };
 
-/// The address of an instruction's word.
+/// The address formed for an instruction, given as its word.
 fn form(walk: &mut Walk, regs: &Regs, word: u64) -> Result<Formed, Halt>
     requires { walk.old.dbr ≡ regs.now.dbr }
     ensures { walk.new.dbr ≡ walk.old.dbr }
@@ -69,7 +71,7 @@ fn form(walk: &mut Walk, regs: &Regs, word: u64) -> Result<Formed, Halt>
     effective(walk, regs, &Inst::of_word(Word::low(word)), &mut refs)
 }
 
-/// An address without a tally word.
+/// The result of an address formation that ends at `at` and uses no tally word.
 fn ends_at(at: At) -> Formed {
     Formed {
         last: Final {
@@ -103,7 +105,7 @@ fn pair_takes_the_bracket_of_its_segment(rt: HostRuntime) -> Result<(), NoMemory
     Ok(())
 }
 
-/// The address of an instruction's word over a core that has these words.
+/// The address formed for an instruction over a core with these words.
 fn address(
     alloc: Global,
     regs: &Regs,
@@ -114,8 +116,8 @@ fn address(
     Ok(form(&mut walk, regs, word))
 }
 
-/// Words 1 to 21 of segment 1, each of which goes on to the next: from word 2 on there are 16 of them to word 22. Word 30
-/// goes on to word 20.
+/// Words octal 1 to 21 of segment 1 are indirect words, each leading to the next. A chain that
+/// begins at word 2 has 16 of them and ends at word 22. Word 30 leads to word 20.
 fn indirect_words() -> [(u32, u64); 18] {
     let mut words = [(0o61, 0o000022000000); 18];
     for k in 0..16 {
@@ -125,7 +127,8 @@ fn indirect_words() -> [(u32, u64); 18] {
     words
 }
 
-/// Instructions through word 2, through word 1, and through word 30 with X1 held, and the address or the place of the fault.
+/// Instructions through word 2, through word 1, and through word 30 with IR modification by X1. The
+/// result is the word number of the address, or that of the fault.
 const CHAINS: [(u64, Result<u32, u32>); 3] = [
     (0o000002235020, Ok(0o22)),
     (0o000001235020, Err(0o21)),
@@ -146,7 +149,8 @@ fn chains_of_indirect_words(rt: HostRuntime) -> Result<(), NoMemory> {
     Ok(())
 }
 
-/// A tally word at word 10, an instruction through it, its address, the tally word afterwards, and whether it ran out.
+/// A tally word at word octal 10, an instruction through it, the word number of its address, the
+/// tally word afterwards, and whether the tally ran out.
 const TALLIES: [(u64, u64, u32, u64, bool); 5] = [
     (0o000100000200, 0o000010235056, 0o100, 0o000101000100, false),
     (0o000101000100, 0o000010235056, 0o101, 0o000102000000, true),

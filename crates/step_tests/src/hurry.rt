@@ -1,5 +1,5 @@
-//! Quick steps: `hurry` takes all that `step` takes where pages in front answer and nothing refuses it, and comes to the same
-//! state.
+//! Quick steps: `hurry` takes an instruction if pages in front answer its references and nothing
+//! refuses it. It then leaves the same state as `step`.
 
 use crate::setting::{NO_INDICATORS, pointer, put};
 use m36_core::Core;
@@ -9,7 +9,7 @@ use m36_step::{Machine, Replay};
 use m36_word::{NoMemory, Word};
 use std::alloc::Global;
 
-/// The descriptor segment is unpaged at core word 0, and has eight descriptors.
+/// An unpaged descriptor segment at core word 0, with eight descriptors.
 const DBR: Dbr = Dbr {
     addr: 0,
     bnd: 0,
@@ -17,19 +17,22 @@ const DBR: Dbr = Dbr {
     unpaged: true,
 };
 
-/// Segment 1 lies at core word octal 2000 in one piece, or in one page whose page table word stands at octal 100. Ring 0 may
-/// read, write and execute its four blocks, or in the loops all of the page.
+/// The descriptor of segment 1: unpaged at core word octal 2000, four blocks of 16 words, which
+/// ring 0 may read, write and execute.
 const SHORT: [(u32, u64); 2] = [(2, 0o000020000004), (3, 0o000037700000)];
 
+/// As `SHORT`, but with 64 blocks, a page.
 const WHOLE: [(u32, u64); 2] = [(2, 0o000020000004), (3, 0o000777300000)];
 
+/// As `WHOLE`, but paged: the page table word is at octal 100.
 const PAGED: [(u32, u64); 3] = [
     (2, 0o000001000004),
     (3, 0o000777100000),
     (0o100, 0o000020000004),
 ];
 
-/// `lda`, `ada` of a direct operand, `sta`, `aos` through an indirect word, `eax1` with register 1, and `tra`.
+/// A loop: `lda`, `ada` of a direct operand, `sta`, `aos` through an indirect word, `eax1` with
+/// register 1, and `tra`.
 const SIMPLE: [(u32, u64); 8] = [
     (0o2000, 0o000100235000),
     (0o2001, 0o000005075007),
@@ -41,8 +44,8 @@ const SIMPLE: [(u32, u64); 8] = [
     (0o2102, 0o000103000000),
 ];
 
-/// `ldaq`, `adaq`, `era`, `orq`, `als`, `lrl`, `staq`, `ldaq` through an ITS pair, `lda` and `sta` through a tally word, `call6`,
-/// `aos`, `tra` and `rtcd`.
+/// A loop: `ldaq`, `adaq`, `era`, `orq`, `als`, `lrl`, `staq`, `ldaq` through an ITS pair, `lda`
+/// and `sta` through a tally word, `call6`, `aos`, `tra` and `rtcd`.
 const MIXED: [(u32, u64); 23] = [
     (0o2000, 0o000016237000),
     (0o2001, 0o000020077000),
@@ -69,7 +72,7 @@ const MIXED: [(u32, u64); 23] = [
     (0o2030, 0o000040010000),
 ];
 
-/// Registers at word 0 of segment 1 in ring 0, with this accumulator.
+/// Registers at word 0 of segment 1 in ring 0, with the accumulator `a`.
 fn regs(a: u64) -> Regs {
     Regs {
         a: Word::low(a),
@@ -110,7 +113,7 @@ fn are_alike(machine: &Machine, other: &Machine) -> bool {
         && core.page(1) == other_core.page(1)
 }
 
-/// Whether two steps were told alike.
+/// Whether two step records agree in the instruction, its address, the outcome and the references.
 fn are_told_alike(told: &StepRecord, other: &StepRecord) -> bool {
     told.word == other.word
         && told.at == other.at
@@ -139,8 +142,8 @@ fn takes_a_thousand_steps_at_once(rt: HostRuntime) -> Result<(), NoMemory> {
     Ok(())
 }
 
-/// Words of segment 1 that instructions refer to: numbers, an indirect word, an ITS pair, a tally word, the pair of a return, and
-/// an indirect word and a tally word past the bound.
+/// Operands in segment 1: numbers, an indirect word, an ITS pair, a tally word, a return pointer,
+/// and an indirect word and a tally word that lead past the bound.
 const OPERANDS: [(u32, u64); 11] = [
     (0o2020, 7),
     (0o2022, 0o123456701234),
@@ -155,7 +158,8 @@ const OPERANDS: [(u32, u64); 11] = [
     (0o2035, 0o000100000200),
 ];
 
-/// A machine before an instruction at word 1 of segment 1, whose page is in front.
+/// A machine about to execute an instruction at word 1 of segment 1, with the page of segment 1 in
+/// front.
 fn before(alloc: Global, a: u64, instruction: u64) -> Result<Machine, NoMemory> {
     let mut machine = machine(alloc, a, &SHORT, &OPERANDS)?;
     put(
@@ -166,8 +170,9 @@ fn before(alloc: Global, a: u64, instruction: u64) -> Result<Machine, NoMemory> 
     Ok(machine)
 }
 
-/// Of each group: `lda`, `lda` of a direct operand, through an indirect word, an ITS pair and a tally word; `sta`, also through a
-/// tally word; `aos`, `stx1`, `sxl1`, `eaa`, `als`, `tra`, `ldaq`, `staq`, `call6` and `rtcd`.
+/// Instructions of each group: `lda`; `lda` of a direct operand, through an indirect word, an ITS
+/// pair and a tally word; `sta`, also through a tally word; `aos`, `stx1`, `sxl1`, `eaa`, `als`,
+/// `tra`, `ldaq`, `staq`, `call6` and `rtcd`.
 const TAKEN: [u64; 17] = [
     0o000020235000,
     0o000005235007,
@@ -200,8 +205,9 @@ fn takes_an_instruction_of_each_group(rt: HostRuntime) -> Result<(), NoMemory> {
     Ok(())
 }
 
-/// The same past the bound, where a word is referred to; the indirect word or the tally word lies within it, and its operand
-/// past it. `ada` gives an overflow fault. `nop`, `dis` and `absa` are no quick steps.
+/// Instructions that `hurry` leaves to `step`. Most of them are those of `TAKEN` with an operand
+/// past the bound, where an indirect word or tally word itself is within it. The others are `ada`
+/// with an overflow fault, and `dis` and `absa`, which are never quick steps.
 const REFUSED: [u64; 17] = [
     0o000100235000,
     0o000100235020,

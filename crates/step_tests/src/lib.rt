@@ -1,4 +1,5 @@
-//! Tests of the step: references, addresses, the machine, and its lines.
+//! Tests of the step: references, address formation, whole steps, and trace lines. Expected values
+//! were worked out by hand.
 #![tactic(auto)]
 
 #[cfg(test)]

@@ -1,4 +1,4 @@
-//! Lines worked out by hand.
+//! Trace lines of steps, and the line that ends a run.
 
 ghost use Rattle.std.specs.Prelude.{◌<◌, ◌^◌};
 
@@ -8,7 +8,8 @@ use m36_model::{At, Fault, Final, Ind, Outcome, Ppr, Refs, Regs, StepRecord, Sto
 use m36_trace::{end_line, line};
 use m36_word::Word;
 
-// A step of a machine that has this A and these indicators afterwards.
+/// The record of a step after which A and the indicators are as given, and all other registers are
+/// 0.
 fn told(
     ppr: Ppr,
     word: Option<Word>,

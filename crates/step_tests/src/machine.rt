@@ -1,4 +1,4 @@
-//! Whole steps over small cores that were laid out by hand.
+//! Whole steps over small cores.
 
 ghost use Rattle.std.specs.Prelude.{◌<◌, ◌^◌};
 
@@ -16,7 +16,7 @@ use m36_step::turns::{BackAnswer, Turn};
 use m36_word::{NoMemory, Word};
 use std::alloc::Global;
 
-/// Registers that hold nothing, at a word of segment 1 in a ring.
+/// Registers at word `ic` of segment 1 in a ring. All others are 0.
 fn regs(ring: u8, ic: u32) -> Regs
     requires ring { ring < 8 }
     requires ic { ic < 2 ^ 18 }
@@ -36,14 +36,14 @@ fn regs(ring: u8, ic: u32) -> Regs
     }
 }
 
-/// Registers at word 0 of segment 1 in ring 0, with this accumulator.
+/// Registers at word 0 of segment 1 in ring 0, with the accumulator `a`.
 fn with_a(a: u64) -> Regs {
     let mut regs = regs(0, 0);
     regs.a = Word::low(a);
     regs
 }
 
-/// A machine with two frames of core, in which these words stand and all others are zero.
+/// A machine with two frames of core that has these words and is zero elsewhere.
 fn machine(alloc: Global, regs: &Regs, words: &[(u32, u64)]) -> Result<Machine, NoMemory> {
     let mut core = Core::new(alloc, 2)?;
     put(&mut core, words);
@@ -71,13 +71,13 @@ fn violates(acv: u8, at: At) -> Outcome {
     })
 }
 
-/// Makes one step. Whether it has this outcome, and completes so many references.
+/// Takes one step. Whether it has this outcome and makes this number of references.
 fn gives(machine: &mut Machine, expected: Outcome, references: usize) -> bool {
     let told = machine.step();
     told.outcome == expected && told.refs.len() == references
 }
 
-/// Where the machine stands.
+/// Whether the machine is at word `ic` of segment `seg` in ring `ring`.
 fn stands(machine: &Machine, seg: u16, ring: u8, ic: u32) -> bool {
     let regs = machine.regs();
     let ppr = regs.ppr;
@@ -89,7 +89,7 @@ fn accumulator(machine: &Machine) -> u64 {
     regs.a.value()
 }
 
-/// Whether a step loaded word 2 of segment 1, by the instruction at word 0.
+/// Whether a step executed `lda 2` and read word 2 of segment 1 in ring 0.
 fn is_load(told: &StepRecord) -> bool {
     let operand = at(1, 2, 0);
     let read = Reference {
@@ -126,7 +126,7 @@ fn loads_and_stops(rt: HostRuntime) -> Result<(), NoMemory> {
     assert!(rt; gives(&mut machine, Outcome::Stopped(Stop::Dis), 1));
     assert!(rt; stands(&machine, 1, 0, 1));
 
-    // The stop is passed over, and the word that follows it is written from outside: `sta 5`, which has no right to.
+    // Skips the stop and writes the word after it from outside: `sta 5`, which may not write there.
     machine.skip();
     put(machine.core_mut(), &[(0o42, 0o000005755000)]);
     assert!(rt; gives(&mut machine, violates(6, at(1, 5, 0)), 1));
@@ -142,7 +142,7 @@ fn is_step(turn: Turn, expected: Outcome) -> bool {
     }
 }
 
-/// Whether a turn told this end.
+/// Whether a turn reported this end.
 fn is_end(turn: Turn, expected: End) -> bool {
     match turn {
         Turn::Ended(end) => end == expected,
@@ -186,7 +186,8 @@ fn marks_its_page(rt: HostRuntime) -> Result<(), NoMemory> {
     Ok(())
 }
 
-/// Segment 1 at core word octal 40 with these rights, an instruction in its word 0, and a word at octal 10.
+/// A machine with segment 1 at core word octal 40. `rights` is the odd word of its descriptor; its
+/// word 0 is the instruction, and its word octal 10 is `word`.
 fn with_word(
     alloc: Global,
     regs: &Regs,
@@ -207,9 +208,10 @@ const WRITABLE: u64 = 0o000007300000;
 
 const READABLE: u64 = 0o000006300000;
 
-/// `eaa 8` through ID, once more, SD, AD and DI, and `lda` and `sta` through ID and a tally word that is its own operand: it
-/// is read as it was counted, and written over. The instruction, the tally word before, A, the word and tally runout
-/// afterwards, and the number of references. A is 123456 before.
+/// The instruction, the tally word before, A afterwards, the tally word afterwards, the tally
+/// runout indicator, and the number of references. A is octal 123456 before. The instructions are
+/// `eaa 8` with ID twice, SD, AD and DI; and `lda` and `sta` with ID and a tally word whose operand
+/// is the tally word itself: it is read as counted, and overwritten.
 const TALLIES: [(u64, u64, u64, u64, bool, usize); 7] = [
     (
         0o000010635056,
@@ -282,7 +284,7 @@ fn tally_words(rt: HostRuntime) -> Result<(), NoMemory> {
         assert!(rt; word_at(&machine, 0o50) == after, "{instruction:o}");
         assert!(rt; machine.regs().ind.tally == runout, "{instruction:o}");
 
-        // Without the right to write, nothing has changed.
+        // If the segment may not be written, nothing changes.
         let mut machine = with_word(rt.alloc(), &start, READABLE, instruction, before)?;
         assert!(rt;
             gives(&mut machine, violates(6, at(1, 0o10, 0)), 2),
@@ -294,8 +296,10 @@ fn tally_words(rt: HostRuntime) -> Result<(), NoMemory> {
     Ok(())
 }
 
-/// A segment 1 that every ring may execute, with an instruction and then `dis`, and a segment 3 with a pair in its word 0,
-/// which lies at core word octal 100. Pointer register 2 points to that pair, and pointer register 6 to word 7 of segment 5.
+/// A machine with a segment 1 that every ring may execute, with an instruction and then `dis`, and
+/// a segment 3 at core word octal 100 with a pair in its word 0. `rings` are the ring of execution
+/// and the ring of PR2, which points to that pair. PR6 points to word 7 of segment 5. `segment` is
+/// the descriptor of segment 3.
 fn with_segment(
     alloc: Global,
     rings: (u8, u8),
@@ -322,14 +326,16 @@ fn with_segment(
     machine(alloc, &start, &words)
 }
 
-/// A gate of two entries with brackets 0, 0 and 5, and a segment with brackets 2, 3 and 3 that may be called from ring 3.
+/// The descriptor of a gate with two entries and the brackets 0 0 5.
 const GATE: (u64, u64) = (0o000001000054, 0o000002200002);
 
+/// The descriptor of a segment with the brackets 2 3 3, which ring 3 may call.
 const INNER: (u64, u64) = (0o000001002334, 0o000002300000);
 
 const NO_PAIR: (u64, u64) = (0, 0);
 
-/// The rings of the caller and of the pointer, the segment that is called, the word, and the access violation.
+/// The rings of the caller and of the pointer, the called segment and word, and the access
+/// violation.
 const REFUSED_CALLS: [((u8, u8), (u64, u64), u32, u8); 4] = [
     ((4, 4), GATE, 2, 7),
     ((6, 6), GATE, 1, 8),
@@ -337,8 +343,8 @@ const REFUSED_CALLS: [((u8, u8), (u64, u64), u32, u8); 4] = [
     ((1, 3), INNER, 1, 10),
 ];
 
-/// The ring of the caller and of the pointer, the segment whose word 1 is called, the ring then, and the segment of the
-/// stack, to which pointer register 7 points.
+/// The ring of the caller and of the pointer, the segment whose word 1 is called, the ring that is
+/// entered, and the segment of the stack to which PR7 points afterwards.
 const CALLS: [(u8, (u64, u64), u8, u16); 2] = [(4, GATE, 0, 0o10), (3, INNER, 3, 5)];
 
 /// `call6 pr2|0`
@@ -369,8 +375,8 @@ fn calls(rt: HostRuntime) -> Result<(), NoMemory> {
     Ok(())
 }
 
-/// The ring that executes `rtcd pr2|0`, the segment of the pair, and the pair: of ring 4, and of ring 0 in the own stack of
-/// ring 4.
+/// The ring that executes `rtcd pr2|0`, the segment of the return pointer, and the return pointer.
+/// The first pointer has ring 4. The second has ring 0 and is in a segment that ring 4 may write.
 const RETURNS: [(u8, (u64, u64), (u64, u64)); 2] = [
     (
         0,
@@ -394,7 +400,7 @@ fn returns_to_ring_4(rt: HostRuntime) -> Result<(), NoMemory> {
         for n in 0..8 {
             assert!(rt; machine.regs().pointer(n).ring == 4, "{ring}");
         }
-        // DIS has no right there.
+        // DIS is not privileged there.
         assert!(rt; gives(&mut machine, faults(10, at(1, 1, 4)), 1), "{ring}");
     }
     Ok(())
@@ -402,8 +408,8 @@ fn returns_to_ring_4(rt: HostRuntime) -> Result<(), NoMemory> {
 
 #[test]
 fn loads_the_descriptor_base(rt: HostRuntime) -> Result<(), NoMemory> {
-    // `tsx1 0` at word 3, and `ldbr 8` at word 0. The other descriptor segment lies at octal 400, and gives segment 1 other
-    // words, of which word 1 is `dis`.
+    // `tsx1 0` at word 3, and `ldbr 8` at word 0. The new descriptor segment is at octal 400. By it
+    // segment 1 has other words, and its word 1 is `dis`.
     let words = [
         (0o2, 0o000000400004),
         (0o3, 0o000006700000),

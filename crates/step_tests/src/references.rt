@@ -1,4 +1,4 @@
-//! Worked references: rights, a bound, marks, calls through a gate, pairs and blocks.
+//! References: rights, a bound, used and modified marks, calls through a gate, pairs and blocks.
 
 ghost use Rattle.std.specs.Prelude.{◌<◌, ◌^◌};
 
@@ -10,7 +10,7 @@ use m36_walk::{Pending, Walk};
 use m36_word::{NoMemory, Pair, Word};
 use std::alloc::Global;
 
-/// The descriptor segment is unpaged at core word 0 and has eight descriptors.
+/// An unpaged descriptor segment at core word 0, with eight descriptors.
 pub const DBR: Dbr = Dbr {
     addr: 0,
     bnd: 0,
@@ -18,7 +18,8 @@ pub const DBR: Dbr = Dbr {
     unpaged: true,
 };
 
-/// A segment of four blocks with these brackets, which may be executed, read and written.
+/// A segment of four blocks of 16 words with these brackets, that may be executed, read and
+/// written. It is a gate with two entries if its third bracket is greater than its second.
 fn segment(addr: u32, brackets: (u8, u8, u8), unpaged: bool) -> Sdw
     requires addr { addr < 2 ^ 24 }
     requires rings { (brackets.0 < 8) × (brackets.1 < 8) × (brackets.2 < 8) }
@@ -42,8 +43,10 @@ fn segment(addr: u32, brackets: (u8, u8, u8), unpaged: bool) -> Sdw
     }
 }
 
-/// Two frames of core. Segment 0 is of ring 0, 1 a gate of ring 0, 2 of rings 2 and 3, and 3 of ring 4, each at core
-/// word octal 2000; segments 4 and 5 are of ring 4 and have page tables at octal 100 and 120, whose pages are frame 1.
+/// Two frames of core with six segments. Segment 0 has the brackets 0 0 0, segment 1 is a gate of
+/// ring 0 that rings to 5 may call, segment 2 has the brackets 2 3 3, and segments 3 to 5 have 4 4
+/// 4. Segments 0 to 3 are at core word octal 2000. Segments 4 and 5 have page tables at octal 100
+/// and 120, and their first page is in frame 1.
 pub fn core_of_segments(alloc: Global) -> Result<Core, NoMemory> {
     let segments = [
         segment(0o2000, (0, 0, 0), true),
@@ -84,7 +87,7 @@ fn put(core: &mut Core, place: u32, word: Word) {
     }
 }
 
-/// Whether the page of segment 4 is marked as used, and as modified.
+/// The used and the modified mark of the page of segment 4.
 fn marks(walk: &Walk) -> (bool, bool) {
     let core = walk.core();
     if core.len() <= 0o100 {
@@ -112,7 +115,7 @@ fn violation(acv: u8, at: At) -> Fault {
 #[test]
 fn targets_of_calls(rt: HostRuntime) -> Result<(), NoMemory> {
     let mut walk = walk(rt.alloc())?;
-    // The target and the ring of the call, and the ring in which it goes on or the violation.
+    // The target and the ring of the call, and the ring that it enters or the access violation.
     let calls = [
         (at(1, 1, 4), Ok(0)),
         (at(1, 2, 4), Err(7)),

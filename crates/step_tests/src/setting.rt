@@ -1,4 +1,4 @@
-//! What worked addresses, steps and lines have in common.
+//! Values and functions that several modules of this crate use.
 
 ghost use Rattle.std.specs.Prelude.{◌<◌, ◌^◌};
 
@@ -7,7 +7,7 @@ use m36_desc::{Dbr, Ptr};
 use m36_model::{At, Ind};
 use m36_word::Word;
 
-/// The descriptor segment is unpaged at core word 0 and has 128 descriptors.
+/// An unpaged descriptor segment at core word 0, with 128 descriptors.
 pub const DBR: Dbr = Dbr {
     addr: 0,
     bnd: 0o17,
@@ -45,7 +45,7 @@ pub fn at(seg: u16, word: u32, ring: u8) -> At
     At { word, seg, ring }
 }
 
-/// Puts words at places.
+/// Writes words to core at their addresses. An address past the end is skipped.
 pub fn put(core: &mut Core, words: &[(u32, u64)]) {
     for (place, word) in words {
         if *place < core.len() {

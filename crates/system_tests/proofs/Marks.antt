@@ -1,4 +1,4 @@
--- A used mark that is put on changes no page table word but for its marks.
+-- Setting a used mark changes nothing of a page table word except its marks.
 use Rattle.std.proofs.Common.{ℕ, ◌≡◌, ◌+◌, ◌/◌, ◌%◌, ◌^◌, ◌<◌, ◌⊎◌, List, length, get_or, set, sym, ap, inl, inr, ◌∙◌, arith}
 use Rattle.std.proofs.lemmas.Bool.{cases_eq}
 use Rattle.std.proofs.lemmas.List.{get_or-set_same, get_or-set_other}
@@ -10,7 +10,9 @@ unmarked_used : (w v : ℕ) → w < 2 ^ 36 → w / 512 % 2 ≡ 0 → v ≡ (w + 
 unfolding unmarked
 unmarked_used w v low off is = omega (arith, low, off, is)
 
-pub used_reads : (p : PagerFields) (core : List ℕ) (place w v : ℕ) → Reads p core → place < length core → w ≡ get_or core place 0 → w < 2 ^ 36
+pub used_reads :
+    (p : PagerFields) (core : List ℕ) (place w v : ℕ)
+    → Reads p core → place < length core → w ≡ get_or core place 0 → w < 2 ^ 36
     → w / 512 % 2 ≡ 0 → v ≡ (w + 512) % 2 ^ 36 → Reads p (set core place v)
 used_reads p core place w v reads inside is low off put = record {
   pages = λ seg page has.

@@ -1,4 +1,4 @@
-//! Images of a catalog of two segments, worked out by hand.
+//! Booted images of a catalog with two segments, and folders that cannot be booted.
 
 ghost use Rattle.std.specs.Prelude.{IfOk};
 ghost use Rattle.m36_page.specs.Residence.{HasFrames, Reads};
@@ -32,7 +32,7 @@ const EMPTY: [u64; 18] = [
     0o000013000000,
 ];
 
-// Version 1: the entry `go`, the static word `cnt`, and links to `b$x` and to the own entry `go`.
+// Version 1: the entry `go`, the static word `cnt`, and links to `b$x` and to its own entry `go`.
 const CALLER: [u64; 42] = [
     0o400010054100,
     0o400012235120,
@@ -78,14 +78,14 @@ const CALLER: [u64; 42] = [
     0o000043000000,
 ];
 
-/// What the file of the second segment is.
+/// The file of the second segment.
 #[derive(Clone, Copy)]
 enum Second {
-    /// The words of the first.
+    /// The words of the first segment's file.
     Same,
     /// An object without an entry.
     Empty,
-    /// No object.
+    /// No words, so no object.
     Nothing,
 }
 
@@ -95,7 +95,8 @@ const DATA: &str = "segment >udd>demo main main data re 4 4 5";
 
 const CLOSED: &str = "segment >udd>demo main main object rw 4 4 5";
 
-/// The first, fourth and last line of a boot text, the second file, and the first cause.
+/// The first, fourth and last line of a boot text, the second file, and the first reason for which
+/// the folder does not boot.
 const REFUSED: [(&str, &str, &str, Second, BootFault); 9] = [
     (
         "frames 23",
@@ -162,7 +163,8 @@ const REFUSED: [(&str, &str, &str, Second, BootFault); 9] = [
     ),
 ];
 
-/// Words of core, where the start is `main$cnt` in ring 4 and the second segment is a gate of ring 0.
+/// Addresses and words of core, if the start is `main$cnt` in ring 4 and the second segment is a
+/// gate of ring 0.
 const CORE: [(usize, u64); 16] = [
     (0, 0),
     (24, 0o000120004444),
@@ -182,7 +184,7 @@ const CORE: [(usize, u64); 16] = [
     (18433, 0),
 ];
 
-/// Words of its segments: the number of the segment, the word, and what stands there.
+/// A segment number, a word number, and the word there, in the same image.
 const SEGMENT_WORDS: [(u16, u32, Option<u64>); 18] = [
     (8, 22, Some(0o000020000043)),
     (12, 21, Some(0)),
@@ -204,7 +206,7 @@ const SEGMENT_WORDS: [(u16, u32, Option<u64>); 18] = [
     (66, 0, None),
 ];
 
-// The tables are handed out by functions, so that no proof goes through them.
+// Functions return the tables, so that no proof looks into them.
 fn caller() -> &'static [u64] {
     &CALLER
 }
@@ -251,7 +253,7 @@ pub(crate) fn read(alloc: Global, text: &[u8]) -> Result<Catalog, BootFault> {
     }
 }
 
-// The catalog of a boot text of two segments, of which the second is a gate of a library.
+// The catalog of a boot text with two segments. The second is a gate in a library.
 fn catalog(alloc: Global, frames: &str, main: &str, start: &str) -> Result<Catalog, BootFault> {
     let lines = [
         frames,
@@ -265,7 +267,7 @@ fn catalog(alloc: Global, frames: &str, main: &str, start: &str) -> Result<Catal
     read(alloc, text.bytes())
 }
 
-// The image of such a text.
+// The booted image of such a catalog.
 fn laid(
     alloc: Global,
     frames: &str,

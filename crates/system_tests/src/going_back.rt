@@ -1,4 +1,4 @@
-//! Going back over a machine. What is expected was worked out by hand.
+//! Going back with a machine.
 
 mod counted;
 
@@ -21,7 +21,8 @@ const NO_INDICATORS: Ind = Ind {
     tally: false,
 };
 
-/// Registers that hold nothing, at word 0 of segment 1 in ring 0. The descriptor segment is unpaged at core word 0.
+/// Registers at word 0 of segment 1 in ring 0. All others are 0. The descriptor segment is unpaged
+/// at core word 0.
 fn regs() -> Regs {
     let none = Ptr {
         word: 0,
@@ -49,7 +50,7 @@ fn regs() -> Regs {
     }
 }
 
-/// A machine with two frames of core, in which these words stand and all others are zero.
+/// A machine with two frames of core that has these words and is zero elsewhere.
 fn machine(alloc: Global, words: &[(u32, u64)]) -> Result<Machine, NoMemory> {
     let mut core = Core::new(alloc, 2)?;
     for (place, word) in words {
@@ -67,7 +68,7 @@ fn past<M: m36_step::Replay + Drop>(alloc: Global, machine: M) -> Result<Past<M>
     }
 }
 
-/// Whether a turn was a step that ends at this word, or the end of the run.
+/// Takes a turn. Whether it was a step after which the instruction counter is `ic`.
 fn steps_to<M: Stepper>(machine: &mut M, ic: u32) -> bool {
     let stepped = matches!(machine.turn(), Turn::Stepped(_));
     let regs = machine.regs();
@@ -85,8 +86,8 @@ fn word_at<M: Stepper>(machine: &M, seg: u16, word: u32) -> u64 {
     }
 }
 
-/// Segment 1 is paged, on frame 1: its first instruction, `sta 0`, writes over itself, and `dis 0` follows. Segment 2 is the
-/// first 128 words of core.
+/// Segment 1 is paged, in frame 1: its first instruction, `sta 0`, overwrites itself, and `dis 0`
+/// follows. Segment 2 is the first 128 words of core.
 const STORES: [(u32, u64); 7] = [
     (0o2, 0o000001000004),
     (0o3, 0o000007500000),
@@ -97,22 +98,22 @@ const STORES: [(u32, u64); 7] = [
     (0o2001, 0o000000616000),
 ];
 
-/// What is done with a machine, or seen of it.
+/// An action on a machine or a check of it, with what is expected.
 #[derive(Clone, Copy)]
 enum Doing {
-    /// A step, which ends at this word.
+    /// A turn is a step, after which the instruction counter has this value.
     Steps(u32),
-    /// A turn, which tells that the run has ended.
+    /// A turn reports that the run has ended.
     Ends,
-    /// Going back so many steps, and the answer.
+    /// Goes back this number of steps, with this answer.
     Back(u32, BackAnswer),
-    /// How many steps were taken and not taken back.
+    /// This number of steps was taken and not taken back.
     Taken(u64),
-    /// A word of a segment, and its number.
+    /// Segment, word number, and the value of this word.
     Has(u16, u32, u64),
 }
 
-/// The run ends, and is running again once a step is taken back.
+/// Steps back restore core and marks. The run ends, and goes on again after a step was taken back.
 const RESTORED: &[Doing] = &[
     Doing::Back(1, BackAnswer::Before(0)),
     Doing::Steps(1),
@@ -150,14 +151,15 @@ fn restores_core_and_marks(rt: HostRuntime) -> Result<(), NoMemory> {
     Ok(())
 }
 
-/// Segment 1 is unpaged: `tra 0`.
+/// Segment 1 is unpaged, with the instruction `tra 0`.
 const LOOPS: [(u32, u64); 3] = [
     (0o2, 0o000000400004),
     (0o3, 0o000006700000),
     (0o40, 0o000000710000),
 ];
 
-/// After so many steps one is taken back: how many turns the machines of a past have taken then.
+/// Takes `steps` steps and one back. Returns how many turns all copies of the machine took
+/// together, or 0 if going back failed.
 fn turns_with_back(alloc: Global, steps: u32) -> Result<u64, NoMemory> {
     let turns = Cell::new(0);
     let machine = Counted {
@@ -175,8 +177,8 @@ fn turns_with_back(alloc: Global, steps: u32) -> Result<u64, NoMemory> {
     }
 }
 
-/// Copies stand 1,024 steps apart, and 2,048 once a ninth was due. How many steps are taken before one is taken back, and
-/// how many turns are taken then.
+/// The number of steps before one is taken back, and the number of turns of all copies. Copies are
+/// kept every 1,024 steps, and every 2,048 steps once there would be a ninth copy.
 const TURNS: &[(u32, u64)] = &[
     (3000, 3951),
     (9 * 1024, 10 * 1024 - 1),

@@ -1,4 +1,5 @@
-//! Tests of the booted system and of its parts.
+//! Tests of the booted system and its parts (images, links, pages, turns), of going back, and of
+//! sessions over images. Expected values were worked out by hand.
 #![tactic(auto)]
 
 #[cfg(test)]

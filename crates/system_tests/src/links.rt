@@ -1,4 +1,4 @@
-//! Links of small objects, worked out by hand.
+//! Links of small objects: the pairs that they become, and links that are refused.
 
 use m36_dir::{Catalog, CatalogFault};
 use m36_link::{File, Known, Laid, LinkFault, link_laws};
@@ -10,8 +10,9 @@ use obj36::{Link, Section};
 use std::alloc::Global;
 use std::test::Fail;
 
-/// Version 2: the entry `go` at word 0, `lab` at word 10 of the text and `cnt` at word 0 of six static words, octal, and
-/// the links `*static$cnt`, `*text$lab`, `*static$lab`, `*link$lab+1`, `d$+3,x1`, `q$val` and `q$nope`.
+/// Version 2: the entry `go` at word 0 of the text, `lab` at word octal 10 of the text, `cnt` at
+/// word 0 of six static words, and the links `*static$cnt`, `*text$lab`, `*static$lab`,
+/// `*link$lab+1`, `d$+3,x1`, `q$val` and `q$nope`.
 const M: [u64; 83] = [
     0o400010235120,
     0o400012235120,
@@ -125,7 +126,7 @@ const Q: [u64; 23] = [
     0o000020000000,
 ];
 
-/// The map of the long file: its symbol section is at word 261,115, and the map at 261,116.
+/// The map of the long file. Its symbol section is at word 261,115, and the map at word 261,116.
 const MAP: [u64; 8] = [
     0o000000000002,
     0o000000000002,
@@ -142,8 +143,9 @@ const TWO: [u64; 2] = [1, 2];
 
 const OWN: &[u8] = b"segment a q q object re 4 4 4\n";
 
-/// The place in the linkage segment of ring 4, and the pair, where q is in the catalog as above and its section is laid in
-/// ring 4 behind that of m; the last but one lays it, and the last finds it laid.
+/// The word of a link in the linkage segment of ring 4, and the pair that it becomes. `q` has the
+/// line `OWN`, and its linkage section is laid in ring 4 after that of `m`: by the last row but
+/// one, while the last row finds it there.
 const PAIRS: [(u32, u64, u64); 7] = [
     (0o2010, 0o000024400043, 0o002026000000),
     (0o2012, 0o000100400043, 0o000010000000),
@@ -154,23 +156,25 @@ const PAIRS: [(u32, u64, u64); 7] = [
     (0o2022, 0o000101400043, 0o000001000000),
 ];
 
-/// What a file is.
+/// The file of a segment.
 #[derive(Clone, Copy)]
 enum Kind {
-    /// That of m.
+    /// The words of `M`.
     Caller,
-    /// That of q, as above.
+    /// The words of `Q`.
     Small,
     /// No object.
     Plain,
-    /// Version 2, with so many static words that its section and that of m do not both find room.
+    /// Version 2, with too many static words: its section has no room beside that of `m`.
     Long,
 }
 
-/// How many static words the long file has: with 8 words of its linkage section 261,108 are laid, behind word 1,052.
+/// The number of static words of the long file. With the 8 words of its linkage section, 261,108
+/// words would be laid from word 1,052 on.
 const STATICS: usize = 261_100;
 
-/// The line of q, what its file is, the place and its ring, and the code.
+/// The line of `q` in the boot text, its file, the word and the ring of a link in the linkage
+/// segment of ring 4, and the code with which the link is refused.
 const REFUSED: [(&[u8], Kind, u32, u8, LinkCode); 12] = [
     (OWN, Kind::Small, 0o2011, 4, LinkCode::L1),
     (OWN, Kind::Small, 0o2026, 4, LinkCode::L1),
@@ -222,7 +226,7 @@ const REFUSED: [(&[u8], Kind, u32, u8, LinkCode); 12] = [
     ),
 ];
 
-// The tables are handed out by functions, so that no proof goes through them.
+// Functions return the tables, so that no proof looks into them.
 fn words_of_m() -> &'static [u64] {
     &M
 }
@@ -267,7 +271,7 @@ fn file(alloc: Global, table: &[u64]) -> Result<File, NoMemory> {
     read(alloc, words)
 }
 
-// The text, the definitions and the linkage section of q, zeros, and the map of version 2.
+// The text, definition and linkage sections of `q`, zeros, and a map of version 2.
 fn long_file(alloc: Global) -> Result<File, NoMemory> {
     let mut words = Words::new(alloc);
     for word in words_of_q().iter().take(15) {
@@ -289,7 +293,7 @@ fn file_of(alloc: Global, kind: Kind) -> Result<File, NoMemory> {
     }
 }
 
-// The files of m, q and d.
+// The files of `m`, `q` and `d`.
 fn files(alloc: Global, kind: Kind) -> Result<Vec<File>, NoMemory> {
     let mut files = Vec::new(alloc);
     for kind in [Kind::Caller, kind, Kind::Plain] {
@@ -298,7 +302,7 @@ fn files(alloc: Global, kind: Kind) -> Result<Vec<File>, NoMemory> {
     Ok(files)
 }
 
-// Segments m, q and d, where q has a line of its own.
+// The catalog of the segments `m`, `q` and `d`, where `line` is the line of `q`.
 fn catalog(alloc: Global, line: &[u8]) -> Result<Catalog, CatalogFault> {
     let text = text_of(alloc, line)?;
     if text.bytes().len() > 1000 {
@@ -330,7 +334,7 @@ fn entry_of_m() -> Link {
     }
 }
 
-// Starts m in ring 4.
+// Starts `m` in ring 4.
 fn start(
     alloc: Global,
     known: &mut Known,
@@ -344,14 +348,14 @@ fn start(
     Ok(())
 }
 
-// m is started in ring 4, so its section of 28 words is laid at word 2000 octal.
+// After `m` was started in ring 4: its linkage section of 28 words is laid at word octal 2000.
 fn started(alloc: Global, catalog: &Catalog, files: &[File]) -> Result<Known, LinkFault> {
     let mut known = Known::new(alloc, catalog)?;
     start(alloc, &mut known, catalog, files)?;
     Ok(known)
 }
 
-// A word of the linkage segment of ring 4.
+// A word of the linkage segment of ring 4, referred to in `ring`.
 fn place(word: u32, ring: u8) -> At {
     At {
         word: word % 0o10000,
@@ -360,7 +364,7 @@ fn place(word: u32, ring: u8) -> At {
     }
 }
 
-// Whether a link is served, and becomes this pair.
+// Whether a link is snapped, and becomes this pair.
 fn leads(
     alloc: Global,
     known: &mut Known,
@@ -374,7 +378,7 @@ fn leads(
     Ok(pair.even.value() == even && pair.odd.value() == odd)
 }
 
-// Whether the sections of m and q are laid, and no others.
+// Whether exactly the linkage sections of `m` and `q` are laid.
 fn are_laid(laid: &[Laid]) -> bool {
     let m = Laid {
         base: 0o2000,
@@ -391,7 +395,7 @@ fn are_laid(laid: &[Laid]) -> bool {
     laid == [m, q].as_slice()
 }
 
-// Whether all links are served, and the sections are laid then.
+// Whether each link of `PAIRS` becomes its pair, and the linkage sections are laid afterwards.
 fn lead(alloc: Global, catalog: &Catalog, files: &[File]) -> Result<bool, LinkFault> {
     let mut known = started(alloc, catalog, files)?;
     for row in pairs() {
@@ -402,7 +406,7 @@ fn lead(alloc: Global, catalog: &Catalog, files: &[File]) -> Result<bool, LinkFa
     Ok(are_laid(known.laid()))
 }
 
-// The code with which a link is refused, once m is started.
+// The code with which a link is refused after `m` was started.
 fn code_over(alloc: Global, catalog: &Catalog, files: &[File], at: At) -> Option<LinkCode> {
     let Ok(known) = started(alloc, catalog, files) else {
         return None;
@@ -413,7 +417,7 @@ fn code_over(alloc: Global, catalog: &Catalog, files: &[File], at: At) -> Option
     }
 }
 
-// The same, where q has this line and this file.
+// As `code_over`, if `q` has this line and this file.
 fn code_of(alloc: Global, line: &[u8], kind: Kind, at: At) -> Option<LinkCode> {
     let Ok(catalog) = catalog(alloc, line) else {
         return None;

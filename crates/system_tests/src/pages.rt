@@ -1,5 +1,5 @@
-//! Pages moved by hand: segments 5 and 6, of two pages each, have their page tables at core words 0 and 16, and frames 1
-//! and 2 of core are pageable.
+//! Paging. Segments 5 and 6 have two pages each and their page tables at core words 0 and 16.
+//! Frames 1 and 2 of core take pages.
 
 ghost use Rattle.std.specs.Prelude.{◌≡◌, IfOk, length};
 ghost use Rattle.m36_page.specs.Residence.{HasFrames, Reads};
@@ -10,7 +10,7 @@ use m36_page::{PageTable, Pager, Pinned, are_placed};
 use m36_word::{NoMemory, Word, Words};
 use std::alloc::Global;
 
-// A table of two pages, of which the words are so many numbers from one on.
+// A page table of two pages whose words are `count` successive numbers from `from` on.
 fn table(alloc: Global, seg: u16, at: u32, from: u64, count: u64) -> Result<PageTable, NoMemory> {
     let mut words = Words::new(alloc);
     for i in 0..count {
@@ -53,7 +53,8 @@ fn references(first: (u16, u32), second: (u16, u32)) -> Refs {
     refs
 }
 
-/// The place and the pages of a second table, the first frame, and whether both tables may stand so.
+/// The address and the number of pages of a second table, the first frame for pages, and whether
+/// both tables are placed correctly.
 const PLACES: &[(u32, u16, u32, bool)] = &[
     (16, 2, 1, true),
     (1, 2, 1, false),
@@ -82,7 +83,7 @@ fn tables_in_places(rt: HostRuntime) -> Result<(), NoMemory> {
     Ok(())
 }
 
-// There are more words than two pages have.
+// The segment has more words than its two pages.
 #[test]
 fn tables_of_many_words(rt: HostRuntime) -> Result<(), NoMemory> {
     let mut long = Vec::new(rt.alloc());
@@ -98,7 +99,7 @@ struct Paged {
     core: Core,
 }
 
-// No page is in a frame yet.
+// A pager whose pages are all absent, with its core.
 fn laid(alloc: Global) -> Result<Paged, NoMemory>
     ensures reads { IfOk result (λ p. Reads p.pager p.core) }
     ensures frames { IfOk result (λ p. HasFrames p.pager p.core) }
@@ -115,13 +116,13 @@ fn laid(alloc: Global) -> Result<Paged, NoMemory>
     Ok(Paged { pager, core })
 }
 
-// The number at a place of core.
+// The value of a core word.
 fn core_number(core: &Core, place: usize) -> Option<u64> {
     let word = core.words().get(place)?;
     Some(word.value())
 }
 
-// What is told of a word: the number that stands there.
+// The value of a word of a segment.
 fn number_at(paged: &Paged, seg: u16, word: u32) -> Option<u64>
     requires frames { HasFrames paged.now.pager paged.now.core }
     requires reads { Reads paged.now.pager paged.now.core }
@@ -130,7 +131,8 @@ fn number_at(paged: &Paged, seg: u16, word: u32) -> Option<u64>
     Some(word.value())
 }
 
-/// A segment and a page, two words that the step refers to, and whether the page is brought.
+/// A segment and a page of it, two words that the step refers to, and whether the page can be
+/// brought in.
 type Bringing = (u16, u16, (u16, u32), (u16, u32), Result<(), Pinned>);
 
 const BRINGINGS: &[Bringing] = &[
@@ -141,7 +143,7 @@ const BRINGINGS: &[Bringing] = &[
     (5, 0, (5, 1030), (5, 7), Ok(())),
 ];
 
-// Whether a page is brought so.
+// Whether bringing in a page has the result of the row.
 fn brings(paged: &mut Paged, row: &Bringing) -> bool
     requires frames { HasFrames paged.old.pager paged.old.core }
     requires reads { Reads paged.old.pager paged.old.core }
@@ -170,7 +172,7 @@ fn brings_all(paged: &mut Paged) -> bool
     true
 }
 
-// Whether there is such a word, which then has this number.
+// Sets a word of a segment. Returns whether there is such a word.
 fn sets(paged: &mut Paged, seg: u16, word: u32, number: u64) -> bool
     requires frames { HasFrames paged.old.pager paged.old.core }
     requires reads { Reads paged.old.pager paged.old.core }
@@ -189,7 +191,7 @@ fn sets(paged: &mut Paged, seg: u16, word: u32, number: u64) -> bool
     true
 }
 
-/// Words of segments, and the numbers that stand there.
+/// A segment, a word of it, and its value.
 const SEGMENT_WORDS: &[(u16, u32, Option<u64>)] = &[
     (5, 0, Some(5000)),
     (5, 1024, Some(6024)),
@@ -215,7 +217,7 @@ fn has_words(paged: &Paged) -> bool
     true
 }
 
-// Whether core has three frames, of which the second and the third begin with these words.
+// Whether core has three frames, and the second and third begin with these words.
 fn has_frames(core: &Core, first: u64, second: u64) -> bool {
     core.len() == 3072
         && core_number(core, 1024) == Some(first)
@@ -234,12 +236,12 @@ fn pages_in_turn(rt: HostRuntime) -> Result<(), NoMemory> {
     Ok(())
 }
 
-// Whether core has the changed word of the page in the first frame, whose page table word says so.
+// Whether page 1 of segment 6 is in frame 1 with its changed word, by core and the page table word.
 fn is_in(core: &Core) -> bool {
     core.len() == 3072 && core_number(core, 1025) == Some(9) && core_number(core, 17) != Some(1)
 }
 
-// Whether the page is in no frame, and has its changed word.
+// Whether that page is absent, and still has its changed word.
 fn is_away(paged: &Paged) -> bool
     requires frames { HasFrames paged.now.pager paged.now.core }
     requires reads { Reads paged.now.pager paged.now.core }
@@ -249,7 +251,7 @@ fn is_away(paged: &Paged) -> bool
         && number_at(paged, 6, 1025) == Some(9)
 }
 
-// Whether a page is brought with a word that was changed before, and put away with it.
+// Whether a page with a changed word is brought in with it, and evicted with it.
 fn is_put_away(paged: &mut Paged) -> bool
     requires frames { HasFrames paged.old.pager paged.old.core }
     requires reads { Reads paged.old.pager paged.old.core }
@@ -278,20 +280,19 @@ fn page_put_away(rt: HostRuntime) -> Result<(), NoMemory> {
     Ok(())
 }
 
-/// A page that is brought without references, and what is so after it.
+/// A page that is brought in for a step without references, and the frames afterwards.
 struct Choice {
-    // The place of a page table word whose used mark is put on first.
+    // The address of a page table word whose used mark is set first.
     used: Option<u32>,
     seg: u16,
     page: u16,
-    // The numbers with which the two frames then begin.
+    // The first words of the two frames afterwards.
     first: u64,
     second: u64,
 }
 
-/// Two pages fill the frames. The first of them is then used, so it is passed over once, and it
-/// gives way the next time. The last page takes the frame after that, to which the hand has moved
-/// on.
+/// Two pages fill the frames. The first of them is then used, so it is passed over once, and
+/// evicted the next time. The last page takes the frame after that, to which the hand has moved on.
 const CHOICES: &[Choice] = &[
     Choice {
         used: None,
@@ -333,8 +334,8 @@ const CHOICES: &[Choice] = &[
 // The used mark of a page table word.
 const USED: u64 = 512;
 
-// Puts a used mark on, as a reference to the page does. Returns false where there is no such word,
-// or the mark is on.
+// Sets a used mark, as a reference to the page does. Returns false if there is no such core word,
+// or the mark is set already.
 #[tactic(auto, using(crate::proofs::Marks::used_reads))]
 fn use_page(paged: &mut Paged, place: u32) -> bool
     requires frames { HasFrames paged.old.pager paged.old.core }
@@ -365,7 +366,7 @@ fn is_used_first(paged: &mut Paged, used: Option<u32>) -> bool
     }
 }
 
-// Whether a page is brought into the frame of the row.
+// Whether bringing in a page leaves the frames as the row says.
 fn chooses(paged: &mut Paged, row: &Choice) -> bool
     requires frames { HasFrames paged.old.pager paged.old.core }
     requires reads { Reads paged.old.pager paged.old.core }
@@ -381,7 +382,7 @@ fn chooses(paged: &mut Paged, row: &Choice) -> bool
     brought.is_ok() && has_frames(&paged.core, row.first, row.second)
 }
 
-// The first row that is not so.
+// The index of the first row of `CHOICES` that does not hold.
 fn first_wrong(paged: &mut Paged) -> Option<usize>
     requires frames { HasFrames paged.old.pager paged.old.core }
     requires reads { Reads paged.old.pager paged.old.core }

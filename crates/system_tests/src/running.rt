@@ -1,4 +1,4 @@
-//! A folder of two segments, worked out by hand: a program that writes `hello` through a gate and stops.
+//! Runs of a folder with two segments: a program that writes `hello` through a gate and stops.
 
 use crate::booting::read;
 use m36_boot::BootFault;
@@ -113,7 +113,7 @@ pub(crate) fn text_of(alloc: Global, lines: &[&str]) -> Result<Text, NoMemory> {
     Ok(text)
 }
 
-// The catalog, with so many frames.
+// The catalog with this line for frames and this line for the gate.
 fn catalog(alloc: Global, frames: &str, gate: &str) -> Result<Catalog, BootFault> {
     let lines = [
         frames,
@@ -135,7 +135,7 @@ fn files(alloc: Global) -> Result<Vec<Words>, NoMemory> {
     Ok(files)
 }
 
-// The folder, with so many frames.
+// The booted folder with this line for frames and this line for the gate.
 fn booted(alloc: Global, frames: &str, gate: &str) -> Result<Super, BootFault> {
     let catalog = catalog(alloc, frames, gate)?;
     let files = files(alloc)?;
@@ -147,7 +147,8 @@ fn booted(alloc: Global, frames: &str, gate: &str) -> Result<Super, BootFault> {
 
 const GATE: &str = "segment >sss con_ con_ gate rep 0 0 5";
 
-// A letter for each turn: s a step, l a link that was snapped, r one that was refused, c the console, e the end, n no memory.
+// A letter for a turn: s a step, l a snapped link, r a refused link, c the console, e the end, f no
+// more steps can be counted, n out of memory.
 fn letter(turn: &Turn) -> u8 {
     match turn {
         Turn::Stepped(_) => b's',
@@ -159,7 +160,7 @@ fn letter(turn: &Turn) -> u8 {
     }
 }
 
-// Whether memory sufficed for the turns of the folder, which are these.
+// Takes the turns of the folder and asserts what each is. Returns false if memory ran out.
 fn turns(rt: &impl Abort, system: &mut Super) -> bool {
     for due in b"sssssslssscsslsseee" {
         let turn = system.turn();
@@ -175,7 +176,7 @@ fn turns(rt: &impl Abort, system: &mut Super) -> bool {
     true
 }
 
-/// Places in segments, and the word that stands there behind them.
+/// A segment, a word of it, and its value after the run.
 const BEHIND: &[(u16, u32, Option<u64>)] = &[
     (16, 65, Some(0o000020002000)),
     (20, 65, Some(0)),
@@ -187,7 +188,7 @@ fn number_at(system: &Super, seg: u16, word: u32) -> Option<u64> {
     Some(word.value())
 }
 
-// What stands behind them.
+// Asserts the state after the run.
 fn behind(rt: &impl Abort, system: &mut Super) {
     assert!(rt; system.regs().ppr.ic == 1);
     for (seg, word, number) in BEHIND {
@@ -196,7 +197,7 @@ fn behind(rt: &impl Abort, system: &mut Super) {
     assert!(rt; system.back(1) == BackAnswer::Unable);
 }
 
-// Takes all turns, and looks at what stands behind them.
+// Takes all turns, and checks the state after them.
 fn run(rt: &impl Abort, system: &mut Super) {
     if turns(rt, system) {
         behind(rt, system);
@@ -212,7 +213,7 @@ fn writes_and_stops(rt: HostRuntime) -> Result<(), BootFault> {
     Ok(())
 }
 
-// Whether a record is that of a turn.
+// Whether a turn was a step with this record.
 fn is_step(told: &StepRecord, turn: &Turn) -> bool {
     match turn {
         Turn::Stepped(due) => {
@@ -225,7 +226,8 @@ fn is_step(told: &StepRecord, turn: &Turn) -> bool {
     }
 }
 
-// Takes a turn of both systems, which is the same, and says whether memory sufficed. A step of the first is told in a record.
+// Takes a turn of both systems and asserts that it is the same. Overwrites `told` with the record
+// of a step of the first system. Returns false if memory ran out.
 fn both(rt: &impl Abort, one: &mut Super, told: &mut StepRecord, other: &mut Super) -> bool {
     match one.coming() {
         Coming::Step => {
@@ -245,7 +247,7 @@ fn both(rt: &impl Abort, one: &mut Super, told: &mut StepRecord, other: &mut Sup
     }
 }
 
-// Takes all turns of both systems, which are the same.
+// Takes all turns of both systems and asserts that they are the same.
 fn agree(rt: &impl Abort, one: &mut Super, other: &mut Super) {
     let mut told = one.untold();
     for _ in 0..19 {

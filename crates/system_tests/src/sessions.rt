@@ -1,4 +1,4 @@
-//! Sessions over bare images. What is expected was worked out by hand.
+//! Sessions over bare images.
 
 use m36_back::Past;
 use m36_debug::{SessionFault, debug};
@@ -8,7 +8,7 @@ use m36_step::Machine;
 use m36_word::NoMemory;
 use std::alloc::Global;
 
-/// The most bytes of an image here.
+/// The length in bytes of the longest image in this module.
 const LONGEST_IMAGE: usize = 1000;
 
 /// `lda 2`, `dis 0`, and the word 5.
@@ -19,7 +19,7 @@ at 00000002 000000400004 000006700000
 at 00000040 000002235000 000000616000 000000000005
 ";
 
-/// A paged segment, whose first instruction, `sta 0`, writes over itself.
+/// A paged segment whose first instruction, `sta 0`, overwrites itself.
 const STORES: &[u8] = b"core 2
 dbr 000000000000 000000200000
 start 00001 0 000000
@@ -39,7 +39,7 @@ at 00000040 000000710000
 const FIRST_STEP: &[u8] =
     b"1 0 00001|000000 000002235000 0:00001|000002 000000000005 000000000000 ...... next\n";
 
-/// The image, the lines, and what is written, where `%` stands for the line of the first step.
+/// The image, the lines of input, and the output, in which `%` means the line `FIRST_STEP`.
 const SESSIONS: &[(&[u8], &[u8], &[u8])] = &[
     (LEAST, b"", b""),
     (LEAST, b"quit\nwhere\n", b""),
@@ -73,7 +73,7 @@ pr6 0:00000|000000 00
 pr7 0:00000|000000 00
 ",
     ),
-    // The end is told again, and a run that had ended is running again.
+    // The end is printed again. After a step back the run goes on.
     (
         LEAST,
         b"go\ngo\nstep\nback\nwhere\nback\nstep 9\n",
@@ -107,7 +107,7 @@ pr7 0:00000|000000 00
         b"\n \nstep 0\nstep 01\nstep 1000001\nseg 00001 400000\nseg 1 0\nquit now\nstep  1\ngo \nBACK\n",
         b"?  \n? step 0\n? step 01\n? step 1000001\n00001|400000 absent\n? seg 1 0\n? quit now\n? step  1\n? go \n? BACK\n",
     ),
-    // There are sixteen breaks at most, and one that stands already counts too.
+    // There are at most sixteen breaks, and setting the same break again counts.
     (
         LEAST,
         b"break 00000 000000\nbreak 00000 000000\nbreak 00000 000000\nbreak 00000 000000
@@ -123,7 +123,7 @@ break 00000|000000\nbreak 00000|000000\nbreak 00000|000000\nbreak 77777|777777
     ),
 ];
 
-// The machine of an image; it goes back.
+// A machine that goes back, with the state of an image.
 fn past(alloc: Global, image: &[u8]) -> Result<Past<Machine>, NoMemory> {
     if image.len() > LONGEST_IMAGE {
         return Err(NoMemory);
@@ -139,7 +139,7 @@ fn past(alloc: Global, image: &[u8]) -> Result<Past<Machine>, NoMemory> {
     }
 }
 
-// How a session over an image ends.
+// The result of a session over an image.
 fn ended(
     alloc: Global,
     image: &[u8],
@@ -152,7 +152,8 @@ fn ended(
     }
 }
 
-// How a session over an image ends where a piece and a put fail, 0 for none; and what is written.
+// The fault with which a session over an image ends, and its output. `piece` and `put` are the
+// numbers of the piece of input and of the put that fail (0 for none).
 fn held(
     alloc: Global,
     (image, lines): (&[u8], &[u8]),
@@ -165,7 +166,7 @@ fn held(
     Ok((fault, out))
 }
 
-// A text in which each `%` becomes the line of the first step.
+// A text with each `%` replaced by the line of the first step.
 fn written_out(alloc: Global, text: &[u8]) -> Result<Text, NoMemory> {
     let mut whole = Text::new(alloc);
     for byte in text {
@@ -191,7 +192,8 @@ fn sessions_write_their_lines(rt: HostRuntime) -> Result<(), NoMemory> {
     Ok(())
 }
 
-/// The piece of the input and the put that fails, 0 for none; the fault, and what is written.
+/// The numbers of the piece of input and of the put that fail (0 for none), the fault, and the
+/// output.
 const EARLY: &[(u32, u32, SessionFault, &[u8])] = &[
     (1, 0, SessionFault::ReadFault, b""),
     (2, 0, SessionFault::ReadFault, b"0 00001|000000\n? fly\n"),

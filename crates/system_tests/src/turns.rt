@@ -1,4 +1,4 @@
-//! Lines worked out by hand.
+//! The lines of links, of the console, and of the end of a run.
 
 use arrayvec::ArrayVec;
 use m36_model::{At, End, Fault, LinkCode, Stop};
@@ -12,7 +12,7 @@ const PLACE: At = At {
     ring: 4,
 };
 
-/// The link, the code, and the line.
+/// The name of a link, the code with which it is refused, and its line.
 const REFUSED: &[(&[u8], LinkCode, &[u8])] = &[
     (b"?", LinkCode::L1, b"link 4 00024|002010 ? L1"),
     (b"d$", LinkCode::L5(1), b"link 4 00024|002010 d$ L5"),
@@ -23,7 +23,7 @@ const REFUSED: &[(&[u8], LinkCode, &[u8])] = &[
     ),
 ];
 
-// The line of a link by its name and what was answered; None where the name is too long.
+// The note of a link with this name and this answer; `None` if the name is too long.
 fn link(name: &[u8], answer: Result<Pair, LinkCode>) -> Option<LinkNote> {
     let mut text = ArrayVec::new();
     text.try_extend_from_slice(name).ok()?;

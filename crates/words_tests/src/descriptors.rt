@@ -1,4 +1,4 @@
-//! Worked descriptors and accesses.
+//! Descriptors and pointers decoded and encoded, and the access checks of a descriptor.
 
 use m36_desc::*;
 use m36_word::{Pair, Word};
@@ -35,14 +35,14 @@ fn segment_descriptor(rt: HostRuntime) {
     assert!(rt; s.to_words() == words);
 }
 
-/// A page table word, as it is read; used; and modified too.
+/// The bits of a page table word, and whether its page was used and modified.
 const PAGES: &[(u64, bool, bool)] = &[
     (0o000020000004, false, false),
     (0o000020001004, true, false),
     (0o000020001104, true, true),
 ];
 
-/// Whether this is the word of a page in frame 1, used and modified or not.
+/// Whether the bits encode a page in frame 1 with these two marks, and decode to it.
 fn is_page(bits: u64, used: bool, modified: bool) -> bool {
     let word = Word::low(bits);
     let page = Ptw {
@@ -116,21 +116,22 @@ fn laws() {
     word_widths();
 }
 
-/// A reference, with the ring that it is made from.
+/// A kind of reference, with the ring in which it is made.
 #[derive(Clone, Copy)]
 enum Asked {
     Fetch(u8),
-    /// Whether the segment is the one that executes.
+    /// The ring, and whether the segment is the one that executes.
     Read(u8, bool),
     Write(u8),
-    /// The ring of the pointer, and the ring of execution.
+    /// The ring of the pointer and the ring of execution.
     Transfer(u8, u8),
-    /// The ring of the pointer, the ring of execution, and the word that is called.
+    /// The ring of the pointer, the ring of execution, and the word called.
     Call(u8, u8, u32),
 }
 
-/// Brackets, the call limiter of a gate, a reference, and the ring in which it goes on or its access violation. The
-/// segments may be executed, and not be read or written.
+/// Brackets, the call limiter if the segment is a gate, a reference, and the expected result: the
+/// ring in which execution or the reference goes on, or the access violation. Each segment may be
+/// executed, but not read or written.
 type Reference = ((u8, u8, u8), Option<u16>, Asked, Result<u8, Acv>);
 
 const REFERENCES: &[Reference] = &[
@@ -163,7 +164,7 @@ fn segment(brackets: (u8, u8, u8), gate: Option<u16>) -> Sdw {
     s
 }
 
-/// The ring of a reference that is granted.
+/// `ring` for a reference that is granted.
 fn in_ring(ring: u8, granted: Result<(), Acv>) -> Result<u8, Acv> {
     match granted {
         Ok(()) => Ok(ring),

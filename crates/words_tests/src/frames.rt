@@ -1,10 +1,10 @@
-//! Core: words in frames.
+//! Core: its words are kept by frames of 1024.
 
 use m36_core::Core;
 use m36_word::{NoMemory, Word};
 use std::alloc::Global;
 
-/// Whether core has two frames, and this is word 1025, in whichever way it is read.
+/// Whether core has two frames, and each way to read word 1025 gives `word`.
 fn shows(core: &Core, word: Word) -> bool {
     core.len() == 2048
         && core.peek(1025) == word
@@ -29,7 +29,7 @@ fn clear_by_page(core: &mut Core) {
     }
 }
 
-/// Whether a word is written and cleared, and stays in a copy.
+/// Whether a written word can be read and then cleared, and a copy made between still has it.
 fn keeps(alloc: Global, core: &mut Core) -> Result<bool, NoMemory> {
     let ones = Word::low(0o777777777777);
     let is_new = is_clear(core);
@@ -38,7 +38,7 @@ fn keeps(alloc: Global, core: &mut Core) -> Result<bool, NoMemory> {
     let before = core.copy(alloc)?;
     clear_by_page(core);
     let is_kept = shows(core, Word::ZERO) && shows(&before, ones);
-    // Dropped by a call: so the drop is proved once for its type. So below.
+    // Dropped by a call, so that the drop is proved once for its type; also below.
     drop(before);
     Ok(is_new && is_written && is_kept)
 }

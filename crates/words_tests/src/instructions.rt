@@ -1,12 +1,13 @@
-//! Rows and words by hand.
+//! Rows of the instruction table, names of operation codes, and instruction words.
 
 use m36_inst::*;
 use m36_word::Word;
 
-/// What the row of an instruction says: effect, register, operand, direct, privileged.
+/// The fields of a row: effect, register number, operand kind, whether a direct operand is allowed,
+/// and whether the instruction is privileged.
 type Said = (Effect, u8, Operand, bool, bool);
 
-/// Operation codes with bit 27, and what their rows say.
+/// Operation codes with bit 27, and their rows.
 const ROWS: &[(u16, bool, Said)] = &[
     (0o235, false, (Effect::Lda, 0, Operand::R, true, false)),
     (0o317, false, (Effect::Canaq, 0, Operand::R2, false, false)),
@@ -65,7 +66,7 @@ fn no_rows(rt: HostRuntime) {
     }
 }
 
-/// How many rows a code has, by its bit 27.
+/// How many rows an operation code has over both values of bit 27: 0 to 2.
 fn rows_at(code: u16) -> u32 {
     row_of(code, false).is_some() as u32 + row_of(code, true).is_some() as u32
 }
@@ -88,7 +89,7 @@ const NAMES: &[(u16, bool, &str)] = &[
     (0o254, false, "spri"),
 ];
 
-/// What names no instruction.
+/// Texts that name no instruction.
 const NO_NAMES: &[&str] = &["", "lda ", "LDA", "ldx8", "spri8", "call", "entrybound"];
 
 fn has_name(code: u16, bit27: bool, name: Option<&str>) -> bool {
@@ -121,7 +122,7 @@ fn no_names(rt: HostRuntime) {
     }
 }
 
-/// Whether a word holds this instruction, and the instruction is written as the word.
+/// Whether the word decodes to the instruction, and the instruction encodes to the word.
 fn holds(bits: u64, inst: Inst) -> bool {
     let word = Word::low(bits);
     Inst::of_word(word) == inst && inst.to_word() == word

@@ -1,4 +1,5 @@
-//! Tests of words, core, texts, descriptors, instructions and tables.
+//! Tests of the lowest crates: words, core, texts, descriptors, instructions, and descriptor and
+//! page tables. Expected values were worked out by hand.
 #![tactic(auto)]
 
 #[cfg(test)]

@@ -1,4 +1,4 @@
-//! Small tables, and where the words that they give lie. Places are worked out by hand.
+//! Lookups in small descriptor segments and page tables. A place is the address of a word in core.
 
 ghost use Rattle.std.specs.Prelude.{◌<◌, ◌^◌};
 
@@ -12,7 +12,7 @@ use m36_tables::{
 use m36_word::{NoMemory, Pair, Word};
 use std::alloc::Global;
 
-/// The descriptor segment is unpaged at core word 0 and has eight descriptors.
+/// An unpaged descriptor segment at core word 0, with eight descriptors.
 const WHOLE: Dbr = Dbr {
     addr: 0,
     bnd: 0,
@@ -20,7 +20,7 @@ const WHOLE: Dbr = Dbr {
     unpaged: true,
 };
 
-/// The page table of the descriptor segment is at core word octal 100.
+/// A paged descriptor segment, whose page table is at core word octal 100.
 const PAGED: Dbr = Dbr {
     addr: 0o100,
     bnd: 0,
@@ -28,7 +28,7 @@ const PAGED: Dbr = Dbr {
     unpaged: false,
 };
 
-/// A segment of ring `r1` with a bound of so many blocks and one.
+/// A segment of ring `r1` with `bound` + 1 blocks of 16 words.
 fn segment(addr: u32, bound: u16, r1: u8, unpaged: bool) -> Sdw
     requires addr { addr < 2 ^ 24 }
     requires bound { bound < 2 ^ 14 }
@@ -53,7 +53,7 @@ fn segment(addr: u32, bound: u16, r1: u8, unpaged: bool) -> Sdw
     }
 }
 
-/// The page table word of a page in a frame, or of none.
+/// The page table word of a page in `frame`, or of an absent page.
 fn page(frame: Option<u8>) -> Word {
     let ptw = Ptw {
         addr: 16 * frame.unwrap_or(0) as u32,
@@ -65,8 +65,8 @@ fn page(frame: Option<u8>) -> Word {
     ptw.to_words()
 }
 
-/// Core of two frames with descriptors from a place on, the page table of segment 2 at octal 200, and a word at octal
-/// 2017.
+/// Core of two frames, with six descriptors from the core word `descriptors` on. The page table
+/// of segment 2 is at octal 200. Core word octal 2017 is 7.
 fn image(alloc: Global, descriptors: u32) -> Result<Core, NoMemory> {
     let absent = Sdw {
         f: false,
@@ -101,7 +101,7 @@ fn put(core: &mut Core, place: u32, word: Word) {
     }
 }
 
-/// A place, or the number of a fault and of an access violation.
+/// A place, or the number of a fault and of its access violation (0 if there is none).
 type Told = Result<u32, (u8, u8)>;
 
 fn told(place: Result<u32, Refusal>) -> Told {
@@ -111,7 +111,7 @@ fn told(place: Result<u32, Refusal>) -> Told {
     }
 }
 
-/// Segments, words of them, and their places.
+/// A segment, a word of it, and the place of that word.
 const PLACES: &[(u16, u32, Told)] = &[
     (1, 0, Ok(0o2000)),
     (1, 0o17, Ok(0o2017)),
@@ -125,7 +125,7 @@ const PLACES: &[(u16, u32, Told)] = &[
     (8, 0, Err((20, 15))),
 ];
 
-/// Segments, words of them, and what the words are.
+/// A segment, a word of it, and the value of that word, if it is in core.
 const CONTENTS: &[(u16, u32, Option<u64>)] = &[
     (1, 0o17, Some(7)),
     (2, 0o17, Some(7)),
@@ -161,13 +161,13 @@ fn has_contents(core: &Core) -> bool {
 fn places_of_words(rt: HostRuntime) -> Result<(), NoMemory> {
     let core = image(rt.alloc(), 0)?;
     let told = has_places(&core) && has_contents(&core);
-    // Dropped by a call: so the drop is proved once for its type. So below.
+    // Dropped by a call, so that the drop is proved once for its type; also below.
     drop(core);
     assert!(rt; told);
     Ok(())
 }
 
-/// Segment 2 of the image.
+/// The descriptor of segment 2 of the image.
 fn paged_segment() -> Sdw {
     segment(0o200, 127, 4, false)
 }

@@ -1,4 +1,4 @@
-//! Values worked out by hand.
+//! Numbers as texts and texts as numbers, packed words, names, lines and words of lines.
 
 ghost use Rattle.std.specs.Prelude.{◌<◌, ◌≤◌, ◌^◌};
 
@@ -10,7 +10,7 @@ use m36_text::{
 use m36_word::{NoMemory, Word, Words};
 use std::alloc::Global;
 
-/// Numbers in decimal.
+/// A number, and its decimal digits.
 const DECIMALS: &[(u64, &str)] = &[
     (0, "0"),
     (10, "10"),
@@ -38,7 +38,7 @@ fn decimal_numbers_as_texts(rt: HostRuntime) {
     }
 }
 
-/// A text, the greatest number, and the number that the text is read as.
+/// A text, the greatest number allowed, and the result of reading the text.
 type Read<'a> = (&'a [u8], u64, Result<u64, NumberFault>);
 
 const READ_OCTAL: &[Read] = &[
@@ -73,10 +73,11 @@ fn decimal_texts_as_numbers(rt: HostRuntime) {
     }
 }
 
-/// A number that a text may be read as.
+/// The number that a text is read as, if it has the form that is asked for.
 type Found = Option<u64>;
 
-/// Texts as numbers from 1 to 8192: of any count of digits, of four at most, and without a leading zero.
+/// Texts read as decimal numbers from 1 to 8192: with any number of digits; with at most four; and
+/// without a leading zero.
 const OF_A_FORM: &[(&[u8], Found, Found, Found)] = &[
     (b"24", Some(24), Some(24), Some(24)),
     (b"8192", Some(8192), Some(8192), Some(8192)),
@@ -88,7 +89,7 @@ const OF_A_FORM: &[(&[u8], Found, Found, Found)] = &[
     (b"24 ", None, None, None),
 ];
 
-/// Texts as octal numbers of five digits.
+/// Texts read as octal numbers of exactly five digits.
 const OF_FIVE_DIGITS: &[(&[u8], Found)] = &[
     (b"00017", Some(15)),
     (b"17", None),
@@ -117,7 +118,7 @@ fn texts_of_five_digits(rt: HostRuntime) {
     }
 }
 
-/// Words, and the bytes of all up to each.
+/// A word, and the packed bytes of this word and all those of the rows above.
 const PACKED: &[(u64, &[u8])] = &[
     (1, b"\x00\x00\x00\x00\x10"),
     (0o400000000000, b"\x00\x00\x00\x00\x18\x00\x00\x00\x00"),
@@ -127,23 +128,23 @@ const PACKED: &[(u64, &[u8])] = &[
     ),
 ];
 
-/// Bytes of no words, and bytes that are refused.
+/// Bytes, and the result of comparing their words with an empty list. The last two are refused.
 const UNPACKED: &[(&[u8], Result<bool, PackFault>)] = &[
     (b"", Ok(true)),
     (b"\x00\x00\x00\x00\x11", Err(PackFault::T4(4))),
     (b"\x00\x00\x00\x00\x10\x00", Err(PackFault::T3(6))),
 ];
 
-/// Whether the bytes of words are these.
+/// Whether the words pack into these bytes.
 fn packs(alloc: Global, words: &[Word], bytes: &[u8]) -> Result<bool, NoMemory> {
     let text = pack(alloc, words)?;
     let told = text.bytes() == bytes;
-    // Dropped by a call: so the drop is proved once for its type. So below.
+    // Dropped by a call, so that the drop is proved once for its type; also below.
     drop(text);
     Ok(told)
 }
 
-/// Whether the words of bytes are these.
+/// Whether the bytes unpack to these words.
 fn unpacks(alloc: Global, bytes: &[u8], words: &[Word]) -> Result<bool, PackFault> {
     let found = unpack(alloc, bytes)?;
     let told = found.slice() == words;
@@ -176,7 +177,7 @@ fn bytes_as_words(rt: HostRuntime) {
     }
 }
 
-/// Texts, and whether each is a name and the name of a file.
+/// A text, whether it is a name, and whether it is the name of a file.
 const NAMES: &[(&[u8], bool, bool)] = &[
     (b"abcdefghijklmnopqrstuvwxyz_.0123", true, true),
     (b"abcdefghijklmnopqrstuvwxyz_.01234", false, false),
@@ -200,7 +201,7 @@ fn names(rt: HostRuntime) {
     }
 }
 
-/// Adds a name to a list, where the text is short enough.
+/// Adds `text` to the list, unless it is too long for a name.
 fn add(list: &mut Names, text: &[u8]) -> Result<(), NoMemory> {
     match Name::new(text) {
         Some(name) => list.push(name.copied()),
@@ -208,7 +209,7 @@ fn add(list: &mut Names, text: &[u8]) -> Result<(), NoMemory> {
     }
 }
 
-/// Whether two names are listed in order.
+/// Whether a list keeps two names in the order in which they were added.
 fn are_listed(list: &mut Names) -> Result<bool, NoMemory> {
     for text in [b"a".as_slice(), b"gate_"] {
         add(list, text)?;
@@ -226,20 +227,20 @@ fn list_of_names(rt: HostRuntime) -> Result<(), NoMemory> {
     Ok(())
 }
 
-/// Parts of a text, the second of which is behind what parts them.
+/// The part of a text before the first separator, and the part after it.
 type Parts<'a> = Option<(&'a [u8], &'a [u8])>;
 
-/// Texts, and the first line and the rest of each.
+/// A text, its first line, and the rest.
 const LINES: &[(&[u8], Parts)] = &[
     (b"core 1\n\nat", Some((b"core 1", b"\nat"))),
     (b"\nat", Some((b"", b"at"))),
     (b"at", None),
 ];
 
-/// The same, where the last line may lack its line feed.
+/// As `LINES`, but the last line may lack its line feed.
 const OPEN_LINES: &[(&[u8], Parts)] = &[(b"at", Some((b"at", b""))), (b"", None)];
 
-/// Lines, the first word and the rest of each, and its only word.
+/// A line, its first word and the rest, and its only word if it has one word.
 const WORDS: &[(&[u8], (&[u8], Option<&[u8]>), Option<&[u8]>)] = &[
     (b"core 1", (b"core", Some(b"1")), None),
     (b"1", (b"1", None), Some(b"1")),

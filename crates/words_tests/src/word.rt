@@ -1,8 +1,8 @@
-//! Values worked out by hand.
+//! Words of 36 bits, halves, pairs, fields and lists of words.
 
 use m36_word::{Field, Half, NoMemory, Pair, Word, Words};
 
-/// Numbers, and the value of the word that is made of each.
+/// A number, and the value of the word made of it; none if it has more than 36 bits.
 const WORDS: &[(u64, Option<u64>)] = &[
     (0, Some(0)),
     (0o777777777777, Some(68_719_476_735)),
@@ -10,10 +10,10 @@ const WORDS: &[(u64, Option<u64>)] = &[
     (u64::MAX, None),
 ];
 
-/// Numbers, and the value of the half that is made of each.
+/// A number, and the value of the half word made of it; none if it has more than 18 bits.
 const HALVES: &[(u32, Option<u32>)] = &[(0o777777, Some(262_143)), (0o1000000, None)];
 
-/// The bits of a word, and the number that they stand for with a sign.
+/// The bits of a word, and its value as a signed number.
 const SIGNED: &[(u64, i64)] = &[
     (0, 0),
     (0o377777777777, 34_359_738_367),
@@ -22,7 +22,7 @@ const SIGNED: &[(u64, i64)] = &[
     (0o777777777777, -1),
 ];
 
-/// Numbers of any size, and the bits of the word that keeps their last 36.
+/// A number, and its last 36 bits as a word.
 const LAST_BITS: &[(i128, u64)] = &[
     (34_359_738_367, 0o377777777777),
     (-34_359_738_368, 0o400000000000),
@@ -32,7 +32,7 @@ const LAST_BITS: &[(i128, u64)] = &[
     (i128::MIN, 0),
 ];
 
-/// The words of a pair, and the number that they stand for without and with a sign.
+/// The even and odd word of a pair, and its value as an unsigned and as a signed number.
 const PAIRS: &[(u64, u64, u128, i128)] = &[
     (0, 1, 1, 1),
     (1, 0, 1 << 36, 1 << 36),
@@ -86,7 +86,7 @@ fn last_bits(rt: HostRuntime) {
     }
 }
 
-/// Whether a pair stands for these numbers, and is that of the first modulo 2 to the 72.
+/// Whether the pair has these two values, and is made again from the unsigned one plus 2^72.
 fn stands_for(even: u64, odd: u64, value: u128, signed: i128) -> bool {
     let pair = Pair {
         even: word(even),
@@ -104,7 +104,9 @@ fn pairs(rt: HostRuntime) {
     }
 }
 
-/// Fields of the two words of a segment descriptor: address 10000, rings 4 4 4, present; bound 77, readable and writable.
+/// Fields read from the two words of a segment descriptor, and their expected values. The even
+/// word has the address octal 10000, the rings 4 4 4, and is present; the odd word has the bound
+/// octal 77, and is readable and writable.
 fn got(even: Word, odd: Word) -> [(u64, u64); 8] {
     [
         (Field::<0, 24>::get(even), 0o10000),
@@ -118,7 +120,7 @@ fn got(even: Word, odd: Word) -> [(u64, u64); 8] {
     ]
 }
 
-/// The even word with one field put.
+/// The even word with one field replaced, and the expected bits.
 fn put(even: Word) -> [(Word, u64); 4] {
     [
         (Field::<24, 3>::put(even, 7), 0o000100007444),
@@ -149,7 +151,7 @@ fn are_kept(words: &mut Words) -> Result<bool, NoMemory> {
 fn words_in_order(rt: HostRuntime) -> Result<(), NoMemory> {
     let mut words = Words::new(rt.alloc());
     let told = are_kept(&mut words);
-    // Dropped by a call: so the drop is proved once for its type.
+    // Dropped by a call, so that the drop is proved once for its type.
     drop(words);
     assert!(rt; told?);
     Ok(())

@@ -1,4 +1,4 @@
-//! Loads, stores, arithmetic and comparisons, one a line, in the form that `reading` says.
+//! Loads, stores, arithmetic and comparisons, one step a line, in the format of `reading`.
 
 /// Loads and stores.
 pub static LOADS: [&str; 77] = [

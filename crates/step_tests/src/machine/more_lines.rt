@@ -1,4 +1,5 @@
-//! Boolean instructions, shifts, pointer registers and control, one a line, in the form that `reading` says.
+//! Boolean instructions, shifts, pointer registers and control, one step a line, in the format of
+//! `reading`.
 
 /// Boolean instructions and shifts.
 pub static BITS: [&str; 100] = [

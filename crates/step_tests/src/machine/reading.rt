@@ -1,20 +1,30 @@
-//! Lines that say what one step does to registers and words.
+//! Parses lines that say what one step changes in registers and words.
 //!
-//! A line has the instruction's name, its word, what stands before it, `>`, and what the step changes: all that is not named
-//! stays, but for the instruction counter, which moves on by 1. Numbers are octal. The names are `a` and `q`; `x0` to
-//! `x7`; `p0` to `p7`, pointer registers as segment, ring, word and bit number; `i`, the indicators that are on: zero,
-//! negative, carry, overflow, mask, tally; `psr`, `prr` and `ic`; `d0` and `d1`, the two words of the descriptor segment
-//! base register; `y0` to `y17`, the words 200 to 217 of segment 1; `rings`, the rings of all pointer registers. `fault`
-//! is the number of a fault at the instruction, in decimal, and `stop=1` the stop of DIS. What does not stand before is 0, but
-//! that the instruction stands at word 100 of segment 1, which ring 0 may write and all rings may read and execute.
+//! A line has the instruction's name, its word, the state before the step, `>`, and what the step
+//! changes. Whatever is not named stays the same, except that the instruction counter grows by 1.
+//! In the state before, whatever is not named is 0. The instruction is at word 100 of segment 1,
+//! which ring 0 may write and all rings may read and execute.
+//!
+//! Numbers are octal. The names are:
+//!
+//! - `a`, `q`, and `x0` to `x7`: registers
+//! - `p0` to `p7`: pointer registers, as segment, ring, word and bit number
+//! - `i`: the indicators that are on: `z` zero, `n` negative, `c` carry, `o` overflow, `m` overflow
+//!   mask, `t` tally runout
+//! - `psr`, `prr` and `ic`: segment, ring and word at which execution goes on
+//! - `d0` and `d1`: the two words of the descriptor segment base register
+//! - `y0` to `y17`: words 200 to 217 of segment 1
+//! - `rings`: the rings of all pointer registers
+//! - `fault`: the number of a fault at the instruction, in decimal
+//! - `stop`: 1 for the stop of DIS
 
 ghost use Rattle.std.specs.Prelude.{◌≤◌};
 
-/// Registers, the words that instructions refer to, and how a step ended.
+/// The registers, the words that instructions refer to, and how a step ended.
 #[derive(Clone, Copy, PartialEq, Eq, Debug)]
 pub struct Seen {
     pub x: [u64; 8],
-    /// Segment, ring, word and bit number as one number of 42 bits.
+    /// Segment, ring, word and bit number in one number of 42 bits, from the most significant on.
     pub p: [u64; 8],
     pub y: [u64; 16],
     pub a: u64,
@@ -26,9 +36,10 @@ pub struct Seen {
     pub ic: u64,
     pub d0: u64,
     pub d1: u64,
-    /// The sum of all core words but `y`.
+    /// The sum of all core words except those of `y`, modulo 2^64.
     pub others: u64,
-    /// 0 the next instruction follows, 1 stopped by DIS, 2 anything else; a fault's number and 100.
+    /// 0 if the next instruction follows, 1 for the stop of DIS, 100 plus the number of a fault at
+    /// the instruction, and 2 for anything else.
     pub end: u64,
 }
 
@@ -48,7 +59,7 @@ const START: Seen = Seen {
     end: 0,
 };
 
-/// A line.
+/// A parsed line: the expected states before and after the step, and the instruction word.
 #[derive(Clone, Copy)]
 pub struct Line {
     pub before: Seen,
@@ -56,7 +67,7 @@ pub struct Line {
     pub word: u64,
 }
 
-/// A number in digits; what is no digit is passed over.
+/// The number that the digits of a text make. Other characters are skipped.
 fn number(text: &[u8], base: u64) -> u64
     requires { base ≤ 10 }
 {
@@ -85,12 +96,12 @@ fn indicators(letters: &[u8]) -> u64 {
     v
 }
 
-/// A pointer with its ring changed.
+/// A pointer, packed as in `Seen`, with another ring.
 fn in_ring(p: u64, ring: u64) -> u64 {
     p & !(7 << 24) | ring % 8 << 24
 }
 
-/// What is seen, with a named part changed.
+/// `seen` with the named part set to the value of a text. An unknown name sets `end` to 2.
 fn with(seen: &Seen, name: &[u8], text: &[u8]) -> Seen {
     let v = number(text, 8);
     let mut after = *seen;
@@ -125,7 +136,7 @@ fn moved_on(seen: &Seen) -> Seen {
     after
 }
 
-/// Reads a line.
+/// Parses a line.
 pub fn read(text: &str) -> Line {
     let mut line = Line {
         before: START,

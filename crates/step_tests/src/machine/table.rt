@@ -1,5 +1,5 @@
-//! Each instruction of the table once, over a core that was laid out by hand. The lines stand in `lines` and `more_lines`, and
-//! were worked out by hand from the manual; `reading` says what they mean.
+//! Every instruction of the table, at least once, over a small core. The lines are in `lines` and
+//! `more_lines`, and were worked out by hand from the manual; `reading` defines their format.
 
 ghost use Rattle.std.specs.Prelude.{◌≡◌, ◌<◌, ◌^◌};
 
@@ -106,8 +106,8 @@ fn word_at(core: &Core, place: u32) -> u64 {
     }
 }
 
-/// Segment 1 of 512 words at 1000; segment 2, which all rings may execute; segment 3, a gate of two words into ring 1 that
-/// rings to 5 may call.
+/// A core with segment 1, 512 words at octal 1000; segment 2, which all rings may execute; and
+/// segment 3, a gate of ring 1 with two entries, which rings up to 5 may call.
 fn core(alloc: Global, line: &Line) -> Result<Core, NoMemory> {
     let mut core = Core::new(alloc, 2)?;
     put(&mut core, 0o2, 0o000010000774);
@@ -167,7 +167,7 @@ fn bit(on: bool, value: u64) -> u64 {
     if on { value } else { 0 }
 }
 
-/// What is seen of a machine.
+/// The state of a machine after a step that ended as `end`.
 fn seen_in(machine: &Machine, end: u64) -> Seen {
     let regs = machine.regs();
     let core = machine.walk().core();
@@ -225,7 +225,7 @@ fn code(word: u64) -> (u16, bool) {
     (((word >> 9) % 512) as u16, word >> 8 & 1 == 1)
 }
 
-/// The place of an operation code in a list of all.
+/// The index of an operation code in a list of all codes, with and without bit 27.
 fn place(code: u16, bit27: bool) -> usize
     ensures { result < 1024 }
 {
@@ -246,7 +246,7 @@ fn step(machine: &mut Machine, before: &Seen) -> u64 {
     end_of(told.outcome, before)
 }
 
-/// Runs these lines, and notes which codes they have.
+/// Checks one step for each line, and sets `found` for its operation code.
 fn run(
     rt: &impl Abort,
     alloc: Global,

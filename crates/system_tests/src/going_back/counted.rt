@@ -1,4 +1,5 @@
-//! A machine whose turns are counted in a counter that all its copies share, and that is no part of its state.
+//! A machine that counts its turns. All its copies share the counter, which is not part of the
+//! state.
 
 use m36_model::Regs;
 use m36_step::{BackAnswer, Machine, Replay, Stepper, Turn};

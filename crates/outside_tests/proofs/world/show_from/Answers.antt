@@ -1,4 +1,4 @@
--- The world holds the three references still, so what is in it is in them.
+-- The world still has the same three references, so its final values are theirs.
 use Rattle.std.proofs.Common.{rules, ap, get_or}
 use Rattle.outside_tests.proofs.Shown.{shown, through_at}
 use Rattle.outside_tests.proofs.world.show_from.Goals as goal
