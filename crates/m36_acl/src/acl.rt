@@ -111,8 +111,8 @@ impl Acl {
         access_text(alloc, self, catalog, user)
     }
 
-    /// A line `denied DIR NAME TERM` for each segment of a catalog. It is printed if the run of the
-    /// user ends because he lacks a right to that segment. Fails only with `NoMemory`.
+    /// A line `denied DIR NAME TERM` for each segment of a catalog. That of a segment is printed if a
+    /// run ends because the user lacks a right to it. Fails only with `NoMemory`.
     pub fn denied_lines(
         &self,
         alloc: Global,
