@@ -73,7 +73,7 @@ fn linked_in(
     match see_lines(alloc, text, symbols, &mut links, lines) {
         Ok(seen) => Ok(Linked { links, seen }),
         Err(fault) => {
-            // A call of `drop` is proved once for its type.
+            // Dropped explicitly, so that the drop is proved once for its type.
             drop(links);
             Err(fault)
         }
@@ -106,7 +106,7 @@ fn found_in(alloc: Global, text: &[u8], lines: &[Line36]) -> Result<Found, NoMem
             refused: layout.refused,
         }),
         Err(fault) => {
-            // A call of `drop` is proved once for its type.
+            // Dropped explicitly, so that the drop is proved once for its type.
             drop(layout);
             Err(fault)
         }
@@ -160,7 +160,7 @@ fn tables_in(
     match first_refusal(alloc, text, refused, &tables, lines, seen.items()) {
         Ok(None) => Ok(tables),
         Ok(Some(refusal)) => {
-            // A call of `drop` is proved once for its type.
+            // Dropped explicitly, so that the drop is proved once for its type.
             drop(tables);
             Err(fault_of(refusal))
         }
@@ -199,7 +199,7 @@ fn object_of(alloc: Global, parts: Parts, number: u32) -> Result<Object, AlmFaul
     if parts.is_object() {
         object_made(alloc, parts)
     } else {
-        // A call of `drop` is proved once for its type.
+        // Dropped explicitly, so that the drop is proved once for its type.
         drop(parts);
         Err(AlmFault::E8(number, 1))
     }
@@ -241,7 +241,7 @@ fn meaning(alloc: Global, lines: &Lines36) -> Result<Object, AlmFault>
 {
     let mut seen = SeenLines::new(alloc);
     let object = meaning_seen(alloc, lines, &mut seen);
-    // A call of `drop` is proved once for its type.
+    // Dropped explicitly, so that the drop is proved once for its type.
     drop(seen);
     object
 }

@@ -538,7 +538,7 @@ pub fn growth_refusal(
 {
     let mut growth = Growth::start(alloc, tables.symbols.seed());
     let refused = take_lines(alloc, text, tables, lines, seen, &mut growth);
-    // A call of `drop` is proved once for its type.
+    // Dropped explicitly, so that the drop is proved once for its type.
     drop(growth);
     refused
 }

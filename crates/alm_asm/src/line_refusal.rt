@@ -395,7 +395,7 @@ pub fn lines_refusal(
 {
     let mut done = Defs::new(alloc, tables.symbols.seed());
     let refused = take_lines(alloc, text, tables, lines, seen, &mut done);
-    // A call of `drop` is proved once for its type.
+    // Dropped explicitly, so that the drop is proved once for its type.
     drop(done);
     refused
 }

@@ -246,7 +246,7 @@ pub(crate) fn parts_with(
     match contents_of(alloc, text, &tables, lines, seen) {
         Ok(contents) => Ok(parts_of(tables, contents)),
         Err(fault) => {
-            // A call of `drop` is proved once for its type.
+            // Dropped explicitly, so that the drop is proved once for its type.
             drop(tables);
             Err(fault)
         }

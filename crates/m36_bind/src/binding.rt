@@ -40,7 +40,7 @@ fn fitting(object: Object) -> Result<Object, BindFault>
     if sections_fit(&object) {
         Ok(object)
     } else {
-        // A call of `drop` is proved once for its type.
+        // Dropped explicitly, so that the drop is proved once for its type.
         drop(object);
         Err(BindFault::B4(0))
     }

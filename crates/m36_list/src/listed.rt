@@ -120,7 +120,7 @@ pub fn listing(alloc: Global, name: &[u8], lines: &Lines36, o: &Object) -> Resul
     match put_listing(alloc, &mut text, name, lines, o) {
         Ok(()) => Ok(text),
         Err(fault) => {
-            // A call of `drop` is proved once for its type.
+            // Dropped explicitly, so that the drop is proved once for its type.
             drop(text);
             Err(fault)
         }
