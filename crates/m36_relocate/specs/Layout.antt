@@ -24,13 +24,13 @@ shape_of p = record { newer = is_newer p; statics = length p.statics; links = le
 -- ---- the words that places of an object denote
 
 -- In version 1 the static words are before the links. In version 2 they have a section of their
--- own, and are counted as if it followed the linkage section.
+-- own, which is placed after the linkage section.
 abbrev pub meant_older : ℕ → ℕ → Meant
 meant_older statics v =
     if nat_lt v (links_behind statics)
     then StaticWord (v - head_words) else LinkWord (v - links_behind statics)
 
--- the offset at which static words are counted after this many links
+-- the offset from the head of the linkage section at which static words are placed after the links
 abbrev pub statics_behind_links : ℕ → ℕ
 statics_behind_links links = linkage_length 0 links
 
@@ -78,7 +78,7 @@ bases_behind b c =
 abbrev pub first_link : ShapeFields → ℕ
 first_link f = first_link_by f.newer f.statics
 
--- the offset at which its static words are counted in the linkage section
+-- the offset of its first static word from the head of the linkage section
 abbrev pub first_static : ShapeFields → ℕ
 first_static f = if f.newer then statics_behind_links f.links else head_words
 
