@@ -1,4 +1,4 @@
--- The parts that are given are the object of the lines.
+-- The parts that are returned are the object of the lines.
 use Rattle.std.proofs.Common.{◌≡◌, ℕ, ◌+◌, ◌%◌, ◌^◌, ◌<◌, ◌≤◌, Bool, true, false, cond, eqb, List, [], ◌∷◌, ◌++◌, length, Option, Some, None, Result, Ok, Err, refl, sym, ap, ◌∙◌, subst, arith}
 use Rattle.std.specs.Prelude.{IfOk}
 use Rattle.alm_parse.specs.SourceFields.{Source}
@@ -46,7 +46,7 @@ bound_in_text text tables lines above line others split small =
     let least : spot.text < 2 ^ 18 = omega arith in
     omega arith
 
--- where operands find the links, and where the object has them
+-- the offset of the links in operands is that in the object
 links_at_by : (newer : Bool) (ending : Spot) (statics : List ℕ) → ending.uses_outer ≡ newer
     → length statics ≡ evened_count newer (count_in (static_section newer) ending)
     → first_link ending ≡ head_words + length (cond (is_newer_version (version_of newer)) [] statics)

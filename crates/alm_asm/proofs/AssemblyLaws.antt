@@ -1,4 +1,4 @@
--- What the assembler answers.
+-- The results of the assembler.
 use Rattle.std.proofs.Common.{◌≡◌, ℕ, List, [], Option, Some, None, Result, Ok, Err, refl, sym, ap, subst, ◌∙◌}
 use Rattle.alm_parse.specs.SourceFields.{Source}
 use Rattle.alm_parse.specs.declared.fault.AlmFault.{AlmFault}
@@ -16,7 +16,7 @@ use Rattle.alm_asm.specs.declared.tables.Tables.{Tables}
 use Rattle.alm_asm.specs.Assembly.{tables_of, refusal_in, refusal_of, unless_refused, parts_with, last_line, made, assembled_by, assembled}
 use Rattle.alm_lines.specs.declared.refusal.Refusal.{Refusal}
 
--- a fault is told where the definition gives it
+-- a fault is that of the definition
 pub refuses : {A : Type 0} (f : AlmFault) (definition : Result A AlmFault) → definition ≡ Err f → Refuses f definition
 refuses (E1 line column) definition e = e
 refuses (E2 line column) definition e = e
@@ -77,7 +77,7 @@ unfolding assembled refusal_of
 made_all source text lines t l =
     (λ i. made_by (t i) (l i) (unless_refused (t i) (l i) (refusal_in (t i) (l i)))) ∙ by_refusal source (refusal_of source)
 
--- why there are no tables is why there is no object
+-- the fault of the tables is that of the object
 no_tables : (text : List ℕ) (lines : List Line36) (f : AlmFault) (definition : Result Tables AlmFault)
     → Refuses f definition → Refuses f (made_by text lines definition)
 unfolding made_by

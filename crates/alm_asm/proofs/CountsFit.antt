@@ -1,4 +1,5 @@
--- Where no section of lines is refused for its length, the lines place in each at most so many words as a section may have.
+-- If the length of no section is refused, the lines place no more words in any section than it may
+-- have.
 use Rattle.std.proofs.Common.{◌≡◌, ℕ, ◌%◌, ◌≤◌, Bool, true, false, cond, ltb, List, [], ◌∷◌, length, Option, Some, None, is_some, refl, ap, subst, true≢false, arith}
 use Rattle.std.proofs.lemmas.Bool.{ltb-false}
 use Rattle.alm_parse.specs.declared.args.Arg.{Arg}
@@ -19,7 +20,7 @@ use Rattle.alm_lines.specs.declared.refusal.Code.TheVariants.{E8}
 use Rattle.alm_asm.proofs.Unrefused.{sooner_none}
 use Rattle.alm_asm.proofs.SymbolsMean.{layout_first}
 
--- so many words at most in each section
+-- at most this many words in each section
 pub record AreShort (spot : Spot) : Type 0 where
   pub text : spot.text ≤ section_limit
   pub inner : spot.inner ≤ section_limit

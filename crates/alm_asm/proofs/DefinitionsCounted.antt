@@ -1,4 +1,5 @@
--- The growth of the definition section counts the definitions of lines that are not refused, the links and their names.
+-- The size of the definition section counts the definitions of lines that are not refused, the
+-- links and their names.
 use Rattle.std.proofs.Common.{◌≡◌, ℕ, ◌+◌, ◌*◌, ◌≤◌, Bool, true, false, cond, List, [], ◌∷◌, ◌++◌, length, Option, Some, None, is_some, refl, sym, ap, ◌∙◌, subst, true≢false, arith, length-append}
 use Rattle.std.specs.List.{list_any}
 use Rattle.std.proofs.lemmas.Bool.{or_left, or_right}
@@ -42,7 +43,7 @@ use Rattle.alm_asm.proofs.Grown.{growth_from, links_grown, definition_follows, n
 abbrev one : List ℕ → ℕ
 one name = 1
 
--- A name that is found is among them, and one that is not is put at their end.
+-- A name that is found is in the list, and one that is not is added at the end.
 last_by : (symbols : List (List ℕ × Sum)) (name : List ℕ) (b : Bool) → is_some (sum_named name symbols) ≡ b
     → names_in (with_symbol symbols name no_sum) ≡ cond b (names_in symbols) (names_in symbols ++ name ∷ [])
 unfolding with_symbol
@@ -75,12 +76,12 @@ more_by : (f : List ℕ → ℕ) (symbols : List (List ℕ × Sum)) (name : List
     → total f (names_in (with_symbol symbols name no_sum)) ≡ total f (names_in symbols) + f name
 more_by f symbols name e = ap (λ (names : List (List ℕ)). total f names) (last_by symbols name false e) ∙ total_last f (names_in symbols) name
 
--- ---- what the growth counts
+-- ---- the size of the section
 
 words_of : Growth → ℕ
 words_of g = definition_head + 2 * total one (names_in g.defined) + 2 * length g.links + total name_length (names_in g.names)
 
--- The count of words goes on as before, and names that stand stay.
+-- The number of words goes on as before, and names are not removed.
 record Extends (g h : Growth) : Type 0 where
   words : g.definition ≡ words_of g → h.definition ≡ words_of h
   defined : AreIn (names_in g.defined) (names_in h.defined)
@@ -197,9 +198,10 @@ a_definition : (g : Growth) (name : List ℕ) → Definition name g (with_defini
 unfolding with_definition
 a_definition g name = definition_by g name (is_some (sum_named name g.defined)) refl
 
--- ---- what holds of the definitions so far
+-- ---- the invariant of the definitions so far
 
--- The count is that of the names and links; the definitions are among what is defined, and the names of both among the names.
+-- The size is that of the names and links. The definitions are among those counted, and the names
+-- of both among the names.
 record Holds (ds : List Named) (g : Growth) : Type 0 where
   words : g.definition ≡ words_of g
   defined : AreIn (definition_names ds) (names_in g.defined)
@@ -343,7 +345,7 @@ holds_words ds g at distinct =
     (both_in (definition_names ds) (all_link_names g.links) (names_in g.names) (λ name h. at.both name (at.defined name h)) at.linked) in
     omega arith
 
--- The definition section has no more words than are counted.
+-- The definition section has at most as many words as are counted.
 pub definitions_counted : (text : List ℕ) (tables : Tables) (spot : Spot) (lines : List Line36) → lines_refusal text tables [] spot lines ≡ None
     → are_distinct (definition_names (definitions_from text tables.symbols [] lines)) ≡ true
     → 2 + 2 * length (definitions_from text tables.symbols [] lines) + 2 * length (links_from text tables.symbols [] spot lines)

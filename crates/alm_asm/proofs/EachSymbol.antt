@@ -1,4 +1,4 @@
--- What is so of each symbol, and of one more, is so of all with that one.
+-- A property of each symbol, and of one more, is a property of all with that one.
 use Rattle.std.proofs.Common.{◌≡◌, ℕ, Bool, true, false, cond, List, [], ◌∷◌, ◌++◌, Option, Some, None, is_some, unwrap_or, sym, ap, subst, true≢false}
 use Rattle.std.specs.Map.{lookup}
 use Rattle.alm_tokens.specs.declared.span.Span.{Span}
@@ -7,7 +7,7 @@ use Rattle.alm_lines.specs.Arguments.{name_at}
 use Rattle.alm_lines.specs.Layout.{with_labels, with_own}
 use Rattle.alm_lines.specs.declared.sum.Sum.{Sum}
 
--- what each symbol comes to has P
+-- the sum of each symbol has the property P
 abbrev pub Each : (Sum → Type 0) → List (List ℕ × Sum) → Type 0
 Each P symbols = (name : List ℕ) (sum : Sum) → sum_named name symbols ≡ Some sum → P sum
 

@@ -1,4 +1,4 @@
--- In lines that are not refused each external operand is a link, which stands among the links.
+-- In lines that are not refused, each external operand is a link, and the list of links has it.
 use Rattle.std.proofs.Common.{◌≡◌, ℕ, true, false, cond, List, [], ◌∷◌, ◌++◌, Option, Some, None, refl, sym, ap, ◌∙◌, true≢false}
 use Rattle.std.specs.List.{list_any}
 use Rattle.alm_tokens.specs.Tokens.{slice_of}
@@ -27,7 +27,7 @@ use Rattle.alm_asm.proofs.LinksStanding.{link_stands}
 use Rattle.alm_asm.proofs.Unrefused.{sooner_none, line_below}
 use Rattle.alm_asm.proofs.Valued.{AreKnown, valued}
 
--- of an external operand that is not refused the expression is not
+-- if an external operand is not refused, its expression is not
 pub expression_none : (text : List ℕ) (tables : Tables) (spot : Spot) (line : Line36) (segment : Span) (entry : Option Span) (terms : List Term) (tag : ℕ)
     → external_refusal text tables spot line segment entry terms tag ≡ None → link_expression text tables.symbols spot line segment entry terms ≡ None
 expression_none text tables spot line segment entry terms tag none =
@@ -52,7 +52,7 @@ given_link text tables spot line (Some (arg.Operand pr (Some segment) entry term
     (link, ap (λ b. cond b (Some link) None) has)
 given_link text tables spot line None known none e = absurd (true≢false (sym e))
 
--- of a line that is not refused the operand is not
+-- if a line is not refused, its operand is not
 operand_none : (text : List ℕ) (tables : Tables) (spot : Spot) (line : Line36) (d : Deed) → refusal_of_deed text tables spot line d ≡ None
     → operand_refusal text tables spot line (first_arg (operand_args d line.args)) ≡ None
 operand_none text tables spot line deed.Nothing e = refl

@@ -1,4 +1,4 @@
--- Where no line enters static words of their own, no expression comes to a place among them.
+-- If no line selects the static section, no expression is a place of it.
 use Rattle.std.proofs.Common.{◌≡◌, ℕ, ◌+◌, ◌≤◌, Bool, true, false, cond, ◌&&◌, List, [], ◌∷◌, Option, Some, None, unwrap_or, refl, sym, ap, ◌∙◌, true≢false, arith}
 use Rattle.std.proofs.lemmas.Bool.{and_left, and_right, le-ltb}
 use Rattle.alm_tokens.specs.declared.span.Span.{Span}
@@ -32,7 +32,7 @@ Fits outer sum = outer ≡ false → sum.outer.up ≡ sum.outer.down
 abbrev pub AllFit : Bool → List (List ℕ × Sum) → Type 0
 AllFit outer symbols = Each (Fits outer) symbols
 
--- ---- spots
+-- ---- places of lines
 
 grown_uses : (section : Section) (spot : Spot) (n : ℕ) → (grown_in section spot n).uses_outer ≡ spot.uses_outer
 grown_uses Text spot n = refl
@@ -94,7 +94,7 @@ unfolding end_of below
 end_uses text spot [] e = e
 end_uses text spot (line ∷ lines) e = end_uses text (below text spot line) lines (moved_uses text line.deed line.args spot e)
 
--- Lines stand at a spot, and at their end it is known whether a line has entered static words of their own.
+-- Lines at a place. At their end it is known whether a line has selected the static section.
 pub record StandAt (text : List ℕ) (outer : Bool) (spot : Spot) (lines : List Line36) : Type 0 where
   pub kept : is_static spot.section ≡ true → spot.uses_outer ≡ true
   pub ends : (end_of text spot lines).uses_outer ≡ outer

@@ -1,4 +1,4 @@
--- The links of lines that are not refused are those of an object.
+-- The links of lines that are not refused are valid in an object.
 use Rattle.std.proofs.Common.{◌≡◌, ℕ, ◌%◌, ◌^◌, ◌<◌, Bool, true, false, cond, not, ◌&&◌, ◌||◌, ltb, List, [], ◌∷◌, ◌++◌, Option, Some, None, is_some, refl, sym, ◌∙◌, true≢false, arith}
 use Rattle.std.specs.List.{list_all, list_any}
 use Rattle.std.proofs.lemmas.Bool.{and_parts, and_from, lt-ltb}
@@ -100,7 +100,7 @@ valued_by : (version : ℕ) (links : List LinkFields) (link : LinkFields) (value
 valued_by version links link true all good = pushed_by version links link (list_any (same_link link) links) all good
 valued_by version links link false all good = all
 
--- what the operand of an instruction that is not refused adds
+-- with the link of the operand of an instruction that is not refused
 operand_good : (text : List ℕ) (tables : Tables) (links : List LinkFields) (spot : Spot) (line : Line36) (pr : Option ℕ) (segment entry : Option Span) (terms : List Term) (tag : ℕ)
     → operand_refusal text tables spot line (Some (arg.Operand pr segment entry terms tag)) ≡ None → (segment_is_named text segment && entry_is_named text entry) ≡ true
     → list_all (is_link (version_of tables.uses_outer)) links ≡ true → list_all (is_link (version_of tables.uses_outer)) (with_link links (link_by text tables.symbols spot segment entry terms tag)) ≡ true

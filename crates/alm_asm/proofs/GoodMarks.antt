@@ -1,4 +1,4 @@
--- The relocations of lines are in rising order, each in a word that a line places.
+-- The relocations of lines are in rising order, and each is of a word that a line places.
 use Rattle.std.proofs.Common.{◌≡◌, ℕ, ◌+◌, ◌*◌, ◌%◌, ◌^◌, ◌<◌, ◌≤◌, Bool, true, false, cond, not, ◌&&◌, ltb, leb, eqb, List, [], ◌∷◌, ◌++◌, Option, Some, None, ◌⊎◌, inl, inr, refl, sym, ap, ◌∙◌, subst, true≢false, arith}
 use Rattle.std.specs.List.{list_all}
 use Rattle.std.proofs.lemmas.Bool.{and_parts, and_from, lt-ltb, le-leb, eqb-true, ne_eqb}
@@ -60,7 +60,7 @@ unfolding barred_after
 barred_pushed barred [] r = refl
 barred_pushed barred (x ∷ rs) r = barred_pushed (cond (eqb x.part 0) (order_of x + 2) barred) rs r
 
--- Relocations in order, all of words before word k of the object's places.
+-- The relocations are in order, and each is of a word before word k of the object's places.
 pub record InOrder (k : ℕ) (marks : List RelocFields) : Type 0 where
   pub rising : are_rising 0 3 marks ≡ true
   pub least : least_after 0 marks ≤ k * 4
@@ -116,7 +116,7 @@ pair_pushed k marks r s o p q t at =
       barred = inl (omega arith);
     }
 
--- ---- where they are
+-- ---- the places of relocations
 
 abbrev pub limit_in : Section → ℕ → ℕ → ℕ → ℕ
 limit_in Text text inner outer = text
@@ -150,7 +150,7 @@ target_good false Linkage e = refl
 target_good false Symbol e = absurd (true≢false (sym e))
 target_good false Static e = absurd (true≢false (sym e))
 
--- How much room there is, and whether static words have a section of their own.
+-- The bounds for places, and whether static words have a section of their own.
 pub record Room : Type 0 where
   pub text : ℕ
   pub inner : ℕ
@@ -163,11 +163,11 @@ is_good room r = is_relocation room.text room.inner room.outer (version_of room.
 abbrev pub limit : Section → Room → ℕ
 limit section room = limit_in section room.text room.inner room.outer
 
--- the number of a spot's word among the places of an object
+-- the number of the word at a place, among all places of an object
 abbrev pub word_number : Section → Spot → ℕ
 word_number section spot = place_number section * 2 ^ 18 + place_in section spot
 
--- the relocations so far are good, and all of words before that of the spot
+-- the relocations so far are good, and each is of a word before this place
 pub record Good (room : Room) (k : ℕ) (marks : List RelocFields) : Type 0 where
   pub order : InOrder k marks
   pub all : list_all (is_good room) marks ≡ true
@@ -201,7 +201,7 @@ unfolding order_of
 reloc_order room spot part target h l =
     ap (λ n. (place_number spot.section * 2 ^ 18 + n) * 4 + part) (place_small room.text room.inner room.outer spot.section spot h l)
 
--- a part of the word at a spot
+-- a part of the word at this place
 pub mark_good : (room : Room) (spot : Spot) (part : ℕ) (kind : Kind) (marks : List RelocFields) → count_in spot.section spot < limit spot.section room → limit spot.section room + 8 < 2 ^ 18
     → part ≤ 2 → good_kind room.newer kind ≡ true → Good room (word_number spot.section spot) marks → Good room (word_number spot.section spot + 1) (marks ++ mark spot part kind)
 mark_good room spot part Absolute marks h l p g at =
@@ -213,7 +213,7 @@ mark_good room spot part (Moved target) marks h l p g at = record {
   all = one_more room marks (reloc spot part target) at.all (reloc_good room spot part target h l p g);
 }
 
--- both halves of the word at a spot
+-- both halves of the word at this place
 pub halves_good : (room : Room) (spot : Spot) (left right : Kind) (marks : List RelocFields) → count_in spot.section spot < limit spot.section room → limit spot.section room + 8 < 2 ^ 18
     → good_kind room.newer left ≡ true → good_kind room.newer right ≡ true → Good room (word_number spot.section spot) marks
     → Good room (word_number spot.section spot + 1) ((marks ++ mark spot 0 left) ++ mark spot 1 right)
@@ -274,7 +274,7 @@ operand_kind_good : (outer : Bool) (segment : Option Span) (sum : Sum) → good_
 operand_kind_good outer (Some segment) sum g = refl
 operand_kind_good outer None sum g = g
 
--- the word of a spot has been passed
+-- the word at this place has been passed
 passed : (room : Room) (spot : Spot) (marks : List RelocFields) → Good room (word_number spot.section spot) marks → Good room (word_number spot.section spot + 1) (marks ++ [])
 passed room spot marks at =
     subst (λ (m : List RelocFields). Good room (word_number spot.section spot + 1) m) (sym (append-nil marks)) (further_good room (word_number spot.section spot) (word_number spot.section spot + 1) marks (omega arith) at)
@@ -291,7 +291,7 @@ operand_good room text symbols spot marks (arg.Operand pr segment entry terms ta
     mark_good room spot (operand_part pr segment) (operand_kind segment (sum_of text symbols spot terms)) marks h l (part_small pr segment)
     (operand_kind_good room.newer segment (sum_of text symbols spot terms) (kind_good room.newer (sum_of text symbols spot terms) (sum_fits room.newer text symbols spot terms all none))) at
 
--- a line of the spot's own section
+-- a line of this section
 own_line : (room : Room) (text : List ℕ) (tables : Tables) (spot : Spot) (marks : List RelocFields) (arguments : List Arg) (d : Deed) → AllFit room.newer tables.symbols
     → (room.newer ≡ false → is_static spot.section ≡ false) → holds_words spot.section ≡ true → count_in spot.section (moved_by text d arguments spot) ≤ limit spot.section room → limit spot.section room + 8 < 2 ^ 18
     → Good room (word_number spot.section spot) marks → Good room (word_number spot.section (moved_by text d arguments spot)) (marks_by text tables.symbols spot marks arguments d)
@@ -327,7 +327,7 @@ own_line room text tables spot marks arguments deed.Even all none p h l at =
     (numbers_grow spot.section spot (moved_by text deed.Even arguments spot) (moved_grows spot.section text tables spot arguments deed.Even p)) at
 own_line room text tables spot marks arguments deed.Bound all none p h l at = at
 
--- a line, in a section or another
+-- a line in this or another section
 line_by : (room : Room) (text : List ℕ) (tables : Tables) (to : Section) (spot : Spot) (marks : List RelocFields) (arguments : List Arg) (d : Deed) (b : Bool) → same_section spot.section to ≡ b → AllFit room.newer tables.symbols
     → (room.newer ≡ false → is_static spot.section ≡ false) → holds_words to ≡ true → count_in to (moved_by text d arguments spot) ≤ limit to room → limit to room + 8 < 2 ^ 18
     → Good room (word_number to spot) marks → Good room (word_number to (moved_by text d arguments spot)) (cond b (marks_by text tables.symbols spot marks arguments d) marks)

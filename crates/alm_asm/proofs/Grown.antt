@@ -1,4 +1,4 @@
--- What the growth of the sections counts: the links, the relocations, and of no section more words than it may have.
+-- The sizes of the sections count the links and the relocations, and no section is over the limit.
 use Rattle.std.proofs.Common.{◌≡◌, ℕ, ◌+◌, ◌*◌, ◌≤◌, Bool, true, false, cond, ◌||◌, ltb, List, [], ◌∷◌, ◌++◌, length, Option, Some, None, is_some, refl, ap, ◌∙◌, true≢false}
 use Rattle.std.specs.List.{list_any}
 use Rattle.std.proofs.lemmas.Bool.{or_parts, ltb-false}
@@ -26,7 +26,7 @@ use Rattle.alm_asm.specs.declared.growth.Growth.{Growth}
 
 -- ---- the end
 
--- how the sections have grown with all lines
+-- the sizes of the sections with all lines
 unfoldable pub growth_from : List ℕ → List (List ℕ × Sum) → Growth → Spot → List Line36 → Growth
 growth_from text symbols g spot [] = g
 growth_from text symbols g spot (line ∷ lines) = growth_from text symbols (grown_by text symbols spot g line) (below text spot line) lines
@@ -71,9 +71,9 @@ pub end_within : (text : List ℕ) (symbols : List (List ℕ × Sum)) (lines : L
 end_within text symbols lines none =
     within (end_of text start lines) (growth_from text symbols at_first start lines) (not_over_from text symbols at_first start lines at_first_within none)
 
--- ---- what names change
+-- ---- names
 
--- neither links nor relocations
+-- names change neither links nor relocations
 pub record Follows (g h : Growth) : Type 0 where
   pub links : h.links ≡ g.links
   pub symbol : h.symbol ≡ g.symbol
@@ -131,7 +131,7 @@ definitions_follow text symbols line g (Some is_entry) = args_follow text symbol
 
 -- ---- links
 
--- a link more where it is new, and no relocation
+-- one more link if it is new, and no relocation
 record Links (linked : List LinkFields) (g h : Growth) : Type 0 where
   links : h.links ≡ linked
   pub symbol : h.symbol ≡ g.symbol
@@ -170,7 +170,7 @@ line_symbol text symbols spot g line =
     ap (λ n. n + marks_count text symbols spot line.args line.deed)
     ((given_links named given).symbol ∙ (definitions_follow text symbols line g (gives_entries line.deed)).symbol)
 
--- the links of the growth are those of the object
+-- the links that are counted are those of the object
 pub links_grown : (text : List ℕ) (symbols : List (List ℕ × Sum)) (g : Growth) (spot : Spot) (lines : List Line36)
     → (growth_from text symbols g spot lines).links ≡ links_from text symbols g.links spot lines
 unfolding growth_from links_from

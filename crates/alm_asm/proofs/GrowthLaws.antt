@@ -1,4 +1,4 @@
--- Names one after another, and how fast sections grow.
+-- Several names, and bounds of the growth of sections.
 use Rattle.std.proofs.Common.{◌≡◌, ℕ, ◌+◌, ◌-◌, ◌*◌, ◌≤◌, List, [], ◌∷◌, ◌++◌, refl, arith, ◌∙◌}
 use Rattle.alm_asm.specs.Growth.{with_name, with_names, IsLarger}
 use Rattle.alm_asm.specs.declared.growth.Growth.{Growth}
@@ -8,7 +8,7 @@ unfolding with_names
 names_then g [] more = refl
 names_then g (name ∷ names) more = names_then (with_name g name) names more
 
--- an argument more
+-- one more argument
 pub larger_more :
     (arguments left more : ℕ) (first before after : Growth) → left ≡ more + 1 → left ≤ arguments
     → IsLarger ((arguments - left) * 11) first before → IsLarger 11 before after

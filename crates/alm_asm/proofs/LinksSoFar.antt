@@ -1,4 +1,4 @@
--- What is refused of a line is told by the links up to it: those of the lines below change no place.
+-- The refusal of a line depends only on the links up to it: those of later lines change no index.
 use Rattle.std.proofs.Common.{◌≡◌, ℕ, ◌+◌, ◌*◌, ◌<◌, Bool, true, false, cond, not, ◌||◌, List, [], ◌∷◌, ◌++◌, length, Option, Some, None, refl, sym, ap, ◌∙◌, arith, length-append}
 use Rattle.std.specs.Prelude.{nat_lt, unwrap_or}
 use Rattle.std.specs.List.{list_any, position, position_or_len}
@@ -58,7 +58,7 @@ same_first p [] ys e = absurd (cc)
 same_first p (x ∷ xs) ys e =
     same_by (p x) (position_or_len p (xs ++ ys)) (position_or_len p xs) (λ no. same_first p xs ys (or_second (p x) (list_any p xs) e no))
 
--- It is where it was, whatever follows.
+-- Its index does not change, whatever follows.
 same_position : {X : Type 0} (p : X → Bool) (xs ys : List X) → list_any p xs ≡ true → position p (xs ++ ys) ≡ position p xs
 same_position p xs ys e =
     let at = inside p xs e in
@@ -68,7 +68,7 @@ same_position p xs ys e =
     ∙ ap Some same
     ∙ sym (ap (λ b. cond b (Some (position_or_len p xs)) None) (lt-ltb (position_or_len p xs) (length xs) at))
 
--- ---- the place of a link
+-- ---- the index of a link
 
 same_by_other : (l other : LinkFields) (links : List LinkFields) (b : Bool) → list_any (same_link l) links ≡ true
     → position (same_link l) (cond b links (links ++ other ∷ [])) ≡ position (same_link l) links

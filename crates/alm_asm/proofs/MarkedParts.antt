@@ -1,4 +1,4 @@
--- The parts of words that relocations name, as lines place them.
+-- The parts of words that have relocations, as lines place them.
 use Rattle.std.proofs.Common.{ℕ, ◌≡◌, ◌+◌, ◌*◌, ◌%◌, ◌^◌, ◌<◌, ◌≤◌, Bool, true, false, Option, Some, None, refl, ap, ◌∙◌, arith}
 use Rattle.m36_word.specs.Bits.{of_bit}
 use Rattle.m36_inst.specs.Fields.{InstFields}
@@ -38,7 +38,7 @@ plain_is code bit27 y tag =
     let tag_small : tag % 2 ^ 6 < 2 ^ 6 = omega arith in
     address_is (plain_inst code bit27 y tag) code_small tag_small
 
--- bits 3 to 17 are the offset behind a pointer register
+-- bits 3 to 17 are the offset after a pointer register
 offset_is : (code : ℕ) (bit27 : Bool) (pr offset tag : ℕ) → offset < 2 ^ 15 → offset_in (inst_word (pointed_inst code bit27 pr offset tag)) ≡ offset
 unfolding offset_in
 offset_is code bit27 pr offset tag small =
@@ -46,7 +46,7 @@ offset_is code bit27 pr offset tag small =
     let tag_small : tag % 2 ^ 6 < 2 ^ 6 = omega arith in
     ap (λ y. y % 2 ^ 15) (address_is (pointed_inst code bit27 pr offset tag) code_small tag_small) ∙ offset_kept pr offset small
 
--- an external operand stands in them, whatever register its line names
+-- they are the offset of a link for an external operand, whatever register its line names
 linked_part : (pr : Option ℕ) (segment : Span) → operand_part pr (Some segment) ≡ 2
 linked_part (Some pr) segment = refl
 linked_part None segment = refl

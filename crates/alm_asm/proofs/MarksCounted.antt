@@ -1,4 +1,4 @@
--- The growth of the symbol section counts the relocations of lines that are not refused.
+-- The size of the symbol section counts the relocations of lines that are not refused.
 use Rattle.std.proofs.Common.{◌≡◌, ℕ, ◌+◌, ◌≤◌, Bool, true, false, cond, List, [], ◌∷◌, ◌++◌, length, Option, Some, None, refl, sym, ap, ◌∙◌, arith, add-zero}
 use Rattle.std.proofs.lemmas.List.{length-append}
 use Rattle.alm_parse.specs.declared.args.Arg.{Arg}
@@ -36,7 +36,7 @@ use Rattle.alm_asm.proofs.Grown.{growth_from, line_symbol}
 
 -- ---- a line
 
--- An expression that has a value is counted as it is marked.
+-- An expression with a value is counted exactly if it has a relocation.
 mark_counted : (spot : Spot) (part : ℕ) (kind : Kind) (b : Bool) → b ≡ true → length (mark spot part kind) ≡ mark_count b kind
 mark_counted spot part Absolute b e = refl
 mark_counted spot part (Moved target) b e = sym (ap (λ v. cond v 1 0) e)
@@ -90,7 +90,7 @@ deed_counted text tables spot line marks deed.Bound known none = sym (add-zero (
 
 -- ---- the lines
 
--- how many relocations lines count in a section
+-- the number of relocations of lines in a section
 counts_in : List ℕ → List (List ℕ × Sum) → Section → Spot → List Line36 → ℕ
 counts_in text symbols section spot [] = 0
 counts_in text symbols section spot (line ∷ lines) =
@@ -120,7 +120,7 @@ from_counted text tables section done marks spot (line ∷ lines) known none =
     (other_lines text tables done spot line lines none) in
     omega arith
 
--- A line stands in one section.
+-- A line is in one section.
 once : (newer : Bool) (section : Section) (n : ℕ) → cond (same_section section Text) n 0 + cond (same_section section (static_section newer)) n 0 ≤ n
 once true Text n = omega arith
 once true Linkage n = omega arith
@@ -141,7 +141,7 @@ grown_counts text symbols newer g spot (line ∷ lines) =
     let rest = grown_counts text symbols newer (grown_by text symbols spot g line) (below text spot line) lines in
     omega arith
 
--- No relocation stands that is not counted.
+-- Each relocation is counted.
 pub marks_counted : (text : List ℕ) (tables : Tables) (newer : Bool) (g : Growth) (spot : Spot) (lines : List Line36) → AreKnown tables.symbols → lines_refusal text tables [] spot lines ≡ None
     → g.symbol + length (marks_from text tables.symbols (static_section newer) (marks_from text tables.symbols Text [] spot lines) spot lines) ≤ (growth_from text tables.symbols g spot lines).symbol
 marks_counted text tables newer g spot lines known none =

@@ -1,4 +1,5 @@
--- Names that stand once each, of which each is among some others, have at most the words of those.
+-- If names are different from each other and all are in another list, their words are at most those
+-- of that list.
 use Rattle.std.proofs.Common.{◌≡◌, ℕ, ◌+◌, ◌≤◌, Bool, true, false, cond, not, ◌||◌, List, [], ◌∷◌, ◌++◌, length, refl, sym, ap, ◌∙◌, true≢false, arith}
 use Rattle.std.specs.List.{list_any}
 use Rattle.std.proofs.lemmas.Bool.{and_parts, and_from, not-true, or_left, or_right, or_from, or_parts}
@@ -10,15 +11,15 @@ use Rattle.obj36_parts.specs.ObjectSegment.{are_distinct}
 use Rattle.obj36_parts.proofs.SizeLaws.{same_is, same_self, length-name_words}
 use Rattle.alm_asm.proofs.LinksSoFar.{or_second}
 
--- a name is among some
+-- a list has a name
 abbrev pub IsIn : List ℕ → List (List ℕ) → Type 0
 IsIn name names = list_any (same name) names ≡ true
 
--- all names of some are among others
+-- a list has all of these names
 abbrev pub AreIn : List (List ℕ) → List (List ℕ) → Type 0
 AreIn names others = (name : List ℕ) → IsIn name names → IsIn name others
 
--- what names come to that come to so much each
+-- the sum over names of a number for each
 unfoldable pub total : (List ℕ → ℕ) → List (List ℕ) → ℕ
 total f [] = 0
 total f (name ∷ names) = f name + total f names
@@ -67,7 +68,7 @@ in_without other name [] differs h = h
 in_without other name (first ∷ names) differs h =
     in_by other name first names (without name names) (same name first) refl differs h (λ later. in_without other name names differs later)
 
--- a name that is among some is none that is not
+-- a name that a list has differs from one that it does not have
 other_name : (other name : List ℕ) (names : List (List ℕ)) (b : Bool) → same other name ≡ b → IsIn other names → list_any (same name) names ≡ false → same other name ≡ false
 other_name other name names true e h none =
     absurd (true≢false (sym h ∙ ap (λ (n : List ℕ). list_any (same n) names) (same_is other name e) ∙ none))
@@ -85,7 +86,7 @@ total_within f (name ∷ names) others distinct within =
     let whole = total_without f name others here in
     omega arith
 
--- ---- names one after another
+-- ---- the words of names
 
 pub distinct_pushed : (names : List (List ℕ)) (name : List ℕ) → are_distinct names ≡ true → list_any (same name) names ≡ false → are_distinct (names ++ name ∷ []) ≡ true
 unfolding are_distinct

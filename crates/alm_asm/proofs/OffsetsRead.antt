@@ -1,4 +1,4 @@
--- The offset behind a pointer register, as the machine reads it.
+-- The offset after a pointer register, as the machine reads it.
 use Rattle.std.proofs.Common.{ℕ, ◌≡◌, ◌+◌, ◌-◌, ◌*◌, ◌%◌, ◌^◌, ◌<◌, ◌≤◌, cond, ltb, leb, ap, ◌∙◌, inl, inr, arith}
 use Rattle.std.proofs.lemmas.Bool.{and_parts, leb-true, lt-ltb, le-ltb, cond-true, cond-false, cases_lt}
 use Rattle.alm_lines.specs.Sums.{half_of, offset_of}
@@ -11,7 +11,7 @@ pub offset_below : (b : Balance) → offset_of b < 2 ^ 15
 unfolding offset_of
 offset_below b = omega arith
 
--- they are the offset, behind the register's number
+-- they are the offset, after the number of the register
 pub offset_kept : (pr offset : ℕ) → offset < 2 ^ 15 → (pr % 2 ^ 3 * 2 ^ 15 + offset) % 2 ^ 15 ≡ offset
 offset_kept pr offset lt = omega arith
 
@@ -31,9 +31,9 @@ offset_less up down d is some few = omega arith
 half_less : (up down d : ℕ) → down ≡ up + d → 0 < d → d ≤ 2 ^ 18 → (up % 2 ^ 18 + (2 ^ 18 - down % 2 ^ 18)) % 2 ^ 18 + d ≡ 2 ^ 18
 half_less up down d is some few = omega arith
 
--- ---- how the bits are read
+-- ---- reading of the bits
 
--- below the limit as they are, and from there on as 2^15 less
+-- below the limit the number itself, and from there on less 2^15
 low_read : (n : ℕ) → n < 16384 → cond (ltb n 16384) n (n + 7 * 2 ^ 15) ≡ n
 low_read n lt = cond-true (ltb n 16384) n (n + 7 * 2 ^ 15) (lt-ltb n 16384 lt)
 
@@ -46,7 +46,7 @@ more_read n d half bits whole few = low_read n (omega arith) ∙ (let k : n ≡ 
 less_read : (n d half : ℕ) → n + d ≡ 2 ^ 15 → half + d ≡ 2 ^ 18 → d ≤ 16384 → cond (ltb n 16384) n (n + 7 * 2 ^ 15) ≡ half
 less_read n d half bits whole few = high_read n (omega arith) ∙ (let k : n + 7 * 2 ^ 15 ≡ half = omega arith in k)
 
--- as the number of which they are the bits
+-- as the number that they encode
 read_back : (n up down : ℕ) → n ≡ (up % 2 ^ 15 + (2 ^ 15 - down % 2 ^ 15)) % 2 ^ 15 → down - up ≤ 16384 → up - down ≤ 16383
     → cond (ltb n 16384) n (n + 7 * 2 ^ 15) ≡ (up % 2 ^ 18 + (2 ^ 18 - down % 2 ^ 18)) % 2 ^ 18
 read_back n up down is low high =

@@ -104,7 +104,7 @@ pub places_count : (text : List ℕ) (tables : Tables) (section : Section) (abov
     → count_in section (end_of text start above) ≡ length (words_from text tables section [] start above)
 places_count text tables section above p = all_counted section text tables [] start above p (starts_empty section)
 
--- a line's size is the count of the words that it places
+-- the size of a line is the number of words that it places
 sized_by : (text : List ℕ) (tables : Tables) (spot : Spot) (arguments : List Arg) (d : Deed) → size_of d arguments (place spot) ≡ length (words_by text tables spot arguments d)
 sized_by text tables spot arguments deed.Nothing = refl
 sized_by text tables spot arguments (deed.Instruction code bit27) = refl
@@ -142,7 +142,7 @@ pub words_follow : (text : List ℕ) (tables : Tables) (section : Section) (abov
     → words_from text tables section [] start (above ++ lines) ≡ words_from text tables section (words_from text tables section [] start above) (end_of text start above) lines
 words_follow text tables section above lines = follow_from text tables section [] start above lines
 
--- ---- counts never fall
+-- ---- counts never decrease
 
 pub grown_self : (section : Section) (spot : Spot) (n : ℕ) → holds_words section ≡ true → count_in section (grown_in section spot n) ≡ count_in section spot + n
 grown_self Text spot n p = refl

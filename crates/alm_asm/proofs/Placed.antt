@@ -1,4 +1,4 @@
--- The words of a line stand behind those of the lines above it.
+-- The words of a line are after those of the lines above it.
 use Rattle.std.proofs.Common.{◌≡◌, ℕ, ◌+◌, ◌%◌, ◌^◌, Bool, true, false, cond, ◌||◌, eqb, List, [], ◌∷◌, ◌++◌, length, refl, sym, ap, ◌∙◌, subst, true≢false, append_assoc, append-nil, arith}
 use Rattle.std.specs.Prelude.{replicate}
 use Rattle.std.specs.List.{list_any}
@@ -94,7 +94,7 @@ behind_by words false e =
     let o : length words % 2 ≡ 1 = omega arith in
     record { front = words; rest = []; whole = ap (λ n. words ++ replicate n 0) (sym o) ∙ sym (append-nil (words ++ replicate (length words % 2) 0)); place = refl }
 
--- behind the words that lines place stands the evening word, where there is one
+-- after the words that lines place comes the evening word, if there is one
 evening_by : (newer : Bool) (words : List ℕ) → StandsBehind (length words) (evening_words newer (length words)) (evened newer words)
 evening_by true words = record { front = words; rest = []; whole = sym (append-nil words) ∙ sym (append-nil (words ++ [])); place = refl }
 evening_by false words = behind_by words (eqb (length words % 2) 0) refl

@@ -1,4 +1,4 @@
--- The names in lines that have been read are names of an object.
+-- The names in lines that were parsed are valid in an object.
 use Rattle.std.proofs.Common.{◌≡◌, ℕ, ◌+◌, ◌≤◌, Bool, true, false, cond, ◌&&◌, ◌||◌, leb, List, [], ◌∷◌, ◌++◌, length, take, map, Option, Some, None, is_some, Result, Ok, Err, refl, sym, ap, ◌∙◌, true≢false}
 use Rattle.std.specs.Prelude.{codes, ◌==◌, slice_index, unwrap_or}
 use Rattle.std.specs.List.{list_all}
@@ -61,7 +61,7 @@ symbol_named : (text : List ℕ) (span : Span) → is_symbol (slice_of text span
 symbol_named text span e =
     ap is_name (take_all 32 (slice_of text span) (symbol_length (slice_of text span) e)) ∙ symbol_is_name (slice_of text span) e
 
--- ---- what is not refused
+-- ---- the result if nothing is refused
 
 unless_ok : (refusal : Option Refusal) (value arguments : List Arg) → unless refusal value ≡ Ok arguments → (refusal ≡ None) × (value ≡ arguments)
 unless_ok None value arguments e = (refl, cc)

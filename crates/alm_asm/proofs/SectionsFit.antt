@@ -1,4 +1,4 @@
--- Each section of the object of lines that are not refused has at most so many words as a section may have.
+-- Each section of the object of lines that are not refused is within the limit.
 use Rattle.std.proofs.Common.{◌≡◌, ℕ, ◌+◌, ◌*◌, ◌≤◌, Bool, true, false, ◌&&◌, leb, cond, List, [], length, None, refl, ap, arith}
 use Rattle.std.proofs.lemmas.Bool.{le-leb}
 use Rattle.alm_parse.specs.SourceFields.{Source}
@@ -23,7 +23,7 @@ use Rattle.alm_asm.proofs.MarksCounted.{marks_counted}
 use Rattle.alm_asm.proofs.DefinitionsCounted.{definitions_counted}
 use Rattle.alm_asm.proofs.CountsFit.{counts_fit}
 
--- The limit is even, as the words of the linkage section are with the evening word.
+-- The limit is even, and so is the number of words of the linkage section with the evening word.
 linkage_fits : (newer : Bool) (ending : Spot) (words : List ℕ) (links : ℕ) → count_in (static_section newer) ending ≡ length words → 8 + ending.inner + 2 * links ≤ section_limit
     → 8 + length (cond (is_newer_version (version_of newer)) [] (evened newer words)) + 2 * links ≤ section_limit
 linkage_fits true ending words links same fits = omega arith
@@ -34,7 +34,7 @@ statics_fit : (newer : Bool) (ending : Spot) (words : List ℕ) → count_in (st
 statics_fit true ending words same fits = omega arith
 statics_fit false ending words same fits = omega arith
 
--- no section of these parts is over its limit
+-- no section of these parts is over the limit
 record AreWithin (parts : PartsFields) : Type 0 where
   pub text : length parts.text ≤ section_limit
   pub definition : length (definition_section parts) ≤ section_limit

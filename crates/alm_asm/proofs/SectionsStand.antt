@@ -1,4 +1,4 @@
--- Lines that are not refused stand in the text or in static words of one kind.
+-- Lines that are not refused are in the text or in static words of one kind.
 use Rattle.std.proofs.Common.{◌≡◌, ℕ, Bool, true, false, cond, not, ◌&&◌, List, [], ◌∷◌, ◌++◌, Option, Some, None, ◌⊎◌, inl, inr, refl, sym, ap, ◌∙◌, true≢false}
 use Rattle.std.specs.Prelude.{codes, unwrap_or}
 use Rattle.std.proofs.lemmas.Bool.{not-true}
@@ -24,7 +24,7 @@ use Rattle.alm_lines.specs.declared.refusal.Code.TheVariants.{E7}
 use Rattle.alm_asm.proofs.Unrefused.{unless_none, line_parts, head_line, other_lines, lines_above}
 use Rattle.alm_asm.proofs.Fitting.{end_uses}
 
--- what a spot's section says of it: static words are of the kind that a line has entered, and of one kind
+-- static words are of a kind that a line has selected, and of one kind
 abbrev is_kept : Section → Bool → Bool → Bool
 is_kept Text inner outer = not (inner && outer)
 is_kept Linkage inner outer = inner && not outer
@@ -95,7 +95,7 @@ below_kept : (text : List ℕ) (tables : Tables) (spot : Spot) (line : Line36) �
 unfolding below
 below_kept text tables spot line none e = moved_kept text tables spot line line.deed none e
 
--- what a line has entered stays so
+-- a section that was selected stays so
 grown_inner : (section : Section) (spot : Spot) (n : ℕ) → (grown_in section spot n).uses_inner ≡ spot.uses_inner
 grown_inner Text spot n = refl
 grown_inner Linkage spot n = refl

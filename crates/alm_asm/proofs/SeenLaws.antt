@@ -1,4 +1,4 @@
--- What is seen of a line stays: the links of the lines below it change no place.
+-- The values of a line do not change: the links of later lines change no index.
 use Rattle.std.proofs.Common.{rules, take, drop, ◌-◌, ◌≡◌, ℕ, ◌+◌, ◌<◌, Bool, true, false, cond, not, ◌||◌, List, [], ◌∷◌, ◌++◌, length, Option, Some, None, refl, sym, ap, ◌∙◌, arith, append_assoc, subst}
 use Rattle.std.specs.Prelude.{unwrap_or, nat_lt, if◌then◌else◌}
 use Rattle.std.proofs.lemmas.Bool.{ltb-true}
@@ -33,7 +33,7 @@ use Rattle.alm_asm.proofs.LinksStanding.{added_with}
 use Rattle.alm_asm.proofs.LinksSoFar.{same_below}
 use Rattle.alm_asm.proofs.Grown.{line_links, definitions_follow}
 
--- ---- places
+-- ---- indexes
 
 place_stays : (text : List ℕ) (symbols : List (List ℕ × Sum)) (links : List LinkFields) (spot : Spot) (line : Line36) (lines : List Line36) (given : Option LinkFields)
     → link_in text symbols spot (first_arg (operand_args line.deed line.args)) ≡ given
@@ -58,7 +58,7 @@ seen_is text symbols links later whole spot line lines seen all after value plac
     ∙ ap (λ (x : List LinkFields). place_in x given) all in
     λ i. record { value = value i; place = at i }
 
--- one line more is seen
+-- with one more line
 more_by : (arguments : List Arg) (before : List Seen) (seen : Seen) (later : List Seen) → with_seen before arguments seen ++ later ≡ before ++ seen_with arguments seen later
 unfolding seen_with with_seen
 more_by [] before seen later = refl
@@ -124,7 +124,7 @@ unfolding seen_with
 some_with [] seen later some = absurd (omega (arith, some))
 some_with (argument ∷ arguments) seen later some = refl
 
--- ---- a link by its place
+-- ---- a link by its index
 
 pub by_place : (text : List ℕ) (symbols : List (List ℕ × Sum)) (spot : Spot) (segment : Span) (entry : Option Span) (terms : List Term) (tag first : ℕ) (links : List LinkFields) (place : Option ℕ)
     → has_value text symbols spot terms Half false ≡ true
@@ -177,7 +177,7 @@ appended_by : (links : List LinkFields) (given : Option LinkFields) → (more : 
 appended_by links None = ([], sym (append-nil links))
 appended_by links (Some link) = appended_if links link (list_any (same_link link) links)
 
--- the links of lines are put behind those that there are
+-- the links of lines are added after those so far
 appended : (text : List ℕ) (symbols : List (List ℕ × Sum)) (links : List LinkFields) (spot : Spot) (lines : List Line36)
     → (more : List LinkFields) × (links_from text symbols links spot lines ≡ links ++ more)
 unfolding links_from links_after
@@ -194,7 +194,7 @@ first_links text symbols links all spot lines e =
     let so = appended text symbols links spot lines in
     subst (AreFirst links) (sym so.1 ∙ e) (first_append links so.0)
 
--- a link that has a place below the count of some is one of these
+-- a link whose index is below the length of `some` is in `some`
 pub noted_is : (text : List ℕ) (symbols : List (List ℕ × Sum)) (spot : Spot) (segment : Span) (entry : Option Span) (terms : List Term) (tag : ℕ) (some all : List LinkFields) (place : Option ℕ)
     → AreFirst some all → has_value text symbols spot terms Half false ≡ true
     → place ≡ place_in all (link_by text symbols spot (Some segment) entry terms tag)
@@ -205,14 +205,14 @@ noted_is text symbols spot segment entry terms tag some all (Some place) first v
     first.each (link_of text symbols spot segment entry terms tag) place
     (linked_at text symbols spot segment entry terms tag all (Some place) valued e) (ltb-true place (length some) h)
 
--- definitions give no link
+-- definitions add no link
 pub first_kept : (text : List ℕ) (symbols : List (List ℕ × Sum)) (line : Line36) (g h : Growth) (all : List LinkFields)
     → AreFirst g.links all → h ≡ with_definitions text symbols line g (gives_entries line.deed) → AreFirst h.links all
 first_kept text symbols line g h all first is =
     subst (λ (links : List LinkFields). AreFirst links all)
     (sym (ap (λ (x : Growth). x.links) is ∙ (definitions_follow text symbols line g (gives_entries line.deed)).links)) first
 
--- those of the growth
+-- the links that are counted
 pub grown_links : (text : List ℕ) (symbols : List (List ℕ × Sum)) (g h : Growth) (all : List LinkFields) (spot : Spot) (line : Line36) (lines : List Line36)
     → links_from text symbols g.links spot (line ∷ lines) ≡ all
     → h ≡ grown_by text symbols spot g line
@@ -222,6 +222,6 @@ grown_links text symbols g h all spot line lines e is =
 
 pub ruleset none_next = (none_seen, none_valued, none_with)
 
--- what follows the first
+-- the list after its first item
 pub rest_of : {A : Type 0} (xs rest : List A) (x : A) → xs ≡ x ∷ rest → take (length xs - 1) (drop 1 xs) ≡ rest
 rest_of xs rest x e = first_of (search rules, grind (arith, common_steps))

@@ -1,4 +1,4 @@
--- In lines that are not refused each symbol comes to what its line says.
+-- In lines that are not refused, each symbol has the sum of its definition.
 use Rattle.std.proofs.Common.{◌≡◌, ℕ, Bool, true, false, cond, List, [], ◌∷◌, ◌++◌, Option, Some, None, is_some, refl, sym, ap, ◌∙◌, true≢false}
 use Rattle.std.specs.Map.{lookup}
 use Rattle.obj36_parts.proofs.SizeLaws.{same_self}
@@ -47,7 +47,7 @@ layout_first text first symbols spot (line ∷ lines) e =
     labels_first text line (here spot) symbols first line.labels
     (after_parts text first symbols spot line (layout_first text (refused_after text first symbols spot line) (symbols_after text symbols spot line) (below text spot line) lines e)).0
 
--- ---- a symbol that is defined comes to what it was given
+-- ---- a symbol has the sum of its definition
 
 ends_found : (b : Bool) (first its : Sum) (rest more : Option Sum) → is_some (cond b (Some first) rest) ≡ false → (is_some rest ≡ false → more ≡ Some its) → cond b (Some first) more ≡ Some its
 ends_found true first its rest more e next = absurd (true≢false e)
@@ -114,7 +114,7 @@ refusals_follow text first symbols spot [] lines = refl
 refusals_follow text first symbols spot (line ∷ above) lines =
     refusals_follow text (refused_after text first symbols spot line) (symbols_after text symbols spot line) (below text spot line) above lines
 
--- the line below some others is not refused
+-- the line after some others is not refused
 line_free : (text : List ℕ) (lines above : List Line36) (line : Line36) (others : List Line36) → lines ≡ above ++ line ∷ others → layout_refusal text None [] start lines ≡ None
     → refused_after text (layout_refusal text None [] start above) (symbols_from text [] start above) (end_of text start above) line ≡ None
 unfolding layout_refusal
@@ -125,7 +125,7 @@ line_free text lines above line others split e =
     layout_first text (refused_after text before symbols spot line) (symbols_after text symbols spot line) (below text spot line) others
     (sym (refusals_follow text None [] start above (line ∷ others)) ∙ sym (ap (layout_refusal text None [] start) split) ∙ e)
 
--- what the symbols are behind a line they are at the end
+-- the symbols that are defined after a line are still so at the end
 at_end : (text name : List ℕ) (its : Sum) (lines above : List Line36) (line : Line36) (others : List Line36) → lines ≡ above ++ line ∷ others
     → sum_named name (symbols_after text (symbols_from text [] start above) (end_of text start above) line) ≡ Some its → sum_named name (symbols_from text [] start lines) ≡ Some its
 unfolding symbols_from

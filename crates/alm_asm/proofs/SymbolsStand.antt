@@ -1,4 +1,4 @@
--- A symbol stays what its first definition says.
+-- A symbol keeps the sum of its first definition.
 use Rattle.std.proofs.Common.{◌≡◌, ℕ, Bool, true, false, cond, List, [], ◌∷◌, ◌++◌, Option, Some, None, is_some, sym, ap, true≢false}
 use Rattle.std.specs.Map.{lookup}
 use Rattle.alm_tokens.specs.declared.span.Span.{Span}

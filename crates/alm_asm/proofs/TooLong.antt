@@ -1,4 +1,5 @@
--- Parts of lines that are not refused are those of an object, unless this has more than 2^18 words.
+-- The parts of lines that are not refused are well formed, unless the object has more than 2^18
+-- words.
 use Rattle.std.proofs.Common.{◌≡◌, ℕ, ◌+◌, ◌*◌, ◌%◌, ◌^◌, ◌<◌, ◌≤◌, Bool, true, false, cond, ◌&&◌, ◌||◌, leb, eqb, List, [], ◌∷◌, ◌++◌, length, None, refl, sym, ◌∙◌, subst, true≢false, arith}
 use Rattle.std.specs.List.{list_all}
 use Rattle.std.proofs.lemmas.Bool.{and_from, le-leb, leb-true, eqb-false, eq-eqb}
@@ -35,7 +36,7 @@ use Rattle.alm_asm.proofs.GoodLinks.{links_good}
 use Rattle.alm_asm.proofs.GoodMarks.{Room, Good, limit, word_number, none_in_order, further_good, marks_good}
 use Rattle.alm_asm.proofs.PlaceLaws.{places_count, grows}
 
--- ---- parts by what they are made of
+-- ---- well-formed parts, one part after another
 
 abbrev made_of : Bool → List ℕ → List ℕ → List Named → List LinkFields → List RelocFields → ℕ → PartsFields
 made_of newer text statics definitions links marks bound =
@@ -122,7 +123,7 @@ evened_longer : (newer : Bool) (words : List ℕ) → length words ≤ length (e
 evened_longer true words = omega arith
 evened_longer false words = longer_by words (eqb (length words % 2) 0)
 
--- ---- room
+-- ---- bounds
 
 abbrev room_of : Bool → PartsFields → Room
 room_of newer p = record { text = length p.text; inner = length (inner_statics p); outer = length (outer_statics p); newer = newer }

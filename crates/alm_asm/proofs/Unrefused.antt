@@ -1,4 +1,4 @@
--- Where lines are not refused, nothing of them is.
+-- If lines are not refused, no part of them is.
 use Rattle.std.proofs.Common.{◌≡◌, ℕ, Bool, true, false, List, [], ◌∷◌, ◌++◌, Option, Some, None, is_some, refl, ap, ◌∙◌, true≢false}
 use Rattle.std.specs.Option.{option_or}
 use Rattle.alm_parse.specs.declared.args.Arg.{Arg}
@@ -60,7 +60,7 @@ pub other_lines : (text : List ℕ) (tables : Tables) (done : List Named) (spot 
     → lines_refusal text tables (definitions_after text tables.symbols done line) (below text spot line) lines ≡ None
 other_lines text tables done spot line lines e = (both_none text tables done spot line lines e).1
 
--- and where lines are not refused, none of those that they begin with is
+-- and if lines are not refused, no first part of them is
 pub lines_above : (text : List ℕ) (tables : Tables) (done : List Named) (spot : Spot) (above lines : List Line36)
     → lines_refusal text tables done spot (above ++ lines) ≡ None → lines_refusal text tables done spot above ≡ None
 unfolding lines_refusal
@@ -70,7 +70,7 @@ lines_above text tables done spot (line ∷ above) lines e =
     let rest : lines_refusal text tables (definitions_after text tables.symbols done line) (below text spot line) above ≡ None = lines_above text tables (definitions_after text tables.symbols done line) (below text spot line) above lines parts.1 in
     ap (λ r. option_or r (lines_refusal text tables (definitions_after text tables.symbols done line) (below text spot line) above)) parts.0 ∙ rest
 
--- nor the line below those
+-- nor is the line after these
 pub line_below : (text : List ℕ) (tables : Tables) (done : List Named) (spot : Spot) (above : List Line36) (line : Line36) (others : List Line36)
     → lines_refusal text tables done spot (above ++ line ∷ others) ≡ None → refusal_of_deed text tables (end_of text spot above) line line.deed ≡ None
 unfolding end_of
@@ -78,7 +78,8 @@ line_below text tables done spot [] line others e = (line_parts text tables done
 line_below text tables done spot (first ∷ above) line others e =
     line_below text tables (definitions_after text tables.symbols done first) (below text spot first) above line others (other_lines text tables done spot first (above ++ line ∷ others) e)
 
--- Where a source is not refused, neither are its symbols nor its lines by themselves, nor the words of its sections.
+-- If a source is not refused, neither are its symbols, its single lines, nor the lengths of its
+-- sections.
 parts_none :
     (source : Source) → refusal_of source ≡ None
     → ((layout_refusal source.text None [] start source.lines ≡ None) × (lines_refusal source.text (tables_of source.text source.lines) [] start source.lines ≡ None))

@@ -1,4 +1,4 @@
--- Where no symbol's definition is refused, an expression that is not refused has a value.
+-- If no definition of a symbol is refused, an expression that is not refused has a value.
 use Rattle.std.proofs.Common.{◌≡◌, ℕ, Bool, true, false, cond, not, ◌&&◌, ◌||◌, List, [], ◌∷◌, Option, Some, None, is_some, unwrap_or, refl, sym, ap, true≢false}
 use Rattle.std.proofs.lemmas.Bool.{or_from}
 use Rattle.alm_tokens.specs.declared.span.Span.{Span}
@@ -26,7 +26,7 @@ use Rattle.alm_asm.proofs.EachSymbol.{Each, each_of_none, each_with_labels, each
 use Rattle.alm_asm.proofs.SymbolsMean.{after_parts, layout_first}
 use Rattle.alm_asm.proofs.Unrefused.{sooner_none}
 
--- It stands on no `equ` that is refused.
+-- It does not depend on a refused `equ`.
 abbrev IsKnown : Sum → Type 0
 IsKnown sum = sum.unknown ≡ false
 

@@ -1,6 +1,6 @@
--- What an object is of lines, by what stands where. A line is told by the lines above it: it stands
--- at the spot that these end at, in the section that the last `use` line among them names, behind
--- the words that they place there.
+-- The relation of lines and their object, by what is where in it. The place of a line follows from
+-- the lines above it: the section that the last `use` line among them selects, after the words that
+-- they place there.
 use Rattle.std.specs.Prelude.{ℕ, ◌≡◌, ◌+◌, ◌%◌, Bool, true, false, ◌⊎◌, List, []}
 use Rattle.std.specs.Prelude.{◌∷◌, ◌++◌, length, replicate, Option, Some, None, is_some}
 use Rattle.std.specs.List.{list_any}
@@ -32,23 +32,23 @@ use Rattle.alm_asm.specs.declared.tables.Tables.{Tables}
 use Rattle.alm_parse.specs.declared.deed.Deed.{Deed}
 use Rattle.alm_parse.specs.declared.deed.Deed.TheVariants as deed
 
--- ---- words of the subject
+-- ---- terms of the relation
 
--- words that stand in others, behind so many of them
+-- words that are part of others, after the first `count` of these
 pub record StandsBehind (count : ℕ) (part words : List ℕ) : Type 0 where
   pub front : List ℕ
   pub rest : List ℕ
   pub whole : words ≡ front ++ part ++ rest
   pub place : length front ≡ count
 
--- where the line below some others is
+-- the place of the line after some others
 abbrev pub spot_below : Source → List Line36 → Spot
 spot_below source above = end_of source.text start above
 
 abbrev pub IsSplit : Source → List Line36 → Line36 → List Line36 → Type 0
 IsSplit source above line others = source.lines ≡ above ++ line ∷ others
 
--- what the symbols of a source come to, and its links
+-- the symbols of a source with their sums, and its links
 abbrev pub meaning_of : Source → Tables
 meaning_of source = tables_of source.text source.lines
 
@@ -94,14 +94,14 @@ is_entrybound line = is_bound line.deed
 
 -- ---- the relation
 
--- Each line stands in the text or, in all of a source, in static words of one kind.
+-- Each line is in the text or in static words, which are all of one kind in a source.
 abbrev pub SectionsStand : Source → Type 0
 SectionsStand source =
     (above : List Line36) (line : Line36) (others : List Line36) → IsSplit source above line others
     → ((spot_below source above).section ≡ Text) ⊎
     ((spot_below source above).section ≡ static_section (meaning_of source).uses_outer)
 
--- The words of a line in a section stand in the words of the section, behind those that the lines
+-- The words of each line of a section are in the words of the section, after those that the lines
 -- above it place there.
 abbrev pub PlacesIn : Source → Section → List ℕ → Type 0
 PlacesIn source section words =
@@ -110,17 +110,17 @@ PlacesIn source section words =
     → StandsBehind (count_in section (spot_below source above)) (words_placed source above line)
     words
 
--- So they do in the text, ..
+-- This holds for the text.
 abbrev pub PlacesText : Source → PartsFields → Type 0
 PlacesText source parts = PlacesIn source Text parts.text
 
--- .. and in the static words.
+-- This holds for the static words.
 abbrev pub PlacesStatics : Source → PartsFields → Type 0
 PlacesStatics source parts =
     PlacesIn source (static_section (meaning_of source).uses_outer) parts.statics
 
--- No other words stand there, but for one zero behind an odd count of static words in version 1:
--- the evening word.
+-- There are no other words, except that in version 1 one zero word follows an odd number of static
+-- words.
 abbrev pub evened_count : Bool → ℕ → ℕ
 evened_count true n = n
 evened_count false n = evened n
@@ -133,7 +133,7 @@ abbrev pub static_count : Source → ℕ
 static_count source =
     count_in (static_section (meaning_of source).uses_outer) (spot_below source source.lines)
 
--- A label comes to its place.
+-- The sum of each label is its place.
 abbrev pub LabelsMean : Source → Type 0
 LabelsMean source =
     (above : List Line36) (line : Line36) (others : List Line36) → IsSplit source above line others
@@ -141,8 +141,8 @@ LabelsMean source =
     → sum_named (name_at source.text span) (meaning_of source).symbols
     ≡ Some (here (spot_below source above))
 
--- The symbol of an `equ` comes to its number by the symbols above, and that of a `bss`
--- to its place.
+-- The sum of the symbol of each `equ` is its number by the symbols above, and that of each `bss` is
+-- its place.
 abbrev pub above_line : Source → List Line36 → Line36 → List (List ℕ × Sum)
 above_line source above line =
     labelled source.text (symbols_from source.text [] start above) (spot_below source above) line
@@ -164,7 +164,7 @@ is_external (Some (arg.Plain terms)) = false
 is_external (Some (arg.Operand pr segment entry terms tag)) = is_some segment
 is_external None = false
 
--- Each external operand is a link, which stands among the links.
+-- Each external operand is a link, and the list of links has it.
 abbrev pub LinksStand : Source → PartsFields → Type 0
 LinksStand source parts =
     (above : List Line36) (line : Line36) (others : List Line36) → IsSplit source above line others
@@ -175,11 +175,11 @@ LinksStand source parts =
     ≡ Some link)
     × (has_link link parts.links ≡ true)
 
--- No two links are the same; each stands in the order of its first use.
+-- No two links are the same.
 unfoldable pub are_apart : List LinkFields → Bool
 are_apart links = are_distinct_by same_link links
 
--- The entry bound is the place in the text at the last `entrybound` line, or 0.
+-- The entry bound is the place in the text of the last `entrybound` line.
 abbrev pub BoundIs : Source → PartsFields → Type 0
 BoundIs source parts =
     (above : List Line36) (line : Line36) (others : List Line36) → IsSplit source above line others
@@ -203,7 +203,7 @@ pub record Assembles (source : Source) (parts : PartsFields) : Type 0 where
   pub links_in_order :
       parts.links ≡ links_from source.text (meaning_of source).symbols [] start source.lines
   pub links_apart : are_apart parts.links ≡ true
-  -- operands name the links where the object has them
+  -- operands refer to the links where the object has them
   pub links_at : (meaning_of source).first_link ≡ first_link parts
   pub definitions :
       parts.definitions ≡ definitions_from source.text (meaning_of source).symbols [] source.lines

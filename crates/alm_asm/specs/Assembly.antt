@@ -1,4 +1,4 @@
--- What lines mean: the parts of an object, or the first refusal in the order of the text.
+-- The object of lines: its parts, or the first refusal in the order of the text.
 use Rattle.std.specs.Prelude.{ℕ, ◌%◌, ◌^◌, Bool, true, false, List, [], ◌∷◌}
 use Rattle.std.specs.Prelude.{Option, Some, None, option_map, Result, Ok, Err}
 use Rattle.m36_text.specs.Results.{unless}
@@ -30,8 +30,8 @@ use Rattle.alm_lines.specs.declared.refusal.Refusal.{Refusal}
 
 -- ---- tables
 
--- Links stand behind the words at the head of the linkage section and the static words there,
--- an even number.
+-- Links are in the linkage section after its head and the static words there, of which there is an
+-- even number.
 abbrev pub first_link : Spot → ℕ
 first_link ending = first_link_by ending.uses_outer (even_number ending.inner)
 
@@ -46,7 +46,7 @@ tables_of text lines =
 
 -- ---- the entry bound
 
--- the place in the text at the last `entrybound` line, or what it was
+-- the place in the text of the last `entrybound` line, or else the bound so far
 abbrev pub bound_by : Spot → ℕ → Deed → ℕ
 bound_by spot bound deed.Nothing = bound
 bound_by spot bound (deed.Instruction code bit27) = bound
@@ -67,17 +67,17 @@ bound_from text bound spot (line ∷ lines) =
 
 -- ---- the parts
 
--- where the static words are
+-- the section that has the static words
 abbrev pub static_section : Bool → Section
 static_section true = Static
 static_section false = Linkage
 
--- In version 1 one zero word follows an odd count of static words.
+-- In version 1 one zero word follows an odd number of static words.
 abbrev pub evened : Bool → List ℕ → List ℕ
 evened true words = words
 evened false words = evened_words words
 
--- the relocations of lines: those of the text, and behind them those of the static words
+-- the relocations of lines: those of the text, and then those of the static words
 abbrev pub relocations_of : List ℕ → Tables → List Line36 → List RelocFields
 relocations_of text tables lines =
     marks_from text tables.symbols (static_section tables.uses_outer)
@@ -115,7 +115,7 @@ refusal_in text lines =
 unfoldable pub refusal_of : Source → Option Refusal
 refusal_of source = refusal_in source.text source.lines
 
--- the tables of lines, unless one is refused
+-- the tables of lines, unless a line is refused
 abbrev pub unless_refused : List ℕ → List Line36 → Option Refusal → Result Tables AlmFault
 unless_refused text lines refusal = unless (option_map fault_of refusal) (tables_of text lines)
 
@@ -124,8 +124,8 @@ unfoldable pub last_line : ℕ → List Line36 → ℕ
 last_line number [] = number
 last_line number (line ∷ lines) = last_line line.line lines
 
--- Where no line is refused, an object for which no list of words stands is refused at the last
--- line: it has more than 2^18 words.
+-- If no line is refused but the parts are not well formed, the last line is refused: the object
+-- would have more than 2^18 words.
 abbrev pub made : PartsFields → ℕ → Bool → Result PartsFields AlmFault
 made parts number true = Ok parts
 made parts number false = Err (E8 number 1)

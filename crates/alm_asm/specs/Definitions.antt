@@ -1,4 +1,4 @@
--- Definitions: the names of `entry` and `segdef` lines in order, and what is refused of them.
+-- Definitions: the names of `entry` and `segdef` lines in order, and their refusals.
 use Rattle.std.specs.Prelude.{ℕ, Bool, true, false, not, ◌&&◌, List, [], ◌∷◌, ◌++◌, Option, Some}
 use Rattle.std.specs.Prelude.{None}
 use Rattle.alm_tokens.specs.declared.span.Span.{Span}
@@ -30,7 +30,7 @@ section_of Absolute = Text
 section_of (Moved section) = section
 section_of Unsaid = Text
 
--- a name with the section and the value of its symbol
+-- the definition of a name, with the section and the value of its symbol
 unfoldable pub named : List ℕ → List (List ℕ × Sum) → Bool → Span → Named
 named text symbols is_entry span =
     let sum = symbol_sum text symbols span in
@@ -55,7 +55,7 @@ with_names text symbols is_entry done [] = done
 with_names text symbols is_entry done (arg ∷ arguments) =
     with_names text symbols is_entry (done ++ named_by text symbols is_entry arg) arguments
 
--- whether a line gives definitions, and whether they are entries
+-- whether a line has definitions, and if so whether they are entries
 abbrev pub gives_entries : Deed → Option Bool
 gives_entries deed.Nothing = None
 gives_entries (deed.Instruction code bit27) = None
@@ -79,19 +79,19 @@ unfoldable pub definitions_after : List ℕ → List (List ℕ × Sum) → List 
 definitions_after text symbols done line =
     definitions_by text symbols done line.args (gives_entries line.deed)
 
--- the definitions of the lines, behind those so far
+-- the definitions of the lines, after those so far
 unfoldable pub definitions_from : List ℕ → List (List ℕ × Sum) → List Named → List Line36
     → List Named
 definitions_from text symbols done [] = done
 definitions_from text symbols done (line ∷ lines) =
     definitions_from text symbols (definitions_after text symbols done line) lines
 
--- ---- what is refused of them
+-- ---- refusals of definitions
 
 unfoldable pub is_taken : List Named → List ℕ → Bool
 is_taken done name = has_definition name done
 
--- an entry is a label of the text, another definition any label
+-- An entry must be a label of the text, another definition a label of any section.
 abbrev pub is_label_kind : Bool → Kind → Bool
 is_label_kind is_entry Absolute = false
 is_label_kind is_entry (Moved Text) = true

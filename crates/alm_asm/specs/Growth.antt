@@ -1,6 +1,6 @@
--- How the definition, linkage and symbol sections grow with the lines. Names, expressions, links
--- and relocations stand in them, of which no line gives the words itself. The other sections have
--- what the lines place there.
+-- The sizes of the definition, linkage and symbol sections after each line. These have names,
+-- expressions, links and relocations, whose words no line places itself. The other sections have
+-- only words that lines place.
 use Rattle.std.specs.Prelude.{ℕ, ◌≡◌, ◌≤◌, ◌+◌, Bool, true, false, ◌||◌, is_some}
 use Rattle.std.specs.Prelude.{if◌then◌else◌, List, [], ◌∷◌, ◌++◌, length, Option, Some, None}
 use Rattle.alm_tokens.specs.declared.span.Span.{Span}
@@ -35,8 +35,8 @@ use Rattle.alm_asm.specs.declared.growth.Growth.{Growth}
 use Rattle.alm_lines.specs.declared.refusal.Code.TheVariants.{E8}
 use Rattle.alm_lines.specs.declared.refusal.Refusal.{Refusal}
 
--- Of no lines the definition section has its two first words, and the symbol section the count of
--- the relocations.
+-- Before the first line the definition section has its two first words, and the symbol section the
+-- number of relocations.
 abbrev pub at_first : Growth
 at_first = record {
   names = [];
@@ -48,28 +48,28 @@ at_first = record {
 
 -- ---- names
 
--- A name takes its words where it does not stand yet.
+-- A name takes words at its first use.
 unfoldable pub with_name : Growth → List ℕ → Growth
 with_name g name =
     if is_some (sum_named name g.names) then g
     else record g
     { names = with_symbol g.names name no_sum; definition = g.definition + name_length name }
 
--- names one after another
+-- several names
 unfoldable pub with_names : Growth → List (List ℕ) → Growth
 with_names g [] = g
 with_names g (name ∷ names) = with_names (with_name g name) names
 
 -- ---- definitions
 
--- A definition has two words, and stands once.
+-- A definition has two words. Each name is counted once.
 unfoldable pub with_definition : Growth → List ℕ → Growth
 with_definition g name =
     if is_some (sum_named name g.defined) then g
     else with_name
     (record g { defined = with_symbol g.defined name no_sum; definition = g.definition + 2 }) name
 
--- A name of `entry` or `segdef` that is refused gives none.
+-- a definition of `entry` or `segdef` is counted unless it is refused
 abbrev pub with_unrefused : Option Refusal → Growth → List ℕ → Growth
 with_unrefused (Some refusal) g name = g
 with_unrefused None g name = with_definition g name
@@ -95,8 +95,8 @@ with_definitions text symbols line g (Some is_entry) =
 
 -- ---- links
 
--- A link has two words in the definition section, for its expression, with the names that it uses,
--- and two in the linkage section. It stands once.
+-- A link has two words for its expression in the definition section, the words of its names, and
+-- two words in the linkage section. Each link is counted once.
 unfoldable pub with_new_link : Growth → LinkFields → Growth
 with_new_link g link =
     with_names (record g { links = g.links ++ link ∷ []; definition = g.definition + 2 })
@@ -105,21 +105,21 @@ with_new_link g link =
 unfoldable pub with_link_once : Growth → LinkFields → Growth
 with_link_once g link = if has_link link g.links then g else with_new_link g link
 
--- the link that an operand gives, if any
+-- with the link of an operand, if it has one
 abbrev pub with_link_given : Growth → Option LinkFields → Growth
 with_link_given g None = g
 with_link_given g (Some link) = with_link_once g link
 
 -- ---- relocations
 
--- A relocation is a word of the symbol section. One whose expression gives no value is none.
+-- A relocation is a word of the symbol section. There is none for an expression without a value.
 abbrev pub mark_count : Bool → Kind → ℕ
 mark_count valued Absolute = 0
 mark_count valued (Moved section) = if valued then 1 else 0
 mark_count valued Unsaid = 0
 
--- what an expression has to fit in, and whether it may be a place of a section: behind an external
--- name it is a number
+-- The field that an expression must fit; whether it may be a place of a section. After an external
+-- name it must be a number.
 abbrev pub operand_room : Option ℕ → Option Span → Room
 operand_room pr (Some segment) = Half
 operand_room pr None = own_room pr
@@ -172,14 +172,14 @@ grown_by text symbols spot g line =
     (with_link_given (with_definitions text symbols line g (gives_entries line.deed))
     (link_in text symbols spot (first_arg (operand_args line.deed line.args))))
 
--- The linkage section has its head, static words and links. The zero behind an odd count of static
--- words is not counted: the limit is even, and so is all else there.
+-- The linkage section has its head, static words and links. The zero word after an odd number of
+-- static words is not counted: the limit is even, and so is the number of all other words.
 unfoldable pub is_over : Spot → Growth → Bool
 is_over spot g =
     is_over_limit g.definition || is_over_limit (linkage_length spot.inner (length g.links))
     || is_over_limit g.symbol
 
--- the refusal of the first line with which one of these sections has more words
+-- the refusal of the first line with which one of these sections is too long
 unfoldable pub growth_refusal : List ℕ → List (List ℕ × Sum) → Growth → Spot → List Line36
     → Option Refusal
 growth_refusal text symbols g spot [] = None
@@ -189,9 +189,9 @@ growth_refusal text symbols g spot (line ∷ lines) =
     else growth_refusal text symbols (grown_by text symbols spot g line) (below text spot line)
     lines
 
--- ---- how fast they grow
+-- ---- bounds of the growth
 
--- The definition section has so many words more at most, and the symbol section has what it had.
+-- The definition section has at most this many more words. The symbol section does not grow.
 pub record IsLarger (more : ℕ) (before after : Growth) : Type 0 where
   pub definition : after.definition ≤ before.definition + more
   pub symbol : after.symbol ≡ before.symbol

@@ -1,4 +1,4 @@
--- What the definitions say of places, symbols and parts of words, without going over the lines.
+-- Laws about places, symbols and parts of words.
 use Rattle.std.specs.Prelude.{ℕ, ◌≡◌, ◌%◌, ◌^◌, Bool, true, false, ◌&&◌, ◌||◌, nat_le, List, [], ◌∷◌}
 use Rattle.std.specs.Prelude.{◌++◌, length, Option, Some, None, is_some, Ok}
 use Rattle.alm_tokens.specs.Tokens.{slice_of}
@@ -33,14 +33,14 @@ use Rattle.alm_lines.specs.declared.sum.Balance.{Balance}
 use Rattle.alm_lines.specs.declared.sum.Sum.{Sum}
 use Rattle.alm_asm.specs.declared.tables.Tables.{Tables}
 
--- the sections in which lines place words
+-- whether lines can place words in a section
 abbrev pub holds_words : Section → Bool
 holds_words Text = true
 holds_words Linkage = true
 holds_words Symbol = false
 holds_words Static = true
 
--- A line's place in a section is the count of words that the lines above it place there.
+-- The place of a line in a section is the number of words that the lines above it place there.
 abbrev pub PlacesCount : Type 0
 PlacesCount =
     (text : List ℕ) (tables : Tables) (section : Section) (above : List Line36)
@@ -48,8 +48,7 @@ PlacesCount =
     → count_in section (end_of text start above)
     ≡ length (words_from text tables section [] start above)
 
--- The size of a line, whatever the line is, is the count of the words that it places in the section
--- in which it stands.
+-- The size of any line is the number of words that it places in its section.
 abbrev pub SizesCount : Type 0
 SizesCount =
     (text : List ℕ) (tables : Tables) (spot : Spot) (line : Line36)
@@ -64,23 +63,23 @@ WordsFollow =
     ≡ words_from text tables section (words_from text tables section [] start above)
     (end_of text start above) lines
 
--- A symbol that the lines above define stays what it is: the first line that defines it says what
--- it comes to.
+-- The sum of a symbol that the lines above define does not change: it is that of its first
+-- definition.
 abbrev pub SymbolsStay : Type 0
 SymbolsStay =
     (text : List ℕ) (above lines : List Line36) (name : List ℕ) (sum : Sum)
     → sum_named name (symbols_from text [] start above) ≡ Some sum
     → sum_named name (symbols_from text [] start (above ++ lines)) ≡ Some sum
 
--- The machine reads the offset behind a pointer register as the number that was written, modulo
+-- The machine reads the offset after a pointer register as the number that was written, modulo
 -- 2^18.
 abbrev pub OffsetsAreRead : Type 0
 OffsetsAreRead =
     (code : ℕ) (bit27 : Bool) (pr tag : ℕ) (b : Balance) → has_room Offset b ≡ true
     → pr_offset (pointed_inst code bit27 pr (offset_of b) tag) ≡ half_of b
 
--- The part of a word that a relocation of it names has what its expression comes to: an address, an
--- offset behind a pointer register, and each half. Of an external operand it has the place of the
+-- The part of a word that has a relocation holds the value of its expression: an address, an offset
+-- after a pointer register, or either half. For an external operand it holds the offset of the
 -- link.
 pub record PartsAreMarked : Type 0 where
   pub plain : (text : List ℕ) (tables : Tables) (spot : Spot) (code : ℕ) (bit27 : Bool)
@@ -108,8 +107,8 @@ pub record PartsAreMarked : Type 0 where
 
 -- ---- which objects are too long
 
--- Whether the names that lines use are names of an object. Those of a source that has
--- been read are.
+-- Whether the names that lines use can be names in an object. Those of a source that was parsed
+-- can.
 abbrev pub segment_is_named : List ℕ → Option Span → Bool
 segment_is_named text (Some segment) =
     is_some (own_section (slice_of text segment)) || is_name (name_at text segment)
@@ -135,8 +134,8 @@ unfoldable pub lines_are_named : List ℕ → List Line36 → Bool
 lines_are_named text [] = true
 lines_are_named text (line ∷ lines) = args_are_named text line.args && lines_are_named text lines
 
--- Where no line of a source that has been read is refused, the parts that the lines mean are those
--- of an object exactly where this has no more words than a segment may have.
+-- If no line of a source that was parsed is refused, the parts of its lines are well formed exactly
+-- if the object has no more words than a segment may have.
 abbrev pub OnlyTooLong : Type 0
 OnlyTooLong =
     (text : List ℕ) (source : Source) → parsed text ≡ Ok source → refusal_of source ≡ None

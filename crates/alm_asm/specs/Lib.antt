@@ -1,7 +1,7 @@
--- Read first: Assembles, the relation of lines and their object, by what stands where; and
--- Assembly, whose `assembled` is that object or the first refusal. The words of both are below:
--- what expressions come to and the symbols (of alm_lines), then each part of the object, then what
--- is refused of lines and when a section is too long. Laws has what follows for all sources.
+-- Read first: `Assembles`, the relation of lines and their object, by what is where in it; and
+-- `Assembly`, where `assembled` is this object or the first refusal. What they use is below: sums
+-- and symbols (of `alm_lines`), then each part of the object, then the refusals of lines and of
+-- lengths. `Laws` has what follows for all sources.
 pub use Rattle.alm_lines.specs.Sums
 pub use Rattle.alm_lines.specs.Symbols
 pub use Rattle.alm_lines.specs.Arguments

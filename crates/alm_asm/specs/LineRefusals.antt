@@ -1,4 +1,4 @@
--- What is refused of lines whose symbols are known.
+-- Refusals of lines, given the symbols of all lines.
 use Rattle.std.specs.Prelude.{ℕ, ◌+◌, Bool, true, false, not, ◌||◌, nat_lt, List, [], ◌∷◌, Option}
 use Rattle.std.specs.Prelude.{Some, None}
 use Rattle.std.specs.Option.{option_or}
@@ -42,7 +42,7 @@ op_place None = 0
 
 -- ---- operands
 
--- where the expression behind an external name begins: behind a sign
+-- the index where the expression after an external name begins: after a sign
 abbrev pub external_place : Span → Option Span → ℕ
 external_place segment (Some entry) = entry.to + 1
 external_place segment None = segment.to + 2
@@ -57,11 +57,11 @@ abbrev pub needs_static : Option Section → Bool
 needs_static (Some section) = is_static section
 needs_static None = false
 
--- Static words of their own are named only where the lines have some,
+-- A section of static words can be referred to only if the lines have one.
 abbrev pub may_name : Tables → Option Section → Bool
 may_name tables own = tables.uses_outer || not (needs_static own)
 
--- and a link lies in the reach of `pr4|`.
+-- A link must be in the reach of `pr4|`.
 unfoldable pub is_in_reach : List ℕ → Tables → Spot → Span → Option Span → List Term → ℕ → Bool
 is_in_reach text tables spot segment entry terms tag =
     nat_lt
@@ -72,13 +72,13 @@ abbrev pub own_room : Option ℕ → Room
 own_room (Some pr) = Offset
 own_room None = Half
 
--- what is refused of the expression behind an external name
+-- the refusal of the expression after an external name
 abbrev pub link_expression : List ℕ → List (List ℕ × Sum) → Spot → Line36 → Span → Option Span
     → List Term → Option Refusal
 link_expression text symbols spot line segment entry terms =
     number_refusal text symbols spot line terms (external_place segment entry)
 
--- An operand whose expression gives no value is no link, and nothing is said of its place.
+-- An operand whose expression has no value is not a link, so its place is not checked.
 unfoldable pub reaches : List ℕ → Tables → Spot → Span → Option Span → List Term → ℕ → Bool
 reaches text tables spot segment entry terms tag =
     not (has_number text tables.symbols spot terms)
@@ -154,7 +154,7 @@ refusal_of_deed text tables spot line deed.Bound = None
 
 -- ---- the lines
 
--- tables with these links
+-- the tables with other links
 abbrev pub with_links : Tables → List LinkFields → Tables
 with_links tables links = record tables { links = links }
 
@@ -164,8 +164,8 @@ line_refusal text tables done spot line =
     (definitions_refused text tables.symbols line done None line.args (gives_entries line.deed))
     (refusal_of_deed text tables spot line line.deed)
 
--- The refusal of the first line that is refused: what is refused of a line stands in it, before all
--- lines below.
+-- The refusal of the first line that is refused. It is earlier in the text than those of all lines
+-- below.
 unfoldable pub lines_refusal : List ℕ → Tables → List Named → Spot → List Line36 → Option Refusal
 lines_refusal text tables done spot [] = None
 lines_refusal text tables done spot (line ∷ lines) =

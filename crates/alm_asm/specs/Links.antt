@@ -74,7 +74,7 @@ operand_args deed.Block arguments = []
 operand_args deed.Even arguments = []
 operand_args deed.Bound arguments = []
 
--- An external operand whose expression gives no value is no link.
+-- An external operand whose expression has no value is not a link.
 abbrev pub link_by : List ℕ → List (List ℕ × Sum) → Spot → Option Span → Option Span → List Term → ℕ
     → Option LinkFields
 link_by text symbols spot (Some segment) entry terms tag =
@@ -92,7 +92,7 @@ link_in text symbols spot (Some (arg.Operand pr segment entry terms tag)) =
     link_by text symbols spot segment entry terms tag
 link_in text symbols spot None = None
 
--- the links with one at the end, where it is not among them
+-- the links with one at the end, unless they have it
 abbrev pub with_link : List LinkFields → Option LinkFields → List LinkFields
 with_link links None = links
 with_link links (Some link) = with_unless (has_link link links) links link
@@ -102,16 +102,16 @@ unfoldable pub links_after : List ℕ → List (List ℕ × Sum) → List LinkFi
 links_after text symbols links spot line =
     with_link links (link_in text symbols spot (first_arg (operand_args line.deed line.args)))
 
--- the links of the lines, behind those so far
+-- the links of the lines, after those so far
 unfoldable pub links_from : List ℕ → List (List ℕ × Sum) → List LinkFields → Spot → List Line36
     → List LinkFields
 links_from text symbols links spot [] = links
 links_from text symbols links spot (line ∷ lines) =
     links_from text symbols (links_after text symbols links spot line) (below text spot line) lines
 
--- ---- where a link stands
+-- ---- the place of a link
 
--- the offset of a link in the linkage section, whose links begin at a place
+-- the offset of a link in the linkage section, if the first link is at `first`
 unfoldable pub link_place : List LinkFields → ℕ → LinkFields → ℕ
 link_place links first link =
     word_of_link first (unwrap_or (position (same_link link) links) 0)

@@ -21,7 +21,7 @@ use Rattle.alm_lines.specs.SpotFields.{Spot}
 use Rattle.alm_parse.specs.declared.deed.Deed.{Deed}
 use Rattle.alm_parse.specs.declared.deed.Deed.TheVariants as deed
 
--- the relocation of a part of the word at a spot
+-- the relocation of a part of the word at this place
 abbrev pub mark : Spot → ℕ → Kind → List RelocFields
 mark spot part Absolute = []
 mark spot part (Moved target) =
@@ -33,7 +33,7 @@ mark spot part (Moved target) =
     } ∷ []
 mark spot part Unsaid = []
 
--- the part that an operand stands in, and what it is
+-- the part of the word that holds the value of an operand; the kind of this value
 abbrev pub operand_part : Option ℕ → Option Span → ℕ
 operand_part pr (Some segment) = offset_part
 operand_part (Some pr) None = offset_part
@@ -55,7 +55,7 @@ operand_mark text symbols spot (Some (arg.Operand pr segment entry terms tag)) =
     mark spot (operand_part pr segment) (operand_kind segment (sum_of text symbols spot terms))
 operand_mark text symbols spot None = []
 
--- the relocations with those of a line's word
+-- the relocations, with those of the word of a line
 abbrev pub marks_by : List ℕ → List (List ℕ × Sum) → Spot → List RelocFields → List Arg → Deed
     → List RelocFields
 marks_by text symbols spot marks arguments deed.Nothing = marks
@@ -81,7 +81,7 @@ marks_after text symbols section marks spot line =
     then marks_by text symbols spot marks line.args line.deed
     else marks
 
--- the relocations of the lines in a section, behind those so far
+-- the relocations of the lines in a section, after those so far
 unfoldable pub marks_from : List ℕ → List (List ℕ × Sum) → Section → List RelocFields → Spot
     → List Line36 → List RelocFields
 marks_from text symbols section marks spot [] = marks

@@ -1,4 +1,4 @@
--- The parts of an object, of what lines give.
+-- The parts of an object, made of what the lines place and define.
 use Rattle.std.specs.Prelude.{ℕ}
 use Rattle.obj36_parts.specs.PartsFields.{PartsFields}
 use Rattle.obj36_parts.specs.ObjectSegment.{version_of}

@@ -1,4 +1,5 @@
--- What is worked out once of each line: the value of its first argument, and the place of its link.
+-- Values that are computed once for each line: that of its first argument, and the index of its
+-- link.
 use Rattle.std.specs.Prelude.{ℕ, ◌≡◌, ◌<◌, Bool, true, false, nat_lt, List, [], ◌∷◌, ◌++◌, length, Option, Some, None}
 use Rattle.std.specs.List.{position}
 use Rattle.alm_parse.specs.declared.args.Arg.{Arg}
@@ -13,7 +14,7 @@ use Rattle.alm_lines.specs.SpotFields.{Spot}
 use Rattle.alm_asm.specs.Links.{operand_args, link_in}
 use Rattle.alm_asm.specs.declared.seen.Seen.{Seen}
 
--- how many links precede one
+-- the index of a link in a list
 abbrev pub place_in : List LinkFields → Option LinkFields → Option ℕ
 place_in links None = None
 place_in links (Some link) = position (same_link link) links
@@ -26,7 +27,7 @@ seen_of text symbols links spot line =
           (link_in text symbols spot (first_arg (operand_args line.deed line.args)));
     }
 
--- Only lines with arguments have an element: the others have no value and no link.
+-- Only lines with arguments have an entry. The others have no value and no link.
 unfoldable pub seen_with : List Arg → Seen → List Seen → List Seen
 seen_with [] seen later = later
 seen_with (argument ∷ arguments) seen later = seen ∷ later
@@ -42,12 +43,12 @@ seen_from text symbols links spot (line ∷ lines) =
     seen_with line.args (seen_of text symbols links spot line)
     (seen_from text symbols links (below text spot line) lines)
 
--- whether there is a place, below a count
+-- whether there is an index, and it is below a count
 abbrev pub is_below : Option ℕ → ℕ → Bool
 is_below None count = false
 is_below (Some place) count = nat_lt place count
 
--- A link whose place is among the first of all links is one of these.
+-- Each link whose index among all links is below the length of `some` is in `some`.
 pub record AreFirst (some all : List LinkFields) : Type 0 where
   pub each : (l : LinkFields) (place : ℕ) → position (same_link l) all ≡ Some place
       → place < length some → has_link l some ≡ true

@@ -24,7 +24,7 @@ use Rattle.alm_parse.specs.declared.deed.Deed.TheVariants as deed
 
 -- ---- instructions
 
--- an instruction with an address, and one with an offset behind a pointer register
+-- an instruction with an address; one with an offset after a pointer register
 abbrev pub plain_inst : ℕ → Bool → ℕ → ℕ → InstFields
 plain_inst code bit27 y tag =
     record {
@@ -96,12 +96,12 @@ words_by text tables spot arguments deed.Block = replicate (number_in (second_ar
 words_by text tables spot arguments deed.Even = replicate (place spot % 2) 0
 words_by text tables spot arguments deed.Bound = []
 
--- what a line places in a section
+-- the words that a line places in a section
 unfoldable pub words_of_line : List ℕ → Tables → Section → Spot → Line36 → List ℕ
 words_of_line text tables section spot line =
     if same_section spot.section section then words_by text tables spot line.args line.deed else []
 
--- the words of the lines in a section, behind those so far
+-- the words of the lines in a section, after those so far
 unfoldable pub words_from : List ℕ → Tables → Section → List ℕ → Spot → List Line36 → List ℕ
 words_from text tables section words spot [] = words
 words_from text tables section words spot (line ∷ lines) =

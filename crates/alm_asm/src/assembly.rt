@@ -1,4 +1,4 @@
-//! Objects of lines.
+//! Assembles lines into an object.
 
 ghost use Rattle.std.specs.Prelude.{ℕ, [], ◌≡◌, ◌^◌, ◌<◌, length};
 ghost use Rattle.std.specs.Prelude.{Option, None, Ok, IfOk, true};
@@ -41,8 +41,8 @@ fn first_link(ending: Spot) -> Count
     Count::of(HEAD_WORDS as u128 + (ending.inner + ending.inner % 2))
 }
 
-/// The tables of lines, what is seen of the lines, and the first refusal of a symbol's definition or of a section's
-/// length.
+/// The tables of lines, the values of the lines, and the first refusal of the layout: of the
+/// definition of a symbol or of the length of a section.
 #[derive(Drop)]
 struct Found {
     tables: Tables,
@@ -50,7 +50,7 @@ struct Found {
     refused: Option<Refusal>,
 }
 
-// The links of lines, and what is seen of the lines.
+// The links of lines, and the values of the lines.
 #[derive(Drop)]
 struct Linked {
     links: Links,
@@ -73,7 +73,7 @@ fn linked_in(
     match see_lines(alloc, text, symbols, &mut links, lines) {
         Ok(seen) => Ok(Linked { links, seen }),
         Err(fault) => {
-            // Dropped by a call: so the drop is proved once for its type.
+            // Dropped explicitly, so that the drop is proved once for its type.
             drop(links);
             Err(fault)
         }
@@ -106,14 +106,14 @@ fn found_in(alloc: Global, text: &[u8], lines: &[Line36]) -> Result<Found, NoMem
             refused: layout.refused,
         }),
         Err(fault) => {
-            // Dropped by a call: so the drop is proved once for its type.
+            // Dropped explicitly, so that the drop is proved once for its type.
             drop(layout);
             Err(fault)
         }
     }
 }
 
-// The first refusal, behind that of the layout.
+// The first refusal in the order of the text. `found` is that of the layout.
 fn first_refusal(
     alloc: Global,
     text: &[u8],
@@ -123,7 +123,8 @@ fn first_refusal(
     seen: &[Seen],
 ) -> Result<Option<Refusal>, NoMemory>
     requires count { length lines.now < 2 ^ 32 }
-    requires seen { seen.now ≡ seen_from text.now tables.now.symbols tables.now.links start lines.now }
+    requires seen { seen.now
+        ≡ seen_from text.now tables.now.symbols tables.now.links start lines.now }
     requires links { tables.now.links ≡ links_from text.now tables.now.symbols [] start lines.now }
     ensures { IfOk result (λ r.
         r
@@ -136,7 +137,7 @@ fn first_refusal(
     Ok(sooner(sooner(found, refused), grown))
 }
 
-// The tables of lines, or the first refusal; and what is seen of the lines.
+// The tables of lines, or the first refusal. Sets `seen` to the values of the lines.
 #[tactic(auto, using(crate::proofs::AssemblyLaws::telling))]
 fn tables_in(
     alloc: Global,
@@ -159,7 +160,7 @@ fn tables_in(
     match first_refusal(alloc, text, refused, &tables, lines, seen.items()) {
         Ok(None) => Ok(tables),
         Ok(Some(refusal)) => {
-            // Dropped by a call: so the drop is proved once for its type.
+            // Dropped explicitly, so that the drop is proved once for its type.
             drop(tables);
             Err(fault_of(refusal))
         }
@@ -183,7 +184,7 @@ fn last_line(lines: &[Line36]) -> u32
     number
 }
 
-// The object of the parts of one.
+// The object with these parts, which are well formed.
 fn object_made(alloc: Global, parts: Parts) -> Result<Object, AlmFault>
     requires { is_well_formed parts ≡ true }
     ensures { ParseSays result (Ok parts) }
@@ -191,20 +192,20 @@ fn object_made(alloc: Global, parts: Parts) -> Result<Object, AlmFault>
     Ok(Object::new(alloc, parts)?)
 }
 
-// The object of parts, if they are those of one.
+// The object with these parts if they are well formed; otherwise E8 at line `number`.
 fn object_of(alloc: Global, parts: Parts, number: u32) -> Result<Object, AlmFault>
     ensures { ParseSays result (made parts number (is_well_formed parts)) }
 {
     if parts.is_object() {
         object_made(alloc, parts)
     } else {
-        // Dropped by a call: so the drop is proved once for its type.
+        // Dropped explicitly, so that the drop is proved once for its type.
         drop(parts);
         Err(AlmFault::E8(number, 1))
     }
 }
 
-// The object of lines with these tables.
+// The object of lines with these tables and values.
 fn object_with(
     alloc: Global,
     text: &[u8],
@@ -222,7 +223,7 @@ fn object_with(
     object_of(alloc, parts, last_line(lines))
 }
 
-// What lines mean, and what is seen of them.
+// The object of lines, or the first refusal. Sets `seen` to the values of the lines.
 fn meaning_seen(alloc: Global, lines: &Lines36, seen: &mut SeenLines) -> Result<Object, AlmFault>
     ensures { ParseSays result (assembled lines.now) }
 {
@@ -234,20 +235,22 @@ fn meaning_seen(alloc: Global, lines: &Lines36, seen: &mut SeenLines) -> Result<
     }
 }
 
-// What lines mean: the parts of an object, or the first refusal.
+// The object of lines, or the first refusal.
 fn meaning(alloc: Global, lines: &Lines36) -> Result<Object, AlmFault>
     ensures { ParseSays result (assembled lines.now) }
 {
     let mut seen = SeenLines::new(alloc);
     let object = meaning_seen(alloc, lines, &mut seen);
-    // Dropped by a call: so the drop is proved once for its type.
+    // Dropped explicitly, so that the drop is proved once for its type.
     drop(seen);
     object
 }
 
-/// The object of lines. It is refused exactly where a line is, with the first of the codes E5 to E8 in the order of the
-/// text, and the least of them at one place; or else where it has more than 2^18 words, with E8 at the last line; or where
-/// no memory is found.
+/// Assembles lines into an object. If a line is refused, the error is the first of the codes E5 to
+/// E8 in the order of the text, and the least of them at one place. Otherwise, if there is no
+/// object with these parts, it is E8 at the last line. For a source that was parsed, that is
+/// exactly if the object would have more than 2^18 words ([`assembly_laws`](crate::assembly_laws)).
+/// It may also be `NoMemory`.
 #[tactic(auto, using(crate::proofs::Assembling::says_assembles))]
 pub fn assemble(alloc: Global, lines: &Lines36) -> Result<Object, AlmFault>
     ensures says { ParseSays result (assembled lines.now) }

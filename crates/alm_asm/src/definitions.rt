@@ -1,4 +1,4 @@
-//! Definitions: the names of `entry` and `segdef` lines in order, and what is refused of them.
+//! Definitions: the names of `entry` and `segdef` lines in order, and their refusals.
 
 ghost use Rattle.std.specs.Prelude.{ℕ, Bool, List, [], ◌∷◌, ◌++◌, ◌≡◌, Option, OnOk, IfOk};
 ghost use Rattle.std.specs.List.{list_any};
@@ -59,7 +59,7 @@ fn push_named(
     }
 }
 
-/// Whether a line gives definitions, and whether they are entries.
+/// Whether a line has definitions, and if so whether they are entries.
 pub fn gives_entries(deed: Deed) -> Option<bool>
     ensures { result ≡ gives_entries deed }
 {
@@ -104,7 +104,8 @@ fn is_label(is_entry: bool, sum: Sum) -> bool
     has_room(Room::Half, sum.value) && is_label_kind(is_entry, sum.kind())
 }
 
-/// What refuses a name of `entry` or `segdef`, by what its symbol comes to.
+/// The refusal of a name of `entry` or `segdef`: E6 if its symbol is not defined, E7 if the sum of
+/// the symbol is not that of a suitable label.
 pub fn sum_refusal(line: &Line36, at: u64, is_entry: bool, sum: Option<Sum>) -> Option<Refusal>
     ensures { result ≡ sum_refusal line.now at is_entry sum }
 {
@@ -179,7 +180,8 @@ fn push_names(
     Ok(first)
 }
 
-/// Adds the definitions that a line gives, and tells the first refusal of them or one that comes before.
+/// Adds the definitions of a line. Returns the first refusal of one of them, or `refused` if that
+/// is earlier.
 #[tactic(auto, unfolding(crate::specs::Definitions::definitions_after))]
 pub fn push_definitions(
     text: &[u8],
@@ -201,7 +203,7 @@ pub fn push_definitions(
     }
 }
 
-/// The definitions of lines.
+/// The definitions of lines. Fails only with `NoMemory`.
 #[tactic(auto, unfolding(crate::specs::Definitions::definitions_from))]
 pub fn definitions_of(
     alloc: Global,

@@ -1,4 +1,4 @@
-//! How the definition, linkage and symbol sections grow with the lines, and the line with which one has too many words.
+//! Finds the first line with which the definition, linkage or symbol section is too long.
 
 ghost use Rattle.std.specs.Prelude.{ℕ, false, [], ◌∷◌, ◌≡◌, ◌+◌, ◌*◌, ◌^◌, ◌<◌};
 ghost use Rattle.std.specs.Prelude.{◌≤◌, length, if◌then◌else◌, Option, OnOk, IfOk};
@@ -35,8 +35,9 @@ use obj36_parts::names::{has_its_entry, has_its_name};
 use obj36_parts::sections::HEAD_WORDS;
 use std::alloc::Global;
 
-/// What the lines so far give to these sections: the names that stand, those that are defined, each once and with a number that says
-/// nothing, and the links; and how many words the definition and the symbol section have.
+/// The sizes of these sections with the lines so far: the names that are used and those that are
+/// defined, each once (their sums have no meaning), the links, and the numbers of words of the
+/// definition and the symbol section.
 #[derive(Drop)]
 pub struct Growth {
     pub names: Symbols,
@@ -163,7 +164,7 @@ fn take_arg(
     }
 }
 
-// A line has fewer than 2^64 arguments.
+// A line has fewer than 2^64 arguments, so the number of words does not overflow.
 #[tactic(auto, using(crate::proofs::GrowthLaws::larger_more), unfolding(crate::specs::Growth::with_args))]
 fn take_args(
     text: &[u8],
@@ -203,7 +204,7 @@ fn take_definitions(
     }
 }
 
-// Whether the link at a place is one of the first so many.
+// Whether a link has an index, and this is below `count`.
 fn is_noted(place: Option<u64>, count: usize) -> bool
     ensures { result ≡ is_below place count }
 {
@@ -310,7 +311,8 @@ fn take_link(
     ensures value { OnOk result
         (growth.new
         ≡ with_link_given growth.old
-        (link_in text.now symbols.now spot (first_arg (operand_args line.now.deed line.now.args)))) }
+        (link_in text.now symbols.now spot
+        (first_arg (operand_args line.now.deed line.now.args)))) }
 {
     match line.deed {
         Deed::Instruction(_, _) => {
@@ -471,7 +473,8 @@ fn take_line(
     Ok(())
 }
 
-// The refusal of the first line with which one of these sections has too many words, behind what has been given.
+// The refusal of the first line with which one of these sections is too long, given their sizes
+// before the lines.
 #[tactic(auto, using(alm_lines::proofs::Rooms::rooms), unfolding(crate::specs::Growth::growth_refusal))]
 fn take_lines(
     alloc: Global,
@@ -516,8 +519,8 @@ fn take_lines(
     Ok(None)
 }
 
-/// The refusal of the first line with which one of these sections has too many words. The error is want of
-/// memory alone.
+/// The refusal of the first line with which one of these sections is too long. Fails only with
+/// `NoMemory`.
 pub fn growth_refusal(
     alloc: Global,
     text: &[u8],
@@ -535,7 +538,7 @@ pub fn growth_refusal(
 {
     let mut growth = Growth::start(alloc, tables.symbols.seed());
     let refused = take_lines(alloc, text, tables, lines, seen, &mut growth);
-    // Dropped by a call: so the drop is proved once for its type.
+    // Dropped explicitly, so that the drop is proved once for its type.
     drop(growth);
     refused
 }

@@ -1,17 +1,20 @@
-//! The assembler: objects of lines that have been read.
+//! The assembler: makes an object of parsed lines.
 //!
-//! Each line places words in the section that the last `use` line above it names: the text, the static words of the
-//! linkage section, or those of a section of their own. A label is its place there, the symbol of an `equ` the number of
-//! its expression. The words are the instructions of the table, with what their expressions come to, and the numbers and
-//! characters that are given. An external operand is a link; equal links are one.
+//! Each line places words in the section that the last `use` line above it selects: the text, the
+//! static words of the linkage section, or those of a static section. The value of a label is its
+//! place there, and that of the symbol of an `equ` is the number of its expression. The words are
+//! instructions with the values of their expressions, numbers, and characters. An external operand
+//! is a link. Equal links are one link.
 //!
-//! What is promised: `assemble` gives the object that the lines mean, or the first refusal in the order of the text, and the
-//! least code of those at one place; want of memory may come at any time. `specs/Assembles` says what stands where in the
-//! object of lines, `specs/Assembly` what each part of it is, and which refusal comes first. The offset behind a pointer
-//! register is read as the number that was written, and the part of a word that a relocation names has what its expression
-//! comes to ([`assembly_laws`]).
+//! `assemble` returns the object of the lines. If a line is refused, it returns the first refusal
+//! in the order of the text, and of two at one place that with the lesser code. It fails with
+//! `NoMemory` if memory runs out. `specs/Assembles.antt` states what is where in the object, and
+//! `specs/Assembly.antt` defines each part of it and the first refusal. The machine reads the
+//! offset after a pointer register as the number that was written, and the part of a word that has
+//! a relocation holds the value of its expression ([`assembly_laws`]).
 //!
-//! Source: the language is this project's own; its instructions are those of the Multics Processor Manual AL39.
+//! Source: the language is this project's own. Its instructions are those of the Multics Processor
+//! Manual AL39.
 #![tactic(auto)]
 
 pub mod assembly;

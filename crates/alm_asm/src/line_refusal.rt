@@ -1,4 +1,4 @@
-//! What is refused of lines whose symbols are known.
+//! Refusals of lines, given the symbols of all lines.
 
 ghost use Rattle.std.specs.Prelude.{ℕ, [], ◌≡◌, ◌+◌, ◌^◌, ◌<◌, ◌≤◌, length};
 ghost use Rattle.std.specs.Prelude.{Option, OnOk, IfOk, nat_lt, unwrap_or};
@@ -74,7 +74,8 @@ fn may_name(tables: &Tables, own: Option<Section>) -> bool
     tables.uses_outer || !needs_static(own)
 }
 
-/// What the expression of an operand has to fit in.
+/// The field that the expression of an operand must fit: the offset after a pointer register, or
+/// half a word.
 pub fn own_room(pr: Option<u8>) -> Room
     ensures { result ≡ own_room pr }
 {
@@ -106,7 +107,7 @@ fn link_expression_refusal(
     value_refused(text, symbols, spot, line, terms, wanted, value)
 }
 
-// Whether the link that so many links precede is in the reach of `pr4|`.
+// Whether the link with this index is in the reach of `pr4|`, below 2^14 words.
 fn is_in_reach(first: Count, place: Option<u64>) -> bool
     ensures { result ≡ nat_lt (word_of_link first (unwrap_or place 0)) offset_limit }
 {
@@ -321,7 +322,7 @@ fn refusal_of_deed(
     }
 }
 
-// What is refused of a line, which is seen so.
+// The refusal of a line with these values, if it is refused. Adds its definitions to `done`.
 #[tactic(auto, unfolding(crate::specs::LineRefusals::line_refusal))]
 fn take_line(
     text: &[u8],
@@ -347,7 +348,7 @@ fn take_line(
     Ok(sooner(names, own))
 }
 
-// The refusal of the first of the lines that is refused, after these definitions.
+// The first refusal of a line. `done` has the definitions of the lines above.
 #[tactic(auto, using(alm_lines::proofs::Rooms::rooms), unfolding(crate::specs::LineRefusals::lines_refusal))]
 fn take_lines(
     alloc: Global,
@@ -378,7 +379,7 @@ fn take_lines(
     Ok(None)
 }
 
-/// The refusal of the first of the lines that is refused. The error is want of memory alone.
+/// The first refusal of a line. Fails only with `NoMemory`.
 pub fn lines_refusal(
     alloc: Global,
     text: &[u8],
@@ -394,7 +395,7 @@ pub fn lines_refusal(
 {
     let mut done = Defs::new(alloc, tables.symbols.seed());
     let refused = take_lines(alloc, text, tables, lines, seen, &mut done);
-    // Dropped by a call: so the drop is proved once for its type.
+    // Dropped explicitly, so that the drop is proved once for its type.
     drop(done);
     refused
 }

@@ -62,7 +62,7 @@ fn entry_name(text: &[u8], entry: Option<Span>) -> Name
     }
 }
 
-/// The link of an external operand, whose expression has this value.
+/// The link of an external operand. `value` is that of its expression.
 #[tactic(auto, unfolding(crate::specs::Links::link_of, alm_lines::specs::Values::evaluated))]
 pub fn link_of(
     text: &[u8],
@@ -88,7 +88,7 @@ pub fn link_of(
     }
 }
 
-// The link of an external operand, which is none where its expression gives no value.
+// The link of an external operand. None if its expression has no value.
 fn external_link(
     text: &[u8],
     symbols: &Symbols,
@@ -131,14 +131,14 @@ fn link_in(text: &[u8], symbols: &Symbols, spot: Spot, args: &[Arg], value: Valu
     }
 }
 
-/// Two sections are the same.
+/// Whether two sections are the same.
 pub fn same_section(a: Section, b: Section) -> bool
     ensures { result ≡ same_section a b }
 {
     number(a) == number(b)
 }
 
-// Adds a link unless it is among the links, and returns how many links precede it.
+// Adds a link, unless the list has it. Returns the index of the link.
 fn add_link(links: &mut Links, link: Link) -> Result<u64, NoMemory>
     ensures links { OnOk result (links.new ≡ with_link links.old (Option.Some link)) }
     ensures place { IfOk result (λ place. position (same_link link) links.new ≡ Option.Some place) }
@@ -151,7 +151,7 @@ fn add_link(links: &mut Links, link: Link) -> Result<u64, NoMemory>
     Ok(place)
 }
 
-// Notes the link that an operand gives, if it gives one.
+// Adds the link of an operand, if it has one. Returns the index of the link.
 fn note_given(links: &mut Links, link: Option<Link>) -> Result<Option<u64>, NoMemory>
     ensures links { OnOk result (links.new ≡ with_link links.old link) }
     ensures place { IfOk result (λ place. place ≡ place_in links.new link) }
@@ -165,8 +165,8 @@ fn note_given(links: &mut Links, link: Option<Link>) -> Result<Option<u64>, NoMe
     }
 }
 
-/// Notes the link of a line behind those of the lines above, where its first argument has this
-/// value, and returns how many links precede it. The error is want of memory alone.
+/// Adds the link of a line, if it has one, and returns the index of the link. `value` is that of
+/// the first argument. Fails only with `NoMemory`.
 #[tactic(auto, unfolding(crate::specs::Links::links_after))]
 pub fn note_link(
     text: &[u8],
@@ -182,7 +182,8 @@ pub fn note_link(
     ensures place { IfOk result (λ place.
         place
         ≡ place_in links.new
-        (link_in text.now symbols.now spot (first_arg (operand_args line.now.deed line.now.args)))) }
+        (link_in text.now symbols.now spot
+        (first_arg (operand_args line.now.deed line.now.args)))) }
 {
     match line.deed {
         Deed::Instruction(_, _) => {
@@ -202,15 +203,15 @@ pub fn note_link(
     }
 }
 
-/// The offset in the linkage section of the link that so many links precede, where the first has an
-/// offset.
+/// The offset in the linkage section of the link with this index, counted from 0; that of the first
+/// link if there is no index. `first` is the offset of the first link.
 pub fn offset_of_link(first: Count, place: Option<u64>) -> u128
     ensures { result ≡ word_of_link first (unwrap_or place 0) }
 {
     first.value() + 2 * (place.unwrap_or(0) as u128)
 }
 
-/// The offset of a link in the linkage section, whose links begin at a place.
+/// The offset of a link in the linkage section. `first` is the offset of the first link.
 #[tactic(auto, unfolding(crate::specs::Links::link_place))]
 pub fn link_place(links: &Links, first: Count, link: &Link) -> u128
     ensures { result ≡ link_place links.now first link.now }

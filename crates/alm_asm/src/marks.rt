@@ -1,4 +1,5 @@
-//! Relocations: the parts of words whose expressions are places of a section, and the offsets of links.
+//! Relocations: the parts of words whose expressions are places of a section, and the offsets of
+//! links.
 
 ghost use Rattle.std.specs.Prelude.{ℕ, List, [], ◌∷◌, ◌++◌, ◌≡◌, ◌%◌, ◌^◌, ◌<◌, length, Option};
 ghost use Rattle.std.specs.Prelude.{OnOk, IfOk};
@@ -49,7 +50,8 @@ fn operand_part(pr: Option<u8>, segment: Option<Span>) -> u8
     }
 }
 
-/// What an operand is in its word: the place of a link, or of the kind of its expression.
+/// The kind of the value in the word of an operand: a place of the linkage section for an external
+/// one, otherwise that of its expression.
 pub fn kind_given(segment: Option<Span>, kind: Kind) -> Kind
     ensures { result ≡ kind_given segment kind }
 {
@@ -157,7 +159,7 @@ fn take_line(
     push_marks(text, symbols, spot, line.args.items(), value, deed, marks)
 }
 
-/// Adds the relocations of lines in a section. The error is want of memory alone.
+/// Adds the relocations of the lines that place words in a section. Fails only with `NoMemory`.
 #[tactic(auto, using(alm_lines::proofs::Rooms::rooms), unfolding(crate::specs::Marks::marks_from))]
 pub fn push_marks_in(
     alloc: Global,

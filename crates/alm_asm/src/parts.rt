@@ -1,4 +1,4 @@
-//! The parts of the object of lines, by their tables.
+//! The parts of the object of lines, given their tables.
 
 ghost use Rattle.std.specs.Prelude.{[], ◌≡◌, ◌^◌, ◌<◌, length, OnOk, IfOk};
 ghost use Rattle.alm_lines.specs.Spots.{start};
@@ -85,7 +85,8 @@ fn statics_of(
     seen: &[Seen],
 ) -> Result<Words, NoMemory>
     requires count { length lines.now < 2 ^ 32 }
-    requires seen { seen.now ≡ seen_from text.now tables.now.symbols tables.now.links start lines.now }
+    requires seen { seen.now
+        ≡ seen_from text.now tables.now.symbols tables.now.links start lines.now }
     ensures { IfOk result (λ words.
         words
         ≡ evened tables.now.uses_outer
@@ -106,7 +107,8 @@ fn relocations_of(
     seen: &[Seen],
 ) -> Result<Relocs, NoMemory>
     requires count { length lines.now < 2 ^ 32 }
-    requires seen { seen.now ≡ seen_from text.now tables.now.symbols tables.now.links start lines.now }
+    requires seen { seen.now
+        ≡ seen_from text.now tables.now.symbols tables.now.links start lines.now }
     ensures { IfOk result (λ marks. marks ≡ relocations_of text.now tables.now lines.now) }
 {
     let mut marks = Relocs::new(alloc);
@@ -131,7 +133,8 @@ fn placed_in(
     seen: &[Seen],
 ) -> Result<Placed, NoMemory>
     requires count { length lines.now < 2 ^ 32 }
-    requires seen { seen.now ≡ seen_from text.now tables.now.symbols tables.now.links start lines.now }
+    requires seen { seen.now
+        ≡ seen_from text.now tables.now.symbols tables.now.links start lines.now }
     ensures text { IfOk result (λ placed.
         placed.text ≡ words_from text.now tables.now Text [] start lines.now) }
     ensures statics { IfOk result (λ placed.
@@ -163,7 +166,8 @@ fn noted_in(
     seen: &[Seen],
 ) -> Result<Noted, NoMemory>
     requires count { length lines.now < 2 ^ 32 }
-    requires seen { seen.now ≡ seen_from text.now tables.now.symbols tables.now.links start lines.now }
+    requires seen { seen.now
+        ≡ seen_from text.now tables.now.symbols tables.now.links start lines.now }
     ensures definitions { IfOk result (λ noted.
         noted.definitions ≡ definitions_from text.now tables.now.symbols [] lines.now) }
     ensures relocations { IfOk result (λ noted.
@@ -177,7 +181,7 @@ fn noted_in(
     })
 }
 
-/// All that lines give by their tables.
+/// All that the lines place in an object except the links.
 #[derive(Drop)]
 struct Contents {
     placed: Placed,
@@ -185,7 +189,7 @@ struct Contents {
     entry_bound: u32,
 }
 
-// The parts, of which the tables' links become part.
+// The parts of the object, which take the links from the tables.
 fn parts_of(tables: Tables, contents: Contents) -> Parts
     requires { contents.entry_bound < 2 ^ 18 }
     ensures { result ≡ parts_by tables contents.placed contents.noted contents.entry_bound }
@@ -210,7 +214,8 @@ fn contents_of(
     seen: &[Seen],
 ) -> Result<Contents, NoMemory>
     requires count { length lines.now < 2 ^ 32 }
-    requires seen { seen.now ≡ seen_from text.now tables.now.symbols tables.now.links start lines.now }
+    requires seen { seen.now
+        ≡ seen_from text.now tables.now.symbols tables.now.links start lines.now }
     ensures bound { IfOk result (λ contents. contents.entry_bound < 2 ^ 18) }
     ensures parts { IfOk result (λ contents.
         parts_by tables.now contents.placed contents.noted contents.entry_bound
@@ -226,7 +231,7 @@ fn contents_of(
     })
 }
 
-// The parts of lines with these tables.
+// The parts of the object of lines with these tables and values.
 pub(crate) fn parts_with(
     alloc: Global,
     text: &[u8],
@@ -241,7 +246,7 @@ pub(crate) fn parts_with(
     match contents_of(alloc, text, &tables, lines, seen) {
         Ok(contents) => Ok(parts_of(tables, contents)),
         Err(fault) => {
-            // Dropped by a call: so the drop is proved once for its type.
+            // Dropped explicitly, so that the drop is proved once for its type.
             drop(tables);
             Err(fault)
         }

@@ -1,4 +1,4 @@
-//! What is worked out once of each line, and kept beside the lines.
+//! Values of lines that are computed once and kept, since several passes need them.
 
 ghost use Rattle.std.specs.Prelude.{ℕ, List, [], ◌∷◌, ◌++◌, ◌≡◌, ◌^◌, ◌<◌, length, OnOk, OnErr, IfOk};
 ghost use Rattle.alm_lines.specs.Arguments.{first_arg, terms_in};
@@ -18,15 +18,15 @@ use obj36::Links;
 use std::alloc::Global;
 use std::marker::Model;
 
-/// What is seen of a line with arguments: the value of the first of them, and how many links precede the link of its operand, if it
-/// has one.
+/// The values of a line that has arguments: that of its first argument, and the index of the link
+/// of its operand, if it has one.
 #[derive(Clone, Copy)]
 pub struct Seen {
     pub value: Value,
     pub place: Option<u64>,
 }
 
-/// A list that grows at its end.
+/// A list of values that grows at its end.
 #[derive(Drop)]
 pub struct SeenLines {
     items: Vec<Seen>,
@@ -51,7 +51,7 @@ impl SeenLines {
         }
     }
 
-    // An empty list with room for so many.
+    // An empty list with room for exactly `count` values.
     fn with_room(alloc: Global, count: usize) -> Result<SeenLines, NoMemory>
         ensures { IfOk result (λ seen. seen ≡ []) }
     {
@@ -68,7 +68,7 @@ impl SeenLines {
         Ok(())
     }
 
-    /// What there is, in order.
+    /// The values in order.
     pub fn items(&self) -> &[Seen]
         ensures { result.now ≡ self.now }
     {
@@ -76,7 +76,7 @@ impl SeenLines {
     }
 }
 
-// What is seen of a line, whose link is noted.
+// Computes the values of a line, and adds its link.
 #[tactic(auto, unfolding(crate::specs::Links::links_after))]
 fn see_line(
     text: &[u8],
@@ -92,14 +92,15 @@ fn see_line(
     ensures place { IfOk result (λ seen.
         seen.place
         ≡ place_in links.new
-        (link_in text.now symbols.now spot (first_arg (operand_args line.now.deed line.now.args)))) }
+        (link_in text.now symbols.now spot
+        (first_arg (operand_args line.now.deed line.now.args)))) }
 {
     let value = evaluate(text, symbols, spot, first_terms(line.args.items()));
     let place = note_link(text, symbols, links, spot, line, value)?;
     Ok(Seen { value, place })
 }
 
-// Keeps what is seen of a line with these arguments, if it has some.
+// Adds the values of a line with these arguments to the list, if there are any.
 #[tactic(auto, unfolding(crate::specs::Seen::with_seen))]
 fn keep(all: &mut SeenLines, args: &[Arg], seen: Seen) -> Result<(), NoMemory>
     ensures { OnOk result (all.new ≡ with_seen all.old args.now seen) }
@@ -110,7 +111,7 @@ fn keep(all: &mut SeenLines, args: &[Arg], seen: Seen) -> Result<(), NoMemory>
     }
 }
 
-/// What is seen of lines, whose links are noted. The error is want of memory alone.
+/// Computes the values of lines, and adds their links. Fails only with `NoMemory`.
 #[tactic(auto, using(alm_lines::proofs::Rooms::rooms), unfolding(crate::specs::Links::links_from))]
 pub fn see_lines(
     alloc: Global,
@@ -139,7 +140,7 @@ pub fn see_lines(
     Ok(all)
 }
 
-// What is seen of a line without arguments.
+// The values of a line without arguments, which are not in the list, and the rest of the list.
 #[tactic(auto, using(crate::proofs::SeenLaws::none_next), unfolding(crate::specs::Seen::seen_from))]
 fn next_of_none<'a>(
     _text: &[u8],
@@ -169,7 +170,7 @@ fn next_of_none<'a>(
     (nothing, left)
 }
 
-// What is seen of a line with arguments.
+// The values of a line with arguments, which are the first of the list, and the rest of the list.
 #[tactic(auto, using(crate::proofs::SeenLaws::some_with), unfolding(crate::specs::Seen::seen_from, crate::specs::Seen::seen_of))]
 fn next_of_some<'a>(
     _text: &[u8],
@@ -198,7 +199,7 @@ fn next_of_some<'a>(
     }
 }
 
-/// What is seen of a line, and what is left to be seen of the lines below it.
+/// The values of a line, and the rest of the list, which has those of the lines below.
 pub fn next_seen<'a>(
     text: &[u8],
     symbols: &Symbols,

@@ -203,7 +203,7 @@ fn instruction_word(
     inst_in(text, tables, spot, operation, args, value, place).to_word()
 }
 
-// The word of two halves.
+// The word with these values in its halves.
 fn word_of(left: Value, right: Value) -> Word
     ensures { result ≡ left.half * 2 ^ 18 + right.half }
 {
@@ -285,7 +285,7 @@ fn take_line(
     )
 }
 
-/// The words of lines in a section. The error is want of memory alone.
+/// The words that lines place in a section. Fails only with `NoMemory`.
 #[tactic(auto, using(alm_lines::proofs::Rooms::rooms), unfolding(crate::specs::Words::words_from))]
 pub fn words_in(
     alloc: Global,

@@ -300,7 +300,7 @@ pub fn layout_of(alloc: Global, text: &[u8], lines: &[Line36]) -> Result<Layout,
     match take_lines(alloc, text, &mut symbols, lines) {
         Ok(refused) => Ok(Layout { symbols, refused }),
         Err(fault) => {
-            // A call of `drop` is proved once for its type.
+            // Dropped explicitly, so that the drop is proved once for its type.
             drop(symbols);
             Err(fault)
         }

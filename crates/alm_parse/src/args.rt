@@ -89,7 +89,7 @@ fn with(mut args: Args, arg: Arg) -> Result<Args, NoMemory>
     match args.push(arg) {
         Ok(()) => Ok(args),
         Err(fault) => {
-            // A call of `drop` is proved once for its type. The same holds below.
+            // Dropped explicitly, so that the drop is proved once for its type. Likewise below.
             drop(args);
             Err(fault)
         }

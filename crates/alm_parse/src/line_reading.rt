@@ -188,7 +188,7 @@ pub fn read_line(alloc: Global, text: &[u8], row: Row) -> Result<Line36, Halt>
     match given_by(alloc, text, row, &head) {
         Ok(given) => Ok(line_of(text, row, head, given)),
         Err(Halt::Refused(refusal)) => {
-            // A call of `drop` is proved once for its type. The same holds below.
+            // Dropped explicitly, so that the drop is proved once for its type. Likewise below.
             drop(head);
             Err(Halt::Refused(refusal))
         }

@@ -51,7 +51,7 @@ pub fn symbols_args(alloc: Global, text: &[u8], operand: Span) -> Result<Args, H
 {
     let members = members(alloc, text, operand)?;
     let given = symbols_of(alloc, text, operand.from, members.items());
-    // A call of `drop` is proved once for its type. The same holds below.
+    // Dropped explicitly, so that the drop is proved once for its type. Likewise below.
     drop(members);
     given
 }

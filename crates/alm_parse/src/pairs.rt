@@ -60,7 +60,7 @@ fn value_with(alloc: Global, text: &[u8], at: u32, name: &Piece, value: Piece) -
 {
     let pieces = expression_pieces(alloc, text, value)?;
     let given = value_by(alloc, text, at, name, pieces.items());
-    // A call of `drop` is proved once for its type. The same holds below.
+    // Dropped explicitly, so that the drop is proved once for its type. Likewise below.
     drop(pieces);
     given
 }

@@ -124,7 +124,7 @@ pub fn pieces_of(
     match push_pieces(&mut pieces, parter, text, whole) {
         Ok(()) => Ok(pieces),
         Err(fault) => {
-            // A call of `drop` is proved once for its type.
+            // Dropped explicitly, so that the drop is proved once for its type.
             drop(pieces);
             Err(fault)
         }

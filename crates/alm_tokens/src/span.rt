@@ -7,7 +7,7 @@ use m36_word::NoMemory;
 use std::alloc::Global;
 use std::marker::Model;
 
-/// The bytes of a text from index `from` to before index `to`, counted from 0.
+/// The bytes of a text from index `from` up to, but not including, index `to`, counted from 0.
 #[derive(Clone, Copy, PartialEq, Eq)]
 pub struct Span {
     pub from: u32,

@@ -72,9 +72,9 @@ impl Acl {
         decided(self.terms(dir, name), user)
     }
 
-    /// The number of the first `segment` line that names no segment of the catalog. A segment
-    /// counts by its directory and its first name, which are those of its segment line in the boot
-    /// text.
+    /// The number of the first `segment` line that names no segment of the catalog. Segments are
+    /// compared by their directories and their first names, which are those of their segment lines
+    /// in the boot text.
     pub fn first_unknown(&self, catalog: &Catalog) -> Option<u32>
         ensures { result ≡ first_unknown catalog.now self.now }
     {
@@ -111,8 +111,8 @@ impl Acl {
         access_text(alloc, self, catalog, user)
     }
 
-    /// A line `denied DIR NAME TERM` for each segment of a catalog. It is printed if the run of the
-    /// user ends because he lacks a right to that segment. Fails only with `NoMemory`.
+    /// A line `denied DIR NAME TERM` for each segment of a catalog. That of a segment is printed if
+    /// a run ends because the user lacks a right to it. Fails only with `NoMemory`.
     pub fn denied_lines(
         &self,
         alloc: Global,

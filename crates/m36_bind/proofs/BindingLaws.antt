@@ -1,4 +1,4 @@
--- What is bound, from its parts.
+-- The bound object, from its parts.
 use Rattle.std.proofs.Common.{ℕ, ◌≡◌, true, false, List, [], Result, Ok, sym, subst, ◌∙◌}
 use Rattle.obj36_parts.specs.Fields.{LinkFields, RelocFields}
 use Rattle.obj36_parts.specs.PartsFields.{PartsFields}
@@ -30,7 +30,7 @@ unfolding bound_parts
 parts_bound frame all kept parts text statics links relocations bound version t s l r b v is =
     is ∙ (λ i. record { text = t i; statics = s i; definitions = kept; links = l i; relocations = r i; entry_bound = b i; version = v i })
 
--- ---- answers, one behind another
+-- ---- results, one after another
 
 goes_on : {A B : Type 0} (result : Result B BindFault) (d : Result A BindFault) (a : A) (f : A → Result B BindFault)
     → d ≡ Ok a → BindSays result (f a) → BindSays result (and_then d f)

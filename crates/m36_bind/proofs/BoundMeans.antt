@@ -1,4 +1,4 @@
--- What was bound means what its components meant.
+-- The bound object has the meaning of its components.
 use Rattle.std.proofs.Common.{ℕ, zero, suc, ◌≡◌, ◌+◌, ◌≤◌, Bool, true, false, cond, ◌||◌, eqb, List, [], ◌∷◌, length, Some, Result, Ok, Err, refl, sym, ap, subst, ◌∙◌, arith}
 use Rattle.std.specs.Prelude.{slice_index, IfOk}
 use Rattle.std.specs.List.{list_any, Contains}
@@ -161,7 +161,7 @@ module _ (asked : Bool) (all : List PlacedFields) (kept : List Named) (picked : 
   unfolding bound_parts frame_of
   version_is = refl
 
--- ---- what was bound
+-- ---- the bound object
 
 parts_is : (a b : PartsFields) → ◌≡◌ {A = Result PartsFields BindFault} (Ok a) (Ok b) → a ≡ b
 parts_is a b e = ap (λ r. or a r) e

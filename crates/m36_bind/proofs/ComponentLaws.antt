@@ -1,4 +1,4 @@
--- Components by their names, and refusals that are handed on.
+-- Components by their names, and refusals that are passed on.
 use Rattle.std.proofs.Common.{ℕ, ◌≡◌, Bool, false, cond, List, [], ◌∷◌, ◌++◌, Result, sym, ap, subst, ◌∙◌}
 use Rattle.std.specs.List.{list_any}
 use Rattle.std.proofs.lemmas.List.{map-append}
@@ -9,7 +9,7 @@ use Rattle.m36_bindfile.specs.BindFile.{Refuses}
 use Rattle.m36_text.specs.Results.{and_then}
 use Rattle.m36_bind.specs.Components.{PlacedFields, names_of}
 
--- the names with one more behind them
+-- the names with one more at the end
 
 pub named_more : (keys new : List (List ℕ)) (items more : List PlacedFields) (p : PlacedFields) (name : List ℕ) → keys ≡ names_of items
     → new ≡ cond (list_any (same name) keys) keys (keys ++ name ∷ []) → name ≡ p.name → more ≡ items ++ p ∷ []
@@ -23,7 +23,7 @@ named_more keys new items more p name are grown is longer fresh =
     ∙ sym (map-append (λ (q : PlacedFields). q.name) items (p ∷ []))
     ∙ ap names_of (sym longer)
 
--- the same where they were put
+-- the components with one more
 
 pub named_put : (keys new : List (List ℕ)) (items held more now : List PlacedFields) (p : PlacedFields) (name : List ℕ)
     → keys ≡ names_of items → held ≡ items → more ≡ held ++ p ∷ [] → name ≡ p.name
@@ -33,7 +33,7 @@ named_put keys new items held more now p name are stays put is grown view fresh 
     named_more keys new items more p name are grown is (put ∙ ap (λ (ps : List PlacedFields). ps ++ p ∷ []) stays)
     (ap (λ (ps : List PlacedFields). list_any (same p.name) (names_of ps)) view ∙ fresh)
 
--- answers that are handed on
+-- results that are passed on
 
 pub refused_on : {A B : Type 0} (told : BindFault) (d : Result A BindFault) (f : A → Result B BindFault) → Refuses told d → Refuses told (and_then d f)
 refused_on fault.NoMemory d f r = tt

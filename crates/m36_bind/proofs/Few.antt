@@ -1,4 +1,4 @@
--- The parts of an object are few.
+-- The parts of an object have few items.
 use Rattle.std.proofs.Common.{◌≡◌, true, sym, subst, arith}
 use Rattle.obj36_parts.specs.PartsFields.{PartsFields}
 use Rattle.obj36_parts.specs.ObjectSegment.{is_well_formed}

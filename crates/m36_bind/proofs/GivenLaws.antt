@@ -1,4 +1,4 @@
--- Where the first object of each name stands.
+-- The index of the first object of each name.
 use Rattle.std.proofs.Common.{ℕ, ◌≡◌, ◌+◌, Bool, true, false, cond, List, [], ◌∷◌, ◌++◌, Option, Some, None, is_some, refl, sym, ap, subst, ◌∙◌, true≢false, ◌<◌, ◌≤◌, length, get_or, drop}
 use Rattle.std.specs.Prelude.{position, slice_get, option_and_then}
 use Rattle.std.specs.List.{position_from}
@@ -13,7 +13,7 @@ use Rattle.obj36_parts.proofs.SizeLaws.{same_is}
 use Rattle.obj36_parts.proofs.IndexLaws.{or_else, or_nothing, lookup_last, goes_last}
 use Rattle.m36_bind.specs.Given.{GivenFields, object_named, with_place, ArePlaces}
 
--- what is found in a table, or among the names that follow
+-- lookup in a table, or among the names that follow
 abbrev pub found_in : List ℕ → List (List ℕ × ℕ) → ℕ → List (List ℕ) → Option ℕ
 found_in name places place rest = or_else (lookup (same name) places) (position_from (same name) place rest)
 
@@ -67,7 +67,7 @@ all_noted places place rest names none all = record {
       sym (or_nothing (lookup (same n) places)) ∙ ap (λ (r : List (List ℕ)). found_in n places place r) (sym none) ∙ all n;
 }
 
--- what is left of names
+-- the rest of the names
 
 pub name_left : (names : List (List ℕ)) (i : ℕ) (name : List ℕ) → i < length names → name ≡ get_or names i name → drop i names ≡ name ∷ drop (i + 1) names
 name_left names i name lt is = drop_more names i name lt ∙ ap (λ (x : List ℕ). x ∷ drop (i + 1) names) (sym is)
@@ -75,7 +75,7 @@ name_left names i name lt is = drop_more names i name lt ∙ ap (λ (x : List �
 pub no_name_left : (names : List (List ℕ)) (i : ℕ) → length names ≤ i → drop i names ≡ []
 no_name_left names i le = at_drop_all (λ (ns : List (List ℕ)). ns) names i le
 
--- what is found
+-- lookup of a name
 
 pub found_at : (given : GivenFields) (names : List (List ℕ)) (objects : List PartsFields) (places : List (List ℕ × ℕ)) (name : List ℕ) (place : Option ℕ) (found : Option PartsFields)
     → record { names = names; objects = objects } ≡ given → ArePlaces names places → place ≡ lookup (same name) places → found ≡ option_and_then (slice_get objects) place

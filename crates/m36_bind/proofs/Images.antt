@@ -1,4 +1,4 @@
--- What numbers and places of the bound object name.
+-- The words to which numbers and places of the bound object refer.
 use Rattle.std.proofs.Common.{ℕ, ◌≡◌, ◌+◌, ◌-◌, ◌*◌, ◌%◌, ◌^◌, ◌<◌, ◌≤◌, Bool, true, false, cond, ltb, length, refl, sym, ap, subst, ◌∙◌, arith}
 use Rattle.std.proofs.lemmas.Bool.{ltb-true, lt-ltb, le-ltb, cond-true, cond-false}
 use Rattle.obj36_parts.specs.PartsFields.{PartsFields}

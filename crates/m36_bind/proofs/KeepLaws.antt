@@ -1,4 +1,4 @@
--- Definitions that are kept line by line.
+-- Definitions that are retained, line by line.
 use Rattle.std.proofs.Common.{ℕ, ◌≡◌, ◌+◌, Bool, false, cond, ◌||◌, List, [], ◌∷◌, ◌++◌, Some, Result, Ok, Err, sym, ap, ◌∙◌}
 use Rattle.std.specs.List.{list_any}
 use Rattle.obj36_parts.specs.Names.{same}

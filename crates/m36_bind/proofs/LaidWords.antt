@@ -1,4 +1,4 @@
--- Where the words of components stand.
+-- The places of the words of components.
 use Rattle.std.proofs.Common.{ℕ, zero, suc, ◌≡◌, ◌+◌, ◌-◌, ◌%◌, ◌<◌, ◌≤◌, Bool, true, false, cond, eqb, ltb, inl, inr, List, [], ◌∷◌, ◌++◌, length, refl, sym, ap, subst, ◌∙◌, arith}
 use Rattle.std.specs.Prelude.{slice_index}
 use Rattle.std.specs.List.{Contains}
@@ -56,7 +56,7 @@ module _ (frame : ShapeFields) (statics : Bool) where
       in
       omega (arith, even, long, laid_longer (evened_words words ++ component_words frame statics p) all)
 
-  -- the words behind those of a component begin where the next does
+  -- the words after those of a component begin where the next component does
   next_start : (words : List ℕ) (b : BasesFields) (p : PlacedFields) → evened (length words) ≡ start_in statics b
       → evened (length (evened_words words ++ component_words frame statics p)) ≡ start_in statics (bases_behind b p.parts)
   next_start words b p starts =
@@ -101,12 +101,12 @@ module _ (frame : ShapeFields) (statics : Bool) where
   laid_within words b (q ∷ all) p order starts (suc k, le, same) =
       laid_within (evened_words words ++ component_words frame statics q) (bases_behind b q.parts) all p order.2 (next_start words b q starts) (k, omega (arith, le), same)
 
--- ---- what stands between
+-- ---- the words between components
 zero_any : (k : ℕ) → slice_index (0 ∷ []) k ≡ 0
 zero_any zero = refl
 zero_any (suc k) = refl
 
--- the word that evens others is zero
+-- the word that is added to an odd number of words is zero
 even_zero : (words : List ℕ) (j : ℕ) → length words ≤ j → j < length (evened_words words) → slice_index (evened_words words) j ≡ 0
 even_zero words j le lt = by (eqb (length words % 2) 0) lt
   where
@@ -145,7 +145,7 @@ laid_gap frame statics words b (p ∷ all) j order starts le outside =
         absurd (omega (arith, ltb-true j _ is, e, l, words_of_length frame statics p, behind))
     by false is outside go = go (ltb-false j _ is)
 
--- ---- how many static words and links there are
+-- ---- the numbers of static words and of links
 
 pub statics_long : (frame : ShapeFields) (words : List ℕ) (b : BasesFields) (all : List PlacedFields) → AreInOrder b all → evened (length words) ≡ b.statics
     → length (laid_from frame true words all) ≡ statics_end (length words) all

@@ -27,7 +27,7 @@ use Rattle.m36_relocate.specs.declared.exports.Export.{Export}
 use Rattle.m36_relocate.proofs.Entries.{found_then}
 use Rattle.m36_bind.proofs.Images.{IsWithin, spot_names}
 
--- what a definition of the bound object is made of
+-- the definition of a component for one of the bound object
 pub record IsDefined (frame : ShapeFields) (all : List PlacedFields) (name : List ℕ) (def : DefFields) : Type 0 where
   pub component : PlacedFields
   pub one : Contains all component
@@ -38,7 +38,7 @@ pub record IsDefined (frame : ShapeFields) (all : List PlacedFields) (name : Lis
   pub moved : def ≡ def_moved (moving frame component) old.def
 
 module _ (frame : ShapeFields) (whole : List PlacedFields) where
-  -- what a table has of names
+  -- the entry of a name in a table
   IsSound : List (List ℕ × Export) → Type 0
   IsSound table = (name : List ℕ) (e : Export) → export_named name table ≡ Some e → IsDefined frame whole name e.def
 
@@ -94,7 +94,7 @@ module _ (frame : ShapeFields) (whole : List PlacedFields) where
   unfolding export_named IsSound
   none_sound name e found = absurd cc
 
--- ---- what is kept
+-- ---- the retained definitions
 
 list_is : (a b : List Named) → ◌≡◌ {A = Result (List Named) BindFault} (Ok a) (Ok b) → a ≡ b
 list_is a b e = ap (λ r. or a r) e

@@ -1,4 +1,4 @@
--- The links of the bound object are those of its components, each in its place.
+-- The links of the bound object are those of its components, each at its place.
 use Rattle.std.proofs.Common.{ℕ, zero, suc, ◌≡◌, ◌+◌, cond, eqb, List, [], ◌∷◌, ◌++◌, length, Option, Some, None, refl, sym, ap, ◌∙◌, arith}
 use Rattle.std.specs.Prelude.{slice_get, position, option_and_then}
 use Rattle.std.specs.List.{Contains}
@@ -70,7 +70,7 @@ link_means bound all p old within there =
     far None none = refl
     far (Some q) none = ap (entry_link (shape_of bound) old q) (none q refl)
 
--- ---- each in its place
+-- ---- each at its place
 
 get_left : {A : Type 0} (xs ys : List A) (i : ℕ) (x : A) → slice_get xs i ≡ Some x → slice_get (xs ++ ys) i ≡ Some x
 get_left [] ys i x e = absurd cc

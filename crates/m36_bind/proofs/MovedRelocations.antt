@@ -34,7 +34,7 @@ module _ (m : Moving) (statics : Bool) where
       (subst (λ b. Contains (cond b (done ++ relocation_moved m r ∷ []) done) (relocation_moved m r)) (sym stands) (Contains-push done (relocation_moved m r))))
   onto_has done (s ∷ rs) r (suc k, lt, same) stands = onto_has (with_relocation m statics done s) rs r (k, omega (arith, lt), same) stands
 
-  -- a relocation that was there, or that stands for one of these
+  -- a relocation that was there, or that is one of these after relocation
   IsFrom : List RelocFields → List RelocFields → RelocFields → Type 0
   IsFrom done rs x = Contains done x ⊎ ((r : RelocFields) × Contains rs r × (x ≡ relocation_moved m r))
 
@@ -73,7 +73,7 @@ module _ (frame : ShapeFields) (statics : Bool) where
   from_has done (q ∷ all) p r (suc k, lt, same) among stands =
       from_has (relocations_onto (moving frame q) statics done q.parts.relocations) all p r (k, omega (arith, lt), same) among stands
 
-  -- a relocation that was there, or that stands for one of a component
+  -- a relocation that was there, or that is one of a component after relocation
   pub FromAny : List RelocFields → List PlacedFields → RelocFields → Type 0
   FromAny done all x =
       Contains done x ⊎ ((p : PlacedFields) × Contains all p × ((r : RelocFields) × Contains p.parts.relocations r × (x ≡ relocation_moved (moving frame p) r)))

@@ -1,4 +1,4 @@
--- The words of a component with their parts moved, word by word.
+-- The words of a component with their parts relocated, word by word.
 use Rattle.std.proofs.Common.{ℕ, zero, suc, ◌≡◌, ◌+◌, ◌*◌, ◌/◌, ◌^◌, ◌<◌, ◌≤◌, Bool, true, false, cond, ◌&&◌, ◌||◌, eqb, ltb, leb, not, List, [], ◌∷◌, length, refl, sym, ap, subst, ◌∙◌, arith, true≢false}
 use Rattle.std.specs.Prelude.{slice_index, slice_set}
 use Rattle.std.specs.List.{Contains}
@@ -15,7 +15,7 @@ use Rattle.m36_bind.proofs.WordParts.{overlap, cut_to, number_put, put_below, pu
 -- ---- one word
 
 module _ (m : Moving) (statics : Bool) (i : ℕ) where
-  -- whether a relocation names a part of the word
+  -- whether a relocation is of a part of the word
   unfoldable pub at : RelocFields → Bool
   at r = stands_in statics r && eqb (place_in m.shape statics r) i
 
@@ -68,7 +68,7 @@ word_at m statics i (r ∷ rs) words lt =
 
 -- ---- relocations of one word
 
--- Each names a part, and those of one word name parts without a bit in common.
+-- Each is of a part, and those of one word are of parts without a bit in common.
 pub AreApart : (RelocFields → Bool) → List RelocFields → Type 0
 AreApart at [] = Unit {0}
 AreApart at (r ∷ rs) =
@@ -108,7 +108,7 @@ module _ (m : Moving) (statics : Bool) (i : ℕ) where
       ∙ put_first r.part w (number_put m r.target r.part (part_of r.part w)) few (other refl) small
   one_first r w false is few other small = ap (λ b. left (cond b (word_moved m r w) w) / 2 ^ 15) is
 
-  -- bits 0 to 2 stay where no relocation names the left half
+  -- bits 0 to 2 do not change if no relocation is of the left half
   pub word_first : (rs : List RelocFields) (w : ℕ) → w < 2 ^ 36 → AreApart (at m statics i) rs
       → ((r : RelocFields) → Contains rs r → at m statics i r ≡ true → r.part ≡ 0 → ⊥)
       → left (word_by m statics i rs w) / 2 ^ 15 ≡ left w / 2 ^ 15
@@ -140,7 +140,7 @@ module _ (m : Moving) (statics : Bool) (i : ℕ) where
       ∙ ap (λ v. cut_to s.part (number_put m s.target s.part v))
       (one_kept r s.part w (at m statics i r) refl apart.0 part (λ here. (apart.1 s later here is).0) small)
 
--- ---- relocations in rising order are apart
+-- ---- relocations in rising order are of different parts
 
 rising_first : (least barred : ℕ) (r : RelocFields) (rs : List RelocFields) → are_rising least barred (r ∷ rs) ≡ true
     → (least ≤ order_of r) × (eqb (order_of r) barred ≡ false) × (are_rising (order_of r + 1) (cond (eqb r.part 0) (order_of r + 2) barred) rs ≡ true)
@@ -204,7 +204,7 @@ parts_apart j k other sum =
     let low = never_both j k 2 0 (λ a b. sum (omega (arith, a, b))) in
     (λ i. ne_eqb j k other i || whole i || low i)
 
--- The relocations of a word have the numbers of its parts.
+-- The relocations of a word have the order numbers of its parts.
 abbrev pub AreOf : (RelocFields → Bool) → ℕ → List RelocFields → Type 0
 AreOf at q rs = (r : RelocFields) → Contains rs r → (r.part ≤ 2) × (at r ≡ true → order_of r ≡ 4 * q + r.part)
 

@@ -17,7 +17,7 @@ object_more objects rest others x is formed all are = all (subst AreObjects (sym
 pub objects_end : (objects rest : List PartsFields) → rest ≡ [] → (AreObjects rest → AreObjects objects) → AreObjects objects
 objects_end objects rest none all = all (subst AreObjects (sym none) (λ o among. absurd (omega (arith, among.1))))
 
--- what is left of objects
+-- the rest of the objects
 
 pub object_left : (objects : List PartsFields) (i : ℕ) (x : PartsFields) → i < length objects → x ≡ get_or objects i x → drop i objects ≡ x ∷ drop (i + 1) objects
 object_left objects i x lt is = drop_more objects i x lt ∙ ap (λ (y : PartsFields). y ∷ drop (i + 1) objects) (sym is)

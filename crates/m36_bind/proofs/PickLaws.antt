@@ -43,7 +43,7 @@ pick_refused all n name p stands =
 
 pub ruleset picking = (pick_done, pick_refused)
 
--- of the object that was found
+-- for the object that was found
 
 pub pick_found :
     (new : List PlacedFields) (result : Result BasesFields BindFault) (all : AllFields) (n : ℕ) (name : List ℕ) (found given : Option PartsFields)
@@ -51,7 +51,7 @@ pub pick_found :
 pick_found new result all n name found given is picks =
     let P : Option PartsFields → Type 0 = λ o. Picks new result (picked_one all n name o) in subst P is picks
 
--- ---- lines in turn
+-- ---- lines in order
 
 first_picked :
     (given : GivenFields) (all : AllFields) (n : ℕ) (line : BindLine) (others rest : List BindLine) → rest ≡ line ∷ others
@@ -86,7 +86,7 @@ pick_ends given all n rest lines none so_far =
     let done : picked_from given no_components 1 lines ≡ Ok all = sym so_far ∙ ap (picked_from given all n) none in
     ap (λ (d : Result AllFields BindFault). and_then d (λ a. Ok (placed_in a))) done
 
--- what is left of lines
+-- the rest of the lines
 
 pub first_left : (lines : List BindLine) (i : ℕ) (line : BindLine) → i < length lines → line ≡ get_or lines i line → drop i lines ≡ line ∷ drop (i + 1) lines
 first_left lines i line lt is = drop_more lines i line lt ∙ ap (λ (x : BindLine). x ∷ drop (i + 1) lines) (sym is)

@@ -1,4 +1,4 @@
--- The components that lines name stand in order, and each is an object.
+-- The components that lines name are in order, and each is an object.
 use Rattle.std.proofs.Common.{ℕ, zero, suc, ◌≡◌, ◌+◌, Bool, true, false, cond, List, [], ◌∷◌, ◌++◌, Option, Some, None, Result, Ok, Err, refl, sym, ap, subst, ◌∙◌, arith}
 use Rattle.std.specs.Prelude.{position, slice_get, option_and_then}
 use Rattle.std.specs.List.{list_any, Contains}
@@ -53,7 +53,7 @@ formed_more (r ∷ all) p formed one = by (formed_more all p (λ q among. formed
     by later q (zero, lt, is) = formed q (zero, omega arith, is)
     by later q (suc k, lt, is) = later q (k, omega (arith, lt), is)
 
--- what holds of components and where the next begins
+-- the properties of components and of where the next begins
 record IsSound (all : AllFields) : Type 0 where
   order : InOrderTo first_bases all.placed all.next
   formed : AreFormed all.placed

@@ -1,4 +1,4 @@
--- What the moved words of components name.
+-- The words to which relocated words of components refer.
 use Rattle.std.proofs.Common.{ℕ, zero, suc, ◌≡◌, ◌+◌, ◌-◌, ◌*◌, ◌/◌, ◌%◌, ◌^◌, ◌<◌, ◌≤◌, Bool, true, false, cond, ◌&&◌, eqb, ltb, leb, not, List, [], ◌∷◌, length, refl, sym, ap, ◌∙◌, arith, true≢false}
 use Rattle.std.specs.Prelude.{slice_index}
 use Rattle.std.specs.List.{list_all, Contains}
@@ -23,7 +23,7 @@ use Rattle.m36_bind.proofs.Images.{IsWithin, number_names}
 
 -- ---- the relocations of a word
 
--- the number of a word by which its relocations are in order
+-- the number by which the relocations of words are ordered
 pub word_number : Bool → Bool → ℕ → ℕ
 word_number false newer i = i
 word_number true true i = 2 * 2 ^ 18 + i

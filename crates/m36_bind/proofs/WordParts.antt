@@ -1,4 +1,4 @@
--- The parts of a word of which one is moved.
+-- The parts of a word one of which is relocated.
 use Rattle.std.proofs.Common.{ℕ, zero, suc, ◌≡◌, ◌+◌, ◌*◌, ◌/◌, ◌%◌, ◌^◌, ◌<◌, ◌≤◌, Bool, false, cond, ◌&&◌, ◌||◌, eqb, refl, sym, ap, ◌∙◌, arith, true≢false}
 use Rattle.std.proofs.lemmas.Bool.{ne_eqb, cond-false}
 use Rattle.obj36_parts.specs.Fields.{RelocFields}
@@ -10,7 +10,7 @@ use Rattle.m36_relocate.specs.Layout.{number_moved}
 use Rattle.m36_relocate.specs.Words.{with_offset, offset_raised, word_moved}
 use Rattle.m36_relocate.specs.declared.layout.Moving.{Moving}
 
--- whether two parts of a word that relocations name have bits in common
+-- whether two parts of a word have bits in common
 abbrev pub overlap : ℕ → ℕ → Bool
 overlap j k = eqb j k || (eqb j 0 && eqb k 2) || (eqb j 2 && eqb k 0)
 
@@ -40,13 +40,13 @@ right_back w v = omega arith
 
 -- ---- a word with another part
 
--- a number that is put into a part
+-- a number that is stored in a part
 pub put_in : ℕ → ℕ → ℕ → ℕ
 put_in zero w v = joined v (right w)
 put_in (suc zero) w v = joined (left w) v
 put_in (suc (suc n)) w v = with_offset w v
 
--- what the part keeps of it
+-- the number that is then in the part
 unfoldable pub cut_to : ℕ → ℕ → ℕ
 cut_to zero v = v % 2 ^ 18
 cut_to (suc zero) v = v % 2 ^ 18
@@ -87,7 +87,7 @@ put_kept (suc (suc zero)) (suc (suc zero)) w v a b apart small = absurd (true≢
 put_kept n (suc (suc (suc k))) w v a b apart small = absurd (omega (arith, b))
 put_kept (suc (suc (suc n))) k w v a b apart small = absurd (omega (arith, a))
 
--- bits 0 to 2 stay where another part than the left half is put
+-- bits 0 to 2 do not change if another part than the left half is stored
 pub put_first : (n w v : ℕ) → n ≤ 2 → (n ≡ 0 → ⊥) → w < 2 ^ 36 → left (put_in n w v) / 2 ^ 15 ≡ left w / 2 ^ 15
 unfolding put_in with_offset
 put_first zero w v few other small = absurd (other refl)
@@ -113,7 +113,7 @@ pub right_field : (w : ℕ) → field w 18 18 ≡ part_of 1 w
 unfolding part_of right
 right_field w = omega arith
 
--- ---- the number that a relocation puts there
+-- ---- the number that a relocation stores
 
 unfoldable pub number_put : Moving → Section → ℕ → ℕ → ℕ
 number_put m target zero v = number_moved m target v

@@ -1,9 +1,10 @@
--- What binding gives: the bound object, or the first refusal.
+-- The result of binding: the bound object, or the first refusal.
 --
---     B4   a section over its limit, an object of more than 2^18 words, or a part of a word that
---          does not fit
+--     B4   a section over its limit, an object of more than 2^18 words, or a relocated part of a
+--          word that does not fit
 --
--- B1 is looked for first, over the whole file, then B2, B3 and B5 line by line, and B4 last.
+-- B1 is checked first, over the whole file. Then come B2 and B3 of `object` lines, then B3 and B5
+-- of `retain` lines, at the first such line, and B4 last.
 use Rattle.std.specs.Prelude.{ℕ, ◌+◌, Bool, true, false, ◌&&◌, ◌||◌, if◌then◌else◌, List, [], ◌∷◌}
 use Rattle.std.specs.Prelude.{◌++◌, Result, Ok, Err}
 use Rattle.std.specs.List.{list_any}
@@ -39,7 +40,7 @@ unfoldable pub links_end : ℕ → List PlacedFields → ℕ
 links_end n [] = n
 links_end n (p ∷ all) = links_end (p.bases.links + p.shape.links) all
 
--- version 2 where it is asked for, or where a component has it
+-- the bound object has version 2 if a line asks for it or a component has it
 abbrev pub is_newer_bound : Bool → List PlacedFields → Bool
 is_newer_bound asked all = asked || list_any is_newer_component all
 
@@ -62,7 +63,7 @@ laid_from frame statics words [] = words
 laid_from frame statics words (p ∷ all) =
     laid_from frame statics (evened_words words ++ component_words frame statics p) all
 
--- ---- relocations: each at its part's new place, with its old target
+-- ---- relocations: each of the relocated word, with the same part and target
 
 abbrev pub relocation_moved : Moving → RelocFields → RelocFields
 relocation_moved m r =
@@ -137,8 +138,8 @@ bound_of_lines given lines =
     and_then (picked_of given lines)
     (λ all. bound_of_components (frame_of (asks_newer lines) all) all lines)
 
--- the bound object of the components of a bind file, among objects that are given by name; else the
--- first refusal
+-- The bound object of the components of a bind file, among objects that are given by name, or the
+-- first refusal.
 unfoldable pub bound_of : List ℕ → List (List ℕ) → List PartsFields → Result PartsFields BindFault
 bound_of text names objects =
     and_then (bind_lines text)

@@ -1,7 +1,8 @@
--- The components of a bind file: the objects that its lines name, each with where its words begin.
+-- The components of a bind file: the objects that its lines name, and where the words of each
+-- begin.
 --
 --     B2   no object of the name is given
---     B3   an object of the name stands above
+--     B3   an `object` line above has the name
 use Rattle.std.specs.Prelude.{ℕ, ◌≡◌, ◌+◌, ◌*◌, ◌^◌, ◌≤◌, if◌then◌else◌, List, [], ◌∷◌}
 use Rattle.std.specs.Prelude.{◌++◌, length, map, position, slice_get, Option, Some, None, Result}
 use Rattle.std.specs.Prelude.{Ok, Err, option_and_then}
@@ -22,8 +23,8 @@ use Rattle.m36_relocate.specs.Exports.{own_from}
 use Rattle.m36_relocate.specs.declared.exports.Export.{Export}
 use Rattle.m36_relocate.specs.declared.layout.Moving.{Moving}
 
--- a component: the name by which others refer to it, its parts, where they begin in the bound
--- object, and its definitions by name
+-- A component: the name by which others refer to it, its parts and their shape, where they begin in
+-- the bound object, and its definitions by their names.
 pub record PlacedFields : Type 0 where
   pub name : List ℕ
   pub parts : PartsFields
@@ -35,7 +36,7 @@ abbrev pub component : List ℕ → PartsFields → BasesFields → List (List �
 component name p b table =
     record { name = name; parts = p; shape = shape_of p; bases = b; entries = table }
 
--- how the places of a component go into a bound object of a shape
+-- how the places of a component are relocated to those of a bound object with this shape
 abbrev pub moving : ShapeFields → PlacedFields → Moving
 moving frame p = record { frame = frame; shape = p.shape; bases = p.bases }
 
@@ -60,7 +61,7 @@ unfoldable pub component_named : List ℕ → List PlacedFields → Option Place
 component_named name all =
     option_and_then (slice_get all) (position (same name) (names_of all))
 
--- ---- the lines in turn
+-- ---- the lines in order
 
 abbrev pub picked_one : AllFields → ℕ → List ℕ → Option PartsFields → Result AllFields BindFault
 picked_one all n name None = Err (fault.B2 n)
@@ -68,21 +69,21 @@ picked_one all n name (Some p) =
     if list_any (same name) (names_of all.placed) then Err (fault.B3 n)
     else Ok (with_component all (component name p all.next (own_from [] p.definitions)))
 
--- the components with that of line n
+-- the components, with that of line n
 abbrev pub picked_line : GivenFields → AllFields → ℕ → BindLine → Result AllFields BindFault
 picked_line given all n line.Version = Ok all
 picked_line given all n (line.Object name) = picked_one all n name (object_named given name)
 picked_line given all n (line.Retain name) = Ok all
 
--- those of lines from line n on
+-- the components, with those of lines from line n on
 unfoldable pub picked_from : GivenFields → AllFields → ℕ → List BindLine
     → Result AllFields BindFault
 picked_from given all n [] = Ok all
 picked_from given all n (next ∷ lines) =
     and_then (picked_line given all n next) (λ more. picked_from given more (n + 1) lines)
 
--- A call that changes something answered as the definition says, where want of memory may come at
--- any time.
+-- The result of a call that changes `new` is that of the definition. It may be NoMemory whatever
+-- the definition gives.
 abbrev pub Changes : {A B : Type 0} → A → Result B BindFault → Result A BindFault → Type 0
 Changes new (Ok done) definition = definition ≡ Ok new
 Changes new (Err told) definition = Refuses told definition
@@ -95,19 +96,19 @@ unfoldable pub picked_of : GivenFields → List BindLine → Result (List Placed
 picked_of given lines =
     and_then (picked_from given no_components 1 lines) (λ all. Ok (placed_in all))
 
--- A call that adds a component answered where the next begins.
+-- The result of a call that adds a component, which is where the next one begins.
 abbrev pub Picks : List PlacedFields → Result BasesFields BindFault → Result AllFields BindFault
     → Type 0
 Picks new (Ok next) definition = definition ≡ Ok (record { placed = new; next = next })
 Picks new (Err told) definition = Refuses told definition
 
--- the components of so many lines begin within reach
+-- bounds for where the components of n lines begin
 pub record AreNear (b : BasesFields) (n : ℕ) : Type 0 where
   pub text : b.text ≤ 2 ^ 19 * n
   pub statics : b.statics ≤ 2 ^ 19 * n
   pub links : b.links ≤ 2 ^ 19 * n
 
--- the parts of an object are few
+-- the parts of an object have at most 2^18 items each
 pub record AreFew (p : PartsFields) : Type 0 where
   pub text : length p.text ≤ segment_limit
   pub statics : length p.statics ≤ segment_limit

@@ -1,4 +1,4 @@
--- The objects that are given by name; of two of one name the first counts.
+-- The objects that the binder is given, by their names. If two have one name, the first is used.
 use Rattle.std.specs.Prelude.{ℕ, ◌≡◌, List, position, slice_get, is_some, if◌then◌else◌}
 use Rattle.std.specs.Prelude.{Option, option_and_then}
 use Rattle.std.specs.Map.{lookup}
@@ -6,24 +6,23 @@ use Rattle.indexmap.specs.IndexMap.{insert_entry}
 use Rattle.obj36_parts.specs.PartsFields.{PartsFields}
 use Rattle.obj36_parts.specs.Names.{same}
 
--- What contracts see of the objects: their names, and their parts. Object number i has
--- name number i.
+-- The names of the objects, and their parts. Object number i has name number i.
 pub record GivenFields : Type 0 where
   pub names : List (List ℕ)
   pub objects : List PartsFields
 
--- the object of a name
+-- the first object with a name
 unfoldable pub object_named : GivenFields → List ℕ → Option PartsFields
 object_named given name =
     option_and_then (slice_get given.objects) (position (same name) given.names)
 
--- ---- how an object is found
+-- ---- lookup of an object
 
--- the places of names with one more, unless its name has one
+-- the indexes of names, with that of one more, unless it has one
 unfoldable pub with_place : List (List ℕ × ℕ) → List ℕ → ℕ → List (List ℕ × ℕ)
 with_place places name place =
     if is_some (lookup (same name) places) then places else insert_entry same places name place
 
--- These are the places of the names: of each that of its first.
+-- The table has the index of the first object of each name.
 pub record ArePlaces (names : List (List ℕ)) (places : List (List ℕ × ℕ)) : Type 0 where
   pub each : (name : List ℕ) → lookup (same name) places ≡ position (same name) names

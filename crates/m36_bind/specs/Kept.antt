@@ -1,6 +1,6 @@
--- The definitions of the bound object: the retained names in their order.
+-- The definitions of the bound object: those of the retained names, in their order.
 --
---     B3   the name stands above, or two components define it
+--     B3   a `retain` line above has the name, or two components define it
 --     B5   no component defines it
 use Rattle.std.specs.Prelude.{ℕ, ◌+◌, ◌||◌, if◌then◌else◌, List, [], ◌∷◌, ◌++◌, Option, Some}
 use Rattle.std.specs.Prelude.{None, Result, Ok, Err}
@@ -16,7 +16,7 @@ use Rattle.m36_text.specs.Results.{and_then}
 use Rattle.m36_bind.specs.Components.{PlacedFields, moving}
 use Rattle.m36_relocate.specs.declared.exports.Export.{Export}
 
--- what all components define, where it goes
+-- the definitions of all components, at their places in the bound object
 unfoldable pub exports_from : ShapeFields → List (List ℕ × Export) → List PlacedFields
     → List (List ℕ × Export)
 exports_from frame table [] = table
@@ -29,14 +29,14 @@ kept_one kept n name (Some e) =
     if has_definition name kept || e.twice then Err (fault.B3 n)
     else Ok (kept ++ record { name = name; def = e.def } ∷ [])
 
--- the definitions with that of line n
+-- the definitions, with that of line n
 abbrev pub kept_line : List (List ℕ × Export) → List Named → ℕ → BindLine
     → Result (List Named) BindFault
 kept_line exports kept n line.Version = Ok kept
 kept_line exports kept n (line.Object name) = Ok kept
 kept_line exports kept n (line.Retain name) = kept_one kept n name (export_named name exports)
 
--- those of lines from line n on
+-- the definitions, with those of lines from line n on
 unfoldable pub kept_from : List (List ℕ × Export) → List Named → ℕ → List BindLine
     → Result (List Named) BindFault
 kept_from exports kept n [] = Ok kept

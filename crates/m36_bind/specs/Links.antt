@@ -1,5 +1,5 @@
--- The links of the bound object: those of the components in their order, each as many times as it
--- stands.
+-- The links of the bound object: those of the components in their order. Equal links are not
+-- joined.
 use Rattle.std.specs.Prelude.{ℕ, ◌+◌, nat_eq, if◌then◌else◌, List, [], ◌∷◌, ◌++◌}
 use Rattle.std.specs.Prelude.{Option, Some, None}
 use Rattle.obj36_parts.specs.Fields.{LinkFields}
@@ -12,7 +12,7 @@ use Rattle.m36_bind.specs.Components.{PlacedFields, moving, component_named}
 use Rattle.m36_relocate.specs.declared.exports.Export.{Export}
 use Rattle.m36_relocate.specs.declared.layout.Spot.{Spot}
 
--- a link to a place of the bound object itself: the modifier stays
+-- a link to a place of the bound object itself, with the same modifier
 abbrev pub own_link : LinkFields → Spot → LinkFields
 own_link l s =
     record {
@@ -24,16 +24,16 @@ own_link l s =
       modifier = l.modifier;
     }
 
--- the place so much farther in a section
+-- the place n words farther in the section
 abbrev pub farther : Spot → ℕ → Spot
 farther s n = spot s.section (s.offset + n)
 
--- to a segment: word 0 of the component's text, and the number of the link
+-- to a segment: the word 0 of the component's text, plus the number of the link
 abbrev pub segment_link : LinkFields → Option PlacedFields → LinkFields
 segment_link l None = l
 segment_link l (Some p) = own_link l (text_spot p.bases l.expr)
 
--- to an entry of a segment: where the definition goes, and the number of the link
+-- to an entry of a segment: the new place of the definition, plus the number of the link
 abbrev pub entry_link : ShapeFields → LinkFields → PlacedFields → Option Export → LinkFields
 entry_link frame l p None = l
 entry_link frame l p (Some e) =
@@ -43,15 +43,15 @@ abbrev pub outer_link : ShapeFields → LinkFields → Option PlacedFields → L
 outer_link frame l None = l
 outer_link frame l (Some p) = entry_link frame l p (export_named l.entry p.entries)
 
--- to an entry of the own object: the definition's value counts in the later of its section and that
--- of the link
+-- to an entry of the own object: the value of the definition is an offset in the later of its
+-- section and that of the link
 abbrev pub inner_link : ShapeFields → PlacedFields → LinkFields → Option Export → LinkFields
 inner_link frame p l None = l
 inner_link frame p l (Some e) =
     own_link l (farther
     (spot_moved (moving frame p) (later_section l.section e.def.section) e.def.value) l.expr)
 
--- a link of a component
+-- the link of the bound object that replaces a link of a component
 unfoldable pub link_moved : ShapeFields → List PlacedFields → PlacedFields → LinkFields → LinkFields
 link_moved frame all p l =
     if nat_eq l.kind to_section then own_link l (spot_moved (moving frame p) l.section l.expr)
@@ -60,14 +60,14 @@ link_moved frame all p l =
     else if nat_eq l.kind to_own_entry then inner_link frame p l (export_named l.entry p.entries)
     else l
 
--- links of a component behind others
+-- the links of a component, after others
 unfoldable pub links_onto : ShapeFields → List PlacedFields → PlacedFields → List LinkFields
     → List LinkFields → List LinkFields
 links_onto frame all p done [] = done
 links_onto frame all p done (l ∷ ls) =
     links_onto frame all p (done ++ link_moved frame all p l ∷ []) ls
 
--- and those of components
+-- the links of several components, after others
 unfoldable pub links_from : ShapeFields → List PlacedFields → List LinkFields → List PlacedFields
     → List LinkFields
 links_from frame all done [] = done

@@ -1,9 +1,9 @@
--- What the bound object is of its components: what stands where in it, and what each moved part
--- names there.
+-- The relation of the bound object and its components: what is where in it, and to what each
+-- relocated part refers.
 --
--- A part of a word that a relocation names, a link to a place and a definition name in the bound
--- object the image of what they named in their component. All else is as it was, and nothing else
--- stands there but the zero words that even.
+-- Relocated parts of words, links to places, and definitions refer in the bound object to the words
+-- to which they referred in their component, if there are such words there. All else is unchanged,
+-- and nothing else is there but the zero words before components that would begin at an odd word.
 use Rattle.std.specs.Prelude.{ℕ, ◌≡◌, ◌+◌, ◌*◌, ◌%◌, ◌^◌, ◌<◌, ◌≤◌, ◌⊎◌, Bool}
 use Rattle.std.specs.Prelude.{true, false, nat_lt, if◌then◌else◌, List, []}
 use Rattle.std.specs.Prelude.{◌∷◌, length, slice_index, slice_get, Some, None, Ok}
@@ -33,24 +33,24 @@ use Rattle.m36_bind.specs.Bound.{links_end, first_bound, is_newer_bound}
 use Rattle.m36_relocate.specs.declared.layout.Spot.{Spot}
 use Rattle.m36_relocate.specs.declared.exports.Export.{Export}
 
--- ---- what is named
+-- ---- words to which numbers refer
 
--- what becomes of a word of a component
+-- the word of the bound object that is this word of a component
 abbrev pub image : BasesFields → Meant → Meant
 image b (TextWord v) = TextWord (b.text + v)
 image b (StaticWord w) = StaticWord (b.statics + w)
 image b (LinkWord k) = LinkWord (2 * b.links + k)
 image b (HeadWord v) = HeadWord v
 
--- whether a component has such a word
+-- whether a component has this word
 abbrev pub is_there : PlacedFields → Meant → Bool
 is_there p (TextWord v) = nat_lt v (length p.parts.text)
 is_there p (StaticWord w) = nat_lt w p.shape.statics
 is_there p (LinkWord k) = nat_lt k (2 * p.shape.links)
 is_there p (HeadWord v) = nat_lt v head_words
 
--- A number that counts in a section of the bound object names the image of what another named in
--- the component, if there is such a word.
+-- The number `new` in the section `target` of the bound object refers to the word to which `old`
+-- refers in the component, if there is such a word.
 abbrev pub NamesImage : PartsFields → PlacedFields → Section → ℕ → Section → ℕ → Type 0
 NamesImage bound p section old target new =
     is_there p (meant p.shape section old) ≡ true
@@ -58,17 +58,17 @@ NamesImage bound p section old target new =
 
 -- ---- words
 
--- The relocation is the component's, and names a part of the word of this number of its text, or of
--- its static words.
+-- A relocation of the component, of a part of word i of its text or of its static words.
 pub record Moves (p : PlacedFields) (statics : Bool) (i : ℕ) (r : RelocFields) : Type 0 where
   pub among : Contains p.parts.relocations r
   pub stands : stands_in statics r ≡ true
   pub place : place_in p.shape statics r ≡ i
 
--- What stands for a word of a component: each relocated part names the image of what it named, but
--- that bits 3 to 17 which are below zero count from where the component's words begin. Bits 0 to 2
--- are as they were unless the whole left half is relocated, also where bits 3 to 17 are; bits 3 to
--- 17 unless they or the left half are; and the right half unless it is.
+-- The word of the bound object that is word i of a component. Each relocated part refers to the
+-- word to which it referred, except that bits 3 to 17 that are below zero count from where the
+-- words of the component begin. The other bits are unchanged: bits 0 to 2 unless the left half is
+-- relocated, also if bits 3 to 17 are; bits 3 to 17 unless they or the left half are relocated; and
+-- the right half unless it is relocated.
 pub record IsMovedWord (bound : PartsFields) (p : PlacedFields) (statics : Bool)
     (i old new : ℕ) : Type 0 where
   pub names : (r : RelocFields) → Moves p statics i r
@@ -84,9 +84,9 @@ pub record IsMovedWord (bound : PartsFields) (p : PlacedFields) (statics : Bool)
   pub right_bits : ((r : RelocFields) → Moves p statics i r → r.part ≡ right_part → ⊥)
       → field new 18 18 ≡ field old 18 18
 
--- ---- where components stand
+-- ---- the places of components
 
--- Each component has the shape of its parts, and begins where the one above it ends, from an even
+-- Each component has the shape of its parts, and begins where the one before it ends, from an even
 -- word on.
 unfoldable pub AreInOrder : BasesFields → List PlacedFields → Type 0
 AreInOrder b [] = Unit {0}
@@ -96,19 +96,19 @@ AreInOrder b (p ∷ all) =
 abbrev pub start_in : Bool → BasesFields → ℕ
 start_in statics b = if statics then b.statics else b.text
 
--- No word of a component stands there, among its text or its static words.
+-- Word j of the bound object is not one of this component, among its text or its static words.
 abbrev pub IsOutside : Bool → PlacedFields → ℕ → Type 0
 IsOutside statics p j = (j < start_in statics p.bases)
     ⊎ (start_in statics p.bases + length (words_in statics p.parts) ≤ j)
 
--- how many words there are behind so many, of the texts or of the static words
+-- the end of the words of components, of the texts or of the static words
 unfoldable pub words_end : Bool → ℕ → List PlacedFields → ℕ
 words_end statics n [] = n
 words_end statics n (p ∷ all) =
     words_end statics (start_in statics p.bases + length (words_in statics p.parts)) all
 
--- The words of a component stand one behind another from its first on, each moved. A word
--- has 36 bits.
+-- The words of a component are in the bound object one after another, from where the component
+-- begins, each relocated. A word has 36 bits.
 abbrev pub WordsStand : PartsFields → PlacedFields → Bool → Type 0
 WordsStand bound p statics =
     (i : ℕ) → i < length (words_in statics p.parts)
@@ -118,21 +118,21 @@ WordsStand bound p statics =
 
 -- ---- relocations
 
--- The part is that of the image of the word, and it counts in the same section.
+-- The same part of the same word, as an offset in the same section.
 pub record IsMovedRelocation (bound : PartsFields) (p : PlacedFields)
     (old new : RelocFields) : Type 0 where
   pub place : NamesImage bound p old.section old.offset new.section new.offset
   pub part : new.part ≡ old.part
   pub target : new.target ≡ old.target
 
--- what stands for a relocation of a component
+-- the relocation of the bound object for one of a component
 pub record MovedRelocation (bound : PartsFields) (p : PlacedFields)
     (old : RelocFields) : Type 0 where
   pub new : RelocFields
   pub among : Contains bound.relocations new
   pub moved : IsMovedRelocation bound p old new
 
--- what a relocation of the bound object stands for
+-- the relocation of a component for one of the bound object
 pub record RelocationSource (bound : PartsFields) (all : List PlacedFields)
     (new : RelocFields) : Type 0 where
   pub component : PlacedFields
@@ -143,27 +143,27 @@ pub record RelocationSource (bound : PartsFields) (all : List PlacedFields)
 
 -- ---- links
 
--- A link names a place of the bound object: the image of a place of a component, and a number more.
--- The modifier stays.
+-- A link to a place of the bound object: that of a place of a component, plus the number of the
+-- link. The modifier is unchanged.
 pub record LinksTo (bound : PartsFields) (p : PlacedFields) (section : Section) (value : ℕ)
     (old new : LinkFields) : Type 0 where
   pub place : Spot
   pub names : NamesImage bound p section value place.section place.offset
   pub is : new ≡ own_link old (farther place old.expr)
 
--- a link to a place, as it is
+-- a link to a place of the bound object, without a number that is added
 pub record LinksAt (bound : PartsFields) (p : PlacedFields) (old new : LinkFields) : Type 0 where
   pub place : Spot
   pub names : NamesImage bound p old.section old.expr place.section place.offset
   pub is : new ≡ own_link old place
 
--- Whether a name that a link uses is none of a component, or none that it defines.
+-- The name of a link is that of no component, or the component does not define its entry.
 abbrev pub IsUndefined : List PlacedFields → LinkFields → Type 0
 IsUndefined all l =
     (q : PlacedFields) → component_named l.name all ≡ Some q → export_named l.entry q.entries ≡ None
 
--- What stands for a link of a component, by its type; a link to no component, or to a name that
--- none defines, is as it was.
+-- The link of the bound object that replaces a link of a component, by its type. A link to no
+-- component, or to a name that the component does not define, is unchanged.
 pub record IsMovedLink (bound : PartsFields) (all : List PlacedFields) (p : PlacedFields)
     (old new : LinkFields) : Type 0 where
   pub own : old.kind ≡ to_section → LinksAt bound p old new
@@ -178,7 +178,7 @@ pub record IsMovedLink (bound : PartsFields) (all : List PlacedFields) (p : Plac
   pub far_entry : old.kind ≡ to_entry → IsUndefined all old → new ≡ old
   pub no_entry : old.kind ≡ to_own_entry → export_named old.entry p.entries ≡ None → new ≡ old
 
--- The links of a component stand one behind another from its first on.
+-- The links of a component are in the bound object one after another, from its first on.
 abbrev pub LinksStand : PartsFields → List PlacedFields → PlacedFields → Type 0
 LinksStand bound all p =
     (i : ℕ) (old : LinkFields) → slice_get p.parts.links i ≡ Some old
@@ -187,8 +187,8 @@ LinksStand bound all p =
 
 -- ---- definitions
 
--- What a definition of the bound object stands for: it names the image of what a component's
--- definition of the name names. A definition of class symbol counts as none.
+-- The definition of a component for one of the bound object: it has the same name, its class is not
+-- symbol, and both refer to the same word.
 pub record DefinitionSource (bound : PartsFields) (all : List PlacedFields) (name : List ℕ)
     (new : DefFields) : Type 0 where
   pub component : PlacedFields
@@ -202,14 +202,14 @@ pub record DefinitionSource (bound : PartsFields) (all : List PlacedFields) (nam
 
 -- ---- the whole
 
--- The object is bound of the components of a bind file.
+-- The object is the bound object of the components of a bind file.
 pub record BoundMeaning (text : List ℕ) (names : List (List ℕ)) (objects : List PartsFields)
     (bound : PartsFields) : Type 0 where
   pub lines : List BindLine
   pub read : bind_lines text ≡ Ok lines
   pub components : List PlacedFields
   pub picked : picked_of (record { names = names; objects = objects }) lines ≡ Ok components
-  -- where they stand
+  -- what is in the bound object
   pub order : AreInOrder first_bases components
   pub texts : (p : PlacedFields) → Contains components p → WordsStand bound p false
   pub statics : (p : PlacedFields) → Contains components p → WordsStand bound p true
@@ -219,7 +219,7 @@ pub record BoundMeaning (text : List ℕ) (names : List (List ℕ)) (objects : L
   pub retained : definition_names bound.definitions ≡ retained_names lines
   pub definitions : (d : Named) → Contains bound.definitions d
       → DefinitionSource bound components d.name d.def
-  -- and that nothing else does
+  -- and there is nothing else
   pub text_length : length bound.text ≡ words_end false 0 components
   pub statics_length : length bound.statics ≡ words_end true 0 components
   pub gaps : (statics : Bool) (j : ℕ)
@@ -231,6 +231,6 @@ pub record BoundMeaning (text : List ℕ) (names : List (List ℕ)) (objects : L
   pub entry_bound : bound.entry_bound ≡ first_bound components
   pub version : bound.version ≡ version_of (is_newer_bound (asks_newer lines) components)
 
--- Each of these parts is that of an object.
+-- Each of these is the parts of an object.
 abbrev pub AreObjects : List PartsFields → Type 0
 AreObjects objects = (o : PartsFields) → Contains objects o → is_well_formed o ≡ true

@@ -1,4 +1,4 @@
-//! What is bound, or why not.
+//! Binds the components of a bind file, or refuses it.
 
 ghost use Rattle.std.specs.Prelude.{◌≡◌, ◌^◌, ◌<◌, true, [], length, IfOk};
 ghost use Rattle.obj36_parts.specs.ObjectSegment.{is_well_formed};
@@ -25,7 +25,7 @@ fn is_version(line: &BindLine) -> bool
     matches!(line, BindLine::Version)
 }
 
-// Whether version 2 is asked for.
+// Whether a line asks for version 2.
 #[tactic(auto, unfolding(m36_bindfile::specs::BindFile::asks_newer))]
 fn asks_newer(lines: &[BindLine]) -> bool
     ensures { result ≡ asks_newer lines.now }
@@ -33,20 +33,21 @@ fn asks_newer(lines: &[BindLine]) -> bool
     lines.iter().any(|line| is_version(line))
 }
 
-// The object, if each of its sections fits.
+// The object if each of its sections is within the limit, otherwise B4.
 fn fitting(object: Object) -> Result<Object, BindFault>
     ensures { BindSays result (fitting object) }
 {
     if sections_fit(&object) {
         Ok(object)
     } else {
-        // Dropped by a call: so the drop is proved once for its type.
+        // Dropped explicitly, so that the drop is proved once for its type.
         drop(object);
         Err(BindFault::B4(0))
     }
 }
 
-// The object of the parts of one, if each of its sections fits.
+// The object with these well-formed parts if each of its sections is within the limit, otherwise
+// B4.
 fn object_fitting(alloc: Global, parts: Parts) -> Result<Object, BindFault>
     requires { is_well_formed parts ≡ true }
     ensures { BindSays result (fitting parts) }
@@ -55,7 +56,8 @@ fn object_fitting(alloc: Global, parts: Parts) -> Result<Object, BindFault>
     fitting(object)
 }
 
-// The object of these parts, if they are those of one that fits.
+// The object with these parts if they are well formed and each section is within the limit,
+// otherwise B4.
 fn made(alloc: Global, parts: Parts) -> Result<Object, BindFault>
     ensures { BindSays result (made parts) }
 {
@@ -97,7 +99,7 @@ fn kept_of(
     kept(alloc, &exports, lines)
 }
 
-// The bound object of components, or the first of B3, B5 and B4.
+// The bound object of these components, or the first of B3, B5 and B4.
 #[tactic(auto, using(crate::proofs::BindingLaws::of_components))]
 fn bound_of_components(
     alloc: Global,
@@ -122,7 +124,7 @@ fn bound_of_lines(alloc: Global, lines: &[BindLine], given: &Given<'_>) -> Resul
     bound_of_components(alloc, &frame, &all, lines)
 }
 
-// Each of these is an object.
+// A law: the parts of each object are well formed.
 fn are_objects(objects: &[Object])
     ensures { AreObjects objects.now }
 {
@@ -131,9 +133,10 @@ fn are_objects(objects: &[Object])
     }
 }
 
-/// The bound object of the components that a bind file names, or the first refusal. Object number i has name number i; of two
-/// of one name the first counts. The text has fewer than 2^32 bytes. `says` is the object that is computed; `means` says what
-/// stands where in it, and what each part of a word, link and definition of it names.
+/// Binds the components that a bind file names, or returns the first refusal. Object number i has
+/// name number i; if two have one name, the first is used. The text has fewer than 2^32 bytes. The
+/// clause `says` gives the bound object by its definition. The clause `means` states what is where
+/// in it, and to what each relocated part of a word, each link and each definition refers.
 #[tactic(auto, using(crate::proofs::BindingLaws::of_text))]
 pub fn bind(
     alloc: Global,

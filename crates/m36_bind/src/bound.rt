@@ -108,7 +108,8 @@ fn moved_words(
     relocations: &[Reloc],
     words: &[Word],
 ) -> Result<Vec<Word>, NoMemory>
-    ensures { IfOk result (λ moved. moved.items ≡ words_moved m.now statics relocations.now words.now) }
+    ensures { IfOk result
+        (λ moved. moved.items ≡ words_moved m.now statics relocations.now words.now) }
 {
     let mut moved = words.to_vec(alloc)?;
     move_words(moved.as_mut_slice(), m, statics, relocations);
@@ -141,14 +142,15 @@ fn lay(
     statics: bool,
     p: &Placed<'_>,
 ) -> Result<(), NoMemory>
-    ensures { OnOk result (out.new ≡ evened_words out.old ++ component_words frame.now statics p.now) }
+    ensures { OnOk result
+        (out.new ≡ evened_words out.old ++ component_words frame.now statics p.now) }
 {
     push_evening(out)?;
     let words = component_words(alloc, frame, statics, p)?;
     push_all(out, words.as_slice())
 }
 
-// The texts of the components, or their static words, each from an even word on.
+// The texts of the components, or their static words, relocated, each from an even word on.
 #[tactic(auto, unfolding(crate::specs::Bound::laid_from))]
 fn laid(alloc: Global, frame: &Shape, statics: bool, all: &[Placed<'_>]) -> Result<Words, NoMemory>
     ensures { IfOk result (λ words. words ≡ laid_from frame.now statics [] all.now) }
@@ -208,14 +210,16 @@ fn add_relocations_of(
     statics: bool,
     p: &Placed<'_>,
 ) -> Result<(), NoMemory>
-    ensures { OnOk result (out.new ≡ relocations_onto (moving frame.now p.now) statics out.old p.now.parts.relocations) }
+    ensures { OnOk result
+        (out.new ≡ relocations_onto
+        (moving frame.now p.now) statics out.old p.now.parts.relocations) }
 {
     let m = moving(frame, p);
     let parts = p.parts;
     add_relocations(out, &m, statics, parts.relocations.items())
 }
 
-// Adds the relocations in the texts of the components, or those in their static words.
+// Adds the relocations of the texts of the components, or those of their static words.
 #[tactic(auto, unfolding(crate::specs::Bound::relocations_from))]
 fn add_all_relocations(
     out: &mut Relocs,
@@ -234,7 +238,9 @@ fn add_all_relocations(
 }
 
 fn relocations(alloc: Global, frame: &Shape, all: &[Placed<'_>]) -> Result<Relocs, NoMemory>
-    ensures { IfOk result (λ rs. rs ≡ relocations_from frame.now true (relocations_from frame.now false [] all.now) all.now) }
+    ensures { IfOk result
+        (λ rs. rs ≡ relocations_from frame.now true
+        (relocations_from frame.now false [] all.now) all.now) }
 {
     let mut out = Relocs::new(alloc);
     add_all_relocations(&mut out, frame, false, all)?;
@@ -278,7 +284,7 @@ fn all_laid(alloc: Global, frame: &Shape, all: &[Placed<'_>]) -> Result<LaidWord
     Ok(LaidWords { text, statics })
 }
 
-// The links, and the relocations.
+// The links and the relocations of the bound object.
 #[derive(Drop)]
 struct References {
     links: Links,
@@ -287,14 +293,16 @@ struct References {
 
 fn references_of(alloc: Global, frame: &Shape, all: &Components<'_>) -> Result<References, NoMemory>
     ensures links { IfOk result (λ refs. refs.links ≡ links_from frame.now all.now [] all.now) }
-    ensures relocations { IfOk result (λ refs. refs.relocations ≡ relocations_from frame.now true (relocations_from frame.now false [] all.now) all.now) }
+    ensures relocations { IfOk result
+        (λ refs. refs.relocations
+        ≡ relocations_from frame.now true (relocations_from frame.now false [] all.now) all.now) }
 {
     let links = links(alloc, frame, all)?;
     let relocations = relocations(alloc, frame, all.items())?;
     Ok(References { links, relocations })
 }
 
-// The parts of the bound object, with these definitions.
+// The parts of the bound object with these definitions.
 #[tactic(auto, using(crate::proofs::BindingLaws::parts_bound))]
 pub(crate) fn bound_parts(
     alloc: Global,

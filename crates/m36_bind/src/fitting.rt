@@ -1,4 +1,4 @@
-//! Whether all parts fit where they go.
+//! Checks whether relocated parts of words and sections fit.
 
 ghost use Rattle.std.specs.Prelude.{◌≡◌, ◌&&◌};
 ghost use Rattle.obj36_parts.specs.ObjectSegment.{definition_section, section_fits, sections_fit};
@@ -22,7 +22,7 @@ fn component_fits(frame: &Shape, p: &Placed<'_>) -> bool
         && all_fit(&m, true, parts.statics.slice(), relocations)
 }
 
-// Whether the parts of all components fit.
+// Whether the relocated parts of all components fit.
 #[tactic(auto, unfolding(crate::specs::Bound::components_fit))]
 pub(crate) fn components_fit(frame: &Shape, all: &[Placed<'_>]) -> bool
     ensures { result ≡ components_fit frame.now all.now }
@@ -43,14 +43,14 @@ fn section_fits(words: &[Word]) -> bool
     words.len() as u64 <= SECTION_LIMIT
 }
 
-// Whether the definition section fits.
+// Whether the definition section is within the limit.
 fn definition_fits(object: &Object) -> bool
     ensures { result ≡ section_fits (definition_section object.now) }
 {
     object.definition_length() as u64 <= SECTION_LIMIT
 }
 
-// Whether no section is over its limit.
+// Whether each section is within the limit.
 #[tactic(auto, unfolding(obj36_parts::specs::ObjectSegment::sections_fit))]
 pub(crate) fn sections_fit(object: &Object) -> bool
     ensures { result ≡ sections_fit object.now }

@@ -1,4 +1,4 @@
-//! The objects that are given, each found by its name.
+//! The objects that the binder is given, each found by its name.
 
 ghost use Rattle.std.specs.Prelude.{ℕ, ◌≡◌, IfOk, OnOk, slice_get, option_map, option_and_then};
 ghost use Rattle.std.specs.Map.{lookup};
@@ -17,7 +17,7 @@ use std::marker::Model;
 pub(crate) struct Given<'a> {
     names: &'a [Name],
     objects: &'a [Object],
-    // Where the first object of each name stands.
+    // The index of the first object of each name.
     places: IndexMap<Name, u64, HashSeed>,
 }
 
@@ -37,7 +37,7 @@ fn place_in(places: &IndexMap<Name, u64, HashSeed>, name: &Name) -> Option<u64>
     places.get(name).copied()
 }
 
-// Keeps the place of a name that has none yet.
+// Records the index of a name, unless it has one already.
 #[tactic(auto, unfolding(crate::specs::Given::with_place))]
 fn note_place(
     places: &mut IndexMap<Name, u64, HashSeed>,
@@ -53,7 +53,7 @@ fn note_place(
     Ok(())
 }
 
-// Where the first object of each name stands.
+// The index of the first object of each name. The names are hashed with this seed.
 fn places_of(
     alloc: Global,
     seed: HashSeed,
@@ -78,14 +78,15 @@ fn object_at(objects: &[Object], place: Option<u64>) -> Option<&Object>
 }
 
 impl<'a> Given<'a> {
-    // The names are hashed by a seed.
+    // Objects with their names, which are hashed with this seed.
     pub(crate) fn new(
         alloc: Global,
         seed: HashSeed,
         names: &'a [Name],
         objects: &'a [Object],
     ) -> Result<Given<'a>, NoMemory>
-        ensures { IfOk result (λ given. given ≡ record { names = names.now; objects = objects.now }) }
+        ensures { IfOk result
+            (λ given. given ≡ record { names = names.now; objects = objects.now }) }
     {
         let places = places_of(alloc, seed, names)?;
         Ok(Given {
@@ -95,12 +96,12 @@ impl<'a> Given<'a> {
         })
     }
 
-    // The seed of the hashes.
+    // The seed of the hash table.
     pub(crate) fn seed(&self) -> HashSeed {
         *self.places.hasher()
     }
 
-    // The object of a name.
+    // The first object with a name. None if there is none.
     pub(crate) fn find(&self, name: &Name) -> Option<&'a Object>
         ensures { option_map (λ o. o.now) result ≡ object_named self.now name.now }
     {

@@ -1,4 +1,4 @@
-//! The definitions of the bound object: the retained names.
+//! The definitions of the bound object: those of the retained names.
 
 ghost use Rattle.std.specs.Prelude.{ℕ, ◌≡◌, ◌^◌, ◌<◌, ◌||◌, [], length, IfOk, OnOk};
 ghost use Rattle.m36_bindfile.specs.BindFile.{BindSays};
@@ -17,14 +17,15 @@ use obj36_parts::{Defs, Named};
 use std::alloc::Global;
 
 fn add_component(table: &mut Exports, frame: &Shape, p: &Placed<'_>) -> Result<(), NoMemory>
-    ensures { OnOk result (table.new ≡ moved_from (moving frame.now p.now) table.old p.now.parts.definitions) }
+    ensures { OnOk result
+        (table.new ≡ moved_from (moving frame.now p.now) table.old p.now.parts.definitions) }
 {
     let m = moving(frame, p);
     let parts = p.parts;
     add_moved(table, &m, parts.definitions.items())
 }
 
-// What all components define, where it goes.
+// The definitions of all components, at their places in the bound object.
 #[tactic(auto, unfolding(crate::specs::Kept::exports_from))]
 pub(crate) fn exports(alloc: Global, frame: &Shape, all: &[Placed<'_>]) -> Result<Exports, NoMemory>
     ensures { IfOk result (λ table. table ≡ exports_from frame.now [] all.now) }
@@ -38,7 +39,7 @@ pub(crate) fn exports(alloc: Global, frame: &Shape, all: &[Placed<'_>]) -> Resul
     Ok(table)
 }
 
-// Whether a retained name stands above, or more than one component defines it.
+// Whether a retain line above has the name, or more than one component defines it.
 fn stands_twice(kept: &Defs, name: &Name, export: &Export) -> bool
     ensures { result ≡ (has_definition name.now kept.now || export.now.twice) }
 {

@@ -1,18 +1,24 @@
-//! The binder: one object of several.
+//! The binder: makes one object of several.
 //!
-//! The texts of the components follow one another, and so do their static words and their links. A part of a word that a
-//! relocation names is moved to where its target went; a link to a component becomes a link to the place in the bound object.
-//! The retained names are the definitions of the bound object.
+//! The texts of the components follow one another, and so do their static words and their links.
+//! Each part of a word that has a relocation is relocated to the new place of its target. A link to
+//! a component becomes a link to a place of the bound object. The definitions of the bound object
+//! are those of the retained names.
 //!
-//! What is promised: `bind` gives the object that the definitions make of the components of a bind file, in either version, or
-//! the first refusal: B1 over the whole file; then B2, B3 and B5, the least line and its least code; then B4. Each part of a
-//! word that a relocation names, each link to a place and each definition names in the bound object the image of what it named
-//! in its component, all else is as it was, and there is nothing else but the zero words that even (`Meaning`; where words go
-//! and what becomes of their parts is of `m36_relocate`). Want of memory
-//! may come at any time. It takes time that grows with the words of the components.
+//! `bind` returns the object that the definitions make of the components of a bind file, for
+//! objects of either version. If the file is refused, it returns the first refusal: B1 over the
+//! whole file, then the first line with B2, B3 or B5, and then B4. It fails with `NoMemory` if
+//! memory runs out.
 //!
-//! Source: bind files and objects are this project's own; what binding does follows the binder of Multics, as the Multics
-//! Programmers' Manual describes it.
+//! Relocated parts of words, links to places, and definitions refer in the bound object to the
+//! words to which they referred in their components, if there are such words there. An offset below
+//! zero counts back from where the words of its component begin, or from the head of the linkage
+//! section as before. All else is unchanged, and nothing is added but zero words before components
+//! that would begin at an odd word (`Meaning`; `m36_relocate` has the places of words and the new
+//! values of their parts). Binding takes time that grows with the words of the components.
+//!
+//! Source: bind files and objects are this project's own. What binding does follows the binder of
+//! Multics, as the Multics Programmers' Manual describes it.
 #![tactic(auto)]
 
 mod binding;

@@ -14,7 +14,7 @@ use obj36_parts::sections::later_section;
 use obj36_parts::{Link, Links, Section};
 use std::alloc::Global;
 
-// The types of links, by what they name.
+// The types of links, by their targets.
 const TO_SECTION: u8 = 1;
 
 const TO_SEGMENT: u8 = 3;
@@ -23,7 +23,7 @@ const TO_ENTRY: u8 = 4;
 
 const TO_OWN_ENTRY: u8 = 5;
 
-// A link to a place of the bound object itself.
+// A link to a place of the bound object itself. The modifier is kept.
 fn own_link(l: &Link, s: Spot) -> Link
     requires { s.offset < 2 ^ 18 }
     ensures { result ≡ own_link l.now s }
@@ -97,15 +97,16 @@ fn inner_link(frame: &Shape, p: &Placed<'_>, l: &Link, export: Option<Export>) -
     }
 }
 
-// A link of type 1, moved.
+// A link of type 1, relocated.
 fn moved_own(frame: &Shape, p: &Placed<'_>, l: &Link) -> Link
-    ensures { result ≡ own_link l.now (spot_moved (moving frame.now p.now) l.now.section l.now.expr) }
+    ensures { result ≡ own_link l.now
+        (spot_moved (moving frame.now p.now) l.now.section l.now.expr) }
 {
     let m = moving(frame, p);
     own_link(l, spot_moved(&m, l.section, l.expr as u64))
 }
 
-// A link of a component.
+// The link of the bound object that replaces a link of a component.
 #[tactic(auto, unfolding(crate::specs::Links::link_moved))]
 fn link_moved(frame: &Shape, all: &Components<'_>, p: &Placed<'_>, l: &Link) -> Link
     ensures { result ≡ link_moved frame.now all.now p.now l.now }
@@ -155,7 +156,7 @@ fn add_links_of(
     add_links(out, frame, all, p, parts.links.items())
 }
 
-// The links of the components.
+// The links of the bound object.
 #[tactic(auto, unfolding(crate::specs::Links::links_from))]
 pub(crate) fn links(alloc: Global, frame: &Shape, all: &Components<'_>) -> Result<Links, NoMemory>
     ensures { IfOk result (λ links. links ≡ links_from frame.now all.now [] all.now) }

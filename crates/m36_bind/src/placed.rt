@@ -1,4 +1,4 @@
-//! The components of a bind file, each with where its words begin.
+//! The components of a bind file, and where the words of each begin.
 
 ghost use Rattle.std.specs.Prelude.{ℕ, ◌≡◌, ◌+◌, ◌*◌, ◌^◌, ◌<◌, ◌≤◌, false, [], ◌∷◌, ◌++◌, length, Some, IfOk, OnOk, option_map};
 ghost use Rattle.std.specs.List.{list_any};
@@ -25,10 +25,10 @@ use std::marker::Model;
 // A component.
 #[derive(Drop)]
 pub(crate) struct Placed<'a> {
-    // The name by which others refer to it.
+    // The name by which other components refer to it.
     pub(crate) name: &'a Name,
     pub(crate) parts: &'a Parts,
-    // Its definitions by name.
+    // Its definitions by their names.
     pub(crate) entries: Exports,
     pub(crate) shape: Shape,
     pub(crate) bases: Bases,
@@ -46,7 +46,7 @@ impl<'a> Model for Placed<'a> {
     ghost invariant = { λ p. (p.shape.statics ≤ segment_limit) × (p.shape.links ≤ segment_limit) };
 }
 
-// Components in their order.
+// Components in their order. The model is the list of them.
 #[derive(Drop)]
 pub(crate) struct Components<'a> {
     items: Vec<Placed<'a>>,
@@ -64,7 +64,7 @@ impl<'a> Model for Components<'a> {
     ghost invariant = { λ c. c.names.keys ≡ names_of c.items.items };
 }
 
-// How the places of a component go into a bound object of a shape.
+// How the places of a component are relocated to those of a bound object with this shape.
 pub(crate) fn moving(frame: &Shape, p: &Placed<'_>) -> Moving
     ensures { result ≡ moving frame.now p.now }
 {
@@ -105,7 +105,7 @@ fn entries_of(alloc: Global, parts: &Parts) -> Result<Exports, NoMemory>
     own_entries(alloc, parts.definitions.seed(), parts.definitions.items())
 }
 
-// Where the component behind another begins.
+// Where the words of the next component begin.
 fn bases_behind(b: &Bases, parts: &Parts, n: u64) -> Bases
     requires small { n < 2 ^ 32 }
     requires near { AreNear b.now n }
@@ -133,7 +133,7 @@ fn shape_of(parts: &Parts) -> Shape
     }
 }
 
-// An object's parts are few.
+// The parts of an object, each with at most 2^18 items.
 fn parts_of(object: &Object) -> &Parts
     ensures value { result.now ≡ object.now }
     ensures few { AreFew result.now }
@@ -142,7 +142,7 @@ fn parts_of(object: &Object) -> &Parts
     object.parts()
 }
 
-// The seed of components together.
+// The seed of several components together.
 pub(crate) fn seed_of(all: &[Placed<'_>]) -> HashSeed {
     let mut seed = HashSeed::of(b"");
     for p in all {
@@ -153,7 +153,7 @@ pub(crate) fn seed_of(all: &[Placed<'_>]) -> HashSeed {
 }
 
 impl<'a> Components<'a> {
-    // No components. Their names are hashed by a seed.
+    // No components. Their names will be hashed with this seed.
     fn new(alloc: Global, seed: HashSeed) -> Components<'a>
         ensures { result ≡ [] }
     {
@@ -170,14 +170,14 @@ impl<'a> Components<'a> {
         self.items.as_slice()
     }
 
-    // Whether a component has a name.
+    // Whether a component has this name.
     fn has(&self, name: &Name) -> bool
         ensures { result ≡ list_any (same name.now) (names_of self.now) }
     {
         self.names.contains(name)
     }
 
-    // The component of a name.
+    // The component with this name. None if there is none.
     #[tactic(auto, unfolding(crate::specs::Components::component_named))]
     pub(crate) fn find(&self, name: &Name) -> Option<&Placed<'a>>
         ensures { option_map (λ p. p.now) result ≡ component_named name.now self.now }
@@ -186,7 +186,7 @@ impl<'a> Components<'a> {
         self.items.get(i)
     }
 
-    // Adds a component of another name than those above.
+    // Adds a component whose name no other has.
     fn add(
         &mut self,
         name: &'a Name,
@@ -196,7 +196,8 @@ impl<'a> Components<'a> {
     ) -> Result<(), NoMemory>
         requires fresh { list_any (same name.now) (names_of self.old) ≡ false }
         requires few { AreFew parts.now }
-        ensures { OnOk result (self.new ≡ self.old ++ component name.now parts.now bases entries ∷ []) }
+        ensures { OnOk result
+            (self.new ≡ self.old ++ component name.now parts.now bases entries ∷ []) }
     {
         let shape = shape_of(parts);
         self.items.reserve(1)?;
@@ -215,7 +216,8 @@ impl<'a> Components<'a> {
     }
 }
 
-// Adds an object that was found, with its name. The answer is where the next component begins.
+// Adds an object that was found for a line. Returns where the next component begins, or B3 if a
+// component has the name.
 #[tactic(auto, using(crate::proofs::PickLaws::picking))]
 fn pick<'a>(
     alloc: Global,
@@ -227,7 +229,8 @@ fn pick<'a>(
 ) -> Result<Bases, BindFault>
     requires small { n < 2 ^ 32 }
     requires near { AreNear next n }
-    ensures answer { Picks all.new result (picked_one (record { placed = all.old; next = next }) n name.now (Some object.now)) }
+    ensures answer { Picks all.new result
+        (picked_one (record { placed = all.old; next = next }) n name.now (Some object.now)) }
     ensures near { IfOk result (λ next. AreNear next (n + 1)) }
 {
     if all.has(name) {
@@ -251,7 +254,8 @@ fn pick_line<'a>(
 ) -> Result<Bases, BindFault>
     requires small { n < 2 ^ 32 }
     requires near { AreNear next n }
-    ensures answer { Picks all.new result (picked_line given.now (record { placed = all.old; next = next }) n line.now) }
+    ensures answer { Picks all.new result
+        (picked_line given.now (record { placed = all.old; next = next }) n line.now) }
     ensures near { IfOk result (λ next. AreNear next (n + 1)) }
 {
     match line {

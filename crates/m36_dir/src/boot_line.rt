@@ -45,7 +45,7 @@ pub(crate) enum BootLine {
     Frames(u32),
     // The working directory.
     Work(Directory),
-    // A directory that is searched after the working directory and earlier libraries.
+    // A library: a directory that is searched.
     Library(Directory),
     Segment(SegmentLine),
     // A further name of the segment in the lines above.

@@ -1,4 +1,4 @@
--- The text of a word is read as a line that places that word.
+-- The text of a word is parsed as a line that places that word.
 use Rattle.std.proofs.Common.{ℕ, suc, ◌≡◌, ◌+◌, ◌%◌, ◌^◌, ◌<◌, ◌==◌, Bool, true, false, List, [], ◌∷◌, ◌++◌, length, Option, Some, None, Ok, refl, sym, ap, ◌∙◌, append_assoc, length-append, arith}
 use Rattle.std.specs.Prelude.{codes}
 use Rattle.std.specs.Str.{bytes_eq}
@@ -43,7 +43,8 @@ use Rattle.m36_list.proofs.WordAlone.{line_of, operand_of, constant_placed, cons
 use Rattle.m36_list.proofs.OperandRead.{operand_at}
 use Rattle.m36_list.proofs.LineRead.{line_read}
 
--- The text is read as a line that places the word, and that is the object of the word where it stands alone.
+-- The text is parsed as a line that places the word; alone as a source, it yields the object of the
+-- word.
 pub record IsWord (w number : ℕ) (before text after : List ℕ) : Type 0 where
   pub line : Line36
   pub given : line_given (before ++ (text ++ after)) (row_at number (length before) (length before + length text)) ≡ Ok line
@@ -68,7 +69,7 @@ instruction_operation : (code : ℕ) (bit27 : Bool) (name : List ℕ) → name_a
 unfolding operation_of
 instruction_operation code bit27 name named o = rw (o.instruction, named_code code bit27 name named) refl
 
--- an instruction that is written with its name
+-- an instruction that is shown with its name
 same_word : (i : InstFields) → IsInst i → i.inhibit ≡ false → inst_word record { y = i.y; code = i.code % 2 ^ 9; bit27 = i.bit27; inhibit = false; by_pr = i.by_pr; tag = i.tag % 2 ^ 6 } ≡ inst_word i
 same_word i sized off =
     let in_code = sized.code in

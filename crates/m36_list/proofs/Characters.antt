@@ -23,7 +23,7 @@ digits_pass_none p base (d ∷ ds) small below none =
     let first = below.0 in
     or_from (p (48 + d)) (list_any p (map character ds)) (none d (omega arith)) (digits_pass_none p base ds small below.1 none)
 
--- no character of a number passes a test that no digit passes
+-- a test that no digit passes, no character of a number passes
 pub decimal_passes_none : (p : ℕ → Bool) (v : ℕ) → ((d : ℕ) → d < 10 → p (48 + d) ≡ false) → list_any p (decimal_text v) ≡ false
 unfolding decimal_text
 decimal_passes_none p zero none = digits_pass_none p 10 (0 ∷ []) (omega arith) (omega arith, tt) none
@@ -33,7 +33,7 @@ pub octal_passes_none : (p : ℕ → Bool) (places v : ℕ) → ((d : ℕ) → d
 unfolding octal_text
 octal_passes_none p places v none = digits_pass_none p 8 (digits 8 places v) (omega arith) (digits_below 8 places v (omega arith)) none
 
--- a test that neither a digit passes, nor a letter or a mark of an address
+-- a test that no digit, no letter and no other character of an address passes
 pub record PassesNone (p : ℕ → Bool) : Type 0 where
   pub digit : (d : ℕ) → d < 10 → p (48 + d) ≡ false
   pub minus : p 45 ≡ false
@@ -69,14 +69,14 @@ address_passes_none p i fits none bar = address_passes_none_by p i i.by_pr fits 
 abbrev pub is_ending : ℕ → Bool
 is_ending b = is_blank b || (b == 34)
 
--- a byte that no operation has
+-- a byte that no operation has in its name
 abbrev pub is_parting : ℕ → Bool
 is_parting b = (b == 58) || is_ending b
 
 abbrev pub is_line_feed : ℕ → Bool
 is_line_feed b = b == 10
 
--- a name of the table has no such byte, and is not that of another operation
+-- a name of the table has no such byte, and is not that of a directive
 abbrev is_operation : Entry → Bool
 is_operation e =
     not (list_any is_parting e.name) && (is_none (directive e.name) && (not (bytes_eq e.name []) && not (list_any is_line_feed e.name)))

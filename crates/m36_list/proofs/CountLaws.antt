@@ -1,4 +1,4 @@
--- The counts of an object's words are told from its sections.
+-- The numbers of words of an object follow from its sections.
 use Rattle.std.proofs.Common.{ℕ, ◌≡◌, List, length, ap, ◌∙◌, arith}
 use Rattle.obj36_parts.specs.PartsFields.{PartsFields}
 use Rattle.obj36_parts.specs.ObjectSegment.{definition_section, linkage_section, outer_statics, symbol_section, Stands}

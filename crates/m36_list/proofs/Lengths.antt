@@ -1,4 +1,4 @@
--- How long texts are.
+-- Lengths of texts.
 use Rattle.std.proofs.Common.{ℕ, zero, suc, ◌%◌, ◌^◌, ◌<◌, ◌≤◌, Bool, true, false, cond, List, [], ◌∷◌, ◌++◌, length, arith}
 use Rattle.std.specs.Prelude.{codes}
 use Rattle.std.specs.Int.Digits.{digits_of}
@@ -9,7 +9,7 @@ use Rattle.m36_inst.specs.Fields.{InstFields}
 use Rattle.m36_inst.specs.Instruction.{pr_number}
 use Rattle.m36_list.specs.Disassembly.{signed_text, address_text}
 
--- a number of 18 bits has up to six decimal digits
+-- a number of 18 bits has at most six decimal digits
 pub short_decimal : (v : ℕ) → v < 2 ^ 18 → length (decimal_text v) ≤ 6
 unfolding decimal_text
 short_decimal zero fits = omega arith
@@ -18,7 +18,7 @@ short_decimal (suc v) fits =
     let same = length-map (digits_of 10 (suc v)) character in
     omega arith
 
--- a number has a digit, and so an address is not empty
+-- a number has at least one digit, so an address is not empty
 decimal_is_some : (v : ℕ) → 0 < length (decimal_text v)
 unfolding decimal_text
 decimal_is_some zero = omega arith

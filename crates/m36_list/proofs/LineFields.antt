@@ -1,4 +1,4 @@
--- Fields that are put one after another are a line.
+-- Fields that are joined are a line.
 use Rattle.std.proofs.Common.{◌≡◌, ℕ, List, [], ◌∷◌, ◌++◌, append_assoc}
 use Rattle.m36_list.specs.Print.{line}
 
@@ -18,7 +18,7 @@ pub five : (old a b c d e : List ℕ) → ((((old ++ (a ++ 32 ∷ [])) ++ (b ++ 
 unfolding line
 five old a b c d e = simp append_assoc
 
--- a reference and the space behind it
+-- a reference and the space after it
 pub reference : (old a : List ℕ) → (old ++ a) ++ 32 ∷ [] ≡ old ++ (a ++ 32 ∷ [])
 reference old a = append_assoc old a (32 ∷ [])
 

@@ -21,7 +21,7 @@ use Rattle.m36_list.proofs.WordAlone.{line_of}
 abbrev named : List Span → ℕ → ℕ → Head
 named marks from to = record { labels = marks; op = Some (span_at from to) }
 
--- an operation ends at the blank behind it
+-- an operation ends at the space after it
 head_named : (marks : List Span) (from at : ℕ) (xs ys : List ℕ) → list_any is_parting xs ≡ false → from < at + length xs → head_from marks from at (xs ++ 32 ∷ ys) ≡ record { labels = marks; op = Some (span_at from (at + length xs)) }
 unfolding head_from
 head_named marks from at [] ys none later =
@@ -42,7 +42,7 @@ unfolding head_of
 head_at_name source before name rest after from to whole begin end none some =
     rw (slice_at source before (name ++ 32 ∷ rest) after from to whole begin end, head_named [] from from name rest none (omega arith)) refl
 
--- an operand goes on to the end of the line
+-- an operand extends to the end of the line
 end_all : (end at : ℕ) (bytes : List ℕ) → list_any is_ending bytes ≡ false → end ≡ at → end_from end at bytes ≡ at + length bytes
 unfolding end_from
 end_all end at [] none same = omega arith
@@ -75,7 +75,8 @@ operation_at_name : (source before name rest after : List ℕ) (from to : ℕ) �
     → slice_of source (span_at from to) ≡ name
 operation_at_name source before name rest after from to whole begin end = slice_at source before name ((32 ∷ rest) ++ after) from to (whole ∙ simp append_assoc) begin end
 
--- A line of an operation, one blank and an operand is read as that operation, with what the operand says.
+-- A line of an operation, one space and an operand is parsed as that operation with the arguments
+-- in the operand.
 pub record IsLine (number : ℕ) (before text after name : List ℕ) (arguments : List Arg) : Type 0 where
   pub op : Span
   pub named : slice_of (before ++ (text ++ after)) op ≡ name

@@ -7,7 +7,7 @@ use Rattle.alm_lines.specs.SpotFields.{Spot}
 use Rattle.alm_lines.specs.Spots.{start, below}
 use Rattle.m36_list.specs.Listing.{placed_lines, size_in, section_words}
 
--- one line more
+-- one more line
 pub line_listed : (old next all name : List ℕ) (section : Section) (text left here later : List ℕ) (at size : ℕ) (spot under : Spot) (lines : List Line36) (i : ℕ) (row : Line36)
     → i < length lines → row ≡ get_or lines i row → size ≡ size_in section text spot row → here ≡ take size left → later ≡ drop size left → under ≡ below text spot row
     → next ≡ old ++ placed_lines name row.line at here

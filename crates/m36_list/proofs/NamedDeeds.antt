@@ -1,4 +1,4 @@
--- What the operations of texts of words do.
+-- The effects of the operations in texts of words.
 use Rattle.std.proofs.Common.{ℕ, ◌≡◌, Bool, List, Option, Some, None, refl, ap, ◌∙◌}
 use Rattle.std.specs.Prelude.{codes}
 use Rattle.m36_inst.specs.Lookup.{name_at, code_named}
@@ -9,7 +9,7 @@ use Rattle.alm_parse.specs.Operations.{directive}
 use Rattle.alm_parse.specs.declared.deed.Deed.TheVariants as deed
 use Rattle.alm_parse.specs.Deeds.{instruction_of, deed_by, deed_named}
 
--- what directs nothing is an instruction, or nothing
+-- a name that is not a directive is that of an instruction, or of nothing
 undirected : (name : List ℕ) → directive name ≡ None → deed_named name ≡ instruction_of (code_named name)
 unfolding deed_named
 undirected name none = ap (λ (d : Option (Operation × Deed)). deed_by d name) none

@@ -1,4 +1,4 @@
--- What an expression of one number comes to, by the words of the assembler.
+-- The sum of an expression of one number, by the definitions of the assembler.
 use Rattle.std.proofs.Common.{ℕ, ◌≡◌, ◌+◌, ◌-◌, ◌*◌, ◌/◌, ◌%◌, ◌^◌, ◌<◌, ◌≤◌, Bool, true, false, List, [], ◌∷◌, Option, Some, None, refl, sym, ◌∙◌, arith}
 use Rattle.std.proofs.lemmas.Bool.{le-leb}
 use Rattle.m36_inst.specs.Fields.{InstFields}
@@ -17,7 +17,7 @@ use Rattle.alm_asm.specs.Words.{own_inst}
 abbrev pub number_term : Bool → ℕ → Span → Term
 number_term minus v span = record { what = Number v; span = span; minus = minus }
 
--- a number that is added, and one that is taken away
+-- a number that is added, and one that is subtracted
 abbrev pub number_sum : Bool → ℕ → Sum
 number_sum false v = absolute v
 number_sum true v = record { value = balance 0 v; text = nothing; inner = nothing; outer = nothing; unknown = false }
@@ -31,7 +31,7 @@ sum_is text symbols spot true v span =
     let same : 0 + v ≡ v = omega arith in
     λ k. record { value = balance 0 (same k); text = nothing; inner = nothing; outer = nothing; unknown = false }
 
--- it is a number, and no symbol of it is missing
+-- the sum is a number, and no symbol is missing
 pub kind_is : (minus : Bool) (v : ℕ) → kind_of (number_sum minus v) ≡ Absolute
 unfolding kind_of
 kind_is false v = refl
@@ -45,8 +45,8 @@ pub none_missing : (text : List ℕ) (symbols : List (List ℕ × Sum)) (minus :
 unfolding place_undefined is_undefined
 none_missing text symbols minus v span = refl
 
--- an expression of one number, alone or behind a pointer register, that gives the address of an instruction, for which there
--- is room
+-- an expression of one number, alone or relative to a pointer register, that is the address of an
+-- instruction and fits
 pub record GivesAddress (pr : Option ℕ) (minus : Bool) (v : ℕ) (i : InstFields) : Type 0 where
   pub back : (code : ℕ) (bit27 : Bool) (tag : ℕ) → own_inst code bit27 pr (half_of (number_sum minus v).value) (offset_of (number_sum minus v).value) tag ≡ record { y = i.y; code = code % 2 ^ 9; bit27 = bit27; inhibit = false; by_pr = i.by_pr; tag = tag % 2 ^ 6 }
   pub room : has_room (own_room pr) (number_sum minus v).value ≡ true
@@ -64,7 +64,7 @@ gives_plain v i fits same off =
       room = rw (le-leb (0 - v) 131072 (omega arith), le-leb (v - 0) 262143 (omega arith)) refl;
     }
 
--- the offset behind a pointer register, from -16384 to 16383
+-- the offset after a pointer register, from -16384 to 16383
 pub record GivesOffset (minus : Bool) (v offset : ℕ) : Type 0 where
   pub back : offset_of (number_sum minus v).value ≡ offset
   pub low : (number_sum minus v).value.down - (number_sum minus v).value.up ≤ 16384

@@ -1,4 +1,4 @@
--- The operand of an instruction's text is read as what it was written for.
+-- The operand in an instruction's text is parsed as the operand of that instruction.
 use Rattle.std.proofs.Common.{ℕ, zero, suc, ◌≡◌, ◌+◌, ◌-◌, ◌/◌, ◌%◌, ◌^◌, ◌<◌, ◌≤◌, ◌==◌, Bool, true, false, cond, nat_lt, List, [], ◌∷◌, ◌++◌, length, Option, Some, None, Ok, refl, sym, ap, ◌∙◌, append_assoc, length-append, arith}
 use Rattle.std.specs.Prelude.{codes}
 use Rattle.std.proofs.lemmas.Bool.{ltb-true, ltb-false, ne_eqb, eqb-true}
@@ -22,7 +22,7 @@ use Rattle.m36_list.proofs.Terms.{IsNumberAt, plain_number, negative_number}
 use Rattle.m36_list.proofs.TagsBack.{tag_read}
 use Rattle.m36_list.proofs.NumberSums.{number_term, GivesAddress, gives_plain, GivesOffset, gives_added, gives_taken, gives_through}
 
--- a comma, a bar and a dollar sign are in no number
+-- no number has a comma, a bar or a dollar sign
 no_digit : (c : ℕ) → 58 ≤ c → (d : ℕ) → d < 10 → (48 + d == c) ≡ false
 no_digit c past d small = ne_eqb (48 + d) c (λ e. absurd (omega arith))
 
@@ -48,7 +48,8 @@ pointer_back (suc (suc (suc (suc (suc (suc zero)))))) small = refl
 pointer_back (suc (suc (suc (suc (suc (suc (suc zero))))))) small = refl
 pointer_back (suc (suc (suc (suc (suc (suc (suc (suc n)))))))) small = absurd (omega arith)
 
--- what an address of a source says: its pointer register, the number of its expression, and the address that they give
+-- an address in a source: its pointer register, the number of its expression, and the address that
+-- they encode
 pub record IsAddressAt (source : List ℕ) (from to : ℕ) (i : InstFields) : Type 0 where
   pub pr : Option ℕ
   pub minus : Bool
@@ -74,7 +75,7 @@ alone source from to y i same off fits slice end =
       address = gives_plain y i fits same off;
     }
 
--- an address through a pointer register: the register, a bar, and the offset with its sign
+-- an address relative to a pointer register: the register, a bar, and the offset with its sign
 pub record IsOffsetAt (source : List ℕ) (from to offset : ℕ) : Type 0 where
   pub minus : Bool
   pub v : ℕ
@@ -144,7 +145,7 @@ pub address_at : (source before after : List ℕ) (from to : ℕ) (i : InstField
     → IsAddressAt source from to i
 address_at source before after from to i fits whole begin end = address_at_by source before after from to i i.by_pr refl fits whole begin end
 
--- the operand: the address, and perhaps a comma and the modifier
+-- the operand: the address, and optionally a comma and the modifier
 pub record IsOperandAt (source : List ℕ) (from to : ℕ) (i : InstFields) : Type 0 where
   pub pr : Option ℕ
   pub minus : Bool

@@ -1,4 +1,4 @@
--- Texts parted at the first byte that passes a test.
+-- Texts divided at the first byte that passes a test.
 use Rattle.std.proofs.Common.{ℕ, ◌≡◌, ◌+◌, Bool, true, false, List, [], ◌∷◌, ◌++◌, length, take, drop, refl, ap, ◌∙◌, arith}
 use Rattle.std.specs.List.{list_any, position_or_len, before_first, after_first}
 use Rattle.std.proofs.lemmas.Bool.{or_parts, or_from, or_left, or_right}
@@ -9,7 +9,8 @@ abbrev pub begins : (ℕ → Bool) → List ℕ → Bool
 begins p [] = true
 begins p (y ∷ ys) = p y
 
--- where no byte of a text passes, and what follows begins with one that does, the first is just behind the text
+-- if no byte of a text passes, and the text after it begins with one that does, the first is just
+-- after the text
 pub first_behind : (p : ℕ → Bool) (xs ys : List ℕ) → list_any p xs ≡ false → begins p ys ≡ true → position_or_len p (xs ++ ys) ≡ length xs
 first_behind p [] [] none here = refl
 first_behind p [] (y ∷ ys) none here = rw here refl
@@ -18,7 +19,7 @@ first_behind p (x ∷ xs) ys none here =
     let rest = first_behind p xs ys parts.1 here in
     rw (parts.0) (omega arith)
 
--- so what stands before it is the text, and what stands from it on is what follows
+-- so the text is what precedes that byte, and the rest begins with it
 pub before : (p : ℕ → Bool) (xs ys : List ℕ) → list_any p xs ≡ false → begins p ys ≡ true → before_first p (xs ++ ys) ≡ xs
 before p xs ys none here = ap (λ n. take n (xs ++ ys)) (first_behind p xs ys none here) ∙ take-append_seam xs ys
 
@@ -28,7 +29,7 @@ from_on p xs ys none here = ap (λ n. drop n (xs ++ ys)) (first_behind p xs ys n
 pub after : (p : ℕ → Bool) (xs : List ℕ) (y : ℕ) (ys : List ℕ) → list_any p xs ≡ false → p y ≡ true → after_first p (xs ++ y ∷ ys) ≡ ys
 after p xs y ys none here = ap (λ n. drop (n + 1) (xs ++ y ∷ ys)) (first_behind p xs (y ∷ ys) none here) ∙ drop-append-add xs (y ∷ ys) 1
 
--- a byte that passes is found, and none is in two texts that have none
+-- a byte that passes is found, and none in two texts that have none
 pub any_at : (p : ℕ → Bool) (xs : List ℕ) (y : ℕ) (ys : List ℕ) → p y ≡ true → list_any p (xs ++ y ∷ ys) ≡ true
 any_at p [] y ys here = or_left (p y) (list_any p ys) here
 any_at p (x ∷ xs) y ys here = or_right (p x) (list_any p (xs ++ y ∷ ys)) (any_at p xs y ys here)

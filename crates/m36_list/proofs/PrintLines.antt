@@ -1,4 +1,4 @@
--- Lines of lists that are put one after another.
+-- Lines of lists, one after another.
 use Rattle.std.proofs.Common.{ℕ, ◌≡◌, ◌+◌, ◌*◌, ◌<◌, ◌≤◌, List, ◌++◌, length, drop, get_or, sym, ap, ◌∙◌, append_assoc, arith}
 use Rattle.std.proofs.lemmas.List.{at_drop_more, at_drop_all, append-nil}
 use Rattle.std.specs.List.{flat_map}
@@ -7,7 +7,7 @@ use Rattle.obj36_parts.specs.declared.definition.Named.{Named}
 use Rattle.m36_list.specs.Listing.{placed_line, placed_lines}
 use Rattle.m36_list.specs.Print.{definition_line, link_line, link_lines, word_line, word_lines}
 
--- one definition more
+-- one more definition
 pub definition_put : (old next all : List ℕ) (ds : List Named) (i : ℕ) (d : Named) → i < length ds → d ≡ get_or ds i d → next ≡ old ++ definition_line d
     → old ++ flat_map definition_line (drop i ds) ≡ all → next ++ flat_map definition_line (drop (i + 1) ds) ≡ all
 definition_put old next all ds i d lt is put so_far =
@@ -17,7 +17,7 @@ definition_put old next all ds i d lt is put so_far =
 pub definitions_put : (new all : List ℕ) (ds : List Named) (i : ℕ) → length ds ≤ i → new ++ flat_map definition_line (drop i ds) ≡ all → new ≡ all
 definitions_put new all ds i le so_far = sym (append-nil new) ∙ ap (λ (t : List ℕ). new ++ t) (sym (at_drop_all (λ (xs : List Named). flat_map definition_line xs) ds i le)) ∙ so_far
 
--- one link more
+-- one more link
 pub link_put : (old next all : List ℕ) (ls : List LinkFields) (first i : ℕ) (l : LinkFields) → i < length ls → l ≡ get_or ls i l → next ≡ old ++ link_line (first + 2 * i) l
     → old ++ link_lines (first + 2 * i) (drop i ls) ≡ all → next ++ link_lines (first + 2 * (i + 1)) (drop (i + 1) ls) ≡ all
 unfolding link_lines
@@ -30,7 +30,7 @@ pub links_put : (new all : List ℕ) (ls : List LinkFields) (at i : ℕ) → len
 unfolding link_lines
 links_put new all ls at i le so_far = sym (append-nil new) ∙ ap (λ (t : List ℕ). new ++ t) (sym (at_drop_all (λ (xs : List LinkFields). link_lines at xs) ls i le)) ∙ so_far
 
--- one word more
+-- one more word
 pub word_put : (old next all : List ℕ) (words : List ℕ) (i : ℕ) (w : ℕ) → i < length words → w ≡ get_or words i w → next ≡ old ++ word_line i w
     → old ++ word_lines i (drop i words) ≡ all → next ++ word_lines (i + 1) (drop (i + 1) words) ≡ all
 unfolding word_lines
@@ -43,7 +43,7 @@ pub words_put : (new all : List ℕ) (words : List ℕ) (i : ℕ) → length wor
 unfolding word_lines
 words_put new all words i le so_far = sym (append-nil new) ∙ ap (λ (t : List ℕ). new ++ t) (sym (at_drop_all (λ (ws : List ℕ). word_lines i ws) words i le)) ∙ so_far
 
--- one placed word more
+-- one more placed word
 pub placed_put : (old next all name : List ℕ) (number first : ℕ) (words : List ℕ) (i : ℕ) (w : ℕ) → i < length words → w ≡ get_or words i w → next ≡ old ++ placed_line name number (first + i) w
     → old ++ placed_lines name number (first + i) (drop i words) ≡ all → next ++ placed_lines name number (first + (i + 1)) (drop (i + 1) words) ≡ all
 unfolding placed_lines

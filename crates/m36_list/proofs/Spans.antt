@@ -1,4 +1,4 @@
--- Spans of a source that name what stands there.
+-- Spans of a source and the bytes that they have.
 use Rattle.std.proofs.Common.{ℕ, ◌≡◌, ◌+◌, ◌-◌, ◌==◌, Bool, true, false, List, [], ◌∷◌, ◌++◌, length, Some, None, refl, sym, ap, ◌∙◌, length-append, arith}
 use Rattle.std.specs.List.{list_any, position, position_or_len}
 use Rattle.std.proofs.lemmas.Bool.{lt-ltb, le-ltb}
@@ -27,7 +27,7 @@ position_none p xs none =
     let at : position_or_len p xs ≡ length xs = ap (position_or_len p) (sym (append-nil xs)) ∙ first_behind p xs [] none refl in
     rw (at, le-ltb (length xs) (length xs) (omega arith)) refl
 
--- and its place in a span
+-- and its index in a span
 pub place_behind : (source : List ℕ) (from to byte : ℕ) (xs ys : List ℕ) → slice_of source (span_at from to) ≡ xs ++ byte ∷ ys → list_any (λ b. b == byte) xs ≡ false → (byte == byte) ≡ true
     → place_of source (span_at from to) byte ≡ Some (from + length xs)
 unfolding place_of

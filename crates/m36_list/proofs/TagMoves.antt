@@ -1,4 +1,4 @@
--- What the tags that the assembler writes are to the machine.
+-- The meaning of the assembler's tags in the machine.
 use Rattle.std.proofs.Common.{ℕ, zero, suc, ◌≡◌, ◌+◌, ◌/◌, ◌%◌, ◌<◌, ◌||◌, ◌==◌, Bool, true, false, List, [], ◌∷◌, ◌++◌, Option, Some, refl, sym, ap, ◌∙◌, arith}
 use Rattle.std.specs.Prelude.{codes, option_map, slice_index}
 use Rattle.std.proofs.lemmas.Bool.{eqb-true}
@@ -41,7 +41,7 @@ registers_mean =
       lower = refl;
     }
 
--- ---- tags: Tm is the tag by 16, and Td what is left
+-- ---- tags: Tm is the tag divided by 16, and Td the remainder
 
 by_register : (g : RegsFields) (p : Point) (n : ℕ) → n < 16 → p.tag ≡ n → move_of_point g p ≡ move_register g p n p.held
 unfolding move_of_point

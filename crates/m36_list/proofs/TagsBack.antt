@@ -1,4 +1,4 @@
--- A modifier is read as the tag that it was written for.
+-- The text of a tag is parsed as that tag.
 use Rattle.std.proofs.Common.{ℕ, ◌≡◌, ◌==◌, ◌&&◌, Bool, true, false, not, List, [], ◌∷◌, Option, Some, None, refl, ap}
 use Rattle.std.specs.Prelude.{option_map, if◌then◌else◌}
 use Rattle.std.specs.List.{list_all, list_any, find}
@@ -10,7 +10,7 @@ use Rattle.alm_tokens.specs.Modifiers.{register_of, single_tag, tag_of}
 use Rattle.m36_list.specs.Modifiers.{Modifier, modifiers, has_tag, modifier_text}
 use Rattle.m36_list.proofs.Characters.{is_ending, is_line_feed}
 
--- the tag of what stands behind the comma, and 0 where there is none
+-- the tag of the text after the comma, and 0 if there is none
 abbrev pub tag_read : List ℕ → Option ℕ
 tag_read [] = Some 0
 tag_read (comma ∷ text) = if comma == 44 then tag_of text else None
@@ -26,7 +26,7 @@ all_are_read : list_all is_read modifiers ≡ true
 unfolding tag_of register_of single_tag octal_in number_read first_other number_of
 all_are_read = refl
 
--- what a modifier's text says of its tag
+-- the tag of the text of a modifier
 pub record IsModifier (tag : ℕ) (text : List ℕ) : Type 0 where
   pub back : tag_read text ≡ Some tag
   pub plain : list_any is_ending text ≡ false

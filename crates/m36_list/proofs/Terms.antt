@@ -20,7 +20,7 @@ use Rattle.alm_tokens.specs.Lists.{place_out}
 use Rattle.alm_tokens.specs.declared.numerals.Numeral.TheVariants.{Small}
 use Rattle.m36_list.proofs.Characters.{decimal_passes_none}
 
--- a text that has no byte of another is another one
+-- a text without a byte that another one has is different from it
 same_or_not : (p : ℕ → Bool) (a b : List ℕ) (same : Bool) → bytes_eq a b ≡ same → list_any p a ≡ false → list_any p b ≡ true → same ≡ false
 same_or_not p a b true e none some =
     let eq = (bytes_eq-Decides a b).0 e in
@@ -65,7 +65,7 @@ atom : (v : ℕ) → v < 2 ^ 18 → atom_of (decimal_text v) ≡ Number v
 unfolding atom_of
 atom v fits = rw (not_here v, number v fits, read v fits) refl
 
--- a text without what parts pieces is one piece
+-- a text without a separator is one piece
 pub one_piece : (parter : Parter) (minus : Bool) (from at : ℕ) (bytes : List ℕ) → list_any (parts parter) bytes ≡ false → cut parter minus from at bytes ≡ piece_at minus from (at + length bytes) ∷ []
 unfolding cut
 one_piece parter minus from at [] none =
@@ -85,7 +85,7 @@ no_sign d small =
 is_minus : ℕ → Bool
 is_minus b = b == 45
 
--- the first byte of a text passes no test that none of its bytes passes, unless there is none
+-- the first byte of a text does not pass a test that no byte of it passes, unless it is empty
 first_is_no_minus : (text : List ℕ) → list_any (λ b. b == 45) text ≡ false → (slice_index text 0 == 45) ≡ false
 first_is_no_minus [] none = refl
 first_is_no_minus (b ∷ text) none = (or_parts (b == 45) (list_any (λ c. c == 45) text) none).0
@@ -93,7 +93,7 @@ first_is_no_minus (b ∷ text) none = (or_parts (b == 45) (list_any (λ c. c == 
 no_minus : (d : ℕ) → d < 10 → (48 + d == 45) ≡ false
 no_minus d small = ne_eqb (48 + d) 45 (λ e. absurd (omega arith))
 
--- what a piece says that holds a decimal number
+-- the term in a piece that holds a decimal number
 pub record IsNumberAt (source : List ℕ) (pieces : List Piece) (minus : Bool) (v : ℕ) : Type 0 where
   pub span : Span
   pub one : pieces ≡ record { span = span; minus = minus } ∷ []

@@ -53,7 +53,7 @@ by_parts source w none parts = rw (none, parts, formed w) refl
 neither : (a b : Option Refusal) → a ≡ None → b ≡ None → sooner a b ≡ None
 neither a b first second = rw (first, second) refl
 
--- what the lines of a source are refused for, beside the lengths of sections
+-- the refusals of the lines of a source, apart from those for the lengths of sections
 abbrev lines_of : Source → Option Refusal
 lines_of source =
     sooner (layout_refusal source.text None [] start source.lines) (lines_refusal source.text (tables_of source.text source.lines) [] start source.lines)
@@ -95,7 +95,7 @@ constant_alone text number at op d w does =
 
 -- ---- an instruction
 
--- the word of the instruction that the operand gives
+-- the word of the instruction with this operand
 abbrev pub gives : Option ℕ → Bool → ℕ → ℕ → ℕ → Bool → ℕ
 gives pr minus v tag code bit27 =
     inst_word (own_inst code bit27 pr (half_of (number_sum minus v).value) (offset_of (number_sum minus v).value) tag)

@@ -1,4 +1,4 @@
--- How many words an object and its sections have.
+-- The numbers of words of an object and of its sections.
 use Rattle.std.specs.Prelude.{◌≡◌, ◌+◌, ◌^◌, ◌<◌, length}
 use Rattle.obj36_parts.specs.PartsFields.{PartsFields}
 use Rattle.obj36_parts.specs.ObjectSegment.{definition_section, linkage_section, outer_statics}

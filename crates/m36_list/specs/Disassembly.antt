@@ -1,4 +1,4 @@
--- The text of an instruction's word, as the assembler would read it.
+-- The text of a word as an instruction, as the assembler reads it.
 use Rattle.std.specs.Prelude.{ℕ, ◌-◌, ◌^◌, nat_lt, List, [], ◌∷◌, ◌++◌, Option, Some, None}
 use Rattle.std.specs.Prelude.{codes, if◌then◌else◌}
 use Rattle.m36_text.specs.Digits.{character, decimal_text, word_text}
@@ -21,17 +21,17 @@ address_text i =
     ++ signed_text (offset_field i)
     else decimal_text i.y
 
--- a word that is no instruction with a text of its own
+-- the text of a word that is not shown as an instruction
 abbrev pub octal_constant : ℕ → List ℕ
 octal_constant w = codes "oct " ++ word_text w
 
--- with the name, a blank, the address and the modifier, where there are a name and a modifier
+-- the name, a space, the address and the modifier, if there are a name and a modifier
 abbrev pub by_parts : ℕ → InstFields → Option (List ℕ) → Option (List ℕ) → List ℕ
 by_parts w i (Some name) (Some modifier) = name ++ codes " " ++ address_text i ++ modifier
 by_parts w i (Some name) None = octal_constant w
 by_parts w i None modifier = octal_constant w
 
--- an instruction whose inhibit bit is on has no text of its own
+-- an instruction whose inhibit bit is on is not shown as one
 abbrev pub by_fields : ℕ → InstFields → List ℕ
 by_fields w i =
     if i.inhibit

@@ -13,24 +13,24 @@ use Rattle.alm_lines.specs.SpotFields.{Spot}
 use Rattle.alm_lines.specs.Spots.{start, place_in, place, size_of, below}
 use Rattle.m36_list.specs.Print.{line, print_of}
 
--- A placed word: the name of its section, its place there, the word, and the line of the source, in
--- decimal.
+-- The line of a placed word: the name of its section, its offset there, the word, and the number of
+-- the source line in decimal.
 unfoldable pub placed_line : List ℕ → ℕ → ℕ → ℕ → List ℕ
 placed_line name number at w =
     line (name ∷ half_text at ∷ word_text w ∷ decimal_text number ∷ [])
 
--- the words that one line of the source places, from a place on
+-- the words that one line of the source places, from an offset on
 unfoldable pub placed_lines : List ℕ → ℕ → ℕ → List ℕ → List ℕ
 placed_lines name number at [] = []
 placed_lines name number at (w ∷ ws) =
     placed_line name number at w ++ placed_lines name number (at + 1) ws
 
--- how many words of a section a line places
+-- the number of words that a line places in a section
 unfoldable pub size_in : Section → List ℕ → Spot → Line36 → ℕ
 size_in section text spot row =
     if same_section spot.section section then size_of row.deed row.args (place spot) else 0
 
--- the words of a section from a place on, each with the line that places it
+-- the words of a section from an offset on, each with the line that places it
 unfoldable pub section_words : List ℕ → Section → List ℕ → ℕ → List ℕ → Spot → List Line36 → List ℕ
 section_words name section text at words spot [] = []
 section_words name section text at words spot (row ∷ lines) =
@@ -39,12 +39,12 @@ section_words name section text at words spot (row ∷ lines) =
     placed_lines name row.line at here
     ++ section_words name section text (at + length here) left (below text spot row) lines
 
--- the words of a section, from the place where its first line is on
+-- the words of a section, from the offset of its first line on
 abbrev pub listed : List ℕ → Section → Source → List ℕ → List ℕ
 listed name section source words =
     section_words name section source.text (place_in section start) words start source.lines
 
--- Text, static words of the linkage section, and those of a section of their own; then the print.
+-- The text, the static words of the linkage section, and those of a static section; then the print.
 unfoldable pub listing_of : List ℕ → Source → PartsFields → List ℕ
 listing_of name source p =
     listed (section_name Text) Text source p.text

@@ -1,6 +1,6 @@
--- How an instruction's tag is written: its modifier, behind the comma that parts it from the
--- address. Multics Processor Manual AL39, "Address modification": tags 00 to 17 are R, 20 to 37 RI,
--- 40 to 57 IT and 60 to 77 IR (octal).
+-- The text of the tag of an instruction: a comma after the address, and its modifier. Source:
+-- Multics Processor Manual AL39, "Address modification". Tags 00 to 17 are R, 20 to 37 RI, 40 to 57
+-- IT and 60 to 77 IR (octal).
 use Rattle.std.specs.Prelude.{ℕ, ◌+◌, ◌==◌, Bool, List, [], ◌∷◌, ◌++◌, Option, option_map, codes}
 use Rattle.std.specs.List.{find}
 use Rattle.m36_model.specs.Tally.{subtract_delta, indirect_only, add_delta, decrement_increment}
@@ -13,8 +13,7 @@ pub record Modifier : Type 0 where
 abbrev pub written : ℕ → List ℕ → List Modifier
 written tag text = record { tag = tag; text = text } ∷ []
 
--- the fifteen registers, of the tags that follow a first one, with what is written before and
--- behind them
+-- The fifteen registers for the tags after `first`, each with the texts before and after its name.
 abbrev pub of_registers : ℕ → List ℕ → List ℕ → List Modifier
 of_registers first before behind =
     written (first + 1) (before ++ codes "au" ++ behind)
@@ -33,15 +32,15 @@ of_registers first before behind =
     ++ written (first + 14) (before ++ codes "x6" ++ behind)
     ++ written (first + 15) (before ++ codes "x7" ++ behind)
 
--- the tag of one of IT, by its Td
+-- the IT tag with this Td
 abbrev pub tally_tag : ℕ → ℕ
 tally_tag td = 0o40 + td
 
 abbrev pub of_tally : ℕ → List ℕ → List Modifier
 of_tally td text = written (tally_tag td) text
 
--- R with no register is not written, RI with none is the asterisk alone, and IR with none names it;
--- of IT five are written
+-- Tag 0, R without a register, has an empty text. RI without a register is the asterisk alone, and
+-- IR without one names it as `n`. Five of the IT tags have a text.
 abbrev pub modifiers : List Modifier
 modifiers =
     written 0o00 []
@@ -59,6 +58,6 @@ modifiers =
 abbrev pub has_tag : ℕ → Modifier → Bool
 has_tag tag m = m.tag == tag
 
--- the modifier of a tag, where it has one
+-- the text of a tag, if it has one
 unfoldable pub modifier_text : ℕ → Option (List ℕ)
 modifier_text tag = option_map (λ m. m.text) (find (has_tag tag) modifiers)

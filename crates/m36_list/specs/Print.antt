@@ -1,5 +1,5 @@
--- The print of an object: lines of fields, which one space parts. Numbers are octal, of six digits
--- where nothing else is said.
+-- The print of an object: lines of fields, which single spaces separate. Numbers are octal, of six
+-- digits unless something else is said.
 use Rattle.std.specs.Prelude.{ℕ, ◌+◌, List, [], ◌∷◌, ◌++◌, length, codes, if◌then◌else◌}
 use Rattle.std.specs.List.{flat_map}
 use Rattle.m36_text.specs.Digits.{octal_text, decimal_text, word_text, half_text}
@@ -19,22 +19,22 @@ use Rattle.m36_list.specs.Disassembly.{disassembly}
 unfoldable pub line : List (List ℕ) → List ℕ
 line fields = as_line (joined_by_spaces fields)
 
--- the name and the count of the words, in decimal
+-- the name and the number of words, in decimal
 abbrev pub object_line : List ℕ → PartsFields → List ℕ
 object_line name p = line (codes "object" ∷ name ∷ decimal_text (length (words_of p)) ∷ [])
 
--- the name of a section, by which the class of a definition is told too
+-- the name of a section, also as the class of a definition
 abbrev pub section_text : Section → List ℕ
 section_text Text = codes "text"
 section_text Linkage = codes "linkage"
 section_text Symbol = codes "symbol"
 section_text Static = codes "static"
 
--- where a section begins, and how many words it has
+-- the name, the offset and the number of words of a section
 abbrev pub section_line : List ℕ → ℕ → ℕ → List ℕ
 section_line name at len = line (name ∷ half_text at ∷ half_text len ∷ [])
 
--- where the sections begin
+-- the offsets of the sections
 abbrev pub linkage_at : PartsFields → ℕ
 linkage_at p = linkage_behind (length p.text) (length (definition_section p))
 
@@ -47,7 +47,7 @@ symbol_at p =
     symbol_behind (length p.text) (length (definition_section p)) (length (linkage_section p))
     (length (outer_statics p))
 
--- version 2 has a section of its own for static words
+-- the static section, which only version 2 has
 abbrev pub static_line : PartsFields → List ℕ
 static_line p =
     if is_newer p then section_line (section_text Static) (statics_at p) (length p.statics) else []
@@ -64,7 +64,7 @@ section_lines p =
     ++ section_line (section_text Symbol) (symbol_at p) (length (symbol_section p))
     ++ value_line (codes "entrybound") p.entry_bound
 
--- a definition: its name, the section of its class and its value, and that it is an entry
+-- a definition: its name, the section of its class, its value, and `entry` if it is one
 abbrev pub definition_fields : Named → List (List ℕ)
 definition_fields d =
     codes "def" ∷ d.name ∷ section_text d.def.section ∷ half_text d.def.value ∷ []
@@ -73,20 +73,20 @@ unfoldable pub definition_line : Named → List ℕ
 definition_line d =
     line (if d.def.is_entry then definition_fields d ++ codes "entry" ∷ [] else definition_fields d)
 
--- a link at an offset of the linkage section: its reference, its expression, and its modifier in
--- two digits
+-- A link at an offset of the linkage section: its reference, its expression, and its modifier in
+-- two digits.
 unfoldable pub link_line : ℕ → LinkFields → List ℕ
 link_line at l =
     line
     (codes "link" ∷ half_text at ∷ reference_text l ∷ half_text l.expr
     ∷ octal_text 2 l.modifier ∷ [])
 
--- links from an offset on, of two words each
+-- links from an offset on, two words each
 unfoldable pub link_lines : ℕ → List LinkFields → List ℕ
 link_lines at [] = []
 link_lines at (l ∷ ls) = link_line at l ++ link_lines (at + 2) ls
 
--- a word of the text at an offset, and its disassembly
+-- a word of the text at an offset, with its disassembly
 unfoldable pub word_line : ℕ → ℕ → List ℕ
 word_line at w = line (half_text at ∷ word_text w ∷ disassembly w ∷ [])
 

@@ -1,5 +1,5 @@
--- What the tags that the assembler writes are to the machine. Multics Processor Manual AL39, "Address
--- modification".
+-- The meaning of the assembler's tags in the machine. Source: Multics Processor Manual AL39,
+-- "Address modification".
 use Rattle.std.specs.Prelude.{ℕ, ◌≡◌, ◌+◌, ◌<◌, true, List, [], ◌∷◌, ◌++◌, Option, Some}
 use Rattle.std.specs.Prelude.{codes, option_map, slice_index}
 use Rattle.m36_word.specs.Field.{field}
@@ -12,11 +12,11 @@ use Rattle.m36_model.specs.Modification.{move_register_then_indirect, move_indir
 use Rattle.alm_tokens.specs.Modifiers.{register_of, star_tag, indirect_first}
 use Rattle.m36_list.specs.Modifiers.{tally_tag}
 
--- what a register has, by its name in a source
+-- the value of a register, by its name in a source
 abbrev pub value_named : RegsFields → List ℕ → Option ℕ
 value_named g name = option_map (λ td. index_of g td) (register_of name)
 
--- A name of a register is to the machine that register; du and dl are the direct operands.
+-- The name of a register selects, in the machine, that register; du and dl are the direct operands.
 pub record RegistersMean : Type 0 where
   pub none : (g : RegsFields) → value_named g (codes "n") ≡ Some 0
   pub a_upper : (g : RegsFields) → value_named g (codes "au") ≡ Some (field g.a 0 18)
@@ -29,9 +29,9 @@ pub record RegistersMean : Type 0 where
   pub upper : register_of (codes "du") ≡ Some direct_upper
   pub lower : register_of (codes "dl") ≡ Some direct_lower
 
--- A tag that the assembler writes for a modifier is to the machine the modification of that name: by
--- a register, of which there are sixteen, with * behind it, with * before it, by * alone, and by one
--- that tallies.
+-- The tag that the assembler encodes for a modifier selects, in the machine, the modification of
+-- that name: by one of sixteen registers, with * after it, with * before it, by * alone, or by a
+-- tally.
 pub record TagsMean : Type 0 where
   pub register : (g : RegsFields) (p : Point) (n : ℕ) → n < 16
       → p.tag ≡ n → move_of_point g p ≡ move_register g p n p.held

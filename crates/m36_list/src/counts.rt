@@ -1,4 +1,4 @@
-//! How many words an object and its sections have.
+//! The numbers of words of an object and of its sections.
 
 ghost use Rattle.std.specs.Prelude.{IfOk};
 ghost use Rattle.m36_list.specs.Counts.{IsCount};
@@ -7,7 +7,7 @@ use m36_word::NoMemory;
 use obj36::{Object, Section};
 use std::alloc::Global;
 
-/// The words of an object and of its sections; `statics` are those of a section of their own.
+/// The numbers of words of an object and of its sections; `statics` is that of the static section.
 #[derive(Clone, Copy)]
 pub struct Counts {
     pub whole: u64,
@@ -18,7 +18,7 @@ pub struct Counts {
     pub symbol: u64,
 }
 
-/// Counts the words of an object, for which the words are written.
+/// Counts the words of an object, by writing it. Fails only with `NoMemory`.
 pub fn counted(alloc: Global, o: &Object) -> Result<Counts, NoMemory>
     ensures { IfOk result (λ counts. IsCount counts o.now) }
 {

@@ -1,4 +1,4 @@
-//! Definitions of an object, a line for each.
+//! The definitions of an object, one line each.
 
 ghost use Rattle.std.specs.Prelude.{◌++◌, ◌≡◌, OnOk};
 ghost use Rattle.std.specs.List.{flat_map};
@@ -9,7 +9,7 @@ use m36_outside::Text;
 use m36_word::NoMemory;
 use obj36::{Named, Section};
 
-/// The name of a definition's class.
+/// The name of the class of a definition.
 fn class(section: Section) -> &'static str
     ensures { result.now ≡ section_text section }
 {
@@ -21,7 +21,7 @@ fn class(section: Section) -> &'static str
     }
 }
 
-/// Puts the line of a definition.
+/// Adds the line of a definition.
 #[tactic(auto, unfolding(crate::specs::Print::definition_line), using(crate::proofs::LineFields::lines))]
 fn put_definition(text: &mut Text, definition: &Named) -> Result<(), NoMemory>
     ensures { OnOk result (text.new ≡ text.old ++ definition_line definition.now) }
@@ -38,7 +38,7 @@ fn put_definition(text: &mut Text, definition: &Named) -> Result<(), NoMemory>
     }
 }
 
-/// Puts the lines of all definitions.
+/// Adds the lines of all definitions.
 pub fn put_definitions(text: &mut Text, definitions: &[Named]) -> Result<(), NoMemory>
     ensures { OnOk result (text.new ≡ text.old ++ flat_map definition_line definitions.now) }
 {

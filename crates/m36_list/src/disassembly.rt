@@ -1,4 +1,4 @@
-//! The text of an instruction's word.
+//! Disassembly: the text of a word as an instruction.
 
 ghost use Rattle.std.specs.Prelude.{◌≡◌, ◌+◌, ◌*◌, ◌≤◌, ◌<◌, ◌^◌, ◌++◌, length, codes};
 ghost use Rattle.m36_text.specs.Digits.{decimal_text, octal_text};
@@ -11,9 +11,9 @@ use m36_inst::{Inst, name_of};
 use m36_text::{decimal, octal};
 use m36_word::Word;
 
-/// The text of a word as an instruction: name, address and modifier. It is `oct` and twelve digits where no instruction has
-/// the operation code, the inhibit bit is on, or the tag is an IT tag other than `sd`, `i`, `ad`, `di` and `id`. It has at
-/// most 24 bytes.
+/// The text of a word as an instruction: name, address and modifier. It is `oct` and twelve digits
+/// if no instruction has the operation code, the inhibit bit is on, or the tag is an IT tag other
+/// than `sd`, `i`, `ad`, `di` and `id`. It has at most 24 bytes.
 #[tactic(auto, unfolding(crate::specs::Disassembly::disassembly))]
 pub fn disassemble(w: Word) -> ArrayString<32>
     ensures text { result.bytes ≡ disassembly w }
@@ -29,7 +29,7 @@ pub fn disassemble(w: Word) -> ArrayString<32>
     }
 }
 
-// A word that has no text of its own.
+// The text of a word that is not shown as an instruction.
 fn constant(w: Word) -> ArrayString<32>
     ensures text { result.bytes ≡ octal_constant w }
     ensures len { length result.bytes ≡ 16 }
@@ -54,7 +54,7 @@ fn instruction(name: &str, inst: &Inst, modifier: &str) -> ArrayString<32>
     line
 }
 
-// Puts the address, or the pointer register and the signed offset from it.
+// Adds the address, or the pointer register and the signed offset from it.
 fn put_address(line: &mut ArrayString<32>, inst: &Inst)
     requires room { length line.old.bytes + 11 ≤ 32 }
     ensures text { line.new.bytes ≡ line.old.bytes ++ address_text inst.now }
@@ -70,7 +70,7 @@ fn put_address(line: &mut ArrayString<32>, inst: &Inst)
     }
 }
 
-// Puts a number of 15 bits as a signed one.
+// Adds a number of 15 bits as a signed one.
 #[tactic(auto, unfolding(crate::specs::Disassembly::signed_text))]
 fn put_offset(line: &mut ArrayString<32>, offset: u32)
     requires offset { offset < 2 ^ 15 }

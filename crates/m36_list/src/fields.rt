@@ -1,4 +1,4 @@
-//! Lines of fields, put at the end of a text.
+//! Fields of lines, which are added at the end of a text.
 
 ghost use Rattle.std.specs.Prelude.{[], ◌∷◌, ◌++◌, ◌≡◌, ◌^◌, ◌<◌, OnOk};
 ghost use Rattle.m36_text.specs.Digits.{half_text};
@@ -8,7 +8,7 @@ use m36_outside::Text;
 use m36_text::octal;
 use m36_word::NoMemory;
 
-/// Puts a field that others follow in its line.
+/// Adds a field that is not the last of its line.
 pub fn put_field(text: &mut Text, field: &[u8]) -> Result<(), NoMemory>
     ensures { OnOk result (text.new ≡ text.old ++ (field.now ++ 32 ∷ [])) }
 {
@@ -16,7 +16,7 @@ pub fn put_field(text: &mut Text, field: &[u8]) -> Result<(), NoMemory>
     text.push(b' ')
 }
 
-/// Puts the last field of a line.
+/// Adds the last field of a line.
 pub fn put_last(text: &mut Text, field: &[u8]) -> Result<(), NoMemory>
     ensures { OnOk result (text.new ≡ text.old ++ as_line field.now) }
 {
@@ -24,7 +24,7 @@ pub fn put_last(text: &mut Text, field: &[u8]) -> Result<(), NoMemory>
     text.push(b'\n')
 }
 
-/// Puts a number of six octal digits as a field that others follow.
+/// Adds a number of six octal digits as a field that is not the last of its line.
 pub fn put_number(text: &mut Text, v: u64) -> Result<(), NoMemory>
     requires { v < 2 ^ 18 }
     ensures { OnOk result (text.new ≡ text.old ++ (half_text v ++ 32 ∷ [])) }
@@ -32,7 +32,7 @@ pub fn put_number(text: &mut Text, v: u64) -> Result<(), NoMemory>
     put_field(text, octal(v, 6).as_str().as_bytes())
 }
 
-/// Puts a number of six octal digits as the last field of a line.
+/// Adds a number of six octal digits as the last field of a line.
 pub fn put_last_number(text: &mut Text, v: u64) -> Result<(), NoMemory>
     requires { v < 2 ^ 18 }
     ensures { OnOk result (text.new ≡ text.old ++ as_line (half_text v)) }

@@ -1,4 +1,4 @@
-//! Links of an object, a line for each.
+//! The links of an object, one line each.
 
 ghost use Rattle.std.specs.Prelude.{[], ◌∷◌, ◌+◌, ◌*◌, ◌++◌, ◌≡◌, ◌^◌, ◌<◌, ◌≤◌, length, OnOk};
 ghost use Rattle.obj36.specs.References.{reference_text};
@@ -11,7 +11,7 @@ use m36_text::octal;
 use m36_word::NoMemory;
 use obj36::{Link, append_reference};
 
-/// Puts the reference of a link as a field that others follow.
+/// Adds the reference of a link as a field that is not the last of its line.
 #[tactic(auto, using(crate::proofs::LineFields::reference))]
 fn put_reference(text: &mut Text, link: &Link) -> Result<(), NoMemory>
     ensures { OnOk result (text.new ≡ text.old ++ (reference_text link.now ++ 32 ∷ [])) }
@@ -20,7 +20,7 @@ fn put_reference(text: &mut Text, link: &Link) -> Result<(), NoMemory>
     text.push(b' ')
 }
 
-/// Puts the line of a link at an offset of the linkage section.
+/// Adds the line of a link, which is at the offset `at` of the linkage section.
 #[tactic(auto, unfolding(crate::specs::Print::link_line), using(crate::proofs::LineFields::lines))]
 fn put_link(text: &mut Text, at: u64, link: &Link) -> Result<(), NoMemory>
     requires { at < 2 ^ 18 }
@@ -33,7 +33,7 @@ fn put_link(text: &mut Text, at: u64, link: &Link) -> Result<(), NoMemory>
     put_last(text, octal(link.modifier as u64, 2).as_str().as_bytes())
 }
 
-/// Puts the lines of all links, of which the first stands at an offset of the linkage section.
+/// Adds the lines of all links. The first one is at the offset `first` of the linkage section.
 pub fn put_links(text: &mut Text, first: u64, links: &[Link]) -> Result<(), NoMemory>
     requires { first + 2 * length links.now ≤ segment_limit }
     ensures { OnOk result (text.new ≡ text.old ++ link_lines first links.now) }

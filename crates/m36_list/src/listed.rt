@@ -19,7 +19,7 @@ use obj36_parts::sections::HEAD_WORDS;
 use obj36_read::reading::{behind, front};
 use std::alloc::Global;
 
-// How many words of a section a line places.
+// The number of words that a line places in a section.
 #[tactic(auto, unfolding(crate::specs::Listing::size_in))]
 fn size_in(
     alloc: Global,
@@ -36,7 +36,8 @@ fn size_in(
     size_of(alloc, line.deed, line.args.items(), spot.place())
 }
 
-/// Puts a line for each word of a section that the lines of a source place, where the first stands at a place.
+/// Adds a line for each word that the lines of a source place in a section. The first word is at
+/// the offset `first`.
 #[tactic(auto, using(alm_lines::proofs::Rooms::rooms))]
 fn put_section_words(
     alloc: Global,
@@ -79,7 +80,7 @@ fn inner_words(count: Counts, o: &Object) -> &[Word]
     o.parts().inner_statics()
 }
 
-// Puts the listing of a source, and of the object that it assembles to, into a text with nothing in it.
+// Adds the listing of a source, and of the object that it assembles to, to an empty text.
 #[tactic(auto, unfolding(crate::specs::Listing::listing_of))]
 fn put_listing(
     alloc: Global,
@@ -109,8 +110,9 @@ fn put_listing(
     put_print(text, name, count, o)
 }
 
-/// The listing of a source and the object that it assembles to, under a name: a line for each word that a line of the source
-/// places, in order of section and place, and then the print of the object. The error is want of memory alone.
+/// The listing of a source and of the object that it assembles to, with a name: a line for each
+/// word that a line of the source places, in order of section and offset, and then the print of the
+/// object. Fails only with `NoMemory`.
 pub fn listing(alloc: Global, name: &[u8], lines: &Lines36, o: &Object) -> Result<Text, NoMemory>
     ensures { IfOk result (λ text. text ≡ listing_of name.now lines.now o.now) }
 {
@@ -118,7 +120,7 @@ pub fn listing(alloc: Global, name: &[u8], lines: &Lines36, o: &Object) -> Resul
     match put_listing(alloc, &mut text, name, lines, o) {
         Ok(()) => Ok(text),
         Err(fault) => {
-            // Dropped by a call: so the drop is proved once for its type.
+            // Dropped explicitly, so that the drop is proved once for its type.
             drop(text);
             Err(fault)
         }

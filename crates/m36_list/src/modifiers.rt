@@ -1,10 +1,10 @@
-//! How the tag of an instruction is written.
+//! The text of the tag of an instruction.
 
 ghost use Rattle.std.specs.Prelude.{◌≡◌, ◌<◌, ◌≤◌, ◌^◌, length, option_map, IfSome};
 ghost use Rattle.m36_list.specs.Modifiers.{modifier_text};
 
-/// The modifier of a tag, behind the comma that parts it from the address; None exactly where the tag is an IT tag that is
-/// not written.
+/// The text of a tag after the address: a comma and the modifier, or nothing for tag 0. None
+/// exactly if the tag is an IT tag that has no text.
 #[tactic(auto, unfolding(crate::specs::Modifiers::modifier_text))]
 pub fn modifier(tag: u8) -> Option<&'static str>
     requires { tag < 2 ^ 6 }

@@ -1,4 +1,4 @@
-//! Words that a line of the source places.
+//! Words that lines of a source place.
 
 ghost use Rattle.std.specs.Prelude.{◌+◌, ◌++◌, ◌≡◌, ◌^◌, ◌<◌, ◌≤◌, length, OnOk};
 ghost use Rattle.m36_list.specs.Listing.{placed_line, placed_lines};
@@ -9,7 +9,7 @@ use m36_outside::Text;
 use m36_text::{decimal, octal};
 use m36_word::{NoMemory, Word};
 
-/// Puts the line of a placed word.
+/// Adds the line of a word that a line of the source places.
 #[tactic(auto, unfolding(crate::specs::Listing::placed_line), using(crate::proofs::LineFields::lines))]
 fn put_placed(
     text: &mut Text,
@@ -27,7 +27,8 @@ fn put_placed(
     put_last(text, decimal(line as u64).as_str().as_bytes())
 }
 
-/// Puts the lines of words that one line of the source places from a place on.
+/// Adds the lines of words that one line of the source places. The first one is at the offset
+/// `first`.
 pub fn put_all_placed(
     text: &mut Text,
     section: &[u8],

@@ -17,8 +17,8 @@ use m36_word::NoMemory;
 use obj36::{Object, Section};
 use std::alloc::Global;
 
-/// The print of an object under a name: its sections, definitions and links, and each word of its text with its disassembly.
-/// The error is want of memory alone.
+/// The print of an object with a name: its sections, definitions and links, and each word of its
+/// text with its disassembly. Fails only with `NoMemory`.
 pub fn print(alloc: Global, name: &[u8], o: &Object) -> Result<Text, NoMemory>
     ensures { IfOk result (λ text. text ≡ print_of name.now o.now) }
 {
@@ -28,7 +28,7 @@ pub fn print(alloc: Global, name: &[u8], o: &Object) -> Result<Text, NoMemory>
     Ok(text)
 }
 
-/// Puts the print of an object that has so many words.
+/// Adds the print of an object. `count` has its numbers of words.
 #[tactic(auto, unfolding(crate::specs::Print::print_of), using(crate::proofs::SectionPlaces::five))]
 pub fn put_print(text: &mut Text, name: &[u8], count: Counts, o: &Object) -> Result<(), NoMemory>
     requires { IsCount count o.now }
@@ -41,7 +41,7 @@ pub fn put_print(text: &mut Text, name: &[u8], count: Counts, o: &Object) -> Res
     put_words(text, o.section(Section::Text))
 }
 
-/// Puts the line of the name and of the count of words.
+/// Adds the line with the name and the number of words.
 #[tactic(auto, using(crate::proofs::LineFields::lines))]
 fn put_object(text: &mut Text, name: &[u8], count: Counts, o: &Object) -> Result<(), NoMemory>
     requires { IsCount count o.now }
@@ -52,7 +52,7 @@ fn put_object(text: &mut Text, name: &[u8], count: Counts, o: &Object) -> Result
     put_last(text, decimal(count.whole).as_str().as_bytes())
 }
 
-// Where the first link stands; all links lie in the first 2^18 words of the linkage section.
+// The offset of the first link. All links are in the first 2^18 words of the linkage section.
 #[tactic(auto, using(crate::proofs::SectionPlaces::links_behind))]
 fn first_link(count: Counts, o: &Object) -> u64
     requires { IsCount count o.now }

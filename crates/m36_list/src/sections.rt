@@ -1,4 +1,4 @@
-//! The sections of an object, a line for each, and the entry bound.
+//! The sections of an object, one line each, and the entry bound.
 
 ghost use Rattle.std.specs.Prelude.{◌+◌, ◌++◌, ◌≡◌, ◌^◌, ◌<◌, ◌≤◌, length, OnOk};
 ghost use Rattle.obj36_parts.specs.ObjectSegment.{definition_section, linkage_section};
@@ -13,7 +13,7 @@ use m36_outside::Text;
 use m36_word::NoMemory;
 use obj36::{Object, Parts};
 
-/// Puts the line of a section: its name, where it begins and how many words it has.
+/// Adds the line of a section: its name, its offset and its number of words.
 #[tactic(auto, using(crate::proofs::LineFields::lines))]
 fn put_section(text: &mut Text, name: &[u8], at: u64, len: u64) -> Result<(), NoMemory>
     requires at { at < 2 ^ 18 }
@@ -25,7 +25,7 @@ fn put_section(text: &mut Text, name: &[u8], at: u64, len: u64) -> Result<(), No
     put_last_number(text, len)
 }
 
-/// Puts the line of the static section, which version 2 has.
+/// Adds the line of the static section, if the object has version 2.
 fn put_static(text: &mut Text, parts: &Parts, at: u64) -> Result<(), NoMemory>
     requires at { at ≡ statics_at parts.now }
     requires begins { at < 2 ^ 18 }
@@ -38,7 +38,7 @@ fn put_static(text: &mut Text, parts: &Parts, at: u64) -> Result<(), NoMemory>
     put_section(text, b"static", at, parts.statics.slice().len() as u64)
 }
 
-/// Puts the line of a name and a number.
+/// Adds a line with a name and a number.
 #[tactic(auto, using(crate::proofs::LineFields::lines))]
 fn put_value(text: &mut Text, name: &[u8], v: u32) -> Result<(), NoMemory>
     requires { v < 2 ^ 18 }
@@ -48,7 +48,7 @@ fn put_value(text: &mut Text, name: &[u8], v: u32) -> Result<(), NoMemory>
     put_last_number(text, v as u64)
 }
 
-/// Puts the lines of the sections and of the entry bound.
+/// Adds the lines of the sections and of the entry bound.
 #[tactic(auto, unfolding(crate::specs::Print::section_lines), using(crate::proofs::SectionPlaces::six))]
 pub fn put_sections(text: &mut Text, count: Counts, o: &Object) -> Result<(), NoMemory>
     requires { IsCount count o.now }

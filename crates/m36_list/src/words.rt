@@ -1,4 +1,4 @@
-//! Words of the text with their disassembly.
+//! The words of the text, with their disassembly.
 
 ghost use Rattle.std.specs.Prelude.{◌++◌, ◌≡◌, ◌^◌, ◌<◌, ◌≤◌, length, OnOk};
 ghost use Rattle.m36_list.specs.Print.{word_line, word_lines};
@@ -10,7 +10,7 @@ use m36_outside::Text;
 use m36_text::octal;
 use m36_word::{NoMemory, Word};
 
-/// Puts the line of a word at an offset.
+/// Adds the line of a word at an offset.
 #[tactic(auto, unfolding(crate::specs::Print::word_line), using(crate::proofs::LineFields::lines))]
 fn put_word(text: &mut Text, at: u64, word: Word) -> Result<(), NoMemory>
     requires { at < 2 ^ 18 }
@@ -21,7 +21,7 @@ fn put_word(text: &mut Text, at: u64, word: Word) -> Result<(), NoMemory>
     put_last(text, disassemble(word).as_str().as_bytes())
 }
 
-/// Puts the lines of all words of a text section.
+/// Adds the lines of all words of a text section.
 pub fn put_words(text: &mut Text, words: &[Word]) -> Result<(), NoMemory>
     requires { length words.now ≤ segment_limit }
     ensures { OnOk result (text.new ≡ text.old ++ word_lines 0 words.now) }

@@ -1,4 +1,4 @@
--- What a table of definitions has of a name.
+-- The entry of a name in a table of definitions.
 use Rattle.std.proofs.Common.{ℕ, ◌≡◌, Bool, true, false, cond, List, [], ◌∷◌, Option, Some, None, refl, sym, ap, ◌∙◌, true≢false}
 use Rattle.std.specs.Prelude.{not, option_map}
 use Rattle.std.specs.List.{filter}

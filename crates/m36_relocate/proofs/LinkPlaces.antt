@@ -1,4 +1,5 @@
--- Where links stand: the first one by the shape of an object and by its parts, and each where it goes.
+-- The places of links: the first one by the shape of an object and by its parts, and each after
+-- relocation.
 use Rattle.std.proofs.Common.{ℕ, ◌≡◌, ◌+◌, ◌-◌, ◌*◌, ◌<◌, ◌≤◌, Bool, true, false, cond, ltb, List, [], length, refl, ap, ◌∙◌, arith}
 use Rattle.std.proofs.lemmas.Bool.{lt-ltb, le-ltb, cond-true, cond-false}
 use Rattle.obj36_parts.specs.ObjectSegment.{is_newer}

@@ -1,4 +1,4 @@
--- Where static words begin, by relocations and by the layout map.
+-- The beginning of static words, by relocations and by the layout.
 use Rattle.std.proofs.Common.{ℕ, ◌≡◌, ◌+◌, ◌-◌, ◌<◌, Bool, true, false, ltb, ap, ◌∙◌, arith}
 use Rattle.std.proofs.lemmas.Bool.{lt-ltb, le-ltb, cond-true, cond-false}
 use Rattle.m36_relocate.specs.Fields.{ShapeFields}

@@ -1,5 +1,5 @@
--- Tables of definitions by name: the first definition of each name, and whether another follows. A
--- definition of class symbol counts as none.
+-- Tables of definitions by their names: the first definition of each name, and whether another
+-- follows. Definitions of class symbol are left out.
 use Rattle.std.specs.Prelude.{ℕ, ◌≡◌, Bool, true, false, not, if◌then◌else◌, List, [], ◌∷◌}
 use Rattle.std.specs.Prelude.{Option, Some, None, option_map}
 use Rattle.std.specs.List.{filter}
@@ -15,7 +15,7 @@ use Rattle.m36_relocate.specs.Layout.{spot_moved}
 use Rattle.m36_relocate.specs.declared.layout.Moving.{Moving}
 use Rattle.m36_relocate.specs.declared.exports.Export.{Export}
 
--- what the table has of a name
+-- the entry of a name
 unfoldable pub export_named : List ℕ → List (List ℕ × Export) → Option Export
 export_named name table = lookup (same name) table
 
@@ -33,12 +33,12 @@ is_symbol Text = false
 is_symbol Linkage = false
 is_symbol Static = false
 
--- the table with a definition, under which this one is noted; one of class symbol is left out
+-- the table with definition d at the place `def`; one of class symbol is left out
 abbrev pub with_counted : List (List ℕ × Export) → Named → DefFields → List (List ℕ × Export)
 with_counted table d def =
     if is_symbol d.def.section then table else with_export table d.name def
 
--- ---- the definitions of one component, as they are there
+-- ---- the definitions of one component, at their places there
 
 abbrev pub with_own : List (List ℕ × Export) → Named → List (List ℕ × Export)
 with_own table d = with_counted table d d.def
@@ -47,15 +47,15 @@ unfoldable pub own_from : List (List ℕ × Export) → List Named → List (Lis
 own_from table [] = table
 own_from table (d ∷ ds) = own_from (with_own table d) ds
 
--- Under each name the table has the first definition of that name in the object, those of class
--- symbol left out.
+-- For each name, the table of an object's definitions has the first definition of that name whose
+-- class is not symbol.
 abbrev pub EntriesStand : Type 0
 EntriesStand =
     (name : List ℕ) (ds : List Named)
     → option_map (λ (e : Export). e.def) (export_named name (own_from [] ds))
     ≡ definition_named name (filter (λ d. not (is_symbol d.def.section)) ds)
 
--- ---- the same, where they go
+-- ---- the definitions of a component, at their places in the bound object
 
 abbrev pub def_moved : Moving → DefFields → DefFields
 def_moved m d =

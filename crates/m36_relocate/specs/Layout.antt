@@ -1,9 +1,9 @@
--- Where the words of components go in the bound object.
+-- The places of the words of components in the bound object.
 --
--- The texts follow one another, each from the next even word on, and so do the static words. Links
--- follow in the order of the components. A place that a component names is a word of its text, one
--- of its static words, a word of its links, or one of the words at the head of its linkage
--- section; the layout map sends each to a place of the bound object.
+-- The texts follow one another, each from the next even word on, and so do the static words. The
+-- links follow in the order of the components. A place of a component denotes a word of its text,
+-- one of its static words, a word of its links, or a word of the head of its linkage section. The
+-- layout maps each of these to a place of the bound object.
 use Rattle.std.specs.Prelude.{ℕ, ◌≡◌, ◌+◌, ◌-◌, ◌%◌, ◌^◌, ◌<◌, nat_lt, if◌then◌else◌, length}
 use Rattle.obj36_parts.specs.PartsFields.{PartsFields}
 use Rattle.obj36_parts.specs.ObjectSegment.{is_newer, evened, head_words, links_behind}
@@ -21,16 +21,16 @@ use Rattle.m36_relocate.specs.declared.layout.Moving.{Moving}
 abbrev pub shape_of : PartsFields → ShapeFields
 shape_of p = record { newer = is_newer p; statics = length p.statics; links = length p.links }
 
--- ---- what a place of an object names
+-- ---- the words that places of an object denote
 
--- Static words stand before the links in version 1. In version 2 they stand in a section of their
--- own, which is laid behind the linkage section.
+-- In version 1 the static words are before the links. In version 2 they have a section of their
+-- own, which is placed after the linkage section.
 abbrev pub meant_older : ℕ → ℕ → Meant
 meant_older statics v =
     if nat_lt v (links_behind statics)
     then StaticWord (v - head_words) else LinkWord (v - links_behind statics)
 
--- where static words are laid behind so many links
+-- the offset from the head of the linkage section at which static words are placed after the links
 abbrev pub statics_behind_links : ℕ → ℕ
 statics_behind_links links = linkage_length 0 links
 
@@ -45,7 +45,7 @@ meant_past_head s v = if s.newer then meant_newer s.links v else meant_older s.s
 abbrev pub meant_in_linkage : ShapeFields → ℕ → Meant
 meant_in_linkage s v = if nat_lt v head_words then HeadWord v else meant_past_head s v
 
--- the place of a section with an offset; nothing names the symbol section
+-- the word at an offset in a section; nothing refers to the symbol section
 unfoldable pub meant : ShapeFields → Section → ℕ → Meant
 meant s Text v = TextWord v
 meant s Linkage v = meant_in_linkage s v
@@ -58,12 +58,12 @@ IsBelow n (StaticWord v) = v < n
 IsBelow n (LinkWord v) = v < n
 IsBelow n (HeadWord v) = v < n
 
--- ---- where the parts of a component begin
+-- ---- where the words of a component begin
 
 abbrev pub first_bases : BasesFields
 first_bases = record { text = 0; statics = 0; links = 0 }
 
--- those of the component behind another
+-- where the words of the next component begin
 abbrev pub bases_behind : BasesFields → PartsFields → BasesFields
 bases_behind b c =
     record {
@@ -72,20 +72,20 @@ bases_behind b c =
       links = b.links + length c.links;
     }
 
--- ---- the layout map
+-- ---- the layout
 
--- where the first link of an object of this shape stands
+-- the offset of the first link of an object of this shape
 abbrev pub first_link : ShapeFields → ℕ
 first_link f = first_link_by f.newer f.statics
 
--- where its first static word stands, seen from the head of the linkage section
+-- the offset of its first static word from the head of the linkage section
 abbrev pub first_static : ShapeFields → ℕ
 first_static f = if f.newer then statics_behind_links f.links else head_words
 
 abbrev pub spot : Section → ℕ → Spot
 spot section offset = record { section = section; offset = offset % 2 ^ 18 }
 
--- where a word of the text of a component goes
+-- the place of a word of the text of a component
 abbrev pub text_spot : BasesFields → ℕ → Spot
 text_spot b v = spot Text (b.text + v)
 
@@ -98,12 +98,12 @@ image_spot f b (StaticWord w) = static_spot f (b.statics + w)
 image_spot f b (LinkWord k) = spot Linkage (word_of_link (first_link f) b.links + k)
 image_spot f b (HeadWord v) = spot Linkage v
 
--- where a place of a component goes
+-- the place in the bound object of a place of a component
 unfoldable pub spot_moved : Moving → Section → ℕ → Spot
 spot_moved m section v = image_spot m.frame m.bases (meant m.shape section v)
 
--- The number by which a relocated part names a place: a static word is counted from the head of the
--- linkage section, unless the part counts in the static section.
+-- The number of a static word in a relocated part. It is counted from the head of the linkage
+-- section, unless the part is an offset in the static section.
 abbrev pub static_number : ShapeFields → Section → ℕ → ℕ
 static_number f Static w = w
 static_number f Text w = first_static f + w
@@ -116,16 +116,15 @@ image_number f b target (StaticWord w) = static_number f target (b.statics + w)
 image_number f b target (LinkWord k) = word_of_link (first_link f) b.links + k
 image_number f b target (HeadWord v) = v
 
--- the number of the image of what a number of a component names
+-- the number for the bound object of a number in a relocated part
 unfoldable pub number_moved : Moving → Section → ℕ → ℕ
 number_moved m target v = image_number m.frame m.bases target (meant m.shape target v)
 
--- In an object of a shape the first link stands where the parts of the object have it.
+-- The first link of an object has the same offset by its shape as by its parts.
 abbrev pub FirstLinkStands : Type 0
 FirstLinkStands = (p : PartsFields) → first_link (shape_of p) ≡ first_link_of p
 
--- A component's link goes to the word of the link that stands for it, which has behind the links of
--- the components before it the place that it had.
+-- Link i of a component is relocated to link i after the links of the components before it.
 abbrev pub LinksMove : Type 0
 LinksMove =
     (m : Moving) (i : ℕ) → i < m.shape.links

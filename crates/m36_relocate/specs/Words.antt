@@ -1,5 +1,5 @@
--- The words of components with their relocated parts moved: halves, which count modulo 2^18, and
--- bits 3 to 17, which count as signed and must fit.
+-- The words of components with their parts relocated: halves, which count modulo 2^18, and bits 3
+-- to 17, which are a signed number and must fit.
 use Rattle.std.specs.Prelude.{ℕ, ◌≡◌, ◌+◌, ◌-◌, ◌*◌, ◌/◌, ◌%◌, ◌^◌, ◌<◌, Bool, true, false, not}
 use Rattle.std.specs.Prelude.{nat_lt, nat_eq, if◌then◌else◌, List, [], ◌∷◌, length, slice_index}
 use Rattle.std.specs.Prelude.{slice_set}
@@ -22,9 +22,9 @@ use Rattle.m36_relocate.specs.declared.layout.Moving.{Moving}
 unfoldable pub with_offset : ℕ → ℕ → ℕ
 with_offset w v = joined (left w / 2 ^ 15 * 2 ^ 15 + v % 2 ^ 15) (right w)
 
--- Bits 3 to 17 are counted from -2^15 here, so that no number is below zero. A number below zero
--- counts back from where the component's words begin; in the linkage section it counts back from the
--- head, which stays, and so it stays too.
+-- Numbers of bits 3 to 17 are raised by 2^15 here, so that none is negative. A negative number
+-- counts back from where the words of the component begin. In the linkage section it counts back
+-- from the head, which is not relocated, so it does not change.
 abbrev pub below_zero : BasesFields → Section → ℕ → ℕ
 below_zero b Text v = b.text + v
 below_zero b Static v = b.statics + v
@@ -35,32 +35,32 @@ unfoldable pub offset_raised : Moving → Section → ℕ → ℕ
 offset_raised m target v =
     if nat_lt v offset_limit then 2 ^ 15 + number_moved m target v else below_zero m.bases target v
 
--- the word with the part of a relocation moved
+-- the word with the part of a relocation relocated
 unfoldable pub word_moved : Moving → RelocFields → ℕ → ℕ
 word_moved m r w =
     if nat_eq r.part left_part then joined (number_moved m r.target (left w)) (right w)
     else if nat_eq r.part right_part then joined (left w) (number_moved m r.target (right w))
     else with_offset w (offset_raised m r.target (offset_in w))
 
--- whether the part fits: bits 3 to 17 from -2^14 to 2^14 - 1
+-- whether the relocated part fits: bits 3 to 17 must be from -2^14 to 2^14 - 1
 unfoldable pub part_fits : Moving → RelocFields → ℕ → Bool
 part_fits m r w =
     if nat_eq r.part left_part then true
     else if nat_eq r.part right_part then true
     else nat_lt (offset_raised m r.target (offset_in w)) (2 ^ 15 + offset_limit)
 
--- ---- the words of a component: those of its text, or its static words
+-- ---- the words of a component: its text or its static words
 
--- whether a relocation's place is among static words, or in the text
+-- whether a relocation is of a static word, or of the text, as `statics` says
 abbrev pub stands_in : Bool → RelocFields → Bool
 stands_in statics r = if statics then not (is_text_section r.section) else is_text_section r.section
 
--- where the words begin, as relocations count them
+-- the offset from which relocations count these words
 abbrev pub start_of : Bool → ShapeFields → ℕ
 start_of statics s = if statics then (if s.newer then 0 else head_words) else 0
 
--- In the section that has the static words of an object of a shape, the place so many words behind
--- that start names the static word of that number.
+-- In the section with the static words of an object, the offset w after that one is the place of
+-- static word w.
 abbrev pub StaticsBegin : Type 0
 StaticsBegin =
     (s : ShapeFields) (w : ℕ) → w < s.statics
@@ -69,7 +69,7 @@ StaticsBegin =
 abbrev pub words_in : Bool → PartsFields → List ℕ
 words_in statics p = if statics then p.statics else p.text
 
--- which of these words a relocation's place is, in an object of a shape
+-- the number, among these words, of the word of a relocation
 abbrev pub place_in : ShapeFields → Bool → RelocFields → ℕ
 place_in s statics r = r.offset - start_of statics s
 
@@ -87,7 +87,8 @@ words_moved m statics (r ∷ rs) words = words_moved m statics rs (one_moved m s
 
 unfoldable pub one_fits : Moving → Bool → List ℕ → RelocFields → Bool
 one_fits m statics words r =
-    if stands_in statics r then part_fits m r (slice_index words (place_in m.shape statics r)) else true
+    if stands_in statics r then part_fits m r (slice_index words (place_in m.shape statics r))
+    else true
 
 unfoldable pub all_fit : Moving → Bool → List ℕ → List RelocFields → Bool
 all_fit m statics words [] = true

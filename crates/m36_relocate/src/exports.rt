@@ -1,4 +1,4 @@
-//! Tables of definitions by name.
+//! Tables of definitions by their names.
 
 ghost use Rattle.std.specs.Prelude.{ℕ, ◌≡◌, ◌^◌, ◌<◌, [], IfOk, OnOk, option_map};
 ghost use Rattle.m36_relocate.specs.Exports.{export_named, export_behind, with_export, is_symbol, with_counted, with_own, own_from, def_moved, with_moved, moved_from};
@@ -11,16 +11,16 @@ use obj36_parts::{Def, Named, Section};
 use std::alloc::Global;
 use std::marker::Model;
 
-/// The first definition of a name.
+/// What a table has for a name: the first definition of the name, and whether there are more.
 #[derive(Clone, Copy)]
 pub struct Export {
-    /// The definition.
+    /// The first definition.
     pub def: Def,
-    /// Another definition of the name follows.
+    /// Whether another definition of the name follows it.
     pub twice: bool,
 }
 
-/// A table of definitions, seen as its entries in order.
+/// A table of definitions. Its model is the list of its entries in order.
 #[derive(Drop)]
 pub struct Exports {
     entries: IndexMap<Name, Export, HashSeed>,
@@ -55,7 +55,7 @@ fn found(entries: &IndexMap<Name, Export, HashSeed>, name: &Name) -> Option<Expo
 }
 
 impl Exports {
-    /// A table with no entry, whose names are hashed by a seed.
+    /// An empty table. Its names will be hashed with this seed.
     pub fn new(alloc: Global, seed: HashSeed) -> Exports
         ensures { result ≡ [] }
     {
@@ -64,12 +64,12 @@ impl Exports {
         }
     }
 
-    /// The seed of the hashes.
+    /// The seed of the hash table.
     pub fn seed(&self) -> HashSeed {
         *self.entries.hasher()
     }
 
-    /// What the table has of a name.
+    /// The entry of a name. None if the table has none.
     pub fn find(&self, name: &Name) -> Option<Export>
         ensures { result ≡ export_named name.now self.now }
     {
@@ -87,7 +87,7 @@ impl Exports {
         Ok(())
     }
 
-    // Adds a definition of an object, which stands there as this one, unless it is of class symbol.
+    // Adds the definition `d` of an object with the place `def`, unless its class is symbol.
     fn add_counted(&mut self, d: &Named, def: Def) -> Result<(), NoMemory>
         ensures { OnOk result (self.new ≡ with_counted self.old d.now def) }
     {
@@ -110,8 +110,8 @@ fn add_own(table: &mut Exports, d: &Named) -> Result<(), NoMemory>
     table.add_counted(d, d.def)
 }
 
-/// The definitions of one object, as they are there, hashed by a seed. Those of class symbol count
-/// as none. The error is want of memory.
+/// The table of the definitions of one object, at the places that they have there. Definitions of
+/// class symbol are left out. The names are hashed with this seed. Fails only with `NoMemory`.
 #[tactic(auto, unfolding(crate::specs::Exports::own_from))]
 pub fn own_entries(
     alloc: Global,
@@ -146,7 +146,8 @@ fn add_one_moved(table: &mut Exports, m: &Moving, d: &Named) -> Result<(), NoMem
     table.add_counted(d, def_moved(m, d.def))
 }
 
-/// Adds the definitions of a component, where they go. The error is want of memory.
+/// Adds the definitions of a component, at their places in the bound object. Fails only with
+/// `NoMemory`.
 #[tactic(auto, unfolding(crate::specs::Exports::moved_from))]
 pub fn add_moved(table: &mut Exports, m: &Moving, definitions: &[Named]) -> Result<(), NoMemory>
     ensures { OnOk result (table.new ≡ moved_from m.now table.old definitions.now) }

@@ -1,12 +1,12 @@
-//! Laws of the layout, and of tables of definitions.
+//! Laws about the layout, and about tables of definitions.
 
 ghost use Rattle.m36_relocate.specs.Layout.{FirstLinkStands, LinksMove};
 ghost use Rattle.m36_relocate.specs.Words.{StaticsBegin};
 ghost use Rattle.m36_relocate.specs.Exports.{EntriesStand};
 
-/// The first link of an object stands where its parts have it, whether the layout map or the object itself is asked; what
-/// relocations count as the first static word is the first one by the layout map; and a component's link goes to the word
-/// of the link that stands for it.
+/// The first link of an object has the same offset by its shape as by its parts. The offset from
+/// which relocations count static words is that of the first static word by the layout. The link of
+/// a component is relocated to the link that replaces it in the bound object.
 #[tactic(auto, using(crate::proofs::LinkPlaces::first_link_stands, crate::proofs::LinkPlaces::links_move, crate::proofs::StaticPlaces::statics_begin))]
 pub fn layout_law()
     ensures links { FirstLinkStands }
@@ -14,7 +14,8 @@ pub fn layout_law()
     ensures statics { StaticsBegin }
 {}
 
-/// Under each name the table of an object's definitions has the first one of that name, those of class symbol left out.
+/// For each name, the table of an object's definitions has the first definition of that name whose
+/// class is not symbol.
 pub fn export_law()
     ensures { EntriesStand }
 {}

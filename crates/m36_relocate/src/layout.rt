@@ -1,4 +1,4 @@
-//! Where the words of components go in the bound object.
+//! The places of the words of components in the bound object.
 
 ghost use Rattle.std.specs.Prelude.{ℕ, ◌≡◌, ◌+◌, ◌*◌, ◌^◌, ◌<◌, ◌≤◌, length};
 ghost use Rattle.m36_relocate.specs.Layout.{meant, meant_older, meant_newer, meant_past_head, meant_in_linkage, IsBelow, bases_behind, first_link, first_static, spot, static_spot, image_spot, spot_moved, static_number, image_number, number_moved};
@@ -8,14 +8,14 @@ use obj36_parts::Section;
 use obj36_parts::sections::HEAD_WORDS;
 use std::marker::Model;
 
-/// How an object numbers its words.
+/// The numbers by which the words of an object are laid out.
 #[derive(Clone, Copy)]
 pub struct Shape {
-    /// How many static words there are.
+    /// The number of static words.
     pub statics: u64,
-    /// How many links.
+    /// The number of links.
     pub links: u64,
-    /// It has version 2.
+    /// Whether the object has version 2.
     pub newer: bool,
 }
 
@@ -32,14 +32,14 @@ impl Model for Shape {
     ghost inverse = { λ s. record { statics = s.statics; links = s.links; newer = s.newer } };
 }
 
-/// Where the words of a component begin.
+/// Where the words of a component begin in the bound object.
 #[derive(Clone, Copy)]
 pub struct Bases {
-    /// Its first word of the text.
+    /// The offset of the first word of its text.
     pub text: u64,
-    /// Its first static word, counted from the first of all.
+    /// The number of its first static word, among all static words.
     pub statics: u64,
-    /// How many links stand before its own.
+    /// The number of links before its own.
     pub links: u64,
 }
 
@@ -56,34 +56,34 @@ impl Model for Bases {
     ghost inverse = { λ b. record { text = b.text; statics = b.statics; links = b.links } };
 }
 
-/// What takes a component's places to those of the bound object.
+/// How the places of a component are relocated to those of the bound object.
 #[derive(Clone, Copy)]
 pub struct Moving {
     /// The shape of the bound object.
     pub frame: Shape,
     /// The shape of the component.
     pub shape: Shape,
-    /// Where the component begins.
+    /// Where the words of the component begin.
     pub bases: Bases,
 }
 
-/// What a place of a component names.
+/// The word that a place of an object denotes.
 #[derive(Clone, Copy)]
 pub enum Meant {
-    /// A word of the text.
+    /// This word of the text.
     TextWord(u64),
-    /// A static word.
+    /// This static word.
     StaticWord(u64),
-    /// A word from the first link on.
+    /// This word of the links, counted from the first link.
     LinkWord(u64),
-    /// A word at the head of the linkage section.
+    /// This word of the head of the linkage section.
     HeadWord(u64),
 }
 
 /// A place of the bound object.
 #[derive(Clone, Copy)]
 pub struct Spot {
-    /// 18 bits.
+    /// The offset in the section; 18 bits.
     pub offset: u32,
     /// The section.
     pub section: Section,
@@ -144,7 +144,7 @@ fn meant_in_linkage(s: &Shape, v: u64) -> Meant
     }
 }
 
-// What an offset of a section names.
+// The word that an offset in a section denotes.
 #[tactic(auto, unfolding(crate::specs::Layout::meant))]
 fn meaning(s: &Shape, section: Section, v: u64) -> Meant
     requires small { v < 2 ^ 18 }
@@ -159,7 +159,7 @@ fn meaning(s: &Shape, section: Section, v: u64) -> Meant
     }
 }
 
-/// The next even number.
+/// The least even number that is not below n.
 pub fn evened(n: u64) -> u64
     requires { n < 2 ^ 62 }
     ensures value { result ≡ evened n }
@@ -190,7 +190,7 @@ fn first_static(f: &Shape) -> u64
     }
 }
 
-/// A place of a section; the offset counts modulo 2^18.
+/// A place of a section, with the offset modulo 2^18.
 pub fn spot_at(section: Section, offset: u64) -> Spot
     ensures value { result ≡ spot section offset }
     ensures bound { result.offset < 2 ^ 18 }
@@ -226,7 +226,7 @@ fn image_spot(f: &Shape, b: &Bases, m: Meant) -> Spot
     }
 }
 
-/// Where a place of a component goes. The offset has 18 bits.
+/// The place in the bound object of a place of a component.
 #[tactic(auto, unfolding(crate::specs::Layout::spot_moved))]
 pub fn spot_moved(m: &Moving, section: Section, v: u64) -> Spot
     requires { v < 2 ^ 18 }
@@ -260,7 +260,8 @@ fn image_number(f: &Shape, b: &Bases, target: Section, m: Meant) -> u64
     }
 }
 
-/// The number of the image of what a number of a component names. The number has 18 bits.
+/// A number in a relocated part, for the bound object: the number of the same word there. `v` has
+/// 18 bits.
 #[tactic(auto, unfolding(crate::specs::Layout::number_moved))]
 pub fn number_moved(m: &Moving, target: Section, v: u64) -> u64
     requires { v < 2 ^ 18 }

@@ -1,20 +1,24 @@
-//! Relocation: where the words of a component go in a bound object, and what becomes of what names them.
+//! Relocation: the places of the words of a component in a bound object, and the new values of what
+//! refers to them.
 //!
-//! The texts of components follow one another, each from an even word on; so do their static words, and so do their links.
-//! A place of a component is a word of its text, one of its static words, a word of its links, or one of the words at
-//! the head of its linkage section, and each has its image in the bound object ([`layout`]). A part of a word that a
-//! relocation names is a half, which counts modulo 2^18, or bits 3 to 17, which count as signed and must fit ([`words`]). A
-//! definition that is moved names the image of what it named; a table of definitions has the first one of each name, and
-//! whether another follows ([`exports`], [`laws::export_law`]).
+//! The texts of the components follow one another, each from an even word on, and so do their
+//! static words. Their links follow one another. A place of a component denotes a word of its text,
+//! one of its static words, a word of its links, or a word of the head of its linkage section, and
+//! each of these has a place in the bound object ([`layout`]). A part of a word that has a
+//! relocation is a half, which counts modulo 2^18, or bits 3 to 17, which are a signed number and
+//! must fit ([`words`]). A definition of the bound object has the new place of that of the
+//! component. A table of definitions has the first one of each name, and whether another follows
+//! ([`exports`], [`laws::export_law`]).
 //!
-//! What is promised: each function gives exactly what the definition of its name in `specs/` gives, for either version of
-//! component and bound object, and by the layout map the first link of an object stands where its parts have it, its first
-//! static word at the place from which relocations count, and a component's link goes to the word of the link that stands
-//! for it ([`laws::layout_law`]). Want of memory may come where a table grows. A table is found in by a hash, and words are
-//! moved in the time of one step a relocation.
+//! Each function returns exactly the definition of its name in `specs/`, for either version of
+//! component and bound object. By the layout, the first link of an object has the offset that its
+//! parts give, its first static word has the offset from which relocations count, and the link of a
+//! component is relocated to the link that replaces it ([`laws::layout_law`]). The only error is
+//! `NoMemory`, when a table grows. A name is looked up in a hash table, and relocating words takes
+//! one step for each relocation.
 //!
-//! Source: objects and binding are this project's own; they follow object segments and the binder of Multics, as the Multics
-//! Programmers' Manual describes them.
+//! Source: objects and binding are this project's own. They follow object segments and the binder
+//! of Multics, as the Multics Programmers' Manual describes them.
 #![tactic(auto)]
 
 pub mod exports;

@@ -1,4 +1,4 @@
-//! Parts of words that move: halves, and bits 3 to 17.
+//! Relocates parts of words: halves, and bits 3 to 17.
 
 ghost use Rattle.std.specs.Prelude.{ℕ, ◌≡◌, ◌+◌, ◌-◌, ◌*◌, ◌/◌, ◌%◌, ◌^◌, ◌<◌, slice_index};
 ghost use Rattle.obj36_parts.specs.Halves.{offset_in};
@@ -42,7 +42,7 @@ fn below_zero(b: &Bases, target: Section, v: u64) -> u64
     }
 }
 
-// What bits 3 to 17 become, 2^15 higher.
+// The relocated number of bits 3 to 17, plus 2^15 so that it is not negative.
 #[tactic(auto, unfolding(crate::specs::Words::offset_raised))]
 fn offset_raised(m: &Moving, target: Section, v: u64) -> u64
     requires { v < 2 ^ 15 }
@@ -55,7 +55,7 @@ fn offset_raised(m: &Moving, target: Section, v: u64) -> u64
     }
 }
 
-// The word with the part of a relocation moved.
+// The word with the part of a relocation relocated.
 #[tactic(auto, unfolding(crate::specs::Words::word_moved))]
 fn word_moved(m: &Moving, r: &Reloc, w: Word) -> Word
     ensures { result ≡ word_moved m.now r.now w }
@@ -69,7 +69,7 @@ fn word_moved(m: &Moving, r: &Reloc, w: Word) -> Word
     with_offset(w, offset_raised(m, r.target, offset_in(w)))
 }
 
-// Whether the part of a relocation fits where it goes.
+// Whether the relocated part fits: bits 3 to 17 must be from -2^14 to 2^14 - 1.
 #[tactic(auto, unfolding(crate::specs::Words::part_fits))]
 fn part_fits(m: &Moving, r: &Reloc, w: Word) -> bool
     ensures { result ≡ part_fits m.now r.now w }
@@ -83,7 +83,7 @@ fn part_fits(m: &Moving, r: &Reloc, w: Word) -> bool
     offset_raised(m, r.target, offset_in(w)) < (1 << 15) + OFFSET_LIMIT
 }
 
-/// Whether a relocation's place is among static words, or in the text.
+/// Whether a relocation is of a static word, or of the text, as `statics` says.
 pub fn stands_in(statics: bool, r: &Reloc) -> bool
     ensures { result ≡ stands_in statics r.now }
 {
@@ -94,7 +94,7 @@ pub fn stands_in(statics: bool, r: &Reloc) -> bool
     }
 }
 
-// Where the words begin, as relocations count them.
+// The offset from which relocations count these words.
 fn start_of(statics: bool, s: &Shape) -> usize
     ensures value { result ≡ start_of statics s.now }
 {
@@ -129,7 +129,8 @@ fn move_one(words: &mut [Word], m: &Moving, statics: bool, r: &Reloc)
     }
 }
 
-/// Moves, one relocation after another, the parts that these name: in the text, or in the static words.
+/// Relocates the parts of these words that have relocations, in order. The words are the static
+/// words, or the text, as `statics` says.
 #[tactic(auto, unfolding(crate::specs::Words::words_moved))]
 pub fn move_words(words: &mut [Word], m: &Moving, statics: bool, relocations: &[Reloc])
     ensures { words.new ≡ words_moved m.now statics relocations.now words.old }
@@ -141,7 +142,7 @@ pub fn move_words(words: &mut [Word], m: &Moving, statics: bool, relocations: &[
     }
 }
 
-// The word at a place; zero where there is none.
+// The word at an index, and 0 past the end.
 fn word_at(words: &[Word], i: usize) -> Word
     ensures { result ≡ slice_index words.now i }
 {
@@ -163,7 +164,8 @@ fn one_fits(m: &Moving, statics: bool, words: &[Word], r: &Reloc) -> bool
     }
 }
 
-/// Whether each part that these relocations name, in the text or in the static words, fits where it goes.
+/// Whether each part of these words fits after relocation. The words are the static words, or the
+/// text, as `statics` says.
 #[tactic(auto, unfolding(crate::specs::Words::all_fit))]
 pub fn all_fit(m: &Moving, statics: bool, words: &[Word], relocations: &[Reloc]) -> bool
     ensures { result ≡ all_fit m.now statics words.now relocations.now }

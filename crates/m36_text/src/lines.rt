@@ -62,8 +62,8 @@ pub fn first_open_line(text: &[u8]) -> Option<(&[u8], &[u8])>
     }
 }
 
-/// The first word of a line, and the text after the space that ends it; None there if no space
-/// follows.
+/// The first word of a line, and the text after the space that ends it. The second part is None if
+/// the line has only one word.
 #[tactic(auto, unfolding(crate::specs::Lines::words_of))]
 pub fn first_word(line: &[u8]) -> (&[u8], Option<&[u8]>)
     ensures { MatchOption result.1 (words_of line.now ≡ result.0.now ∷ [])

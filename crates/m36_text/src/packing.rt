@@ -100,7 +100,7 @@ fn five_bytes(bits: u64) -> [u8; 5]
 }
 
 /// Unpacks bytes into words. The error is T3 exactly if the number of bytes modulo 9 is neither 0
-/// nor 5, T4 exactly if it is 5 and the last four bits are not zero, and otherwise `NoMemory`.
+/// nor 5, T4 exactly if it is 5 and the last four bits are not zero, or it is `NoMemory`.
 #[tactic(auto, unfolding(crate::specs::Packing::unpacked))]
 pub fn unpack(alloc: Global, t: &[u8]) -> Result<Words, PackFault>
     ensures says { UnpackSays result (unpacked t.now) }

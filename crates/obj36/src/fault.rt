@@ -25,7 +25,7 @@ pub enum ObjectFault {
     /// A name is invalid.
     #[error("O6 {0}")]
     O6(u32),
-    /// A link or the head of the linkage section is invalid.
+    /// A link, the type of its expression, or the head of the linkage section is invalid.
     #[error("O7 {0}")]
     O7(u32),
     /// Otherwise, the list differs from the words of the parts that it has. The number is 0.

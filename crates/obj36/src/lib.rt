@@ -2,7 +2,9 @@
 //! linker reads them.
 //!
 //! Parts are encoded by at most one list of words, and different parts by different lists. The
-//! linkage section of an object with a static section is its head and its links alone.
+//! linkage section of an object with a static section ends where that section is placed: after its
+//! head and its links.
+//!
 //! `Object::read` accepts exactly the lists that encode parts, and returns the object of these
 //! parts. For any other list it returns the first fault with its place. It fails with `NoMemory` if
 //! memory runs out. `Object::write` returns the one list. Reading, finding the fault, and writing

@@ -187,7 +187,7 @@ fn joined_sections(
     match push_sections(&mut out, parts, definition, linkage, symbol) {
         Ok(()) => Ok(out),
         Err(cause) => {
-            // A call of `drop` is proved once for its type.
+            // Dropped explicitly, so that the drop is proved once for its type.
             drop(out);
             Err(cause)
         }

@@ -32,7 +32,8 @@ pub record HasShortLists (p : PartsFields) : Type 0 where
   pub links : length p.links < 2 ^ 32
   pub relocations : length p.relocations < 2 ^ 32
 
--- The linkage section of an object with a static section has only its head and the links.
+-- The linkage section of an object with a static section ends where that section is placed: after
+-- its head and its links.
 abbrev pub StaticsPastLinks : Type 0
 StaticsPastLinks =
     (p : PartsFields) → is_newer p ≡ true

@@ -8,8 +8,8 @@ use m36_word::Word;
 /// A number of half a word is below this.
 const HALF: u64 = 1 << 18;
 
-/// The bound of a signed offset: bits 3 to 17 of a word, after the number of a pointer register. It
-/// is at least minus this and below this.
+/// A signed offset, which bits 3 to 17 of a word hold after the number of a pointer register, is
+/// from minus this to one less than this.
 pub const OFFSET_LIMIT: u64 = 1 << 14;
 
 /// Bits 0 to 17 of a word.

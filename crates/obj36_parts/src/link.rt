@@ -69,7 +69,8 @@ impl Model for Link {
 }
 
 impl Hash for Link {
-    ghost hash_input = { λ l. fed.u64 (link_number l) ++ name_writes l.name ++ name_writes l.entry };
+    ghost hash_input = { λ l.
+        fed.u64 (link_number l) ++ name_writes l.name ++ name_writes l.entry };
 
     ghost respects_eq = { Prim.search (hashing, rules) };
 

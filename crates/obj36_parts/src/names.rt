@@ -179,7 +179,7 @@ pub(crate) fn names_used(
     match add_names(&mut table, definitions, links) {
         Ok(()) => Ok(table),
         Err(cause) => {
-            // A call of `drop` is proved once for its type.
+            // Dropped explicitly, so that the drop is proved once for its type.
             drop(table);
             Err(cause)
         }

@@ -134,7 +134,7 @@ pub fn copied(alloc: Global, words: &[Word]) -> Result<Words, NoMemory>
     match push_all(&mut copy, words) {
         Ok(()) => Ok(copy),
         Err(cause) => {
-            // A call of `drop` is proved once for its type.
+            // Dropped explicitly, so that the drop is proved once for its type.
             drop(copy);
             Err(cause)
         }
@@ -302,7 +302,7 @@ fn words_by_table(
     match push_section(&mut out, table, definitions, links) {
         Ok(()) => Ok(out),
         Err(cause) => {
-            // A call of `drop` is proved once for its type.
+            // Dropped explicitly, so that the drop is proved once for its type.
             drop(out);
             Err(cause)
         }
@@ -348,7 +348,7 @@ pub fn linkage_words_of(
     match push_linkage(&mut out, statics, links, expressions) {
         Ok(()) => Ok(out),
         Err(cause) => {
-            // A call of `drop` is proved once for its type.
+            // Dropped explicitly, so that the drop is proved once for its type.
             drop(out);
             Err(cause)
         }
@@ -387,7 +387,7 @@ pub fn symbol_words_of(alloc: Global, relocations: &[Reloc]) -> Result<Words, No
     match push_symbol(&mut out, relocations) {
         Ok(()) => Ok(out),
         Err(cause) => {
-            // A call of `drop` is proved once for its type.
+            // Dropped explicitly, so that the drop is proved once for its type.
             drop(out);
             Err(cause)
         }

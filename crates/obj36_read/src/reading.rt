@@ -395,7 +395,7 @@ pub fn parts_in(alloc: Global, words: &[Word]) -> Result<Parts, NoMemory>
     match read_lists(&mut lists, words) {
         Ok(()) => Ok(parts_with(lists, words)),
         Err(cause) => {
-            // A call of `drop` is proved once for its type.
+            // Dropped explicitly, so that the drop is proved once for its type.
             drop(lists);
             Err(cause)
         }

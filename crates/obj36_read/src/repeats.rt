@@ -139,7 +139,7 @@ pub(crate) fn fault_of_repeats(alloc: Global, d: &[Word]) -> Result<Option<u64>,
     let seed = HashSeed::of_words(alloc, d)?;
     let mut places = IndexMap::with_hasher(alloc, seed);
     let found = repeats_noted(d, &mut places);
-    // A call of `drop` is proved once for its type.
+    // Dropped explicitly, so that the drop is proved once for its type.
     drop(places);
     found
 }

@@ -1,4 +1,4 @@
--- The object is that of the tables, or there are none.
+-- The object is that of the tables, or there are no tables.
 use Rattle.alm_asm.proofs.AssemblyLaws.{tells_fault, tells_object}
 use Rattle.alm_asm.proofs.assembly.meaning_seen.Goals as goal
 

@@ -2,7 +2,7 @@ use Rattle.std.proofs.Common.{◌≡◌, length}
 use Rattle.alm_asm.specs.Definitions.{with_names, names_refused}
 use Rattle.alm_asm.proofs.definitions.push_names.Given as goal
 
--- what the rest give, behind what there is, is what all give
+-- adding the rest gives the whole
 abbrev pub invariant-loop-rest : goal.invariant-loop-rest
 invariant-loop-rest l = record {
   definitions : with_names l.text l.symbols l.is_entry l.done l.rest ≡ with_names l.text l.symbols l.is_entry l.initial.done l.line.args;

@@ -2,7 +2,7 @@ use Rattle.std.proofs.Common.{◌≡◌, ◌≤◌, ◌-◌, ◌*◌, length}
 use Rattle.alm_asm.specs.Growth.{with_args, IsLarger}
 use Rattle.alm_asm.proofs.growth.take_args.Given as goal
 
--- what the rest give, behind what there is, is what all give
+-- adding the rest gives the whole
 abbrev pub invariant-loop-rest : goal.invariant-loop-rest
 invariant-loop-rest l = record {
   left : length l.rest ≤ length l.line.args;

@@ -1,4 +1,4 @@
--- The links of the growth are the first of all.
+-- The links so far are the first of all links.
 use Rattle.std.proofs.Common.{rules, arith, ◌≡◌, ◌∷◌}
 use Rattle.std.proofs.lemmas.Grind.{common_steps}
 use Rattle.alm_asm.specs.Growth.{with_definitions, grown_by}

@@ -6,7 +6,7 @@ use Rattle.alm_asm.specs.Seen.{seen_from}
 use Rattle.alm_asm.specs.Growth.{growth_refusal}
 use Rattle.alm_asm.proofs.growth.take_lines.Given as goal
 
--- what the rest are refused for is what all are refused for
+-- the refusal of the rest is that of all
 abbrev pub invariant-loop-rest : goal.invariant-loop-rest
 invariant-loop-rest l = record {
   room : HasRoom (length l.rest) l.spot;

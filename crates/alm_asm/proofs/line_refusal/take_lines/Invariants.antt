@@ -4,7 +4,7 @@ use Rattle.alm_asm.specs.LineRefusals.{lines_refusal}
 use Rattle.alm_asm.specs.Seen.{seen_from}
 use Rattle.alm_asm.proofs.line_refusal.take_lines.Given as goal
 
--- no line so far is refused: the first refusal of the rest is the first of all
+-- no line so far is refused, and the first refusal of the rest is the first of all
 abbrev pub invariant-loop-rest : goal.invariant-loop-rest
 invariant-loop-rest l = record {
   room : HasRoom (length l.rest) l.spot;

@@ -1,4 +1,4 @@
--- A link that is there has its place, and another is added at the end.
+-- A link that is in the list keeps its index, and another is added at the end.
 use Rattle.std.proofs.Common.{rules, ◌≡◌, List, [], ◌∷◌, ◌++◌, length, Some, None, sym, ap, ◌∙◌}
 use Rattle.std.specs.List.{position}
 use Rattle.m36_text.specs.Once.{with_unless}

@@ -3,7 +3,7 @@ use Rattle.alm_lines.specs.Spots.{start, HasRoom}
 use Rattle.alm_asm.specs.Assembly.{bound_from}
 use Rattle.alm_asm.proofs.parts.bound_of.Given as goal
 
--- the bound by the rest, or what it is so far, is that of all
+-- the bound by the rest, or else the bound so far, is that of all
 abbrev pub invariant-loop-rest : goal.invariant-loop-rest
 invariant-loop-rest l = record {
   room : HasRoom (length l.rest) l.spot;

@@ -1,4 +1,4 @@
--- What is left begins with what is seen of the line.
+-- The rest of the list begins with the values of the line.
 use Rattle.std.proofs.Common.{◌≡◌, ◌∷◌, ◌∙◌}
 use Rattle.alm_lines.specs.Spots.{below}
 use Rattle.alm_asm.specs.Seen.{seen_of, seen_from}

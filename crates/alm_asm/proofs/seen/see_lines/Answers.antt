@@ -1,4 +1,4 @@
--- One line more is seen, and what is seen of all is what is seen of the rest after it.
+-- With one more line, its values and those of the rest are all values.
 use Rattle.std.proofs.Common.{rules, arith, ◌≡◌, ◌+◌, ◌-◌, List, [], ◌∷◌, ◌++◌, length, take, drop, sym, ap, ◌∙◌}
 use Rattle.std.proofs.lemmas.Grind.{common_steps}
 use Rattle.std.proofs.lemmas.List.{length-take, length-drop, append-nil}

@@ -4,7 +4,7 @@ use Rattle.alm_asm.specs.Links.{links_from}
 use Rattle.alm_asm.specs.Seen.{seen_from}
 use Rattle.alm_asm.proofs.seen.see_lines.Given as goal
 
--- the rest completes the links, and what is seen of it completes all
+-- the rest completes the links, and the values of the rest complete all values
 abbrev pub invariant-loop-rest : goal.invariant-loop-rest
 invariant-loop-rest l =
     let whole = links_from l.text l.symbols l.fn.links start l.lines in

@@ -4,7 +4,7 @@ use Rattle.alm_asm.specs.Seen.{seen_from}
 use Rattle.alm_asm.specs.Words.{words_from}
 use Rattle.alm_asm.proofs.words.words_in.Given as goal
 
--- what the rest give, behind what there is, is what all give
+-- adding the rest gives the whole
 abbrev pub invariant-loop-rest : goal.invariant-loop-rest
 invariant-loop-rest l = record {
   room : HasRoom (length l.rest) l.spot;

@@ -1,4 +1,4 @@
--- What is kept is kept of all that is defined.
+-- The retained definitions are among all definitions.
 use Rattle.std.proofs.Common.{List, ℕ, [], ap, subst, ◌∙◌}
 use Rattle.m36_relocate.specs.declared.exports.Export.{Export}
 use Rattle.m36_bindfile.specs.BindFile.{BindSays}

@@ -3,7 +3,7 @@ use Rattle.alm_lines.specs.Spots.{start, HasRoom}
 use Rattle.m36_list.specs.Listing.{section_words}
 use Rattle.m36_list.proofs.listed.put_section_words.Given as goal
 
--- the lines that follow complete the whole
+-- the lines of the rest complete the whole
 abbrev pub invariant-loop-line : goal.invariant-loop-line
 invariant-loop-line l = record {
   room : HasRoom (length l.line-items - l.line-index) l.spot;
