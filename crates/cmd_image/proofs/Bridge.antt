@@ -1,7 +1,6 @@
 -- A call that performs the program of a command on an image does what the command reads and answers.
-use Rattle.std.proofs.Common.{◌≡◌, ◌⊎◌, ℕ, List, [], ◌∷◌, ◌++◌, Result, Ok, Err, refl, sym, ap, subst, ◌∙◌, inl, inr}
+use Rattle.std.proofs.Common.{◌≡◌, ℕ, List, [], ◌∷◌, ◌++◌, Result, Ok, Err, refl, sym, ap, subst, ◌∙◌, inl, inr}
 use Rattle.std.proofs.lemmas.List.{append-nil}
-use Rattle.m36_outside.specs.Counts.{Rose}
 use Rattle.m36_outside.specs.Passing.{joined}
 use Rattle.m36_outside.specs.Putting.{PutsText, PutsPieces}
 use Rattle.m36_outside.specs.declared.folder.ReadAnswer.{ReadAnswer}
@@ -15,26 +14,25 @@ use Rattle.m36_world.specs.declared.event.Event.{Event}
 use Rattle.m36_world.specs.declared.event.Event.TheVariants.{FileRead}
 use Rattle.m36_world.proofs.Following.{follow_logs}
 use Rattle.m36_reading.specs.declared.refusal.Refusal.TheVariants as refusal
-use Rattle.m36_reading.specs.declared.status.Bad.{Bad}
 use Rattle.m36_reading.specs.declared.status.Status.{Status}
 use Rattle.m36_reading.specs.declared.status.Status.TheVariants as status
 use Rattle.m36_reading.specs.Answers.{Answer}
 use Rattle.m36_reading.specs.Asking.{Coming, Came, Comes}
-use Rattle.m36_reading.specs.Doing.{IsWhole, IsMade, IsAnswered, IsUnput, EndsBy, Does}
+use Rattle.m36_reading.specs.Doing.{IsAnswered, EndsBy, Does}
 use Rattle.m36_reading.specs.Ends.{end_of}
-use Rattle.m36_reading.specs.Outside.{Outside, IsIdle, NoneUnread}
+use Rattle.m36_reading.specs.Outside.{Outside, IsIdle}
 use Rattle.m36_reading.specs.Reading.{Early}
 use Rattle.m36_reading.specs.Setting.{AllSet}
 use Rattle.m36_program.specs.Early.{early, status_by, MayEnd}
 use Rattle.m36_program.specs.Performs.{Performs}
 use Rattle.m36_program.specs.Trail.{NoneFailed, HasCause, FilesKept, pieces_of, put_of, output_of}
-use Rattle.m36_program.proofs.PieceLaws.{pieces_put, put_after, reads_of, PutsWhole, PutsPart, PutsBy, puts_longer, performs_told}
+use Rattle.m36_program.proofs.PieceLaws.{pieces_put, put_after, reads_of, PutsBy, puts_longer, performs_told}
 use Rattle.m36_program.proofs.ProgramLaws.{performs_cause, performs_files, performs_text}
-use Rattle.m36_ran.specs.Ran.{state_reads, state_answer, IsStateDue, state_kind}
+use Rattle.m36_ran.specs.Ran.{state_reads, state_answer, state_kind}
 use Rattle.m36_ran.specs.declared.command.ImageCommand.{ImageCommand}
 use Rattle.cmd_image.specs.ImageProgram.{image_program}
 use Rattle.cmd_image.specs.Reading.{outside_by}
-use Rattle.cmd_image.proofs.ImageGoes.{Puts, ReadsAlone, ReadsPuts, How, Unread, Starved, Refused, Answered, program_how}
+use Rattle.cmd_image.proofs.ImageGoes.{ReadsPuts, How, Unread, Starved, Refused, Answered, program_how}
 
 -- what comes of reading the image, by what was asked
 abbrev Comes_by : List ℕ → List Event → Coming (Early (State (List ℕ))) → Type 0

@@ -1,5 +1,5 @@
 -- A call over a world of three references is one over the three objects.
-use Rattle.std.proofs.Common.{◌≡◌, ℕ, List, [], ◌∷◌, ◌++◌, Option, Result, sym, ap, subst, ◌∙◌, refl}
+use Rattle.std.proofs.Common.{◌≡◌, ℕ, List, ◌++◌, Option, Result, sym, ap, subst, ◌∙◌, refl}
 use Rattle.m36_outside.specs.Files.{Files}
 use Rattle.m36_outside.specs.FolderCalls.{Asked, Wrote}
 use Rattle.m36_world.specs.declared.event.Event.{Event}

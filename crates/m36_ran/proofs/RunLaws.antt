@@ -1,26 +1,16 @@
 -- A run, step by step: what is left of its output, and how it will have ended.
-use Rattle.std.proofs.Common.{◌≡◌, ℕ, zero, suc, ◌+◌, ◌-◌, ◌<◌, Bool, true, false, List, [], ◌∷◌, ◌++◌, map, length, Option, refl, sym, ap, subst, ◌∙◌, arith, add-zero}
-use Rattle.std.proofs.lemmas.List.{append-nil}
-use Rattle.m36_outside.specs.Gathered.{Gathers, Loses}
-use Rattle.m36_outside.specs.Passing.{joined}
-use Rattle.m36_outside.specs.Written.{GrewWithin}
-use Rattle.m36_outside.proofs.Completes.{Completes, completes_all}
-use Rattle.m36_outside.proofs.Gathered.{completes_added, completes_lost, completes_finished, completes_finished_cut}
+use Rattle.std.proofs.Common.{◌≡◌, ℕ, zero, suc, ◌+◌, ◌-◌, ◌<◌, Bool, true, false, List, [], ◌∷◌, ◌++◌, map, length, refl, ap, ◌∙◌, arith, add-zero}
 use Rattle.m36_text.specs.Lines.{as_line}
 use Rattle.m36_model.specs.Store.{State}
 use Rattle.m36_model.specs.Core.{core_store}
 use Rattle.m36_model.specs.Run.{Visited, visits, is_next, only_if}
-use Rattle.m36_model.specs.declared.outcome.Outcome.{Outcome}
 use Rattle.m36_model.specs.declared.outcome.Outcome.TheVariants.{Next}
 use Rattle.m36_model.specs.declared.record.StepRecord.{StepRecord}
 use Rattle.m36_trace.specs.EndLine.{end_line_of}
 use Rattle.m36_trace.specs.TraceLine.{line_of}
 use Rattle.m36_ran.specs.Machine.{told, after}
 use Rattle.m36_ran.specs.Run.{run, last_outcome}
-use Rattle.m36_ran.specs.Output.{trace_pieces, pieces_from, run_pieces, run_text}
-use Rattle.m36_ran.specs.RunSays.{EndSays, RunSays}
-use Rattle.m36_ran.specs.declared.running.Ended.{Ended}
-use Rattle.m36_ran.specs.declared.running.Ended.TheVariants.{Whole, Cut}
+use Rattle.m36_ran.specs.Output.{trace_pieces, pieces_from}
 
 -- a run of at least one step
 told_only_if :

@@ -1,22 +1,17 @@
 -- A command on a bare image, from its parts.
-use Rattle.std.proofs.Common.{◌≡◌, ℕ, List, [], Result, Ok, Err, refl, ap, inr}
+use Rattle.std.proofs.Common.{◌≡◌, ℕ, List, Result, Ok, Err, ap}
 use Rattle.m36_model.specs.Store.{State}
-use Rattle.m36_model.specs.Audit.{AreFindings}
 use Rattle.m36_outside.specs.SinkState.{SinkState}
 use Rattle.m36_image.specs.declared.refusal.Refusal as refusal
 use Rattle.m36_reading.specs.declared.refusal.Refusal.{Refusal}
 use Rattle.m36_reading.specs.declared.status.Status.{Status}
-use Rattle.m36_reading.specs.Asking.{Came, Gives, Refuses}
+use Rattle.m36_reading.specs.Asking.{Gives, Refuses}
 use Rattle.m36_reading.specs.Readers.{refused}
 use Rattle.m36_reading.specs.Answers.{Answer}
-use Rattle.m36_reading.specs.Outside.{FolderState}
-use Rattle.m36_reading.specs.Ends.{End, Answered, Cut, Unread, Starved, Unasked, end_of}
-use Rattle.m36_reading.specs.Doing.{EndsBy, Performs}
+use Rattle.m36_reading.specs.Ends.{End, Answered, Cut, Unread, Starved, Unasked}
 use Rattle.m36_reading.proofs.ReadLaws.{gives_by}
-use Rattle.m36_reading.proofs.WriteLaws.{none_set}
-use Rattle.m36_ran.specs.declared.command.ImageCommand.{ImageCommand}
 use Rattle.m36_ran.specs.Putting.{PutsBy, PutsSome}
-use Rattle.m36_ran.specs.Ran.{code_of, state_by, state_answer, IsIsolated, IsStateDue, state_kind}
+use Rattle.m36_ran.specs.Ran.{code_of, state_by}
 
 -- ---- the state of a file
 
