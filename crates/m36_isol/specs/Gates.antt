@@ -1,4 +1,4 @@
--- Gates and stacks in plain terms, which the laws use.
+-- Gates and stacks: the fifth and sixth condition, as the laws use them.
 use Rattle.std.specs.Prelude.{ℕ, List}
 use Rattle.m36_desc.specs.Fields.{DbrFields}
 use Rattle.m36_model.specs.Place.{core_sdw}
