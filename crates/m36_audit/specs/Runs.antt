@@ -54,9 +54,11 @@ run_of core (Ok d) piece = run_ordered (in_order d) core d piece
 abbrev pub pages_of_segment : ℕ
 pages_of_segment = 256
 
+-- the numbers of runs of a segment
 abbrev pub runs_of_segment : ℕ
 runs_of_segment = pages_of_segment
 
+-- the numbers of runs of a process
 abbrev pub runs_of_process : ℕ
 runs_of_process = 2 ^ 23
 
@@ -78,6 +80,7 @@ abbrev pub ends_at : ℕ → Option Run → Bool
 ends_at a None = false
 ends_at a (Some r) = r.end == a
 
+-- the run has this core word
 abbrev pub covers : ℕ → Option Run → Bool
 covers a None = false
 covers a (Some r) = nat_le r.first a && nat_lt a r.end

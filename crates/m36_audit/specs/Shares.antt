@@ -35,10 +35,12 @@ unfoldable pub pages_told : ℕ → SdwFields → ℕ → List ℕ → List ℕ
 pages_told number d zero values = values
 pages_told number d (suc n) values = joined_at (pages_told number d n values) (page_at d n) number
 
+-- the values after the words of the page table of a segment were recorded, if it is paged
 abbrev pub page_table_told : ℕ → SdwFields → Bool → List ℕ → List ℕ
 page_table_told number d true values = values
 page_table_told number d false values = pages_told number d (page_count d) values
 
+-- the values after the words of a segment's page table were recorded, if it is live and paged
 abbrev pub live_told : ℕ → Result SdwFields Refusal → List ℕ → List ℕ
 live_told number (Err e) values = values
 live_told number (Ok d) values = page_table_told number d d.unpaged values
@@ -108,6 +110,7 @@ abbrev pub run_of_process : List ℕ → Option DbrFields → ℕ → Option Run
 run_of_process core None n = None
 run_of_process core (Some dbr) n = run core dbr n
 
+-- run n of all processes, if its segment has a first descriptor
 unfoldable pub joint_run : List ℕ → List DbrFields → List ℕ → ℕ → Option Run
 joint_run core dbrs firsts n =
     first_run (slice_index firsts (n / runs_of_segment) == n / runs_of_segment)

@@ -17,6 +17,7 @@ abbrev pub tables_by : Bool → List ℕ → ℕ → ℕ → List ℕ
 tables_by true tables table a = slice_set tables a table
 tables_by false tables table a = tables
 
+-- the marks after one for a table at a word
 unfoldable pub tables_marked : List ℕ → ℕ → ℕ → List ℕ
 tables_marked tables table a = tables_by (slice_index tables a == 0) tables table a
 
@@ -29,6 +30,7 @@ abbrev pub least_by : Bool → Option ℕ → ℕ → Option ℕ
 least_by true least a = least
 least_by false least a = lesser least a
 
+-- the least word that was marked for a second table, after one more mark
 unfoldable pub least_marked : List ℕ → Option ℕ → ℕ → ℕ → Option ℕ
 least_marked tables least table a = least_by
     (slice_index tables a == 0 || slice_index tables a == table) least a

@@ -3,6 +3,7 @@
 use Rattle.std.specs.Prelude.{◌≡◌, ◌≢◌, ℕ, ◌<◌, ◌||◌, ◌==◌, if◌then◌else◌, List, length}
 use Rattle.std.specs.Prelude.{slice_index, slice_set}
 
+-- the value of a word for which different numbers were recorded
 abbrev pub several : ℕ
 several = 4294967295
 

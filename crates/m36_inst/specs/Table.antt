@@ -233,6 +233,7 @@ privileged =
     ++ on 0o532 (codes "camp") effect.Camp
     ++ off 0o212 (codes "absa") effect.Absa
 
+-- all instructions
 abbrev pub table : List Entry
 table =
     data_movement ++ fixed_point ++ boolean ++ shifts ++ pointer_registers ++ special_stores

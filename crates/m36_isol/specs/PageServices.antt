@@ -67,6 +67,7 @@ pub record PagedState : Type 0 where
   pub regs : RegsFields
   pub memory : Paged
 
+-- the state over core alone
 abbrev pub core_state : PagedState → State (List ℕ)
 core_state s = record { regs = s.regs; store = s.memory.core }
 

@@ -130,5 +130,6 @@ pub record IsOneChain {S : Type 0} (o : Store S) (g : RegsFields) (p : Point)
       → IsChain o g (first_stage p m ∷ other) said → (other ≡ more) × (said ≡ answer)
   pub same : run o g (chain indirect_words g p) m ≡ answer
 
+-- From each point there is exactly one chain over core.
 abbrev pub OneChain : Type 0
 OneChain = (g : RegsFields) (p : Point) (m : Mid (List ℕ)) → IsOneChain core_store g p m

@@ -22,6 +22,8 @@ derail = 6
 abbrev pub lockup_fault : ℕ
 lockup_fault = 7
 
+-- a privileged instruction without the right to it, or a direct operand or a modification that is
+-- not allowed
 abbrev pub illegal_procedure : ℕ
 illegal_procedure = 10
 

@@ -72,6 +72,7 @@ pointer_in o f n =
     pointer_raised (ptr_of (slice_index o.got (2 * n)) (slice_index o.got (2 * n + 1))) f.at.ring
     o.ring
 
+-- the eight pointers of an operand block, PR0 first
 abbrev pub pointers_in : OperandFields → FinalFields → List PtrFields
 pointers_in o f =
     pointer_in o f 0 ∷ pointer_in o f 1 ∷ pointer_in o f 2 ∷ pointer_in o f 3 ∷ pointer_in o f 4

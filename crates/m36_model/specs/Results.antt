@@ -156,12 +156,15 @@ zn h v i =
     let s = result_of h v false false in
     record i { zero = s.zero; negative = s.negative }
 
+-- zero, negative and carry get these values
 abbrev pub with_zn_carry : Bool → Bool → Bool → Ind → Ind
 with_zn_carry z n c i = record i { zero = z; negative = n; carry = c }
 
+-- zero, negative and carry are set by a result
 unfoldable pub zn_carry : SumFields → Ind → Ind
 zn_carry s i = with_zn_carry s.zero s.negative s.carry i
 
+-- zero and negative are set by a result, overflow is turned on if the result has it, and carry is c
 abbrev pub with_zn_overflow : SumFields → Bool → Ind → Ind
 with_zn_overflow s c i =
     record i {
@@ -171,12 +174,15 @@ with_zn_overflow s c i =
       overflow = i.overflow || s.overflow;
     }
 
+-- zero, negative and overflow are set by a result; carry does not change
 unfoldable pub zn_overflow : SumFields → Ind → Ind
 zn_overflow s i = with_zn_overflow s i.carry i
 
+-- zero, negative, carry and overflow are set by a result
 unfoldable pub zn_carry_overflow : SumFields → Ind → Ind
 zn_carry_overflow s i = with_zn_overflow s s.carry i
 
+-- zero, negative and carry are set by a comparison
 unfoldable pub compared : ComparisonFields → Ind → Ind
 compared c i = with_zn_carry c.zero c.negative c.carry i
 

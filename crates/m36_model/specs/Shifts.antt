@@ -6,6 +6,7 @@ use Rattle.std.specs.Int.{int_div_euclid}
 use Rattle.m36_word.specs.Signed.{signed}
 use Rattle.m36_model.specs.Arithmetic.{modulo}
 
+-- the count of a shift by this address, below 128
 abbrev pub count_of : ℕ → ℕ
 count_of address = address % 128
 

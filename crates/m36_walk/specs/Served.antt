@@ -144,6 +144,7 @@ pub record IsWritten (s : Served (List ℕ)) (new words : List ℕ)
   pub told : result ≡ replied s
   pub core : new ≡ written_by s words
 
+-- a Write of words by itself, whatever the registers are
 abbrev pub Writes : Memory → List ℕ → AtFields → ℕ → List ℕ → Result Unit Fault → Type 0
 Writes m new at count words result =
     (g : RegsFields) → g.dbr ≡ m.dbr
