@@ -54,7 +54,7 @@ FirstNoted old new firsts after key number None =
     ((q : ℕ) → new q ≡ cond (key == q) (Some number) (old q))
     × (after ≡ slice_set firsts number number)
 
--- the same for a descriptor that may not be in core
+-- as `FirstNoted`, for a descriptor that may not be in core
 abbrev pub AreNoted : (ℕ → Option ℕ) → (ℕ → Option ℕ) → List ℕ → List ℕ → Option ℕ → ℕ → Type 0
 AreNoted old new firsts after None number = ((q : ℕ) → new q ≡ old q) × (after ≡ firsts)
 AreNoted old new firsts after (Some key) number =

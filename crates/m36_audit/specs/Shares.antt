@@ -125,7 +125,7 @@ abbrev pub starts_with : Option Run → List ℕ → List ℕ
 starts_with None starts = starts
 starts_with (Some r) starts = counted starts r.first
 
--- the same for the runs that end at each word
+-- counts of the runs that end at each word, with one more run, if there is one
 abbrev pub stops_with : Option Run → List ℕ → List ℕ
 stops_with None stops = stops
 stops_with (Some r) stops = counted stops r.end

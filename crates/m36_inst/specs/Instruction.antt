@@ -27,7 +27,7 @@ inst_word i =
 abbrev pub pr_number : InstFields → ℕ
 pr_number i = i.y / 2 ^ 15
 
--- and the offset, bits 3-17
+-- the offset from a pointer register, bits 3-17
 abbrev pub offset_field : InstFields → ℕ
 offset_field i = i.y % 2 ^ 15
 

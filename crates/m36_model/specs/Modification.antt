@@ -107,7 +107,7 @@ final_at p word direct = record { at = at_point p word; bit = p.bit; direct = di
 abbrev pub ends_at : Point → ℕ → Move
 ends_at p word = Ends (final_at p word None)
 
--- with a direct operand, the address is that of the point itself
+-- the chain ends with a direct operand; its address is that of the point itself
 abbrev pub ends_direct : Point → ℕ → Move
 ends_direct p operand = Ends (final_at p p.y (Some operand))
 

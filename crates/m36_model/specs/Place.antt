@@ -33,12 +33,12 @@ frame_named p = p.addr / 16
 abbrev pub frame_at : PtwFields → ℕ
 frame_at p = frame_named p * 1024
 
--- the address of a word of a page, if F of its PTW is on
+-- the address of a word of a page, by its PTW, whose F is on or not
 abbrev pub in_frame_by : Bool → PtwFields → ℕ → Result ℕ Refusal
 in_frame_by true p offset = Ok (wrapped (frame_at p + offset))
 in_frame_by false p offset = Err (directed p.fc)
 
--- the same for a PTW that may be missing: past the end of core
+-- the address of a word of a page, or a store fault if its PTW is past the end of core
 abbrev pub in_frame : Option PtwFields → ℕ → Result ℕ Refusal
 in_frame None offset = Err store_fault
 in_frame (Some p) offset = in_frame_by p.f p offset
@@ -126,11 +126,11 @@ inside_core size (Err e) = Err e
 abbrev pub word_place_by : Bool → SdwFields → ℕ → Option PtwFields → Result ℕ Refusal
 word_place_by unpaged d w p = place_from unpaged d.addr w p
 
--- the same, with the PTW from core; the address may be past the end of core
+-- the address of a word within the bound, with the PTW from core; it may be past the end of core
 abbrev pub word_place : List ℕ → SdwFields → ℕ → Result ℕ Refusal
 word_place core d w = word_place_by d.unpaged d w (ptw_at core (page_at d (w / 1024)))
 
--- the spot of a word within the bound: the same, if the address is in core
+-- the spot of a word within the bound, or a store fault if its address is past the end of core
 unfoldable pub core_spot : List ℕ → DbrFields → SdwFields → ℕ → ℕ → Result Spot Refusal
 core_spot core dbr d seg w = inside_core (length core) (word_place core d w)
 

@@ -64,11 +64,11 @@ effect_fields e = record { regs = e.regs; put = words_of_held e.put; overflow = 
 abbrev pub word : OperandFields → ℕ
 word o = slice_index o.got 0
 
--- bits 0 to 17 of it
+-- bits 0 to 17 of the operand word
 abbrev pub upper : OperandFields → ℕ
 upper o = field (word o) 0 18
 
--- bits 18 to 35 of it
+-- bits 18 to 35 of the operand word
 abbrev pub lower : OperandFields → ℕ
 lower o = field (word o) 18 18
 
@@ -204,16 +204,16 @@ moved_on g = record g { ppr = record g.ppr { ic = next_word g } }
 abbrev pub leaves : RegsFields → Result EffectFields ℕ
 leaves g = Ok (record { regs = g; put = []; overflow = false })
 
--- A result that continues with the next instruction: with new registers,
+-- new registers, with the instruction counter at the next instruction
 abbrev pub completes : RegsFields → Result EffectFields ℕ
 completes g = leaves (moved_on g)
 
--- with words to write and perhaps overflow,
+-- as `completes`, with words to write, and perhaps overflow
 abbrev pub completes_or_overflows : RegsFields → List ℕ → Bool → Result EffectFields ℕ
 completes_or_overflows g put overflow =
     Ok (record { regs = moved_on g; put = put; overflow = overflow })
 
--- and with words to write.
+-- as `completes`, with words to write
 abbrev pub completes_with : RegsFields → List ℕ → Result EffectFields ℕ
 completes_with g put = completes_or_overflows g put false
 
@@ -225,11 +225,11 @@ takes r v i g = with_indicators i (with_value r v g)
 abbrev pub tested : ℕ → ℕ → RegsFields → RegsFields
 tested h v g = with_indicators (zn h v g.ind) g
 
--- a register gets a value, by which zero and negative are set
+-- a register with a new value, by which zero and negative are set
 abbrev pub takes_tested : Working → ℕ → RegsFields → RegsFields
 takes_tested r v g = takes r v (zn (half r) v g.ind) g
 
--- a register gets a value, by which zero and negative are set
+-- an effect that gives a register a value, by which zero and negative are set
 abbrev pub becomes : Working → ℕ → RegsFields → Result EffectFields ℕ
 becomes r v g = completes (takes_tested r v g)
 

@@ -300,7 +300,7 @@ started e n g w _ = addressed e n g w
 abbrev pub is_barred : Effect → Bool → Bool
 is_barred e right = is_privileged e && not right
 
--- an instruction that may be privileged without the right to it
+-- an instruction, which is refused if it is privileged without the right to be executed
 abbrev pub admitted : Effect → ℕ → RegsFields → ℕ → Bool → Act Ending
 admitted e n g w true = halted g (Some w) None (halt_here illegal_procedure g)
 admitted e n g w false = started e n g w (operand_of e)
