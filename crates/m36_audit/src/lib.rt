@@ -5,10 +5,12 @@
 //! segments on one core word, defeat every rule. `audit` reads the tables that a descriptor segment
 //! base register (DBR) gives to a core, and decides six conditions:
 //!
-//! 1. Each live segment has its ring brackets in order. 2. No core word is a word of two tables. 3.
-//! No core word is both a table word and a word of a segment. 4. No core word is two words of
-//! segments. 5. Each segment that rings above R2 may call is a gate. 6. The ring that such a call
-//! enters has a stack.
+//! 1. Each live segment has its ring brackets in order.
+//! 2. No core word is a word of two tables.
+//! 3. No core word is both a table word and a word of a segment.
+//! 4. No core word is two words of segments.
+//! 5. Each segment that rings above R2 may call is a gate.
+//! 6. The ring that such a call enters has a stack.
 //!
 //! The findings of `audit` are, for each condition that fails and in this order, the least segment
 //! (1, 5, 6) or the least core word (2, 3, 4) that breaks it (clause `findings`). There are none

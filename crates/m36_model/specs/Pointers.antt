@@ -91,8 +91,8 @@ unfoldable pub load_packed : ℕ → ℕ → RegsFields → FinalFields → Resu
 load_packed n w g f = load_packed_by (field w 0 2 == 3) n w g f
 
 -- EPAQ: the segment to A 3-17, the ring to A 33-35, the computed address to Q 0-17, the bit number
--- to Q 30-35, and zeros to the rest. Zero is on if AQ is 0; no other indicator changes (this
--- project's choice).
+-- to Q 30-35, and zeros to the rest. Zero is on exactly if AQ is 0; no other indicator changes
+-- (this project's choice).
 abbrev pub address_even : FinalFields → ℕ
 address_even f = f.at.seg * 2 ^ 18 + f.at.ring
 

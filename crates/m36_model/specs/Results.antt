@@ -149,8 +149,8 @@ words Q v = v ∷ []
 words AQ v = upper_word v ∷ lower_word v ∷ []
 words (X n) v = v ∷ []
 
--- Indicators. Zero is on if the result is 0, and negative if its first bit is on. Indicators that
--- are not named do not change. Arithmetic turns overflow on, never off.
+-- Zero is on exactly if the number is 0, and negative exactly if its first bit is on. Indicators
+-- that are not named do not change.
 unfoldable pub zn : ℕ → ℕ → Ind → Ind
 zn h v i =
     let s = result_of h v false false in
@@ -164,7 +164,8 @@ with_zn_carry z n c i = record i { zero = z; negative = n; carry = c }
 unfoldable pub zn_carry : SumFields → Ind → Ind
 zn_carry s i = with_zn_carry s.zero s.negative s.carry i
 
--- zero and negative are set by a result, overflow is turned on if the result has it, and carry is c
+-- zero and negative are set by a result; overflow is turned on if the result has it, and never off;
+-- carry is c
 abbrev pub with_zn_overflow : SumFields → Bool → Ind → Ind
 with_zn_overflow s c i =
     record i {
