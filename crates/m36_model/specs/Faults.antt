@@ -41,7 +41,7 @@ directed_fault fc = 16 + fc
 abbrev pub missing_page_code : ℕ
 missing_page_code = 1
 
--- its fault
+-- the fault of a page that is in no frame
 abbrev pub missing_page : ℕ
 missing_page = directed_fault missing_page_code
 

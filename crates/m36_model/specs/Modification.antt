@@ -54,7 +54,7 @@ halt_here number g = halt.Fault (fault_here number g)
 abbrev pub pair_ring : ℕ → ℕ → ℕ → ℕ
 pair_ring trr r1 named = max (max trr r1) named
 
--- the pointer for a register number of 8 or more, which does not occur
+-- the value for a pointer register that does not exist
 abbrev pub no_ptr : PtrFields
 no_ptr = record { seg = 0; ring = 0; word = 0; bit = 0 }
 

@@ -45,7 +45,7 @@ pair_before p words = ptr_even p ∷ ptr_odd p ∷ words
 unfoldable pub store_pointer : ℕ → RegsFields → Result EffectFields ℕ
 store_pointer n g = completes_with g (pair_before (ptr g n) [])
 
--- SPBP: the same, with 0 as the odd word
+-- SPBP: as SPRI0 to SPRI7, with 0 as the odd word
 unfoldable pub store_base_pointer : ℕ → RegsFields → Result EffectFields ℕ
 store_base_pointer n g = completes_with g (ptr_even (ptr g n) ∷ 0 ∷ [])
 

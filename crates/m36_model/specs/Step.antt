@@ -300,7 +300,7 @@ started e n g w _ = addressed e n g w
 abbrev pub is_barred : Effect → Bool → Bool
 is_barred e right = is_privileged e && not right
 
--- an instruction, which is refused if it is privileged without the right to be executed
+-- an instruction; it is an illegal procedure if it is privileged and the step has no right to it
 abbrev pub admitted : Effect → ℕ → RegsFields → ℕ → Bool → Act Ending
 admitted e n g w true = halted g (Some w) None (halt_here illegal_procedure g)
 admitted e n g w false = started e n g w (operand_of e)
@@ -323,7 +323,7 @@ decoded g w privileged (Some row) = admitted row.0 row.1 g w (is_barred row.0 pr
 abbrev pub has_right : SdwFields → ℕ → Bool
 has_right d ring = d.privileged && (ring == 0)
 
--- after the fetch, or its refusal
+-- what follows the reply to the fetch
 abbrev pub fetched : RegsFields → Result Answer Fault → Act Ending
 fetched g (Err f) = halted g None None (halt.Fault f)
 fetched g (Ok a) =
