@@ -25,7 +25,8 @@
 //! A page in front answers without its entries being looked up. So each page and each entry has the
 //! time of its last use, and before an entry is replaced, it first gets the times at which its
 //! pages in front were used (`uses`). When an entry is replaced, its pages leave the front. So the
-//! memories keep the same entries as they would without a front.
+//! memories keep the same entries as they would without a front. No contract states this order; the
+//! tests of `m36_walk` check it.
 #![tactic(auto)]
 
 pub mod answering;

@@ -1,6 +1,6 @@
--- Equal descriptors of several processes: each has the number of the first descriptor with the same
--- words. Descriptors are numbered by their segments; those of a process come after those of the
--- processes before it.
+-- Equal descriptors of several processes: equal ones have the same number, that of one of them.
+-- Descriptors are numbered by their segments; those of a process come after those of the processes
+-- before it.
 use Rattle.std.specs.Prelude.{◌≡◌, ℕ, ◌+◌, ◌*◌, ◌/◌, ◌%◌, ◌^◌, ◌<◌, List, length}
 use Rattle.std.specs.Prelude.{◌==◌, cond, slice_get, slice_index, slice_set, Option, Some, None, Ok}
 use Rattle.m36_word.specs.Pairs.{number_of}
@@ -31,7 +31,8 @@ pub record KeyAt (core : List ℕ) (dbrs : List DbrFields) (i key : ℕ) : Type 
   pub process : slice_get dbrs (i / descriptors_of_process) ≡ Some dbr
   pub is : IsKey core dbr (i % descriptors_of_process) key
 
--- each of the first n descriptors has the number of the first descriptor with the same words
+-- Each of the first n descriptors that is in core has in `firsts` the number of one of these n with
+-- the same words. Descriptors with the same words have the same number.
 pub record AreClasses (core : List ℕ) (dbrs : List DbrFields) (n : ℕ) (firsts : List ℕ)
     : Type 0 where
   pub len : length firsts ≡ descriptors_of_process * length dbrs
@@ -60,8 +61,8 @@ AreNoted old new firsts after None number = ((q : ℕ) → new q ≡ old q) × (
 AreNoted old new firsts after (Some key) number =
     FirstNoted old new firsts after key number (old key)
 
--- The first n descriptors are recorded. The map has the number of the first descriptor with the
--- same words for each of them, and nothing else.
+-- The first n descriptors are recorded, with numbers as in `AreClasses`. The map has the number of
+-- each of them by its words, and nothing else.
 pub record AreNotedSo (core : List ℕ) (dbrs : List DbrFields) (n : ℕ) (places : ℕ → Option ℕ)
     (firsts : List ℕ) : Type 0 where
   pub len : length firsts ≡ descriptors_of_process * length dbrs

@@ -54,11 +54,11 @@ run_of core (Ok d) piece = run_ordered (in_order d) core d piece
 abbrev pub pages_of_segment : ℕ
 pages_of_segment = 256
 
--- the numbers of runs of a segment
+-- how many numbers of runs each segment has
 abbrev pub runs_of_segment : ℕ
 runs_of_segment = pages_of_segment
 
--- the numbers of runs of a process
+-- how many numbers of runs each process has
 abbrev pub runs_of_process : ℕ
 runs_of_process = 2 ^ 23
 

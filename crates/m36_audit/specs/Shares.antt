@@ -100,8 +100,8 @@ pub record AreOwned (test : ℕ → Bool) (number a : ℕ) (old new : List ℕ) 
   pub after : (q : ℕ) → a ≤ q → slice_index new q ≡ slice_index old q
 
 -- The runs of the first descriptors of all processes, by numbers: those of a process come after
--- those of the processes before it. A descriptor is a first one if no earlier one has the same
--- words.
+-- those of the processes before it. A descriptor is a first one if `firsts` has its own number for
+-- it.
 abbrev pub first_run : Bool → Option Run → Option Run
 first_run true r = r
 first_run false r = None

@@ -112,8 +112,8 @@ fn note_process(
     Ok(())
 }
 
-/// For each descriptor of each process, the number of the first one with the same words. Fails only
-/// if memory runs out.
+/// For each descriptor of each process that is in core, the number of the first one with the same
+/// words. The contract leaves open which of these has the number. Fails only if memory runs out.
 pub(crate) fn classes(alloc: Global, core: &Core, dbrs: &[Dbr]) -> Result<Vec<u32>, NoMemory>
     requires { length dbrs.now ≤ most_processes }
     ensures { IfOk result (λ firsts. AreClasses core.now dbrs.now
