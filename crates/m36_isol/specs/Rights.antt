@@ -30,8 +30,8 @@ pub record MayTransfer (d : SdwFields) (trr prr : ℕ) : Type 0 where
   pub fetch : MayFetch d trr
   pub ring : trr ≡ prr
 
--- a call comes from a ring from R1 to R3; into a gate of another segment, it is to a word below the
--- call limiter
+-- a call comes from a ring from R1 to R3, and goes to a segment with E on; into a gate of another
+-- segment, it goes to a word below the call limiter
 pub record MayCall (d : SdwFields) (trr : ℕ) (same : Bool) (word : ℕ) : Type 0 where
   pub executable : d.executable ≡ true
   pub entry : d.no_gate ≡ false → same ≡ false → word < d.limit
