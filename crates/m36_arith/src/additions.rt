@@ -1,5 +1,5 @@
-//! Sums with a carry in. Carry is on if the unsigned sum does not fit, and overflow if the signed
-//! sum does not fit.
+//! Sums with a carry in. Carry is on exactly if the unsigned sum does not fit, and overflow exactly
+//! if the signed sum does not fit.
 
 ghost use Rattle.std.specs.Prelude.{◌≡◌, ◌^◌, ◌<◌};
 ghost use Rattle.m36_word.specs.Pairs.{number_of};

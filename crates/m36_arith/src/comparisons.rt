@@ -1,5 +1,6 @@
-//! Comparisons. Zero is on if both numbers are equal, and negative if the first is less as a signed
-//! number. Carry is that of their difference: on if the first is not less as an unsigned number.
+//! Comparisons. Zero is on exactly if both numbers are equal, and negative exactly if the first is
+//! less as a signed number. Carry is that of their difference: on exactly if the first is not less
+//! as an unsigned number.
 
 ghost use Rattle.std.specs.Prelude.{◌≡◌, ◌^◌, ◌<◌};
 ghost use Rattle.m36_word.specs.Pairs.{number_of};

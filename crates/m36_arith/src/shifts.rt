@@ -13,7 +13,7 @@ use m36_word::{Pair, Word};
 /// The kinds of shifts.
 #[derive(Clone, Copy, PartialEq, Eq)]
 pub enum Shift {
-    /// To the left; zeros enter. Carry is on if the first bit changes during the shift.
+    /// To the left; zeros enter. Carry is on exactly if the first bit changes during the shift.
     Left,
     /// To the right; copies of the first bit enter.
     Right,

@@ -1,5 +1,6 @@
-//! Differences with a borrow, and negatives. Carry is on if the unsigned minuend is at least the
-//! subtrahend plus the borrow, and overflow if the signed difference does not fit.
+//! Differences with a borrow, and negatives. Carry is on exactly if the unsigned minuend is at
+//! least the subtrahend plus the borrow, and overflow exactly if the signed difference does not
+//! fit.
 
 ghost use Rattle.std.specs.Prelude.{◌≡◌, ◌^◌, ◌<◌};
 ghost use Rattle.m36_word.specs.Pairs.{number_of};

@@ -1,4 +1,4 @@
--- What a page answers, and that the references that it answers are right.
+-- What a page in front answers, and that these answers are right.
 use Rattle.std.proofs.Common.{ℕ, ◌≡◌, ◌+◌, ◌-◌, ◌/◌, ◌%◌, ◌<◌, ◌≤◌, ◌^◌, Bool, true, false, not, ◌==◌, nat_lt, List, [], ◌∷◌, length, None, Ok, refl, sym, ap, subst, ◌∙◌, arith, eq-eqb}
 use Rattle.std.proofs.lemmas.Bool.{le-ltb}
 use Rattle.m36_desc.specs.Fields.{SdwFields, DbrFields}
@@ -25,7 +25,7 @@ may_fetch d ring o r k h =
     let low : nat_lt d.r2 ring ≡ false = le-ltb d.r2 ring (omega arith) in
     rw (o, above, low, r) refl
 
--- a ring that fetches from a segment transfers there from itself
+-- a ring that may fetch from a segment may transfer there from the same ring
 go_by : (o a b e s : Bool) → s ≡ true → first_of ((not o, 0) ∷ ((a, 1) ∷ ((b, 1) ∷ ((not e, 2) ∷ [])))) ≡ None → first_of ((not o, 0) ∷ ((a, 1) ∷ ((b, 1) ∷ ((not e, 2) ∷ ((not s, 12) ∷ []))))) ≡ None
 go_by o a b e false k h = absurd (cc)
 go_by false a b e true k h = absurd (cc)
@@ -38,7 +38,7 @@ pub may_go : (d : SdwFields) (ring : ℕ) → MayFetch ring d → MayGo ring d
 may_go d ring h = go_by (in_order d) (nat_lt ring d.r1) (nat_lt d.r2 ring) d.executable (ring == ring) (eq-eqb ring ring refl) h
 
 module _ (core : List ℕ) (dbr : DbrFields) (words tables : List ℕ) (p : Page) (seg word : ℕ) where
-  -- a page answers
+  -- a page in front answers
   answers : (Rights : SdwFields → Type 0) (write : Bool) (count : ℕ) (k : IsPage core dbr words tables p seg (word / 1024)) → (write ≡ true → 0 < p.write_below) → 1 ≤ count → word % 1024 + count ≤ p.end → Rights k.sdw → Answers core dbr Rights write seg word count (p.base + word % 1024)
   answers Rights write count k m s e r =
       let small : length core ≤ 2 ^ 24 = k.face.small in

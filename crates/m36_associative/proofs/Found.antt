@@ -10,7 +10,7 @@ use Rattle.m36_associative.specs.Right.{IsMarked, IsFace, IsPage, IsDescriptor, 
 use Rattle.m36_associative.specs.declared.front.Page.{Page}
 use Rattle.m36_associative.specs.declared.memories.Memories.{Memories}
 
--- A segment that has a descriptor has passed a word of core in a paged descriptor segment.
+-- In a paged descriptor segment, a descriptor is found through a word that is in core.
 passes_by : (core : List ℕ) (dbr : DbrFields) (seg a : ℕ) (d : SdwFields) (b u : Bool) (found : Option ℕ) → slice_get core a ≡ found → sdw_at core (sdw_place_by b u dbr seg (option_map ptw_of found)) ≡ Ok d → TableIn (length core) u a
 passes_by core dbr seg a d b true found e h = tt
 passes_by core dbr seg a d false false found e h = absurd (cc)
@@ -21,7 +21,7 @@ pub passes : (core : List ℕ) (dbr : DbrFields) (seg : ℕ) (d : SdwFields) →
 unfolding core_sdw
 passes core dbr seg d h = passes_by core dbr seg (directory_at dbr seg) d (in_bounds dbr seg) dbr.unpaged (slice_get core (directory_at dbr seg)) refl h
 
--- marks that stand change nothing
+-- setting marks that are set changes nothing
 no_change : (core : List ℕ) (a : ℕ) (m : Bool) → IsMarked core a m → with_mark core (record { address = a; modified = m }) ≡ core
 no_change core a m h = ap (slice_set core a) h ∙ set-get_or core a 0
 
@@ -34,7 +34,7 @@ marks_stand core a b write false true h k = no_change core a false (h refl)
 marks_stand core a b write false false h k =
     ap (λ (l : List ℕ). with_mark l (record { address = b; modified = write })) (no_change core a false (h refl)) ∙ no_change core b write (k refl)
 
--- the marks of a page in front stand
+-- the marks of a page in front are set
 pub marks_of : (core : List ℕ) (dbr : DbrFields) (words tables : List ℕ) (p : Page) (seg word : ℕ) (write : Bool) → (write ≡ true → 0 < p.write_below) → (k : IsPage core dbr words tables p seg (word / 1024)) → with_marks core (marks_by dbr seg write word (Ok k.sdw)) ≡ core
 marks_of core dbr words tables p seg word write h k = marks_stand core (directory_at dbr seg) (page_at k.sdw (word / 1024)) write dbr.unpaged k.sdw.unpaged k.passed (stands write h)
   where
@@ -44,7 +44,7 @@ marks_of core dbr words tables p seg word write h k = marks_stand core (director
 
 module _ (core : List ℕ) (dbr : DbrFields) (m : Memories) (p : Page) (seg word : ℕ) where
   module _ (d : SdwFields) (face : IsFace (length core) d (word / 1024) p) where
-    -- a page of a segment that lies in one piece
+    -- a page of a contiguous segment
     whole_place : (w : ℕ) → w / 1024 ≡ word / 1024 → p.base ≡ wrapped (d.addr + word / 1024 * 1024) → wrapped (d.addr + w) ≡ wrapped (p.base + w % 1024)
     whole_place w e b = omega arith
 
@@ -63,7 +63,7 @@ module _ (core : List ℕ) (dbr : DbrFields) (m : Memories) (p : Page) (seg word
           face = face;
         }
 
-    -- a page of a segment in pages
+    -- a page of a paged segment
     frame_place : (t : PtwFields) (w : ℕ) → p.base ≡ wrapped (t.addr / 16 * 1024) → wrapped (frame_at t + w % 1024) ≡ wrapped (p.base + w % 1024)
     frame_place t w b = omega arith
 
@@ -86,7 +86,7 @@ module _ (core : List ℕ) (dbr : DbrFields) (m : Memories) (p : Page) (seg word
           face = face;
         }
 
--- a mark that stands already
+-- a mark that is set already
 pub unchanged : (core : List ℕ) (a w v : ℕ) (m : Bool) → w ≡ slice_index core a → v ≡ marked_word m w → v ≡ w → core ≡ with_mark core (record { address = a; modified = m })
 unchanged core a w v m e f g =
     let same : marked_word m (slice_index core a) ≡ slice_index core a = rw (← e) (sym f ∙ g) in

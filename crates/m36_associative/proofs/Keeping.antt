@@ -1,4 +1,4 @@
--- What is kept stays right as the memories change and core does not.
+-- What is kept is still right when the memories change and core does not.
 use Rattle.std.proofs.Common.{ℕ, zero, suc, ◌≡◌, ◌+◌, ◌*◌, ◌/◌, ◌<◌, ◌⊎◌, true, List, [], ◌∷◌, length, Contains, refl, sym, ap, ◌∙◌, subst, inl, inr, arith, set, get_or}
 use Rattle.m36_desc.specs.Fields.{SdwFields, PtwFields, DbrFields}
 use Rattle.m36_associative.specs.Watched.{watched}
@@ -9,7 +9,7 @@ use Rattle.m36_associative.specs.declared.kept.KeptSdw.{KeptSdw}
 use Rattle.m36_associative.specs.declared.kept.KeptPtw.{KeptPtw}
 use Rattle.m36_associative.specs.declared.memories.Memories.{Memories}
 
--- more places are watched
+-- more addresses are watched
 abbrev pub WatchesMore : List ℕ → List ℕ → Type 0
 WatchesMore old new = (b : ℕ) → watched old b ≡ true → watched new b ≡ true
 
@@ -31,7 +31,7 @@ module _ (core : List ℕ) (dbr : DbrFields) (words tables words' tables' : List
   fetching_on f k =
       record { page = k.page; is = page_on k.page f.seg (f.first / 1024) k.is; first = k.first; low = k.low; base = k.base; len = k.len; above = k.above; below = k.below; privileged = k.privileged }
 
--- each thing that is kept was kept before, or is right
+-- each entry was kept before, or is right
 pub kept_on : (core : List ℕ) (dbr : DbrFields) (m m' : Memories) → AreRight core dbr m → WatchesMore m.words m'.words → WatchesMore m.tables m'.tables
     → ((e : KeptSdw) → Contains m'.sdws e → Contains m.sdws e ⊎ ((seg : ℕ) → e.key ≡ seg + 1 → IsDescriptor core dbr m'.words m'.tables seg e.sdw))
     → ((e : KeptPtw) → Contains m'.ptws e → Contains m.ptws e ⊎ ((a : ℕ) → e.key ≡ a + 1 → IsTableWord core dbr m'.words m'.tables a e.ptw))
@@ -50,11 +50,11 @@ kept_on core dbr m m' h w t s q f z =
 same_fetching : (core : List ℕ) (dbr : DbrFields) (m m' : Memories) → AreRight core dbr m → m'.fetching ≡ m.fetching → 0 < m'.fetching.len → IsFetching core dbr m.words m.tables m'.fetching
 same_fetching core dbr m m' h e = subst (λ (f : Fetching). 0 < f.len → IsFetching core dbr m.words m.tables f) (sym e) h.fetching
 
--- none is fetched from
+-- no page is fetched from
 pub no_fetching : (core : List ℕ) (dbr : DbrFields) (words tables : List ℕ) (f : Fetching) → f.len ≡ 0 → 0 < f.len → IsFetching core dbr words tables f
 no_fetching core dbr words tables f e n = absurd (omega arith)
 
--- the same with other pages in front
+-- the same, with other pages in front
 pub with_pages : (core : List ℕ) (dbr : DbrFields) (m m' : Memories) → AreRight core dbr m → m'.words ≡ m.words → m'.tables ≡ m.tables → m'.sdws ≡ m.sdws → m'.ptws ≡ m.ptws
     → ((p : Page) → Contains m'.pages p → Contains m.pages p ⊎ IsPageInFront core dbr m.words m.tables p)
     → (0 < m'.fetching.len → IsFetching core dbr m.words m.tables m'.fetching)
@@ -66,11 +66,11 @@ with_pages core dbr m m' h e f g i k z =
     (λ p c. elim (k p c) [ inl j ↦ inl j | inr j ↦ inr (rw (e, f) j) ])
     z
 
--- the same with another page to fetch from
+-- the same, with another page to fetch from
 pub with_fetching : (core : List ℕ) (dbr : DbrFields) (m m' : Memories) → AreRight core dbr m → m'.words ≡ m.words → m'.tables ≡ m.tables → m'.sdws ≡ m.sdws → m'.ptws ≡ m.ptws → m'.pages ≡ m.pages → (0 < m'.fetching.len → IsFetching core dbr m.words m.tables m'.fetching) → AreRight core dbr m'
 with_fetching core dbr m m' h e f g i j z = with_pages core dbr m m' h e f g i (λ p c. inl (subst (λ (x : List Page). Contains x p) j c)) z
 
--- the key of no page
+-- key 0 is that of no page
 pub no_key : (core : List ℕ) (dbr : DbrFields) (words tables : List ℕ) (p : Page) → p.key ≡ 0 → IsPageInFront core dbr words tables p
 no_key core dbr words tables p e seg page b k = absurd (omega arith)
 
@@ -87,7 +87,7 @@ nothing_kept core dbr m s t g z =
       fetching = no_fetching core dbr m.words m.tables m.fetching z;
     }
 
--- what is kept, as it is gone through one after another
+-- the kept entries, one after another
 same_item : {X : Type 0} (xs : List X) (k : ℕ) (d e : X) → k < length xs → get_or xs k d ≡ get_or xs k e
 same_item [] k d e b = absurd (omega arith)
 same_item (x ∷ xs) zero d e b = refl
@@ -105,7 +105,7 @@ before_or_here zero (suc i) b = inl (omega arith)
 before_or_here (suc k) zero b = absurd (omega arith)
 before_or_here (suc k) (suc i) b = elim (before_or_here k i (omega arith)) [ inl l ↦ inl (omega arith) | inr e ↦ inr (ap suc e) ]
 
--- all that is kept is watched anew, and no page is in front
+-- everything that is kept is watched again, and no page is in front
 pub watched_anew : (core : List ℕ) (dbr : DbrFields) (m : Memories) (words tables : List ℕ) → AreRight core dbr m → ((p : Page) → Contains m.pages p → p.key ≡ 0) → m.fetching.len ≡ 0
     → ((e : KeptSdw) (seg : ℕ) → Contains m.sdws e → e.key ≡ seg + 1 → IsWatched core dbr words tables seg) → ((e : KeptPtw) (a : ℕ) → Contains m.ptws e → e.key ≡ a + 1 → watched tables a ≡ true)
     → AreRight core dbr (record m { words = words; tables = tables })
@@ -117,7 +117,7 @@ watched_anew core dbr m words tables h none z s t =
       fetching = no_fetching core dbr words tables m.fetching z;
     }
 
--- the watches grow
+-- more addresses are watched
 pub with_watches : (core : List ℕ) (dbr : DbrFields) (m m' : Memories) → AreRight core dbr m → WatchesMore m.words m'.words → WatchesMore m.tables m'.tables → m'.sdws ≡ m.sdws → m'.ptws ≡ m.ptws → m'.pages ≡ m.pages → m'.fetching ≡ m.fetching → AreRight core dbr m'
 with_watches core dbr m m' h w t g i j z =
     kept_on core dbr m m' h w t
@@ -126,7 +126,7 @@ with_watches core dbr m m' h w t g i j z =
     (λ p c. inl (subst (λ (x : List Page). Contains x p) j c))
     (same_fetching core dbr m m' h z)
 
--- one of a list is another
+-- an element of a list after one was set
 module _ {X : Type 0} where
   contains_at : (xs : List X) (i : ℕ) (y p : X) (k : ℕ) → k < length (set xs i y) → get_or (set xs i y) k p ≡ p → Contains xs p ⊎ (p ≡ y)
   contains_at [] i y p k b e = inl (k, b, e)
@@ -145,7 +145,7 @@ with_page core dbr m m' i y h r j e f g k z =
     (λ p c. elim (contains_set m.pages i y p (subst (λ (x : List Page). Contains x p) j c)) [ inl d ↦ inl d | inr s ↦ inr (subst (λ (q : Page). IsPageInFront core dbr m.words m.tables q) (sym s) r) ])
     (no_fetching core dbr m.words m.tables m'.fetching z)
 
--- a descriptor is put
+-- a descriptor is kept
 pub with_descriptor : (core : List ℕ) (dbr : DbrFields) (m m' : Memories) (i seg : ℕ) (y : KeptSdw) → AreRight core dbr m → y.key ≡ seg + 1 → IsDescriptor core dbr m.words m.tables seg y.sdw → m'.sdws ≡ set m.sdws i y → m'.words ≡ m.words → m'.tables ≡ m.tables → m'.ptws ≡ m.ptws → m'.pages ≡ m.pages → m'.fetching ≡ m.fetching → AreRight core dbr m'
 with_descriptor core dbr m m' i seg y h n r g e f k j z =
     let r' : IsDescriptor core dbr m'.words m'.tables seg y.sdw = rw (e, f) r in
@@ -158,7 +158,7 @@ with_descriptor core dbr m m' i seg y h n r g e f k j z =
     (λ p c. inl (subst (λ (x : List Page). Contains x p) j c))
     (same_fetching core dbr m m' h z)
 
--- a page table word is put
+-- a PTW is kept
 pub with_table_word : (core : List ℕ) (dbr : DbrFields) (m m' : Memories) (i a : ℕ) (y : KeptPtw) → AreRight core dbr m → y.key ≡ a + 1 → IsTableWord core dbr m.words m.tables a y.ptw → m'.ptws ≡ set m.ptws i y → m'.words ≡ m.words → m'.tables ≡ m.tables → m'.sdws ≡ m.sdws → m'.pages ≡ m.pages → m'.fetching ≡ m.fetching → AreRight core dbr m'
 with_table_word core dbr m m' i a y h n r g e f k j z =
     let r' : IsTableWord core dbr m'.words m'.tables a y.ptw = rw (e, f) r in
@@ -171,7 +171,7 @@ with_table_word core dbr m m' i a y h n r g e f k j z =
     (λ p c. inl (subst (λ (x : List Page). Contains x p) j c))
     (same_fetching core dbr m m' h z)
 
--- a key is of one page alone
+-- a key belongs to only one page
 pub only_page : (core : List ℕ) (dbr : DbrFields) (words tables : List ℕ) (p : Page) (seg page : ℕ) → page < 256 → p.key ≡ seg * 256 + page + 1 → IsPage core dbr words tables p seg page → IsPageInFront core dbr words tables p
 only_page core dbr words tables p seg page b e h s q c f =
     let same_seg : seg ≡ s = omega arith in

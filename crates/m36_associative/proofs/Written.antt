@@ -1,4 +1,4 @@
--- What is kept stays right as core is written.
+-- What is kept is still right after writes to core.
 use Rattle.std.proofs.Common.{ℕ, zero, suc, ◌≡◌, ◌≢◌, ◌+◌, ◌*◌, ◌/◌, ◌%◌, ◌^◌, Bool, true, false, List, [], ◌∷◌, length, slice_get, slice_set, slice_index, Option, Some, None, option_map, Result, Ok, Err, ◌==◌, Contains, refl, sym, ap, subst, ◌∙◌, arith, length-set, eqb-true}
 use Rattle.std.proofs.lemmas.Bool.{eqb-false}
 use Rattle.std.proofs.lemmas.List.{get_or-set_other}
@@ -13,7 +13,7 @@ use Rattle.m36_associative.specs.declared.front.Page.{Page}
 use Rattle.m36_associative.specs.declared.memories.Memories.{Memories}
 use Rattle.m36_associative.proofs.Watching.{differs}
 
--- another core has the watched words too, the page table words among them but for marks
+-- another core has the same watched words; the PTWs among them are equal except for marks
 pub record AreAlike (core now words tables : List ℕ) : Type 0 where
   pub size : length now ≡ length core
   pub word : (b : ℕ) → watched words b ≡ true → slice_get now b ≡ slice_get core b
@@ -103,7 +103,7 @@ right_written core dbr m a v h k r =
       fetching = λ n. fetching_alike core (slice_set core a v) m.words m.tables dbr alike same m.fetching (r.fetching n);
     }
 
--- marks leave what finds a page
+-- marks do not change how a page is found
 used_high : (w : ℕ) → with_used w / 2 ^ 18 ≡ w / 2 ^ 18
 unfolding with_used
 used_high w = omega arith

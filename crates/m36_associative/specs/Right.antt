@@ -1,4 +1,4 @@
--- What is kept is what the tables in core say.
+-- The invariant of the associative memories: what is kept is what the tables in core say.
 use Rattle.std.specs.Prelude.{ℕ, ◌≡◌, ◌+◌, ◌*◌, ◌/◌, ◌%◌, ◌<◌, ◌≤◌, ◌^◌, Bool, true, false, List}
 use Rattle.std.specs.Prelude.{length, slice_index, Contains, Ok, Some, None}
 use Rattle.m36_desc.specs.Access.{first_of, read_rows, write_rows, fetch_rows, transfer_rows}
@@ -14,30 +14,32 @@ use Rattle.m36_associative.specs.declared.kept.KeptSdw.{KeptSdw}
 use Rattle.m36_associative.specs.declared.kept.KeptPtw.{KeptPtw}
 use Rattle.m36_associative.specs.declared.memories.Memories.{Memories}
 
--- the key under which a page of a segment is kept in front
+-- the key of a page of a segment in front
 abbrev pub page_key : ℕ → ℕ → ℕ
 page_key seg page = seg * 256 + page + 1
 
--- a page table word has its used bit on, and its modified bit too where modified is on
+-- a PTW has its used bit on and, if `modified` is on, its modified bit too
 abbrev pub IsMarked : List ℕ → ℕ → Bool → Type 0
 IsMarked core a modified = marked_word modified (slice_index core a) ≡ slice_index core a
 
--- Nothing refuses a ring to read by a descriptor, whatever segment executes; to write; to fetch; and
--- to transfer there from the same ring.
+-- By this descriptor, nothing refuses a read in this ring, whatever segment executes.
 abbrev pub MayRead : ℕ → SdwFields → Type 0
 MayRead ring d = (same : Bool) → first_of (read_rows d ring same) ≡ None
 
+-- nothing refuses a write in this ring
 abbrev pub MayWrite : ℕ → SdwFields → Type 0
 MayWrite ring d = first_of (write_rows d ring) ≡ None
 
+-- nothing refuses a fetch in this ring
 abbrev pub MayFetch : ℕ → SdwFields → Type 0
 MayFetch ring d = first_of (fetch_rows d ring) ≡ None
 
+-- nothing refuses a transfer to the segment in this ring, from the same ring
 abbrev pub MayGo : ℕ → SdwFields → Type 0
 MayGo ring d = first_of (transfer_rows d ring ring) ≡ None
 
--- What a page answers, in a core of this size: the words before its end are within the bound and in
--- core, and the rings that it names are given what it names them for.
+-- What a page in front answers, in a core of this size: the words before its end are within the
+-- bound and in core, and the rings that it names have the rights.
 pub record IsFace (size : ℕ) (d : SdwFields) (page : ℕ) (p : Page) : Type 0 where
   pub small : size ≤ 2 ^ 24
   pub most : p.end ≤ 1024
@@ -51,26 +53,26 @@ pub record IsFace (size : ℕ) (d : SdwFields) (page : ℕ) (p : Page) : Type 0 
   pub privileged : p.privileged ≡ d.privileged
 
 module _ (core : List ℕ) (dbr : DbrFields) (words tables : List ℕ) where
-  -- The words by which the descriptor of a segment is found are watched: its own two, and in a paged
-  -- descriptor segment the page table word that is passed.
+  -- The words through which the descriptor of a segment is found are watched: its own two words
+  -- and, in a paged descriptor segment, the PTW.
   pub record IsWatched (seg : ℕ) : Type 0 where
     pub even : (a : ℕ) → sdw_place core dbr seg ≡ Ok a → watched words a ≡ true
     pub odd : (a : ℕ) → sdw_place core dbr seg ≡ Ok a → watched words (wrapped (a + 1)) ≡ true
     pub directory : dbr.unpaged ≡ false → watched tables (directory_at dbr seg) ≡ true
 
-  -- a descriptor that is kept
+  -- a kept descriptor
   pub record IsDescriptor (seg : ℕ) (d : SdwFields) : Type 0 where
     pub found : core_sdw core dbr seg ≡ Ok d
     pub watches : IsWatched seg
 
-  -- a page table word that is kept: it finds the words of its page as that in core does
+  -- a kept PTW: it finds the words of its page as the one in core does
   pub record IsTableWord (a : ℕ) (p : PtwFields) : Type 0 where
     pub inside : a < length core
     pub finds : (offset : ℕ) → in_frame (ptw_at core a) offset ≡ in_frame (Some p) offset
     pub watches : watched tables a ≡ true
 
-  -- A page in front: the descriptor of its segment, where its words lie, the marks that references
-  -- have set, and what it answers.
+  -- A page in front: the descriptor of its segment, where its words are in core, that its marks are
+  -- set, and what it answers.
   pub record IsPage (p : Page) (seg page : ℕ) : Type 0 where
     pub sdw : SdwFields
     pub found : core_sdw core dbr seg ≡ Ok sdw
@@ -87,11 +89,11 @@ module _ (core : List ℕ) (dbr : DbrFields) (words tables : List ℕ) where
         0 < p.write_below → sdw.unpaged ≡ false → IsMarked core (page_at sdw page) true
     pub face : IsFace (length core) sdw page p
 
-  -- by its key, which tells segment and page; key 0 is of no page
+  -- a page in front by its key, which determines segment and page; key 0 is that of no page
   abbrev pub IsPageInFront : Page → Type 0
   IsPageInFront p = (seg page : ℕ) → page < 256 → p.key ≡ page_key seg page → IsPage p seg page
 
-  -- the page that is fetched from: what a page in front answers in one ring
+  -- the page that is fetched from: a page in front, in one ring
   pub record IsFetching (f : Fetching) : Type 0 where
     pub page : Page
     pub is : IsPage page f.seg (f.first / 1024)
@@ -103,7 +105,7 @@ module _ (core : List ℕ) (dbr : DbrFields) (words tables : List ℕ) where
     pub below : f.ring < page.fetch_below
     pub privileged : f.privileged ≡ page.privileged
 
--- all that is kept
+-- everything that is kept is right
 pub record AreRight (core : List ℕ) (dbr : DbrFields) (m : Memories) : Type 0 where
   pub descriptors :
       (e : KeptSdw) (seg : ℕ) → Contains m.sdws e → e.key ≡ seg + 1
@@ -114,8 +116,8 @@ pub record AreRight (core : List ℕ) (dbr : DbrFields) (m : Memories) : Type 0 
   pub pages : (p : Page) → Contains m.pages p → IsPageInFront core dbr m.words m.tables p
   pub fetching : 0 < m.fetching.len → IsFetching core dbr m.words m.tables m.fetching
 
--- A page in front answers a reference to so many words of a segment: the descriptor gives these
--- rights, the words are within the bound and lie in core, one after another from a place on, and the
+-- A page in front answers a reference to `count` words of a segment: the descriptor gives these
+-- rights, the words are within the bound and are consecutive core words from `place` on, and the
 -- marks of the reference are set.
 pub record Answers (core : List ℕ) (dbr : DbrFields) (Rights : SdwFields → Type 0) (write : Bool)
     (seg word count place : ℕ) : Type 0 where

@@ -1,11 +1,11 @@
--- Places that are watched.
+-- Watched addresses.
 use Rattle.std.specs.Prelude.{ℕ, ◌≡◌, ◌≤◌, Bool, true, List, nat_eq}
 use Rattle.std.specs.List.{list_any}
 
--- whether a place is among those that are watched
+-- the address is in the list
 unfoldable pub watched : List ℕ → ℕ → Bool
 watched places a = list_any (λ b. nat_eq b a) places
 
--- each of them lies from low to high
+-- each address in the list is from `low` to `high`
 abbrev pub AreWithin : List ℕ → ℕ → ℕ → Type 0
 AreWithin places low high = (a : ℕ) → watched places a ≡ true → (low ≤ a) × (a ≤ high)

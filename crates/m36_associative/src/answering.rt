@@ -1,7 +1,7 @@
-//! Pages in front answer references: by key, end and ring, without a look at a descriptor.
+//! Pages in front answer references: by key, end and ring, without a lookup of a descriptor.
 //!
-//! None says that the page is not in front, or that it does not answer this reference. That is then made by the tables,
-//! which tell what refuses it, if anything does.
+//! None means that the page is not in front, or that it does not answer this reference. The caller
+//! then makes the reference by the tables, which also decide why it is refused, if it is.
 
 ghost use Rattle.std.specs.Prelude.{ℕ, ◌≡◌, ◌+◌, ◌/◌, ◌≤◌, ◌%◌, ◌<◌, ◌^◌, true, false, IfSome, IsTrue};
 ghost use Rattle.m36_associative.specs.Right.{AreRight, IsPage, Answers, MayRead, MayWrite, MayFetch, MayGo};
@@ -11,7 +11,8 @@ use crate::memories::Memories;
 use m36_core::Core;
 use m36_desc::Dbr;
 
-/// The page of a word, if it is in front and so many words from that one on are within the bound and in core.
+/// The page that has a word, if it is in front, and `count` words from this one on are within the
+/// bound and in core.
 #[inline(always)]
 fn page_with<'a>(
     _core: &Core,
@@ -39,7 +40,7 @@ fn page_with<'a>(
     Some(page)
 }
 
-/// The place of a word of a page.
+/// The core address of a word of a page.
 #[inline(always)]
 fn place_in(page: &Page, word: u32) -> u32
     requires { page.now.base < 2 ^ 24 }
@@ -48,7 +49,7 @@ fn place_in(page: &Page, word: u32) -> u32
     page.base + word % 1024
 }
 
-/// The place of the first of so many words that are read in a ring, and the first ring bracket of their segment.
+/// The core address of the first of `count` words that are read in a ring, and R1 of their segment.
 #[inline(always)]
 pub fn place_to_read(
     core: &Core,
@@ -79,7 +80,7 @@ pub fn place_to_read(
     Some((place, r1))
 }
 
-/// The place of the first of so many words that are to be written in a ring.
+/// The core address of the first of `count` words that are to be written in a ring.
 #[inline(always)]
 pub fn place_to_write(
     core: &Core,
@@ -108,7 +109,7 @@ pub fn place_to_write(
     Some(place)
 }
 
-/// The place of a word that is read in a ring and then written.
+/// The core address of a word that is read in a ring and then written.
 #[inline(always)]
 pub fn place_to_change(
     core: &Core,
@@ -137,7 +138,7 @@ pub fn place_to_change(
     Some(place)
 }
 
-/// Whether a ring fetches from a page.
+/// Whether a ring may fetch from a page.
 #[inline(always)]
 fn fetches(page: &Page, ring: u8) -> bool
     ensures { IsTrue result → (page.now.r1 ≤ ring) × (ring < page.now.fetch_below) }
@@ -145,8 +146,8 @@ fn fetches(page: &Page, ring: u8) -> bool
     page.r1 <= ring && ring < page.fetch_below
 }
 
-/// The place of a word that is fetched in a ring, where it lies in the page that is fetched from, and whether its segment
-/// may execute privileged instructions.
+/// The core address of a word that is fetched in a ring, if it is in the page that is fetched from;
+/// and whether its segment may execute privileged instructions.
 #[inline(always)]
 fn fetched(
     _core: &Core,
@@ -175,8 +176,8 @@ fn fetched(
     Some((page.base + offset, page.privileged))
 }
 
-/// The place of a word that is fetched in a ring from the page that was fetched from last, in the same ring; and whether
-/// its segment may execute privileged instructions.
+/// The core address of a word that is fetched in a ring, if it is in the page that was fetched from
+/// last, in the same ring; and whether its segment may execute privileged instructions.
 #[inline(always)]
 pub fn place_to_fetch(
     core: &Core,
@@ -197,7 +198,7 @@ pub fn place_to_fetch(
     Some(found)
 }
 
-/// As `place_to_fetch`, from any page in front, which becomes the one that is fetched from.
+/// As `place_to_fetch`, from any page in front. This page becomes the one that is fetched from.
 #[inline(never)]
 pub fn place_to_fetch_elsewhere(
     core: &Core,
@@ -223,7 +224,8 @@ pub fn place_to_fetch_elsewhere(
     Some((place, page.privileged))
 }
 
-/// Whether a transfer in a ring from the same ring goes to a word of a page in front. It is no use of the page.
+/// Whether a transfer in a ring, from the same ring, may go to a word of a page in front. This does
+/// not count as a use of the page.
 #[inline(always)]
 pub fn goes_to(core: &Core, dbr: Dbr, memories: &Memories, seg: u16, ring: u8, word: u32) -> bool
     requires seg { seg < 2 ^ 15 }

@@ -1,4 +1,5 @@
-//! What a page answers, by the descriptor of its segment: how many of its words, and to which rings.
+//! What a page in front answers, by the descriptor of its segment: how many of its words, and for
+//! which rings.
 
 ghost use Rattle.std.specs.Prelude.{ℕ, ◌≡◌, ◌+◌, ◌/◌, ◌%◌, ◌<◌, ◌≤◌, ◌^◌, Bool, true, None, length};
 ghost use Rattle.m36_desc.specs.Access.{first_of, read_rows, write_rows, fetch_rows};
@@ -10,7 +11,8 @@ use m36_core::Core;
 use m36_desc::Sdw;
 use m36_tables::in_order;
 
-/// How many words of a page that begins at a place, from the first one on, are within the bound and in a core of a size.
+/// The number of words of a page, from the first one on, that are within the bound and in a core of
+/// `size` words. The page begins at address `base`.
 fn end_of(size: u32, sdw: &Sdw, page: u32, base: u32) -> u16
     requires { page < 256 }
     ensures most { result ≤ 1024 }
@@ -23,7 +25,7 @@ fn end_of(size: u32, sdw: &Sdw, page: u32, base: u32) -> u16
     within.min(inside).min(1024) as u16
 }
 
-/// The ring below which rings read, whatever segment executes.
+/// The ring below which rings may read, whatever segment executes; 0 if none may.
 #[tactic(auto, using(crate::proofs::Faces::may_read))]
 fn read_below(sdw: &Sdw) -> u8
     ensures { (ring : ℕ) (same : Bool) → ring < result
@@ -36,7 +38,7 @@ fn read_below(sdw: &Sdw) -> u8
     }
 }
 
-/// The ring below which rings write a page, whose modified mark stands or not.
+/// The ring below which rings may write a page; 0 if none may, or if its modified bit is off.
 #[tactic(auto, using(crate::proofs::Faces::may_write))]
 fn write_below(sdw: &Sdw, modified: bool) -> u8
     ensures allowed { (ring : ℕ) → ring < result → first_of (write_rows sdw.now ring) ≡ None }
@@ -49,7 +51,7 @@ fn write_below(sdw: &Sdw, modified: bool) -> u8
     }
 }
 
-/// The ring below which rings, and not below the first bracket, fetch.
+/// The ring below which rings that are not below R1 may fetch; 0 if none may.
 #[tactic(auto, using(crate::proofs::Faces::may_fetch))]
 fn fetch_below(sdw: &Sdw) -> u8
     ensures { (ring : ℕ) → sdw.now.r1 ≤ ring → ring < result
@@ -62,7 +64,8 @@ fn fetch_below(sdw: &Sdw) -> u8
     }
 }
 
-/// The page of a word, which begins at a place and whose modified mark stands or not.
+/// The page in front for the page that has a word. It begins at address `base`, and `modified` is
+/// its modified bit.
 pub(crate) fn page_of(
     core: &Core,
     sdw: &Sdw,

@@ -4,25 +4,25 @@ ghost use Rattle.std.specs.Prelude.{ℕ, Contains, ◌≡◌, ◌/◌, ◌<◌, 
 ghost use Rattle.m36_associative.specs.Right.{page_key};
 ghost use Rattle.m36_associative.specs.declared.front.Page.{Page};
 
-/// How many pages stand in front.
+/// The number of pages in front.
 pub(crate) const PAGES: usize = 16;
 
-/// A page that references have reached, and what it answers. Its words lie one after another.
+/// A page in front, which answers references. Its words are contiguous in core.
 #[derive(Clone, Copy)]
 pub struct Page {
-    /// 256 times its segment, its number in it, and 1 more; 0: none is kept.
+    /// 256 times its segment number, plus its page number, plus 1; 0 if the place is empty.
     pub(crate) key: u32,
-    /// Where it begins in core.
+    /// The core address of its first word.
     pub(crate) base: u32,
-    /// How many of its words, from the first one on, are within the bound and in core.
+    /// The number of its words, from the first one on, that are within the bound and in core.
     pub(crate) end: u16,
-    /// Rings below this one read it, whatever segment executes.
+    /// Rings below this one may read it, whatever segment executes.
     pub(crate) read_below: u8,
-    /// Rings below this one write it, and find its marks set.
+    /// Rings below this one may write it, and its marks are set for a write.
     pub(crate) write_below: u8,
-    /// Rings below this one, and not below `r1`, fetch from it.
+    /// Rings below this one and not below `r1` may fetch from it.
     pub(crate) fetch_below: u8,
-    /// The first ring bracket of its segment.
+    /// R1 of its segment.
     pub(crate) r1: u8,
     /// Its segment may execute privileged instructions.
     pub(crate) privileged: bool,
@@ -31,23 +31,24 @@ pub struct Page {
 /// The page that instructions are fetched from, and the ring.
 #[derive(Clone, Copy)]
 pub(crate) struct Fetching {
-    /// When it was last fetched from, by the clock of the memories: after what was used in front at that time.
+    /// The clock at the last fetch from it. The fetch came after the use in front at this time.
     pub(crate) hit: u64,
-    /// The number of its first word in the segment.
+    /// The word number of its first word in the segment.
     pub(crate) first: u32,
-    /// Where it begins in core.
+    /// The core address of its first word.
     pub(crate) base: u32,
-    /// How many of its words are fetched so, from the first one on; 0: none is kept.
+    /// The number of its words, from the first one on, that are fetched in this way; 0 if there is
+    /// no page.
     pub(crate) len: u32,
     pub(crate) seg: u16,
     pub(crate) ring: u8,
-    /// Where it stands in front.
+    /// Its place in front.
     pub(crate) slot: u8,
     /// Its segment may execute privileged instructions.
     pub(crate) privileged: bool,
 }
 
-/// No page.
+/// The value of an empty place in front.
 pub(crate) fn no_page() -> Page
     ensures { result.key ≡ 0 }
 {
@@ -63,7 +64,7 @@ pub(crate) fn no_page() -> Page
     }
 }
 
-/// A front without a page.
+/// A front without pages.
 pub(crate) fn no_pages() -> [Page; 16]
     ensures { (p : Page) → Contains result p → p.key ≡ 0 }
 {
@@ -86,7 +87,7 @@ pub(crate) fn no_fetching() -> Fetching
     }
 }
 
-/// The key of the page that a word is in.
+/// The key of the page that has a word.
 #[inline(always)]
 pub(crate) fn key_of(seg: u16, word: u32) -> u32
     requires seg { seg < 2 ^ 15 }
@@ -96,7 +97,7 @@ pub(crate) fn key_of(seg: u16, word: u32) -> u32
     seg as u32 * 256 + word / 1024 + 1
 }
 
-/// Where a page stands, if it is in front.
+/// The place in front for the page that has a word.
 #[inline(always)]
 pub(crate) fn slot_of(seg: u16, word: u32) -> usize
     requires seg { seg < 2 ^ 15 }

@@ -6,26 +6,26 @@ ghost use Rattle.m36_associative.specs.declared.kept.KeptPtw.{KeptPtw};
 
 use m36_desc::{Ptw, Sdw};
 
-/// How many entries each memory has.
+/// The number of entries of each memory.
 pub(crate) const ENTRIES: usize = 16;
 
-/// A descriptor, by its segment.
+/// A kept descriptor, by its segment.
 #[derive(Clone, Copy)]
 pub struct KeptSdw {
-    /// The number of its segment and 1 more; 0: none is kept.
+    /// The segment number plus 1, or 0 if the entry is empty.
     pub(crate) key: u32,
     pub(crate) sdw: Sdw,
 }
 
-/// A page table word, by its address.
+/// A kept page table word, by its address.
 #[derive(Clone, Copy)]
 pub struct KeptPtw {
-    /// Its address and 1 more; 0: none is kept.
+    /// The address plus 1, or 0 if the entry is empty.
     pub(crate) key: u32,
     pub(crate) ptw: Ptw,
 }
 
-/// No descriptor.
+/// An empty entry for a descriptor.
 fn no_sdw() -> KeptSdw
     ensures { result.key ≡ 0 }
 {
@@ -51,7 +51,7 @@ fn no_sdw() -> KeptSdw
     }
 }
 
-/// No page table word.
+/// An empty entry for a page table word.
 fn no_ptw() -> KeptPtw
     ensures { result.key ≡ 0 }
 {
@@ -67,14 +67,14 @@ fn no_ptw() -> KeptPtw
     }
 }
 
-/// A memory without a descriptor.
+/// A memory of descriptors with no entries.
 pub(crate) fn no_sdws() -> [KeptSdw; 16]
     ensures { (e : KeptSdw) → Contains result e → e.key ≡ 0 }
 {
     [no_sdw(); 16]
 }
 
-/// A memory without a page table word.
+/// A memory of page table words with no entries.
 pub(crate) fn no_ptws() -> [KeptPtw; 16]
     ensures { (e : KeptPtw) → Contains result e → e.key ≡ 0 }
 {

@@ -11,22 +11,22 @@ use crate::uses::Uses;
 use crate::watch::Watch;
 use m36_desc::{Ptw, Sdw};
 
-/// What the walk keeps of the tables that it has read.
+/// What the walk of a reference keeps of the tables that it has read.
 #[derive(Drop)]
 pub struct Memories {
     /// The pages in front.
     pub(crate) pages: [Page; 16],
     /// The page that instructions are fetched from.
     pub(crate) fetching: Fetching,
-    /// When all of it was used.
+    /// The times at which they were used.
     pub(crate) uses: Uses,
-    /// Descriptors by segment number.
+    /// Descriptors, by segment number.
     pub(crate) sdws: [KeptSdw; 16],
-    /// Page table words by their address.
+    /// Page table words, by address.
     pub(crate) ptws: [KeptPtw; 16],
-    /// The words from which descriptors were read.
+    /// The addresses of the words from which descriptors were read.
     pub(crate) words: Watch,
-    /// The page table words that were read or passed.
+    /// The addresses of page table words that were read, or through which a descriptor was found.
     pub(crate) tables: Watch,
 }
 
@@ -61,7 +61,7 @@ impl Memories {
         self.fetching = no_fetching();
     }
 
-    /// Empties all.
+    /// Empties everything.
     #[cold]
     #[inline(never)]
     pub fn forget(&mut self)
@@ -79,7 +79,7 @@ impl Memories {
         self.tables.clear();
     }
 
-    /// A page in front is used.
+    /// Records a use of the page at place `i` in front.
     #[inline(always)]
     pub(crate) fn touch(&mut self, i: usize)
         requires { i < 16 }
@@ -89,7 +89,7 @@ impl Memories {
         self.uses.touch_page(i);
     }
 
-    /// The page that is fetched from is used.
+    /// Records a use of the page that is fetched from.
     #[inline(always)]
     pub(crate) fn touch_fetching(&mut self)
         ensures { (core : List ℕ) (dbr : DbrFields) → AreRight core dbr self.old
@@ -98,7 +98,7 @@ impl Memories {
         self.fetching.hit = self.uses.clock;
     }
 
-    /// A descriptor that is kept is used.
+    /// Records a use of a kept descriptor.
     pub(crate) fn touch_sdw(&mut self, e: usize)
         requires { e < 16 }
         ensures { (core : List ℕ) (dbr : DbrFields) → AreRight core dbr self.old
@@ -107,7 +107,7 @@ impl Memories {
         self.uses.touch_sdw(e);
     }
 
-    /// A page table word that is kept is used.
+    /// Records a use of a kept page table word.
     pub(crate) fn touch_ptw(&mut self, e: usize)
         requires { e < 16 }
         ensures { (core : List ℕ) (dbr : DbrFields) → AreRight core dbr self.old
@@ -116,7 +116,7 @@ impl Memories {
         self.uses.touch_ptw(e);
     }
 
-    /// Fetches from a page in front, in a ring.
+    /// Makes a page in front the one that instructions are fetched from, in a ring.
     pub(crate) fn fetch_from(&mut self, page: &Page, seg: u16, ring: u8, word: u32)
         requires seg { seg < 2 ^ 15 }
         requires word { word < 2 ^ 18 }
@@ -153,7 +153,7 @@ impl Memories {
         self.pages[i] = page;
     }
 
-    /// Notes that the page at a place in front was found by the entries that were used last.
+    /// Records that the page at place `i` in front was found by the entries that were used last.
     pub(crate) fn note_entries(&mut self, i: usize, paged: bool)
         requires { i < 16 }
         ensures { (core : List ℕ) (dbr : DbrFields) → AreRight core dbr self.old
@@ -162,7 +162,7 @@ impl Memories {
         self.uses.enter(i, paged);
     }
 
-    /// A page leaves the front.
+    /// Removes a page from the front.
     fn leave(&mut self, i: usize)
         requires { i < 16 }
         ensures { (core : List ℕ) (dbr : DbrFields) → AreRight core dbr self.old
@@ -172,7 +172,7 @@ impl Memories {
         self.put_in_front(i, page);
     }
 
-    /// The pages at these places, a bit for each, leave the front.
+    /// Removes the pages at these places, one bit each, from the front.
     pub(crate) fn leave_places(&mut self, places: u16)
         ensures { (core : List ℕ) (dbr : DbrFields) → AreRight core dbr self.old
             → AreRight core dbr self.new }
@@ -188,7 +188,8 @@ impl Memories {
         }
     }
 
-    /// A place for a descriptor: that of the one that was used longest ago, whose pages leave the front.
+    /// The entry for a new descriptor: the one that was used least recently. Its pages leave the
+    /// front.
     pub(crate) fn place_for_sdw(&mut self) -> usize
         ensures place { result < 16 }
         ensures right { (core : List ℕ) (dbr : DbrFields) → AreRight core dbr self.old
@@ -214,7 +215,7 @@ impl Memories {
         e
     }
 
-    /// Keeps a descriptor at a place, as the one used last.
+    /// Keeps a descriptor in entry `e`, as the one used last.
     pub(crate) fn put_sdw(&mut self, e: usize, seg: u16, sdw: &Sdw)
         requires { e < 16 }
         ensures { (core : List ℕ) (dbr : DbrFields) → AreRight core dbr self.old
@@ -228,7 +229,7 @@ impl Memories {
         self.uses.touch_sdw(e);
     }
 
-    /// Keeps a page table word at a place, as the one used last.
+    /// Keeps a page table word in entry `e`, as the one used last.
     pub(crate) fn put_ptw(&mut self, e: usize, a: u32, ptw: &Ptw)
         requires place { e < 16 }
         requires address { a < 2 ^ 24 }
@@ -243,7 +244,7 @@ impl Memories {
         self.uses.touch_ptw(e);
     }
 
-    /// The segment whose descriptor is kept and was used last but so many.
+    /// The segment of the kept descriptor after whose last use exactly `rank` others were used.
     pub fn segment_by_use(&mut self, rank: usize) -> Option<u16>
         ensures { (core : List ℕ) (dbr : DbrFields) → AreRight core dbr self.old
             → AreRight core dbr self.new }
@@ -254,7 +255,8 @@ impl Memories {
         Some((key.saturating_sub(1) % 32768) as u16)
     }
 
-    /// The address of the page table word that is kept and was used last but so many.
+    /// The address of the kept page table word after whose last use exactly `rank` others were
+    /// used.
     pub fn table_word_by_use(&mut self, rank: usize) -> Option<u32>
         ensures { (core : List ℕ) (dbr : DbrFields) → AreRight core dbr self.old
             → AreRight core dbr self.new }

@@ -1,4 +1,4 @@
-//! What is kept is asked first, and core only where nothing is kept.
+//! Lookups: in the memories first, and in core only if nothing is kept.
 
 ghost use Rattle.std.specs.Prelude.{ℕ, ◌≡◌, ◌+◌, ◌/◌, ◌%◌, ◌<◌, ◌^◌, List, Some, Ok, true, false, IfOk, IfSome, OnOk, OnSome, IsTrue, length};
 ghost use Rattle.m36_desc.specs.Fields.{DbrFields};
@@ -18,7 +18,7 @@ use m36_desc::{Dbr, Ptw, Sdw};
 use m36_model::Refusal;
 use m36_tables::{directory_at, in_frame, page_at, page_table_word, wrapped};
 
-/// The descriptor of a segment, if an entry has it.
+/// The descriptor of a segment, if this entry has it.
 #[inline(always)]
 fn sdw_of_entry(_core: &Core, _dbr: Dbr, memories: &Memories, e: usize, seg: u16) -> Option<Sdw>
     requires entry { e < 16 }
@@ -33,7 +33,7 @@ fn sdw_of_entry(_core: &Core, _dbr: Dbr, memories: &Memories, e: usize, seg: u16
     Some(kept.sdw)
 }
 
-/// The descriptor that is kept of a segment, and its entry. The one that was used last is looked at first.
+/// The kept descriptor of a segment, with its entry. The entry that was found last is tried first.
 fn kept_sdw(core: &Core, dbr: Dbr, memories: &Memories, seg: u16) -> Option<(usize, Sdw)>
     requires { AreRight core.now dbr memories.now }
     ensures entry { IfSome result (λ r. r.0 < 16) }
@@ -52,7 +52,7 @@ fn kept_sdw(core: &Core, dbr: Dbr, memories: &Memories, seg: u16) -> Option<(usi
     None
 }
 
-/// The page table word of an address, if an entry has it.
+/// The page table word at an address, if this entry has it.
 #[inline(always)]
 fn ptw_of_entry(_core: &Core, _dbr: Dbr, memories: &Memories, e: usize, a: u32) -> Option<Ptw>
     requires entry { e < 16 }
@@ -68,7 +68,8 @@ fn ptw_of_entry(_core: &Core, _dbr: Dbr, memories: &Memories, e: usize, a: u32) 
     Some(kept.ptw)
 }
 
-/// The page table word that is kept of an address, and its entry. The one that was used last is looked at first.
+/// The kept page table word at an address, with its entry. The entry that was found last is tried
+/// first.
 fn kept_ptw(core: &Core, dbr: Dbr, memories: &Memories, a: u32) -> Option<(usize, Ptw)>
     requires address { a < 2 ^ 24 }
     requires right { AreRight core.now dbr memories.now }
@@ -88,7 +89,7 @@ fn kept_ptw(core: &Core, dbr: Dbr, memories: &Memories, a: u32) -> Option<(usize
     None
 }
 
-/// The descriptor that is kept of a segment, which becomes the one used last.
+/// The kept descriptor of a segment, which becomes the one used last.
 fn recalled_descriptor(_core: &Core, _dbr: Dbr, memories: &mut Memories, seg: u16) -> Option<Sdw>
     requires { AreRight _core.now _dbr memories.old }
     ensures found { IfSome result (λ d. core_sdw _core.now _dbr seg ≡ Ok d) }
@@ -101,7 +102,8 @@ fn recalled_descriptor(_core: &Core, _dbr: Dbr, memories: &mut Memories, seg: u1
     Some(sdw)
 }
 
-/// Watches the words by which the descriptor of a segment is found. False says that there is no room.
+/// Watches the words through which the descriptor of a segment is found. Returns false if there is
+/// no room.
 fn watch_descriptor(_core: &Core, dbr: Dbr, memories: &mut Memories, seg: u16, even: u32) -> bool
     requires seg { seg < 2 ^ 15 }
     requires place { even < 2 ^ 24 }
@@ -121,7 +123,7 @@ fn watch_descriptor(_core: &Core, dbr: Dbr, memories: &mut Memories, seg: u16, e
     )
 }
 
-/// Puts a descriptor in place of the one that was used longest ago.
+/// Keeps a descriptor in an entry, in place of another.
 fn put_descriptor(_core: &Core, _dbr: Dbr, memories: &mut Memories, e: usize, seg: u16, sdw: &Sdw)
     requires place { e < 16 }
     requires found { core_sdw _core.now _dbr seg ≡ Ok sdw.now }
@@ -132,8 +134,8 @@ fn put_descriptor(_core: &Core, _dbr: Dbr, memories: &mut Memories, e: usize, se
     memories.put_sdw(e, seg, sdw);
 }
 
-/// Keeps the descriptor of a segment, whose even word stands at a place. Where there is no room to watch its words, it is
-/// not kept.
+/// Keeps the descriptor of a segment, whose even word is at address `even`. It is not kept if there
+/// is no room to watch its words.
 fn keep_descriptor(core: &Core, dbr: Dbr, memories: &mut Memories, seg: u16, even: u32, sdw: &Sdw)
     requires seg { seg < 2 ^ 15 }
     requires place { even < 2 ^ 24 }
@@ -153,7 +155,7 @@ fn keep_descriptor(core: &Core, dbr: Dbr, memories: &mut Memories, seg: u16, eve
     put_descriptor(core, dbr, memories, e, seg, sdw);
 }
 
-/// The descriptor of a live segment, as the tables in core have it.
+/// The descriptor of a live segment, or the fault of its lookup, as the tables in core have it.
 #[tactic(auto, unfolding(m36_model::specs::Place::core_sdw))]
 pub fn descriptor(core: &Core, dbr: Dbr, memories: &mut Memories, seg: u16) -> Result<Sdw, Refusal>
     requires seg { seg < 2 ^ 15 }
@@ -171,7 +173,7 @@ pub fn descriptor(core: &Core, dbr: Dbr, memories: &mut Memories, seg: u16) -> R
     Ok(sdw)
 }
 
-/// The page table word that is kept of an address, which becomes the one used last.
+/// The kept page table word at an address, which becomes the one used last.
 fn recalled_table_word(_core: &Core, _dbr: Dbr, memories: &mut Memories, a: u32) -> Option<Ptw>
     requires address { a < 2 ^ 24 }
     requires right { AreRight _core.now _dbr memories.old }
@@ -185,7 +187,7 @@ fn recalled_table_word(_core: &Core, _dbr: Dbr, memories: &mut Memories, a: u32)
     Some(ptw)
 }
 
-/// Watches a page table word. False says that there is no room.
+/// Watches a page table word. Returns false if there is no room.
 fn watch_table_word(_core: &Core, _dbr: Dbr, memories: &mut Memories, a: u32) -> bool
     requires { AreRight _core.now _dbr memories.old }
     ensures watches { IsTrue result → watched memories.new.tables a ≡ true }
@@ -194,7 +196,7 @@ fn watch_table_word(_core: &Core, _dbr: Dbr, memories: &mut Memories, a: u32) ->
     memories.tables.add(a)
 }
 
-/// Puts a page table word in place of the one that was used longest ago.
+/// Keeps a page table word in an entry, in place of another.
 fn put_table_word(_core: &Core, _dbr: Dbr, memories: &mut Memories, e: usize, a: u32, ptw: &Ptw)
     requires place { e < 16 }
     requires found { ptw_at _core.now a ≡ Some ptw.now }
@@ -207,7 +209,7 @@ fn put_table_word(_core: &Core, _dbr: Dbr, memories: &mut Memories, e: usize, a:
     memories.put_ptw(e, a, ptw);
 }
 
-/// Keeps the page table word at an address. Where there is no room to watch it, it is not kept.
+/// Keeps the page table word at an address. It is not kept if there is no room to watch it.
 fn keep_table_word(core: &Core, dbr: Dbr, memories: &mut Memories, a: u32)
     requires address { a < 2 ^ 24 }
     requires right { AreRight core.now dbr memories.old }
@@ -228,7 +230,8 @@ fn keep_table_word(core: &Core, dbr: Dbr, memories: &mut Memories, a: u32)
     put_table_word(core, dbr, memories, e, a, &ptw);
 }
 
-/// The place of a word within the bound, which may be past the end of core, as the tables in core have it.
+/// The address of a word that is within the bound, as the tables in core have it. It may be past
+/// the end of core.
 pub fn word_place(
     core: &Core,
     dbr: Dbr,
@@ -256,7 +259,7 @@ pub fn word_place(
     Ok(place)
 }
 
-/// Whether a page table word is marked as used, or as used and modified.
+/// Whether a page table word is marked as used or, if `modified` is on, as used and modified.
 fn is_marked(core: &Core, a: u32, modified: bool) -> bool
     ensures { IsTrue result → IsMarked core.now a modified }
 {
@@ -267,7 +270,8 @@ fn is_marked(core: &Core, a: u32, modified: bool) -> bool
     with_mark(word, modified) == word
 }
 
-/// Whether the page table word that is passed to the descriptor of a segment is marked as used, if there is one.
+/// Whether the page table word through which the descriptor of a segment is found, if there is one,
+/// is marked as used.
 fn is_passed(core: &Core, dbr: Dbr, seg: u16) -> bool
     requires { seg < 2 ^ 15 }
     ensures { IsTrue result → dbr.unpaged ≡ false
@@ -279,7 +283,8 @@ fn is_passed(core: &Core, dbr: Dbr, seg: u16) -> bool
     is_marked(core, directory_at(dbr, seg), false)
 }
 
-/// The page of a word, by what the memories have of it, and whether it was found by a page table word.
+/// The page that has a word, if the memories keep what it is found by and its marks are set; and
+/// whether it was found through a page table word.
 fn found_page(
     core: &Core,
     dbr: Dbr,
@@ -315,8 +320,8 @@ fn found_page(
     Some((page_of(core, &sdw, seg, word, base, modified), true))
 }
 
-/// Puts the page of a word in front, where both memories have what finds it and its marks stand. It was found by the
-/// entries that were used last.
+/// Puts the page that has a word in front, if the memories keep what it is found by and its marks
+/// are set. The entries by which it is found are those that were used last.
 pub fn enter(core: &Core, dbr: Dbr, memories: &mut Memories, seg: u16, word: u32)
     requires seg { seg < 2 ^ 15 }
     requires word { word < 2 ^ 18 }

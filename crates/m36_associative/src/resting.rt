@@ -1,4 +1,4 @@
-//! Which words are watched: those on which what is kept rests.
+//! The words that are watched: those on which kept entries depend.
 
 ghost use Rattle.std.specs.Prelude.{ℕ, ◌≡◌, ◌+◌, ◌<◌, ◌^◌, true, Contains, IsTrue, Ok};
 ghost use Rattle.m36_model.specs.Place.{directory_at, sdw_place};
@@ -14,8 +14,8 @@ use m36_core::Core;
 use m36_desc::Dbr;
 use m36_tables::{SEGMENTS, descriptor_place, directory_at, wrapped};
 
-/// Watches the words by which the descriptor of a segment is found, whose even word stands at a place. False says that there
-/// is no room.
+/// Watches the words through which the descriptor of a segment is found. Its even word is at
+/// address `even`. Returns false if there is no room.
 pub(crate) fn watch_words(
     _core: &Core,
     dbr: Dbr,
@@ -43,7 +43,8 @@ pub(crate) fn watch_words(
     tables.add(directory_at(dbr, seg))
 }
 
-/// Watches the words by which the descriptor of a segment is found. False says that there is none, or no room.
+/// Watches the words through which the descriptor of a segment is found. Returns false if it has no
+/// descriptor, or if there is no room.
 fn watch_segment(core: &Core, dbr: Dbr, words: &mut Watch, tables: &mut Watch, seg: u16) -> bool
     ensures watches { IsTrue result → IsWatched core.now dbr words.new tables.new seg }
     ensures words { (b : ℕ) → watched words.old b ≡ true → watched words.new b ≡ true }
@@ -58,7 +59,8 @@ fn watch_segment(core: &Core, dbr: Dbr, words: &mut Watch, tables: &mut Watch, s
     }
 }
 
-/// Watches the words by which a descriptor is found, if one is kept. False says that there is none, or no room.
+/// Watches the words through which a kept descriptor is found. Returns true if the entry is empty,
+/// and false if the segment has no descriptor or there is no room.
 fn watch_kept(core: &Core, dbr: Dbr, kept: &KeptSdw, words: &mut Watch, tables: &mut Watch) -> bool
     ensures watches { IsTrue result → (seg : ℕ) → kept.now.key ≡ seg + 1
         → IsWatched core.now dbr words.new tables.new seg }
@@ -75,7 +77,8 @@ fn watch_kept(core: &Core, dbr: Dbr, kept: &KeptSdw, words: &mut Watch, tables: 
     watch_segment(core, dbr, words, tables, (key - 1) as u16)
 }
 
-/// Watches the words by which the descriptors that are kept are found. False says that there is no room.
+/// Watches the words through which all kept descriptors are found. Returns false if there is no
+/// room.
 fn watch_descriptors(
     core: &Core,
     dbr: Dbr,
@@ -94,7 +97,7 @@ fn watch_descriptors(
     true
 }
 
-/// Watches a page table word, if one is kept. False says that there is no room.
+/// Watches a kept page table word, if there is one. Returns false if there is no room.
 fn watch_kept_word(kept: &KeptPtw, tables: &mut Watch) -> bool
     ensures watches { IsTrue result → (a : ℕ) → kept.now.key ≡ a + 1
         → watched tables.new a ≡ true }
@@ -107,7 +110,7 @@ fn watch_kept_word(kept: &KeptPtw, tables: &mut Watch) -> bool
     tables.add(key - 1)
 }
 
-/// Watches the page table words that are kept. False says that there is no room.
+/// Watches all kept page table words. Returns false if there is no room.
 fn watch_table_words(ptws: &[KeptPtw; 16], tables: &mut Watch) -> bool
     ensures watches { IsTrue result → (e : KeptPtw) (a : ℕ) → Contains ptws.now e → e.key ≡ a + 1
         → watched tables.new a ≡ true }
@@ -121,7 +124,7 @@ fn watch_table_words(ptws: &[KeptPtw; 16], tables: &mut Watch) -> bool
     true
 }
 
-/// Watches the words on which what the memories keep rests, and no others. The front is emptied.
+/// Watches exactly the words on which kept entries depend, and empties the front.
 pub(crate) fn watch_anew(core: &Core, dbr: Dbr, memories: &mut Memories)
     requires { AreRight core.now dbr memories.old }
     ensures { AreRight core.now dbr memories.new }

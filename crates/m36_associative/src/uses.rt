@@ -1,23 +1,24 @@
-//! When what is kept was used: by these times it is known which entry makes room for another.
+//! The times at which entries and pages were last used. They decide which entry a new one replaces.
 //!
-//! A page in front answers without a look at the entries by which it was found. So an entry has the time when it was
-//! itself used last, and knows which places of the front hold its pages; its pages' times are looked at only where the
-//! entry would make room, and as they leave the front.
+//! A page in front answers without its entries being looked up. So an entry has the time of its own
+//! last use, and the places in front that have its pages. The times of its pages are read only when
+//! the entry may be replaced, and when they leave the front.
 
 ghost use Rattle.std.specs.Prelude.{◌<◌, IfSome};
 
 use crate::front::{Fetching, PAGES};
 use crate::kept::ENTRIES;
 
-/// No entry.
+/// The number that stands for "no entry".
 pub(crate) const NO_ENTRY: u8 = 16;
 
-/// The entries of one memory.
+/// The use of the entries of one memory.
 #[derive(Clone, Copy)]
 pub(crate) struct Entries {
-    /// When each entry was used last, but for later uses of its pages in front. 0: none is kept there.
+    /// The time of the last use of each entry, without later uses of its pages in front; 0 if it is
+    /// empty.
     times: [u64; 16],
-    /// Which places of the front hold pages of each entry, a bit for each.
+    /// The places in front that have pages of each entry, one bit each.
     fronts: [u16; 16],
     /// The entry of each page in front, or `NO_ENTRY`.
     of: [u8; 16],
@@ -28,15 +29,16 @@ pub(crate) struct Entries {
 /// The times of both memories and of the front.
 #[derive(Clone, Copy)]
 pub(crate) struct Uses {
-    /// Goes on by 2 at each use; a fetch from the page that is fetched from is between two of them.
+    /// Advances by 2 with each use. A fetch from the page that is fetched from has a time between
+    /// two uses.
     pub(crate) clock: u64,
-    /// When each page in front was used last, but for the use by which it entered.
+    /// The time of the last use of each page in front, or 0 if it was not used since it entered.
     pub(crate) pages: [u64; 16],
     pub(crate) sdws: Entries,
     pub(crate) ptws: Entries,
 }
 
-/// Where the least of these times is.
+/// The index of the least of these times.
 fn least(times: &[u64; 16]) -> usize
     ensures { result < 16 }
 {
@@ -61,7 +63,7 @@ impl Entries {
         }
     }
 
-    /// The entry at a place is used.
+    /// Records a use of entry `e` at this time.
     fn touch(&mut self, e: usize, time: u64)
         requires { e < 16 }
     {
@@ -69,7 +71,8 @@ impl Entries {
         self.last = e as u8;
     }
 
-    /// A page leaves its place in front: its entry learns when it was used.
+    /// Removes the page at place `i` in front from its entry, which gets the time of the page's
+    /// last use.
     fn leave(&mut self, i: usize, time: u64)
         requires { i < 16 }
     {
@@ -84,7 +87,7 @@ impl Entries {
         self.of[i] = NO_ENTRY;
     }
 
-    /// A page of the entry that was found last enters the front.
+    /// Adds the page at place `i` in front to the entry that was found last.
     fn enter(&mut self, i: usize)
         requires { i < 16 }
     {
@@ -93,7 +96,8 @@ impl Entries {
         self.of[i] = e as u8;
     }
 
-    /// An entry learns when its pages in front were used. True says that one was used later than the entry itself.
+    /// Sets the time of an entry to that of the latest use of it or of its pages in front. Returns
+    /// whether a page was used later than the entry itself.
     fn learns(&mut self, e: usize, pages: &[u64; 16]) -> bool
         requires { e < 16 }
     {
@@ -113,7 +117,7 @@ impl Entries {
         before < newest
     }
 
-    /// The entry that was used longest ago, or one that holds nothing.
+    /// The entry that was used least recently, or an empty one.
     fn oldest(&mut self, pages: &[u64; 16]) -> usize
         ensures { result < 16 }
     {
@@ -128,14 +132,14 @@ impl Entries {
 }
 
 impl Entries {
-    /// All entries learn when their pages in front were used.
+    /// Sets the time of each entry to that of the latest use of it or of its pages in front.
     fn learn(&mut self, pages: &[u64; 16]) {
         for e in 0..ENTRIES {
             let _ = self.learns(e, pages);
         }
     }
 
-    /// How many entries were used after this one.
+    /// The number of entries that were used after entry `e`.
     fn used_after(&self, e: usize) -> usize
         requires { e < 16 }
     {
@@ -149,7 +153,7 @@ impl Entries {
         count
     }
 
-    /// The entry that was used last but so many.
+    /// The entry after whose last use exactly `rank` other entries were used, if there is one.
     fn by_use(&self, rank: usize) -> Option<usize>
         ensures { IfSome result (λ e. e < 16) }
     {
@@ -163,7 +167,7 @@ impl Entries {
 }
 
 impl Uses {
-    /// Nothing was used.
+    /// No uses.
     pub(crate) fn none() -> Uses {
         Uses {
             clock: 0,
@@ -173,14 +177,14 @@ impl Uses {
         }
     }
 
-    /// The next time.
+    /// Advances the clock, and returns the new time.
     #[inline(always)]
     fn tick(&mut self) -> u64 {
         self.clock = self.clock.wrapping_add(2);
         self.clock
     }
 
-    /// A page in front is used.
+    /// Records a use of the page at place `i` in front.
     #[inline(always)]
     pub(crate) fn touch_page(&mut self, i: usize)
         requires { i < 16 }
@@ -189,8 +193,8 @@ impl Uses {
         self.pages[i] = self.clock;
     }
 
-    /// The page that is fetched from was used when it was last fetched from: after the use of a page at its time, and
-    /// before the next.
+    /// Records the last use of the page that is fetched from: after the use of a page at its time,
+    /// and before the next use.
     pub(crate) fn note_fetch(&mut self, fetching: &Fetching) {
         if fetching.len == 0 {
             return;
@@ -202,7 +206,7 @@ impl Uses {
         }
     }
 
-    /// A descriptor is used.
+    /// Records a use of a descriptor.
     pub(crate) fn touch_sdw(&mut self, e: usize)
         requires { e < 16 }
     {
@@ -210,7 +214,7 @@ impl Uses {
         self.sdws.touch(e, time);
     }
 
-    /// A page table word is used.
+    /// Records a use of a page table word.
     pub(crate) fn touch_ptw(&mut self, e: usize)
         requires { e < 16 }
     {
@@ -218,7 +222,7 @@ impl Uses {
         self.ptws.touch(e, time);
     }
 
-    /// A page leaves the front.
+    /// Removes the page at place `i` from the front.
     pub(crate) fn leave(&mut self, i: usize)
         requires { i < 16 }
     {
@@ -228,15 +232,15 @@ impl Uses {
         self.ptws.leave(i, time);
     }
 
-    /// All pages leave the front.
+    /// Removes all pages from the front.
     pub(crate) fn leave_all(&mut self) {
         for i in 0..PAGES {
             self.leave(i);
         }
     }
 
-    /// A page enters the front: that of the descriptor that was found last, and where it has a page table word, of the
-    /// one that was found last.
+    /// Adds the page at place `i` in front to the descriptor that was found last and, if it is
+    /// paged, to the page table word that was found last.
     pub(crate) fn enter(&mut self, i: usize, paged: bool)
         requires { i < 16 }
     {
@@ -246,35 +250,35 @@ impl Uses {
         }
     }
 
-    /// The descriptor that is to make room, or a place that holds none.
+    /// The entry of the descriptor that was used least recently, or an empty one.
     pub(crate) fn oldest_sdw(&mut self) -> usize
         ensures { result < 16 }
     {
         self.sdws.oldest(&self.pages)
     }
 
-    /// As `oldest_sdw`, of the page table words.
+    /// As `oldest_sdw`, for page table words.
     pub(crate) fn oldest_ptw(&mut self) -> usize
         ensures { result < 16 }
     {
         self.ptws.oldest(&self.pages)
     }
 
-    /// Which places of the front hold pages of a descriptor.
+    /// The places in front that have pages of a descriptor, one bit each.
     pub(crate) fn fronts_of_sdw(&self, e: usize) -> u16
         requires { e < 16 }
     {
         self.sdws.fronts[e]
     }
 
-    /// Which places of the front hold pages of a page table word.
+    /// The places in front that have pages of a page table word, one bit each.
     pub(crate) fn fronts_of_ptw(&self, e: usize) -> u16
         requires { e < 16 }
     {
         self.ptws.fronts[e]
     }
 
-    /// The descriptor that was used last but so many, if so many are kept.
+    /// The descriptor after whose last use exactly `rank` others were used, if there is one.
     pub(crate) fn sdw_by_use(&mut self, rank: usize) -> Option<usize>
         ensures { IfSome result (λ e. e < 16) }
     {
@@ -282,7 +286,7 @@ impl Uses {
         self.sdws.by_use(rank)
     }
 
-    /// As `sdw_by_use`, of the page table words.
+    /// As `sdw_by_use`, for page table words.
     pub(crate) fn ptw_by_use(&mut self, rank: usize) -> Option<usize>
         ensures { IfSome result (λ e. e < 16) }
     {

@@ -1,4 +1,4 @@
-//! Places of core that are watched, since something that is kept rests on their words.
+//! Addresses of core words that are watched, because something that is kept depends on these words.
 
 ghost use Rattle.std.specs.Prelude.{ℕ, ◌≡◌, ◌≤◌, [], true, IsTrue, IsFalse};
 ghost use Rattle.m36_associative.specs.Watched.{watched};
@@ -6,10 +6,10 @@ ghost use Rattle.m36_associative.specs.Watched.{watched};
 use arrayvec::ArrayVec;
 use std::marker::Model;
 
-/// How many places are watched at most.
+/// The maximum number of watched addresses.
 const ROOM: usize = 128;
 
-/// Watched places, some of them maybe more than once. It is seen as their list.
+/// Watched addresses; one may be in the list more than once. Contracts see their list.
 #[derive(Drop)]
 pub struct Watch {
     places: ArrayVec<u32, 128>,
@@ -28,7 +28,7 @@ impl Model for Watch {
     ghost invariant = { λ w. AreWithin w.places.items w.low w.high };
 }
 
-/// The lower of two places.
+/// The lesser of two addresses.
 fn lower(a: u32, b: u32) -> u32
     ensures first { result ≤ a }
     ensures second { result ≤ b }
@@ -36,7 +36,7 @@ fn lower(a: u32, b: u32) -> u32
     if a < b { a } else { b }
 }
 
-/// The higher of two places.
+/// The greater of two addresses.
 fn higher(a: u32, b: u32) -> u32
     ensures first { a ≤ result }
     ensures second { b ≤ result }
@@ -45,7 +45,7 @@ fn higher(a: u32, b: u32) -> u32
 }
 
 impl Watch {
-    /// No place.
+    /// No addresses.
     pub fn new() -> Watch
         ensures { result ≡ [] }
     {
@@ -56,7 +56,7 @@ impl Watch {
         }
     }
 
-    /// Whether a place is watched.
+    /// Whether an address is watched.
     #[inline(always)]
     #[tactic(auto, using(crate::proofs::Watching::not_below, crate::proofs::Watching::not_above))]
     pub fn has(&self, a: u32) -> bool
@@ -71,7 +71,7 @@ impl Watch {
         self.listed(a)
     }
 
-    /// As `has`, place by place.
+    /// As `has`, by a search of the list.
     #[inline(never)]
     #[tactic(auto, unfolding(crate::specs::Watched::watched))]
     fn listed(&self, a: u32) -> bool
@@ -80,7 +80,7 @@ impl Watch {
         self.places.as_slice().contains(&a)
     }
 
-    /// Watches no place.
+    /// Removes all addresses.
     pub fn clear(&mut self)
         ensures { self.new ≡ [] }
     {
@@ -89,7 +89,8 @@ impl Watch {
         self.high = 0;
     }
 
-    /// Watches a place too, which may be watched already. False says that there is no room for it, and then nothing has changed.
+    /// Adds an address, which may be watched already. Returns false if there is no room; then
+    /// nothing has changed.
     pub fn add(&mut self, a: u32) -> bool
         ensures added { IsTrue result → watched self.new a ≡ true }
         ensures more { (b : ℕ) → watched self.old b ≡ true → watched self.new b ≡ true }

@@ -1,4 +1,4 @@
-//! Core is written, and where something that is kept rests on the word, all is emptied.
+//! Writes to core. If something that is kept depends on the word, everything is emptied.
 
 ghost use Rattle.std.specs.Prelude.{ℕ, ◌≡◌, ◌<◌, List, Bool, true, false, IsFalse, length, slice_set};
 ghost use Rattle.m36_model.specs.Place.{marked_word, with_mark};
@@ -11,7 +11,8 @@ use m36_core::Core;
 use m36_desc::Dbr;
 use m36_word::Word;
 
-/// Makes ready for a write of a word that is watched: where something that is kept rests on it, all is emptied.
+/// Prepares for a write of a watched word: empties everything if something that is kept depends on
+/// the word, and otherwise only the front.
 #[cold]
 #[inline(never)]
 fn release_watched(core: &Core, dbr: &Dbr, memories: &mut Memories, a: u32)
@@ -28,7 +29,7 @@ fn release_watched(core: &Core, dbr: &Dbr, memories: &mut Memories, a: u32)
     }
 }
 
-/// Makes ready for a write of the word at a place.
+/// Prepares for a write of the word at address `a`.
 #[inline(always)]
 fn release(core: &Core, dbr: &Dbr, memories: &mut Memories, a: u32)
     requires { AreRight core.now dbr.now memories.old }
@@ -43,7 +44,7 @@ fn release(core: &Core, dbr: &Dbr, memories: &mut Memories, a: u32)
     }
 }
 
-/// Whether a descriptor that is kept was read from a word.
+/// Whether a kept descriptor was read from the word at address `a`.
 fn is_read(core: &Core, dbr: &Dbr, memories: &mut Memories, a: u32) -> bool
     requires { AreRight core.now dbr.now memories.old }
     ensures none { IsFalse result → watched memories.new.words a ≡ false }
@@ -56,8 +57,8 @@ fn is_read(core: &Core, dbr: &Dbr, memories: &mut Memories, a: u32) -> bool
     memories.words.has(a)
 }
 
-/// Makes ready for a mark that changes the page table word at an address: where a descriptor that is kept was read from it,
-/// all is emptied, and else the front.
+/// Prepares for a mark that changes the page table word at address `a`. If a kept descriptor was
+/// read from it, everything is emptied, and otherwise the front.
 fn release_marked(core: &Core, dbr: &Dbr, memories: &mut Memories, a: u32)
     requires { AreRight core.now dbr.now memories.old }
     ensures { (modified : Bool)
@@ -71,7 +72,7 @@ fn release_marked(core: &Core, dbr: &Dbr, memories: &mut Memories, a: u32)
     memories.clear_front();
 }
 
-/// Writes the word at a place.
+/// Writes the word at address `a`.
 #[inline(always)]
 pub fn store(core: &mut Core, dbr: &Dbr, memories: &mut Memories, a: u32, w: Word)
     requires place { a < length core.old }
@@ -83,7 +84,7 @@ pub fn store(core: &mut Core, dbr: &Dbr, memories: &mut Memories, a: u32, w: Wor
     core.poke(a, w);
 }
 
-/// A page table word with its used bit on.
+/// A page table word with its used bit turned on.
 #[tactic(auto, unfolding(m36_model::specs::Place::with_used))]
 fn with_used(w: Word) -> Word
     ensures { result ≡ marked_word false w }
@@ -92,7 +93,7 @@ fn with_used(w: Word) -> Word
     Word::low(value / 1024 * 1024 + 512 + value % 512)
 }
 
-/// A page table word with its used bit and its modified bit on.
+/// A page table word with its used bit and its modified bit turned on.
 #[tactic(auto, unfolding(m36_model::specs::Place::with_modified))]
 fn with_modified(w: Word) -> Word
     ensures { result ≡ marked_word true w }
@@ -101,7 +102,7 @@ fn with_modified(w: Word) -> Word
     Word::low(value / 128 * 128 + 64 + value % 64)
 }
 
-/// A page table word with its used bit on, and its modified bit too.
+/// A page table word with its used bit turned on and, if `modified` is on, its modified bit too.
 pub(crate) fn with_mark(w: Word, modified: bool) -> Word
     ensures { result ≡ marked_word modified w }
 {
@@ -112,7 +113,7 @@ pub(crate) fn with_mark(w: Word, modified: bool) -> Word
     }
 }
 
-/// Marks the page table word at an address as used, or as used and modified.
+/// Marks the page table word at address `a` as used or, if `modified` is on, as used and modified.
 #[tactic(auto, using(crate::proofs::Found::unchanged))]
 pub fn mark(core: &mut Core, dbr: &Dbr, memories: &mut Memories, a: u32, modified: bool)
     requires place { a < length core.old }

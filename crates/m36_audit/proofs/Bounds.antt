@@ -1,4 +1,4 @@
--- A live segment has a descriptor in bounds, and the widths of its fields.
+-- A live segment has a descriptor in bounds, and its fields are within their widths.
 use Rattle.std.proofs.Common.{◌≡◌, ℕ, ◌+◌, refl, subst}
 use Rattle.std.specs.Prelude.{Bool, true, false, List, Option, Some, None, Result, Ok, Err, slice_get}
 use Rattle.m36_word.specs.Bits.{is_on}
@@ -13,7 +13,7 @@ placed_in_bounds : (b unpaged : Bool) (dbr : DbrFields) (seg : ℕ) (p : Option 
 placed_in_bounds true unpaged dbr seg p a h = refl
 placed_in_bounds false unpaged dbr seg p a h = cc
 
--- a descriptor with a place is in bounds
+-- a descriptor that has a place is in bounds
 pub sdw_place_in_bounds : (core : List ℕ) (dbr : DbrFields) (seg a : ℕ) → sdw_place core dbr seg ≡ Ok a → in_bounds dbr seg ≡ true
 sdw_place_in_bounds core dbr seg a h = placed_in_bounds (in_bounds dbr seg) dbr.unpaged dbr seg (ptw_at core (directory_at dbr seg)) a h
 

@@ -1,4 +1,5 @@
--- Where two processes have something at a place, and there are two different things, two processes have different ones.
+-- If two processes have something at a word, and two different things are there, then two different
+-- processes have different things there.
 use Rattle.std.proofs.Common.{◌≡◌, ◌≢◌, ℕ, sym, ◌∙◌, subst, inl, inr}
 use Rattle.std.specs.Prelude.{◌⊎◌}
 use Rattle.std.proofs.lemmas.Bool.{cases_eq}
@@ -14,7 +15,7 @@ pub record Clash {I : Type 0} (Has : ℕ → I → Type 0) : Type 0 where
   pub differ : thing ≢ other_thing
 
 module _ {I : Type 0} (Has : ℕ → I → Type 0) (same : (x y : I) → (x ≡ y) ⊎ (x ≡ y → ⊥)) where
-  -- a third process has something: it differs from one of two that differ
+  -- a third process has something: it differs from what one of two others has
   beside : (i m : ℕ) (x y z : I) → Has i x → Has i y → x ≢ y → Has m z → m ≢ i → Clash Has
   beside i m x y z has has_too differ third apart = at (same z x)
     where

@@ -1,4 +1,4 @@
--- The conditions on words are those of the counts and the marks.
+-- The conditions about words, from the counts and the marks.
 use Rattle.std.proofs.Common.{◌≡◌, ◌≢◌, ℕ, zero, suc, ◌+◌, ◌-◌, ◌*◌, ◌/◌, ◌%◌, ◌^◌, ◌<◌, ◌≤◌, min, refl, sym, ◌∙◌, ap, subst, inl, inr, arith}
 use Rattle.std.specs.Bool.{Decides}
 use Rattle.std.specs.Prelude.{◌⊎◌, Bool, true, false, not, ◌==◌, ◌&&◌, nat_lt, nat_le, List, length, slice_index, Option, Some, None, Result, Ok, Err}
@@ -18,7 +18,7 @@ use Rattle.m36_audit.proofs.Counting.{PassTwice, one, two, at_least_one, at_leas
 use Rattle.m36_audit.proofs.RunWords.{Covers}
 use Rattle.m36_audit.proofs.SegmentWords.{number_of, WordOf, word_covered, word_inside, word_once, word_number, word_live, covered_word}
 
--- the test whether a run covers a word
+-- the test of whether a run covers a word
 pub covers_is : (o : Option Run) (a : ℕ) → covers a o ≡ true → Covers o a
 covers_is None a h = cc
 covers_is (Some r) a h =
@@ -48,12 +48,12 @@ word_below core dbr seg w a h =
 pub word_passes : (core : List ℕ) (dbr : DbrFields) (seg w a : ℕ) → IsSegmentWord core dbr seg w a → covers a (run core dbr (number_of core dbr seg w)) ≡ true
 word_passes core dbr seg w a h = is_covers (run core dbr (number_of core dbr seg w)) a (word_covered core dbr seg w a h)
 
--- a word of a segment is covered
+-- a segment word is covered by a run
 pub word_counts : (core : List ℕ) (dbr : DbrFields) (seg w a : ℕ) → IsSegmentWord core dbr seg w a → 1 ≤ coverage core dbr a
 word_counts core dbr seg w a h =
     at_least_one (λ i. covers a (run core dbr i)) (2 ^ 23) (number_of core dbr seg w) (word_below core dbr seg w a h) (word_passes core dbr seg w a h)
 
--- Fourth condition: two words of segments are covered twice, and back
+-- Fourth condition: a core word is two segment words exactly if two runs cover it.
 pub two_counted : (core : List ℕ) (dbr : DbrFields) (a : ℕ) → IsInTwoSegments core dbr a → 2 ≤ coverage core dbr a
 two_counted core dbr a k =
     at_least_two (λ i. covers a (run core dbr i)) (2 ^ 23) (number_of core dbr k.seg k.w) (number_of core dbr k.other_seg k.other_w) (word_below core dbr k.seg k.w a k.word) (word_below core dbr k.other_seg k.other_w a k.other_word) (at k.differ) (word_passes core dbr k.seg k.w a k.word) (word_passes core dbr k.other_seg k.other_w a k.other_word)
@@ -83,7 +83,8 @@ counted_two core dbr a inside h =
     at k x y (inr far) = inl far
     at k x y (inl same) = inr (λ e. k.differ (sym x.numbered ∙ ap (λ (n : ℕ). number_of core dbr n x.w) same ∙ ap (number_of core dbr y.seg) e ∙ y.numbered))
 
--- Third condition: a word of a segment at a word with the mark of a table, and back
+-- Third condition: a core word is a segment word and a table word exactly if a run covers it and it
+-- has a mark.
 pub table_counted : (core : List ℕ) (dbr : DbrFields) (tables : List ℕ) (least : Option ℕ) (a : ℕ) → AreMarked (IsOf core dbr) (length core) tables least → IsTableAndSegment core dbr a → slice_index tables a ≢ 0
 table_counted core dbr tables least a m k =
     λ e. m.none a (word_inside core dbr k.seg k.w a k.word) e k.table k.of
@@ -95,7 +96,7 @@ counted_table core dbr tables least a m inside h some =
     let mark = m.some a some in
     record { table = mark.table; of = mark.of; seg = x.seg; w = x.w; word = x.word }
 
--- Second condition: as the marks tell
+-- Second condition: the least word that was marked for two tables.
 pub two_tables : (core : List ℕ) (dbr : DbrFields) (tables : List ℕ) (least : Option ℕ) → AreMarked (IsOf core dbr) (length core) tables least → Finds (IsInTwoTables core dbr) least
 two_tables core dbr tables least m = m.least_two
 
@@ -168,7 +169,8 @@ on_segment_decides core dbr a n inside e = (
       lt-ltb 1 n (omega arith),
 )
 
--- where no word of core breaks a condition that speaks of words in core, none does
+-- if no word below the size of core breaks a condition that only words in core can break, no word
+-- does
 pub none_inside : (Breaks : ℕ → Type 0) (size n m : ℕ) → n ≡ size → n ≤ m → ((a : ℕ) → Breaks a → a < size) → ((a : ℕ) → a < m → Breaks a → ⊥) → Finds Breaks None
 none_inside Breaks size n m e le inside below = λ a k. let lt = inside a k in below a (omega arith) k
 

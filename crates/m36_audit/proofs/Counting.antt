@@ -1,4 +1,4 @@
--- How many numbers below a number pass a test.
+-- The number of numbers below n that pass a test.
 use Rattle.std.proofs.Common.{◌≡◌, ◌≢◌, ℕ, zero, suc, ◌+◌, ◌<◌, ◌≤◌, refl, sym, ◌∙◌, ap, inl, inr, arith}
 use Rattle.std.specs.Prelude.{◌⊎◌, Bool, true, false}
 use Rattle.std.proofs.lemmas.Bool.{cases_eq}
@@ -32,7 +32,7 @@ count_same f g (suc n) same =
     let here : of_bit (f n) ≡ of_bit (g n) = ap of_bit (same n) in
     omega arith
 
--- a test that passes where exactly one of two others does
+-- a test that passes if exactly one of two others passes
 pub count_sum : (f g h : ℕ → Bool) (n : ℕ) → ((i : ℕ) → of_bit (f i) ≡ of_bit (g i) + of_bit (h i)) → count_below f n ≡ count_below g n + count_below h n
 unfolding count_below
 count_sum f g h zero sum = refl
@@ -49,7 +49,7 @@ count_none f (suc n) none =
     let here : of_bit (f n) ≡ 0 = ap of_bit (none n) in
     omega arith
 
--- nothing passes from n on up to n + more
+-- no number from n up to n + more passes
 pub count_past : (f : ℕ → Bool) (n more : ℕ) → ((i : ℕ) → n ≤ i → i < n + more → f i ≡ false) → count_below f (n + more) ≡ count_below f n
 count_past f n zero none = let e : n + zero ≡ n = omega arith in ap (count_below f) e
 count_past f n (suc more) none =

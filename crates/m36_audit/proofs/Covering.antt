@@ -1,4 +1,4 @@
--- Counts of the runs that begin and end at each word, and how many runs cover a word.
+-- Counts of the runs that begin and end at each word, and the number of runs that cover a word.
 use Rattle.std.proofs.Common.{◌≡◌, ℕ, ◌+◌, ◌-◌, ◌<◌, ◌≤◌, length, refl, sym, ◌∙◌, ap, subst, inl, inr, arith}
 use Rattle.std.specs.Prelude.{◌⊎◌, Bool, false, nat_lt, nat_le, ◌==◌, ◌&&◌, List, Option, Some, None, slice_index}
 use Rattle.std.proofs.lemmas.Bool.{cases_eq, cases_lt, lt-ltb, le-ltb, le-leb, lt-leb, eq-eqb, ne_eqb}
@@ -23,7 +23,7 @@ counted_at counts x a lies = at (cases_eq a x)
         let kept : slice_index (counted counts x) a ≡ slice_index counts a = get_or-set_other counts x a (slice_index counts x + 1) 0 far in
         omega arith
 
--- one more run is counted
+-- counting one more run
 pub counted_more : (runs : ℕ → Option Run) (n size : ℕ) (starts stops : List ℕ) (r : Run) → runs n ≡ Some r → AreCounted runs n size starts stops → AreCounted runs (n + 1) size (counted starts r.first) (counted stops r.end)
 counted_more runs n size starts stops r e c =
     record {
@@ -43,7 +43,7 @@ counted_more runs n size starts stops r e c =
           omega arith;
     }
 
--- numbers that are of no run are passed over
+-- numbers without a run are skipped
 pub counted_on : (runs : ℕ → Option Run) (n m size : ℕ) (starts stops : List ℕ) → n ≤ m → ((i : ℕ) → n ≤ i → i < m → runs i ≡ None) → AreCounted runs n size starts stops → AreCounted runs m size starts stops
 counted_on runs n m size starts stops le none c =
     record {
@@ -58,7 +58,7 @@ counted_on runs n m size starts stops le none c =
         let e : m ≡ n + (m - n) = omega arith in
         ap (count_below f) e ∙ count_past f n (m - n) (λ i far near. off i far (omega arith))
 
--- how often a run begins or ends at a word is at most how many runs there are
+-- no more runs begin or end at a word than there are runs
 pub starts_most : (runs : ℕ → Option Run) (n size : ℕ) (starts stops : List ℕ) → AreCounted runs n size starts stops → (a : ℕ) → a < size → slice_index starts a ≤ n
 starts_most runs n size starts stops c a inside =
     let here = c.begin a inside in
@@ -133,7 +133,7 @@ module _ (runs : ℕ → Option Run) (n : ℕ) where
       each i None e = refl
       each i (Some r) e = cover_bit r.first r.end a (order.each i r e)
 
-  -- no run has begun before the first word
+  -- no run begins before the first word
   pub none_open : AreOpen runs n 0 0
   none_open =
       let begun = count_none (λ i. begins_before 0 (runs i)) n (λ i. early (runs i)) in
@@ -148,7 +148,7 @@ module _ (runs : ℕ → Option Run) (n : ℕ) where
       late None = refl
       late (Some r) = le-ltb r.end 0 (omega arith)
 
-  -- what a step from a word to the next does to the number of open runs
+  -- the number of open runs at the next word
   module _ (size : ℕ) (starts stops : List ℕ) (c : AreCounted runs n size starts stops) (order : InOrder runs) (a open_runs : ℕ) (k : AreOpen runs n a open_runs) (inside : a < size) where
     pub open_most : open_runs + slice_index starts a ≤ n
     open_most =

@@ -1,4 +1,4 @@
--- The runs of first segments are counted, one segment after another.
+-- The runs of first descriptors are counted, one segment after another.
 use Rattle.std.proofs.Common.{◌≡◌, ◌≢◌, ℕ, zero, suc, ◌+◌, ◌-◌, ◌*◌, ◌/◌, ◌%◌, ◌^◌, ◌<◌, ◌≤◌, refl, sym, ◌∙◌, ap, subst, arith}
 use Rattle.std.specs.Prelude.{if◌then◌else◌, Bool, true, false, ◌==◌, nat_lt, List, slice_get, slice_index, Option, Some, None, Result, Ok, Err}
 use Rattle.std.proofs.lemmas.Bool.{lt-leb, ltb-true, ne_eqb, eq-eqb}
@@ -14,7 +14,7 @@ use Rattle.m36_audit.proofs.Covering.{counted_on}
 use Rattle.m36_audit.proofs.SegmentRuns.{counted_by}
 use Rattle.m36_audit.proofs.SegmentWords.{run_at, run_live}
 
--- one number more, with a run or without
+-- one more number, with a run or without
 pub piece_counted : (runs : ℕ → Option Run) (n size : ℕ) (starts stops : List ℕ) (o : Option Run) (begun ended : List ℕ) → runs n ≡ o → begun ≡ starts_with o starts → ended ≡ stops_with o stops → AreCounted runs n size starts stops → AreCounted runs (n + 1) size begun ended
 piece_counted runs n size starts stops None begun ended e f g c =
     subst (λ (l : List ℕ). AreCounted runs (n + 1) size l ended) (sym f) (subst (λ (l : List ℕ). AreCounted runs (n + 1) size starts l) (sym g)
@@ -30,7 +30,7 @@ past_by : (u : Bool) (core : List ℕ) (d : SdwFields) (piece : ℕ) → (if u t
 past_by true core d piece le = two_only d piece le
 past_by false core d piece le = ap (λ (b : Bool). page_run_by b core d piece) (lt-leb piece (d.bound / 64) (omega arith))
 
--- past its last run a segment has none
+-- a segment has no runs after its last one
 pub pieces_done : (runs : ℕ → Option Run) (core : List ℕ) (d : SdwFields) (number n size : ℕ) (starts stops : List ℕ) → ((piece : ℕ) → piece < 256 → runs (256 * number + piece) ≡ run_by d.unpaged core d piece) → piece_count d ≤ n → n ≤ 256 → AreCounted runs (256 * number + n) size starts stops → AreCounted runs (256 * (number + 1)) size starts stops
 pieces_done runs core d number n size starts stops is le few c =
     counted_on runs (256 * number + n) (256 * (number + 1)) size starts stops (omega arith) none c
@@ -54,7 +54,7 @@ module _ (core : List ℕ) (dbrs : List DbrFields) (firsts : List ℕ) (k : ℕ)
         (λ i. first_run (slice_index firsts (number i) == number i) (run_of_process core (at i) (own i)))
         ∙ ap (first_run (slice_index firsts (2 ^ 15 * k + seg) == 2 ^ 15 * k + seg)) (run_at core dbr seg piece few)
 
-    -- a segment without runs that count
+    -- a segment whose runs are not counted
     none_at : ((piece : ℕ) → first_run (slice_index firsts (2 ^ 15 * k + seg) == 2 ^ 15 * k + seg) (run_of core (core_sdw core dbr seg) piece) ≡ None) → (size : ℕ) (starts stops : List ℕ) → AreCounted (joint_run core dbrs firsts) (256 * (2 ^ 15 * k + seg)) size starts stops → AreCounted (joint_run core dbrs firsts) (256 * (2 ^ 15 * k + seg + 1)) size starts stops
     none_at off size starts stops c =
         counted_on (joint_run core dbrs firsts) (256 * (2 ^ 15 * k + seg)) (256 * (2 ^ 15 * k + seg + 1)) size starts stops (omega arith) none c
@@ -79,14 +79,14 @@ module _ (core : List ℕ) (dbrs : List DbrFields) (firsts : List ℕ) (k : ℕ)
     pub no_words : ((d : SdwFields) → core_sdw core dbr seg ≡ Ok d → in_order d ≡ false) → (size : ℕ) (starts stops : List ℕ) → AreCounted (joint_run core dbrs firsts) (256 * (2 ^ 15 * k + seg)) size starts stops → AreCounted (joint_run core dbrs firsts) (256 * (2 ^ 15 * k + seg + 1)) size starts stops
     no_words off = none_at (λ piece. ap (first_run (slice_index firsts (2 ^ 15 * k + seg) == 2 ^ 15 * k + seg)) (none_by (core_sdw core dbr seg) refl off piece) ∙ first_none (slice_index firsts (2 ^ 15 * k + seg) == 2 ^ 15 * k + seg))
 
-    -- the runs of a first segment that is live and whose brackets are in order
+    -- the runs of a segment that has a first descriptor, is live, and has its brackets in order
     pub runs_are : slice_index firsts (2 ^ 15 * k + seg) ≡ 2 ^ 15 * k + seg → (d : SdwFields) → core_sdw core dbr seg ≡ Ok d → in_order d ≡ true → (piece : ℕ) → piece < 256 → joint_run core dbrs firsts (256 * (2 ^ 15 * k + seg) + piece) ≡ run_by d.unpaged core d piece
     runs_are first d live order piece few =
         joint_at piece few
         ∙ ap (λ (b : Bool). first_run b (run_of core (core_sdw core dbr seg) piece)) (eq-eqb (slice_index firsts (2 ^ 15 * k + seg)) (2 ^ 15 * k + seg) first)
         ∙ run_live core d (core_sdw core dbr seg) piece live order
 
-  -- where every segment in bounds was looked at, all runs of the process are counted
+  -- once every segment in bounds was visited, all runs of the process are counted
   pub process_counted : (n m size : ℕ) (starts stops : List ℕ) → ((q : ℕ) → in_bounds dbr q ≡ nat_lt q n) → n ≤ m → m ≤ 2 ^ 15 → AreCounted (joint_run core dbrs firsts) (256 * (2 ^ 15 * k + m)) size starts stops → AreCounted (joint_run core dbrs firsts) (256 * (2 ^ 15 * (k + 1))) size starts stops
   process_counted n m size starts stops bounds enough few c =
       counted_on (joint_run core dbrs firsts) (256 * (2 ^ 15 * k + m)) (256 * (2 ^ 15 * (k + 1))) size starts stops (omega arith) none c

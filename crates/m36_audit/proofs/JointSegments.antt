@@ -1,4 +1,5 @@
--- The third condition between processes by what is told of a core word, and by the runs of first segments.
+-- The third condition between processes, from what is recorded for a core word and from the runs of
+-- first descriptors.
 use Rattle.std.proofs.Common.{◌≡◌, ◌≢◌, ℕ, ◌+◌, ◌*◌, ◌/◌, ◌%◌, ◌^◌, ◌<◌, ◌≤◌, length, refl, sym, ◌∙◌, ap, subst, inl, inr, arith}
 use Rattle.std.specs.Prelude.{◌⊎◌, Bool, true, false, ◌==◌, ◌&&◌, nat_lt, List, slice_index, slice_get, Option, Some, None}
 use Rattle.std.specs.Bool.{Decides}
@@ -19,7 +20,7 @@ use Rattle.m36_audit.proofs.Bounds.{live_in_bounds}
 use Rattle.m36_audit.proofs.SegmentWords.{number_of, word_parts, word_is, word_live, word_number, word_once, covered_word, word_inside}
 use Rattle.m36_audit.proofs.SameDescriptors.{LiveOf, live_of, same_firsts, firsts_same, FirstOf, first_of}
 
--- a word of a segment, by the number of the first descriptor with the segment's words
+-- a segment word, by the number of the first descriptor with the words of its segment's descriptor
 pub record Named : Type 0 where
   pub first : ℕ
   pub w : ℕ
@@ -46,7 +47,7 @@ segment_small core dbr seg w a h =
     let live = word_live core dbr seg w a h in
     few_segments dbr seg (live_in_bounds core dbr seg live.0 live.1)
 
--- the run of a number, taken apart
+-- the parts of the run with a number
 record RunOf (core : List ℕ) (dbrs : List DbrFields) (firsts : List ℕ) (i a : ℕ) : Type 0 where
   pub dbr : DbrFields
   pub process : slice_get dbrs (i / 2 ^ 23) ≡ Some dbr
@@ -114,7 +115,7 @@ module _ (core : List ℕ) (dbrs : List DbrFields) (firsts : List ℕ) (classes 
           ∙ same_firsts core dbrs firsts classes c.one c.other c.has.seg c.has_other.seg c.has.dbr c.has_other.dbr (live_word c.one c.thing c.has) (live_word c.other c.other_thing c.has_other) c.has.below c.has_other.below s.segment
           ∙ sym c.has_other.first_is
 
-  -- a covered word of a first segment
+  -- a covered word of a segment with a first descriptor
   record FirstWord (i : ℕ) : Type 0 where
     pub named : Named
     pub has : HasWord core dbrs firsts a (i / 2 ^ 23) named
@@ -177,7 +178,7 @@ module _ (core : List ℕ) (dbrs : List DbrFields) (firsts : List ℕ) (classes 
       let is_too = p.has_other.2.is in
       clash_breaks (clash (HasWord core dbrs firsts a) same_named p.has.0 p.has_other.0 (k.at / 2 ^ 23) (k.other / 2 ^ 23) one.0 other.0 x.named y.named (λ g. p.differ (is ∙ ap (λ (n : ℕ). n + 1) g ∙ sym is_too)) one.1 other.1 x.has y.has (numbers_differ k.at k.other x y k.differ))
 
-  -- the number of the run of the first segment with the words of this one
+  -- the number of the run of the segment with the first descriptor that has the words of this one
   module _ (k : ℕ) (dbr : DbrFields) (process : slice_get dbrs k ≡ Some dbr) (seg w : ℕ) (word : IsSegmentWord core dbr seg w a) where
     below : k < length dbrs
     below = slice_get_within dbrs k dbr process

@@ -1,4 +1,4 @@
--- The second condition between processes by what is told of a core word.
+-- The second condition between processes, from what is recorded for a core word.
 use Rattle.std.proofs.Common.{◌≡◌, ◌≢◌, ℕ, ◌+◌, ◌*◌, ◌^◌, ◌<◌, ◌≤◌, length, refl, sym, ◌∙◌, ap, subst, inl, inr, arith}
 use Rattle.std.specs.Prelude.{◌⊎◌, Bool, true, false, not, ◌==◌, ◌&&◌, ◌||◌, List, slice_index, slice_get, Some}
 use Rattle.std.specs.Bool.{Decides}
@@ -35,7 +35,7 @@ module _ (core : List ℕ) (dbrs : List DbrFields) (firsts : List ℕ) (classes 
   same_by k l dbr other Directory Directory lt lt_too apart at at_too of of_too e = absurd (apart (omega arith))
   same_by k l dbr other Directory (Pages r) lt lt_too apart at at_too of of_too e = absurd (omega arith)
 
-  -- one of the processes has the table with this number there
+  -- one of the processes has the table with this number at the word
   Has : ℕ → ℕ → Type 0
   Has k x = (k < length dbrs) × Identified core dbrs firsts k a x
 
@@ -63,7 +63,7 @@ module _ (core : List ℕ) (dbrs : List DbrFields) (firsts : List ℕ) (classes 
   owners_apart k l x y e f apart g = apart (omega arith)
 
   module _ (inside : a < length core) (tables segments identities : ℕ) (t : IsTold (Below (TableOwned core dbrs) (length dbrs) a) tables) (s : IsTold (Below (SegmentOwned core dbrs) (length dbrs) a) segments) (n : IsTold (Below (Identified core dbrs firsts) (length dbrs) a) identities) where
-    -- two numbers, and two processes
+    -- two different numbers mean two processes
     by_tables : tables ≡ several → identities ≡ several → IsJointTable core dbrs a
     unfolding Has
     by_tables e f =
@@ -73,7 +73,7 @@ module _ (core : List ℕ) (dbrs : List DbrFields) (firsts : List ℕ) (classes 
         let other = has_table p.has_other.0 p.other p.has_other.1 p.has_other.2 in
         clash_breaks inside (clash Has (λ x y. cases_eq x y) p.has.0 p.has_other.0 q.has.0 q.has_other.0 one.0 other.0 q.one q.other (owners_apart p.has.0 p.has_other.0 p.one p.other p.has.2.is p.has_other.2.is p.differ) one.1 other.1 (q.has.1, q.has.2) (q.has_other.1, q.has_other.2) q.differ)
 
-    -- a table of one process, and a segment of another
+    -- a table of one process and a segment of another
     on_segment_of : (k l x y : ℕ) → k ≢ l → TableOwned core dbrs k a x → SegmentOwned core dbrs l a y → IsJointTable core dbrs a
     on_segment_of k l x y apart h g =
         record {
@@ -86,7 +86,7 @@ module _ (core : List ℕ) (dbrs : List DbrFields) (firsts : List ℕ) (classes 
           taken = inl (g.seg, g.w, g.word);
         }
 
-    -- of two different processes one is not this one
+    -- one of two different processes is not this one
     table_beside : (l y : ℕ) → SegmentOwned core dbrs l a y → TwoOf (Below (TableOwned core dbrs) (length dbrs) a) → IsJointTable core dbrs a
     table_beside l y g p = at (cases_eq p.has.0 l)
       where
@@ -127,7 +127,7 @@ module _ (core : List ℕ) (dbrs : List DbrFields) (firsts : List ℕ) (classes 
     test_breaks false q false true w e f g h i passed = cc
     test_breaks false q false false true e f g h i passed = cc
 
-    -- and back
+    -- the converse
     not_zero : (Has : ℕ → Type 0) (value k : ℕ) → IsTold Has value → Has (k + 1) → value ≢ 0
     not_zero Has value k told has e =
         let is = told.only (λ f. omega arith) (k + 1) has in

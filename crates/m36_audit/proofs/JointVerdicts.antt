@@ -1,4 +1,4 @@
--- The findings of processes one after another, and what is told of core words after one process more.
+-- The findings of processes in order, and what is recorded for core words after one more process.
 use Rattle.std.proofs.Common.{◌≡◌, ℕ, zero, suc, ◌+◌, ◌≤◌, ◌<◌, length, refl, sym, ◌∙◌, ap, subst, inl, inr, arith, get_or}
 use Rattle.std.specs.Prelude.{◌⊎◌, List, [], ◌∷◌, ◌++◌, ◌↔◌, drop, slice_get, slice_index, replicate, Option, Some, None}
 use Rattle.std.proofs.lemmas.Bool.{cases_lt}
@@ -25,7 +25,7 @@ pub found_none : (core : List ℕ) (dbrs : List DbrFields) (findings : List Join
 found_none core dbrs findings e =
     record { whole = λ rest f. subst (λ (l : List JointFinding). AreFindingsFrom 0 core dbrs (all_found l ++ rest)) (sym e) f }
 
--- of one process more
+-- the findings of one more process
 pub found_next : (core : List ℕ) (dbrs : List DbrFields) (n : ℕ) (dbr : DbrFields) (findings after : List JointFinding) (own : List (ℕ × ℕ)) → slice_get dbrs n ≡ Some dbr → AreFindings core dbr own → all_found after ≡ all_found findings ++ of_process n own → AreFoundSo core dbrs n findings → AreFoundSo core dbrs (n + 1) after
 found_next core dbrs n dbr findings after own process found listed before =
     record { whole = whole }
@@ -39,7 +39,7 @@ found_next core dbrs n dbr findings after own process found listed before =
         let same : all_found findings ++ (of_process n own ++ rest) ≡ all_found after ++ rest = sym (append_assoc (all_found findings) (of_process n own) rest) ∙ ap (λ (l : List JointFound). l ++ rest) (sym listed) in
         subst (AreFindingsFrom 0 core dbrs) same all
 
--- of all processes
+-- the findings of all processes
 pub found_all : (core : List ℕ) (dbrs : List DbrFields) (n : ℕ) (findings : List JointFinding) → length dbrs ≤ n → n ≤ length dbrs → AreFoundSo core dbrs n findings → AreFindingsFrom 0 core dbrs (all_found findings)
 found_all core dbrs n findings enough few f =
     let none : drop n dbrs ≡ [] = drop_of_length-le dbrs enough in
@@ -50,14 +50,14 @@ no_findings : (findings : List JointFinding) → all_found findings ≡ [] → f
 no_findings [] h = refl
 no_findings (f ∷ findings) h = cc
 
--- where nothing is found all conditions hold, and back
+-- there are no findings exactly if all conditions hold
 pub nothing_joint : JointFindingsLaw → (core : List ℕ) (dbrs : List DbrFields) (findings : List JointFinding) → AreJointFindings core dbrs (all_found findings) → (findings ≡ []) ↔ IsJointlyAudited core dbrs
 nothing_joint law core dbrs findings f = (
   λ none. law.sound core dbrs (subst (λ (l : List JointFound). AreJointFindings core dbrs l) (ap all_found none) f),
   λ audited. no_findings findings (law.complete core dbrs (all_found findings) audited f),
 )
 
--- two notes behind the findings of processes
+-- two more findings after those of the processes
 pub joined_findings : (core : List ℕ) (dbrs : List DbrFields) (own second_noted third_noted : List JointFinding) (second third : Option ℕ) → all_found second_noted ≡ all_found own ++ between 2 second → all_found third_noted ≡ all_found second_noted ++ between 3 third → all_found third_noted ≡ all_found own ++ between 2 second ++ between 3 third
 joined_findings core dbrs own second_noted third_noted second third e f = f ∙ ap (λ (l : List JointFound). l ++ between 3 third) e
 
@@ -75,7 +75,7 @@ none_told Has size values e =
     zero_at : (a : ℕ) → slice_index values a ≡ 0
     zero_at a = ap (λ (l : List ℕ). slice_index l a) e ∙ zeros size a (cases_lt a size)
 
--- nothing is told of any process
+-- no process is recorded yet
 pub no_shares : (core : List ℕ) (dbrs : List DbrFields) (firsts : List ℕ) (size : ℕ) (tables segments identities : List ℕ) → size ≡ length core → tables ≡ replicate size 0 → segments ≡ replicate size 0 → identities ≡ replicate size 0 → AreShares core dbrs firsts 0 tables segments identities
 no_shares core dbrs firsts size tables segments identities is e f g =
     record {

@@ -6,12 +6,12 @@ use Rattle.std.proofs.lemmas.List.{get_or-set_same, get_or-set_other, length-set
 use Rattle.m36_model.specs.Audit.{Table, Sdws, Directory, Pages, InTwo, Finds}
 use Rattle.m36_audit.specs.TableMarks.{number, tables_by, tables_marked, lesser, least_by, least_marked, HasMark, AreMarked}
 
--- what is found of one condition is found of another that is the same
+-- equivalent conditions have the same finding
 pub finds_same : (A B : ℕ → Type 0) (found : Option ℕ) → ((a : ℕ) → A a → B a) → ((a : ℕ) → B a → A a) → Finds A found → Finds B found
 finds_same A B None there back f = λ p h. f p (back p h)
 finds_same A B (Some p) there back f = (there p f.0, λ q h. f.1 q (back q h))
 
--- one more place that breaks a condition
+-- a condition with one more place that breaks it
 also_by : (A B : ℕ → Type 0) (found : Option ℕ) (p : ℕ) → ((a : ℕ) → A a → B a) → ((a : ℕ) → B a → A a ⊎ (a ≡ p)) → B p → Finds A found → Finds B (lesser found p)
 also_by A B None p there back here f =
     (here, λ q h. at q (back q h))
@@ -51,7 +51,7 @@ module _ (V W : Table → ℕ → Type 0) (t0 : Table) (a0 : ℕ) (old : (t : Ta
   was_by t a far (inl v) = v
   was_by t a far (inr e) = absurd (far e.1)
 
-  -- at another word nothing is new
+  -- nothing changes for other words
   was : (t : Table) (a : ℕ) → (a ≡ a0 → ⊥) → W t a → V t a
   was t a far w = was_by t a far (new t a w)
 

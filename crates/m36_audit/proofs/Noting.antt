@@ -1,4 +1,4 @@
--- One more descriptor is noted, by the first with its words.
+-- Recording one more descriptor, with the number of the first one with the same words.
 use Rattle.std.proofs.Common.{◌≡◌, ◌≢◌, ℕ, ◌+◌, ◌-◌, ◌*◌, ◌/◌, ◌%◌, ◌^◌, ◌<◌, ◌≤◌, length, refl, sym, ◌∙◌, ap, subst, inl, inr, arith, cond, get_or}
 use Rattle.std.specs.Prelude.{◌⊎◌, Bool, true, false, ◌==◌, nat_lt, List, slice_get, slice_index, slice_set, replicate, Option, Some, None, MatchOption}
 use Rattle.std.proofs.lemmas.Bool.{cases_eq, cases_lt, eqb-true, eq-eqb, ltb-true}
@@ -12,7 +12,7 @@ use Rattle.m36_audit.proofs.SameDescriptors.{keys_same, numbered, numbered_odd}
 use Rattle.m36_audit.proofs.TableWords.{zeros}
 
 module _ (core : List ℕ) (dbrs : List DbrFields) (few : length dbrs ≤ 8) where
-  -- numbers without a key are passed over
+  -- numbers without a key are skipped
   pub noted_on : (n m : ℕ) (places : ℕ → Option ℕ) (firsts : List ℕ) → n ≤ m → ((i key : ℕ) → n ≤ i → i < m → KeyAt core dbrs i key → ⊥) → AreNotedSo core dbrs n places firsts → AreNotedSo core dbrs m places firsts
   noted_on n m places firsts le none s =
       record {
@@ -127,7 +127,7 @@ module _ (core : List ℕ) (dbrs : List DbrFields) (few : length dbrs ≤ 8) whe
         }
     noted_next (Some x) hit miss h = first_noted x (hit x refl) (places x) refl h
 
-  -- a key of a segment of process k is that of its number, and back
+  -- a key of a segment of process k is the key of its number, and conversely
   module _ (k : ℕ) (dbr : DbrFields) (process : slice_get dbrs k ≡ Some dbr) where
     pub key_taken : (seg key : ℕ) → seg < 2 ^ 15 → KeyAt core dbrs (2 ^ 15 * k + seg) key → IsKey core dbr seg key
     key_taken seg key lt h =
@@ -144,7 +144,7 @@ module _ (core : List ℕ) (dbrs : List DbrFields) (few : length dbrs ≤ 8) whe
         let e = numbered_odd core dbrs k seg key dbr process lt mine h in
         omega arith
 
-    -- past the last descriptor there are no keys
+    -- there are no keys after the last descriptor
     pub none_past : (n m : ℕ) → ((q : ℕ) → in_bounds dbr q ≡ nat_lt q n) → n ≤ m → (i key : ℕ) → 2 ^ 15 * k + m ≤ i → i < 2 ^ 15 * (k + 1) → KeyAt core dbrs i key → ⊥
     none_past n m bounds enough i key far near h =
         let e : i ≡ 2 ^ 15 * k + (i - 2 ^ 15 * k) = omega arith in
@@ -206,7 +206,7 @@ pub noted_rest : (core : List ℕ) (dbrs : List DbrFields) → length dbrs ≤ 8
 noted_rest core dbrs few k dbr process n m bounds enough most places firsts s =
     noted_on core dbrs few (2 ^ 15 * k + m) (2 ^ 15 * (k + 1)) places firsts (omega arith) (none_past core dbrs few k dbr process n m bounds enough) s
 
--- a value that was looked up is the one that contracts name
+-- the value that was read is the one in the contracts
 pub value_at : (values : List ℕ) (n v : ℕ) → n < length values → v ≡ get_or values n v → v ≡ slice_index values n
 value_at values n v lt e = at (slice_get_cases values n).1
   where

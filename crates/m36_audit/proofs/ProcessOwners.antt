@@ -1,4 +1,4 @@
--- A process was told of every core word where it has something.
+-- A process is recorded for every core word where it has something.
 use Rattle.std.proofs.Common.{◌≡◌, ◌≢◌, ℕ, ◌+◌, ◌^◌, ◌<◌, ◌≤◌, length, refl, sym, ◌∙◌, ap, subst, inl, inr, arith}
 use Rattle.std.specs.Prelude.{◌⊎◌, Bool, true, false, not, ◌==◌, nat_lt, List, slice_index, slice_get, Option, Some}
 use Rattle.std.proofs.lemmas.Bool.{cases_eq, cases_lt, ltb-true, lt-ltb, eq-eqb, ne_eqb}
@@ -56,7 +56,7 @@ not_on m h e = let f = ap not (eq-eqb m 0 e) in cc
 on_not : (m : ℕ) → (m ≡ 0 → ⊥) → not (m == 0) ≡ true
 on_not m far = ap not (ne_eqb m 0 far)
 
--- where it has a table word
+-- table words
 pub tables_owned : (core : List ℕ) (dbrs : List DbrFields) (dbr : DbrFields) (k : ℕ) → k < 8 → slice_get dbrs k ≡ Some dbr → (marks : List ℕ) (least : Option ℕ) → AreMarked (IsOf core dbr) (length core) marks least → (old new : List ℕ) → AreOwned (λ q. not (slice_index marks q == 0)) (k + 1) (length core) old new → AreTold (Below (TableOwned core dbrs) k) (length core) old → AreTold (Below (TableOwned core dbrs) (k + 1)) (length core) new
 tables_owned core dbrs dbr k few process marks least m old new o t =
     owners_told (TableOwned core dbrs) k few (length core) (λ q. not (slice_index marks q == 0)) there tested (λ j q x h. let is = h.is in omega arith) old new o t
@@ -72,7 +72,7 @@ tables_owned core dbrs dbr k few process marks least m old new o t =
         let one_dbr : h.dbr ≡ dbr = cc in
         (on_not (slice_index marks q) (λ e. m.none q inside e h.table (subst (λ (d : DbrFields). IsOf core d h.table q) one_dbr h.of)), h.is)
 
--- where it has a word of a segment
+-- segment words
 pub segments_owned : (core : List ℕ) (dbrs : List DbrFields) (dbr : DbrFields) (k : ℕ) → k < 8 → slice_get dbrs k ≡ Some dbr → (old new : List ℕ) → AreOwned (λ q. nat_lt 0 (coverage core dbr q)) (k + 1) (length core) old new → AreTold (Below (SegmentOwned core dbrs) k) (length core) old → AreTold (Below (SegmentOwned core dbrs) (k + 1)) (length core) new
 segments_owned core dbrs dbr k few process old new o t =
     owners_told (SegmentOwned core dbrs) k few (length core) (λ q. nat_lt 0 (coverage core dbr q)) there tested (λ j q x h. let is = h.is in omega arith) old new o t
@@ -103,12 +103,12 @@ owned_far : (b : Bool) (values : List ℕ) (a q number : ℕ) → q ≢ a → sl
 owned_far true values a q number far = get_or-set_other values a q (joined (slice_index values a) number) 0 far
 owned_far false values a q number far = refl
 
--- nothing is told yet
+-- no word is recorded yet
 pub owned_none : (test : ℕ → Bool) (number : ℕ) (old : List ℕ) → AreOwned test number 0 old old
 owned_none test number old =
     record { len = refl; before = λ q lt. absurd (omega arith); after = λ q le. refl }
 
--- one word more
+-- one more word
 pub owned_next : (test : ℕ → Bool) (number a : ℕ) (b : Bool) (old now after : List ℕ) → b ≡ test a → a < length old → after ≡ owned_at b now a number → AreOwned test number a old now → AreOwned test number (a + 1) old after
 owned_next test number a b old now after e inside f o =
     record {

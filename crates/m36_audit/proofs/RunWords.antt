@@ -1,4 +1,5 @@
--- The words of one run: each word of a page, or of an unpaged segment, is covered by its run, and each covered word is one.
+-- The words of one run: each word of a page or of an unpaged segment is covered by its run, and
+-- each covered word is one of them.
 use Rattle.std.proofs.Common.{◌≡◌, ℕ, zero, suc, ◌+◌, ◌-◌, ◌*◌, ◌/◌, ◌%◌, ◌^◌, ◌<◌, ◌≤◌, min, refl, sym, ◌∙◌, ap, subst, arith}
 use Rattle.std.specs.Prelude.{Bool, true, false, List, Option, Some, None, option_map, slice_get, Ok}
 use Rattle.std.specs.Result.{result_ok}
@@ -20,7 +21,7 @@ pub record Covers (o : Option Run) (a : ℕ) : Type 0 where
 pub covers_same : (o p : Option Run) (a : ℕ) → o ≡ p → Covers o a → Covers p a
 covers_same o p a e k = record { run = k.run; is = sym e ∙ k.is; first = k.first; end = k.end }
 
--- a page table word's fields are within their widths
+-- the fields of a PTW are within their widths
 fits_by : (o : Option ℕ) (p : PtwFields) → option_map ptw_of o ≡ Some p → IsPtw p
 fits_by None p h = cc
 fits_by (Some w) p h =
@@ -30,7 +31,7 @@ fits_by (Some w) p h =
 pub ptw_fits_at : (core : List ℕ) (x : ℕ) (p : PtwFields) → ptw_at core x ≡ Some p → IsPtw p
 ptw_fits_at core x p h = fits_by (slice_get core x) p h
 
--- the word of an unpaged segment in its run, and back
+-- a word of an unpaged segment is in its run, and conversely
 pub whole_covers_at : (d : SdwFields) (w a t : ℕ) → IsSdw d → w / 16 ≤ d.bound → wrapped (d.addr + w) ≡ a → (d.addr + w) / 2 ^ 24 ≡ t → Covers (whole_run d t) a
 whole_covers_at d w a zero fits le e f =
     let addr = fits.addr in
@@ -43,7 +44,7 @@ whole_covers_at d w a (suc (suc t)) fits le e f =
     let bound = fits.bound in
     absurd (omega arith)
 
--- a word of an unpaged segment that lies at an address
+-- the word of an unpaged segment at an address
 pub record WholeWord (d : SdwFields) (t a : ℕ) : Type 0 where
   pub w : ℕ
   pub bound : w / 16 ≤ d.bound
@@ -68,7 +69,7 @@ whole_word d (suc zero) a fits k =
     record { w = (a + 2 ^ 24) - d.addr; bound = omega arith; lies = omega arith; turn = omega arith }
 whole_word d (suc (suc t)) a fits k = let is = k.is in cc
 
--- the word of a page in its run, and back
+-- a word of a page is in its run, and conversely
 pub frame_covers : (o : Option PtwFields) (d : SdwFields) (w a : ℕ) → ((p : PtwFields) → o ≡ Some p → IsPtw p) → w / 16 ≤ d.bound → in_frame o (w % 1024) ≡ Ok a → Covers (frame_run (result_ok (in_frame o 0)) (words d - 1024 * (w / 1024))) a
 frame_covers None d w a fits le h = cc
 frame_covers (Some p) d w a fits le h = at p.f h
@@ -85,7 +86,7 @@ frame_covers (Some p) d w a fits le h = at p.f h
         }
     at false e = cc
 
--- a word of a page that lies at an address
+-- the word of a page at an address
 pub record PageWord (o : Option PtwFields) (d : SdwFields) (page a : ℕ) : Type 0 where
   pub w : ℕ
   pub bound : w / 16 ≤ d.bound

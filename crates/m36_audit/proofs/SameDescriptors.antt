@@ -1,4 +1,5 @@
--- Equal descriptors: two live segments have the same number exactly where their descriptors are equal words.
+-- Equal descriptors: two live segments have the same number exactly if their descriptors are equal
+-- words.
 use Rattle.std.proofs.Common.{◌≡◌, ℕ, ◌+◌, ◌*◌, ◌/◌, ◌%◌, ◌^◌, ◌<◌, ◌≤◌, length, refl, sym, ◌∙◌, ap, subst, arith}
 use Rattle.std.specs.Prelude.{List, slice_get, slice_index, Option, Some, None, Result, Ok, Err}
 use Rattle.std.proofs.lemmas.Option.{slice_get_within, slice_get-get_or}
@@ -24,7 +25,7 @@ key_by : (core : List ℕ) (dbr : DbrFields) (seg : ℕ) (d : SdwFields) (v : Re
 key_by core dbr seg d (Err r) place h = cc
 key_by core dbr seg d (Ok at) place h = key_words core dbr seg at d (slice_get core at) (slice_get core (wrapped (at + 1))) place refl refl h
 
--- the descriptor of a live segment stands in core
+-- the descriptor of a live segment is in core
 pub live_key : (core : List ℕ) (dbr : DbrFields) (seg : ℕ) (d : SdwFields) → core_sdw core dbr seg ≡ Ok d → HasKey core dbr seg
 unfolding core_sdw
 live_key core dbr seg d h = key_by core dbr seg d (sdw_place core dbr seg) refl h
@@ -37,7 +38,7 @@ key_sdw core dbr seg key h = ap (sdw_at core) h.found ∙ (λ i. sdw_words (h.ev
 same_at : (core : List ℕ) (dbr : DbrFields) (seg x y : ℕ) → sdw_place core dbr seg ≡ Ok x → sdw_place core dbr seg ≡ Ok y → x ≡ y
 same_at core dbr seg x y h k = cc
 
--- there is no key where no descriptor is found, or a word of it is past the end of core
+-- there is no key if no descriptor is found, or a word of it is past the end of core
 pub key_refused : (core : List ℕ) (dbr : DbrFields) (seg : ℕ) (why : Refusal) → Err why ≡ sdw_place core dbr seg → (key : ℕ) → IsKey core dbr seg key → ⊥
 key_refused core dbr seg why refused key h = cc
 
@@ -53,7 +54,7 @@ key_halved core dbr seg at found past key h =
     let within : wrapped (at + 1) < length core = slice_get_within core (wrapped (at + 1)) h.odd (ap (λ a. slice_get core (wrapped (a + 1))) same ∙ h.odd_is) in
     omega arith
 
--- the key of a descriptor that stands in core, and its odd word
+-- the key of a descriptor that is in core, and its odd word
 pub key_there : (core : List ℕ) (dbr : DbrFields) (seg at next even odd : ℕ) → Ok at ≡ sdw_place core dbr seg → next ≡ wrapped (at + 1) → at < length core → next < length core → even ≡ slice_index core at → odd ≡ slice_index core next → IsKey core dbr seg (even * 2 ^ 36 + odd)
 key_there core dbr seg at next even odd found is there there_too e o = record {
   at = at;
@@ -80,7 +81,7 @@ pub record SameWords (even odd other_even other_odd : ℕ) : Type 0 where
   pub evens : even ≡ other_even
   pub odds : odd ≡ other_odd
 
--- equal words, by the definition
+-- equal words, as the definition has it
 pub words_same : (core : List ℕ) (dbr other : DbrFields) (seg other_seg x y : ℕ) → AreSame core dbr other seg other_seg → (h : IsKey core dbr seg x) → (k : IsKey core other other_seg y) → SameWords h.even h.odd k.even k.odd
 words_same core dbr other seg other_seg x y s h k =
     let at : h.at ≡ s.at = same_at core dbr seg h.at s.at h.found s.found in
@@ -102,7 +103,7 @@ key_same core dbr seg x y h k =
     let is_too = k.key_is in
     omega arith
 
--- two descriptors of one number have one key
+-- descriptors with the same number have the same key
 pub keys_same : (core : List ℕ) (dbrs : List DbrFields) (i x y : ℕ) → KeyAt core dbrs i x → KeyAt core dbrs i y → x ≡ y
 keys_same core dbrs i x y h k =
     let at = h.process in
@@ -158,7 +159,7 @@ module _ (core : List ℕ) (dbrs : List DbrFields) (firsts : List ℕ) (classes 
         omega arith
 
   module _ (k l seg other_seg : ℕ) (dbr other : DbrFields) (live : LiveOf core dbrs k seg dbr) (other_live : LiveOf core dbrs l other_seg other) (few : k < length dbrs) (few_too : l < length dbrs) where
-    -- equal words have one number
+    -- equal words have the same number
     pub same_firsts : AreSame core dbr other seg other_seg → slice_index firsts (2 ^ 15 * k + seg) ≡ slice_index firsts (2 ^ 15 * l + other_seg)
     same_firsts s =
         let w = words_same core dbr other seg other_seg live.key other_live.key s live.is other_live.is in
@@ -169,7 +170,7 @@ module _ (core : List ℕ) (dbrs : List DbrFields) (firsts : List ℕ) (classes 
         let one : other_live.key ≡ live.key = omega arith in
         classes.same (2 ^ 15 * k + seg) (2 ^ 15 * l + other_seg) live.key (number_small k seg dbr live few) (number_small l other_seg other other_live few_too) (at_number k seg dbr live few) (subst (KeyAt core dbrs (2 ^ 15 * l + other_seg)) one (at_number l other_seg other other_live few_too))
 
-    -- one number has equal words
+    -- the same number means equal words
     pub same_words : slice_index firsts (2 ^ 15 * k + seg) ≡ slice_index firsts (2 ^ 15 * l + other_seg) → SameWords live.is.even live.is.odd other_live.is.even other_live.is.odd
     same_words e =
         let one = classes.each (2 ^ 15 * k + seg) live.key (number_small k seg dbr live few) (at_number k seg dbr live few) in

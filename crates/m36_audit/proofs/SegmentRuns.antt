@@ -1,4 +1,4 @@
--- The runs of one segment more are counted.
+-- Counting the runs of one more segment.
 use Rattle.std.proofs.Common.{◌≡◌, ℕ, zero, suc, ◌+◌, ◌-◌, ◌*◌, ◌/◌, ◌%◌, ◌^◌, ◌<◌, ◌≤◌, refl, sym, ◌∙◌, ap, subst, inl, inr, arith}
 use Rattle.std.specs.Prelude.{◌⊎◌, Bool, true, false, nat_lt, List, length, replicate, slice_index, Option, Some, None, Result, Ok, Err}
 use Rattle.std.proofs.lemmas.Bool.{ltb-true, lt-leb, cases_lt}
@@ -31,7 +31,7 @@ starts_room runs n size starts stops a few c = room starts size n a c.starts_len
 pub stops_room : (runs : ℕ → Option Run) (n size : ℕ) (starts stops : List ℕ) (a : ℕ) → n ≤ 2 ^ 28 → AreCounted runs n size starts stops → slice_index stops a < 2 ^ 32 - 1
 stops_room runs n size starts stops a few c = room stops size n a c.stops_len (stops_most runs n size starts stops c) few
 
--- the counts that a call left are those of one more run
+-- the counts after a call are those with one more run
 pub counted_by : (runs : ℕ → Option Run) (n size : ℕ) (starts stops : List ℕ) (r : Run) (begun ended : List ℕ) → runs n ≡ Some r → begun ≡ counted starts r.first → ended ≡ counted stops r.end → AreCounted runs n size starts stops → AreCounted runs (n + 1) size begun ended
 counted_by runs n size starts stops r begun ended e f g c =
     subst (λ (l : List ℕ). AreCounted runs (n + 1) size l ended) (sym f) (subst (λ (l : List ℕ). AreCounted runs (n + 1) size (counted starts r.first) l) (sym g) (counted_more runs n size starts stops r e c))
@@ -98,7 +98,7 @@ module _ (core : List ℕ) (dbr : DbrFields) (seg : ℕ) where
         counted_on (run core dbr) (256 * seg + page) (256 * (seg + 1)) size starts stops (omega arith)
         (λ i low high. live_number false paged i (omega arith) high ∙ ap (λ (b : Bool). page_run_by b core d (i - 256 * seg)) (lt-leb (i - 256 * seg) (d.bound / 64) (omega arith))) c
 
--- where every segment in bounds was looked at, all runs are counted
+-- once every segment in bounds was visited, all runs are counted
 module _ (core : List ℕ) (dbr : DbrFields) (n m : ℕ) (bounds : (q : ℕ) → in_bounds dbr q ≡ nat_lt q n) (enough : n ≤ m) (few : m ≤ 2 ^ 15) where
   dead_by : (seg : ℕ) → m ≤ seg → (v : Result SdwFields Refusal) → core_sdw core dbr seg ≡ v → (piece : ℕ) → run_of core v piece ≡ None
   dead_by seg far (Err e) live piece = refl

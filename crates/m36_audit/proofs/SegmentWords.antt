@@ -15,7 +15,7 @@ use Rattle.m36_audit.specs.Runs.{page_run, page_run_by, run_by, run_ordered, run
 use Rattle.m36_audit.proofs.Bounds.{live_fits}
 use Rattle.m36_audit.proofs.RunWords.{Covers, covers_same, ptw_fits_at, whole_covers_at, whole_word, frame_covers, frame_word}
 
--- which of its segment's runs covers a word
+-- the run of its segment that covers a word
 pub piece_by : Bool → SdwFields → ℕ → ℕ
 piece_by true d w = (d.addr + w) / 2 ^ 24
 piece_by false d w = w / 1024
@@ -30,7 +30,7 @@ covered_by core false d w a fits le h =
     covers_same (page_run_by true core d (w / 1024)) (page_run core d (w / 1024)) a (ap (λ (b : Bool). page_run_by b core d (w / 1024)) (sym begins))
     (frame_covers (ptw_at core (page_at d (w / 1024))) d w a (ptw_fits_at core (page_at d (w / 1024))) le h)
 
--- a word of a segment that lies at an address, by the segment's descriptor
+-- the segment word at an address, by the descriptor of its segment
 record PieceWord (core : List ℕ) (u : Bool) (d : SdwFields) (piece a : ℕ) : Type 0 where
   pub w : ℕ
   pub bound : w / 16 ≤ d.bound
@@ -88,7 +88,7 @@ few_pieces false d w fits le =
     let bound = fits.bound in
     omega arith
 
--- a word of a segment with a place inside core, taken apart
+-- the parts of a segment word with a place in core
 pub record Word (core : List ℕ) (dbr : DbrFields) (seg w a : ℕ) : Type 0 where
   pub sdw : SdwFields
   pub live : core_sdw core dbr seg ≡ Ok sdw
@@ -170,7 +170,7 @@ word_covered core dbr seg w a h =
 pub word_inside : (core : List ℕ) (dbr : DbrFields) (seg w a : ℕ) → IsSegmentWord core dbr seg w a → a < length core
 word_inside core dbr seg w a h = (word_parts core dbr seg w a h).inside
 
--- a segment has one word in a run at an address
+-- a segment has one word at an address in a run
 pub word_once : (core : List ℕ) (dbr : DbrFields) (seg w x a : ℕ) → IsSegmentWord core dbr seg w a → IsSegmentWord core dbr seg x a → number_of core dbr seg w ≡ number_of core dbr seg x → w ≡ x
 unfolding number_of
 word_once core dbr seg w x a h k same =
@@ -184,7 +184,7 @@ word_once core dbr seg w x a h k same =
     let lies : word_place_by one.sdw.unpaged one.sdw x (ptw_at core (page_at one.sdw (x / 1024))) ≡ Ok a = subst (λ (d : SdwFields). word_place_by d.unpaged d x (ptw_at core (page_at d (x / 1024))) ≡ Ok a) sdw other.lies in
     same_word core one.sdw.unpaged one.sdw w x a (live_fits core dbr seg one.sdw live) pieces one.lies lies
 
--- a word of a segment that lies at a covered address
+-- the segment word at a covered address
 pub record WordOf (core : List ℕ) (dbr : DbrFields) (k a : ℕ) : Type 0 where
   pub seg : ℕ
   pub w : ℕ
@@ -209,12 +209,12 @@ word_of_by core dbr k a (Ok d) live inside c = at (in_order d) refl c
           numbered = omega arith;
         }
 
--- a covered core word is a word of the segment
+-- a covered core word is a segment word
 pub covered_word : (core : List ℕ) (dbr : DbrFields) (k a : ℕ) → a < length core → Covers (run core dbr k) a → WordOf core dbr k a
 unfolding run
 covered_word core dbr k a inside c = word_of_by core dbr k a (core_sdw core dbr (k / 256)) refl inside c
 
--- a word of a segment is one of a live segment
+-- a segment word is of a live segment
 pub word_live : (core : List ℕ) (dbr : DbrFields) (seg w a : ℕ) → IsSegmentWord core dbr seg w a → (d : SdwFields) × (core_sdw core dbr seg ≡ Ok d)
 word_live core dbr seg w a h = let k = word_parts core dbr seg w a h in (k.sdw, k.live)
 
@@ -222,7 +222,7 @@ pub record Numbered (seg number : ℕ) : Type 0 where
   pub low : 256 * seg ≤ number
   pub high : number < 256 * (seg + 1)
 
--- its run is one of its segment's 256
+-- its run is one of the 256 of its segment
 pub word_number : (core : List ℕ) (dbr : DbrFields) (seg w a : ℕ) → IsSegmentWord core dbr seg w a → Numbered seg (number_of core dbr seg w)
 unfolding number_of
 word_number core dbr seg w a h =

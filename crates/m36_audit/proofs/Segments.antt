@@ -1,4 +1,4 @@
--- The conditions on segments are those of the tests on their descriptors.
+-- The conditions about segments, from tests of their descriptors.
 use Rattle.std.proofs.Common.{◌≡◌, ℕ, ◌+◌, ◌*◌, ◌<◌, ◌≤◌, refl, sym, ◌∙◌, ap, inl, inr, arith}
 use Rattle.std.specs.Prelude.{◌⊎◌, Bool, true, false, not, ◌&&◌, nat_lt, List, Option, Some, None, Result, Ok, Err}
 use Rattle.std.specs.Bool.{Decides}
@@ -64,14 +64,14 @@ least_by Breaks p q below h (inr k) = k
 pub found_first : (Breaks : ℕ → Type 0) (p : ℕ) → Breaks p → ((k : ℕ) → k < p → Breaks k → ⊥) → Finds Breaks (Some p)
 found_first Breaks p h below = (h, λ q k. least_by Breaks p q below k (cases_lt q p))
 
--- where no segment in bounds breaks a condition that speaks of live segments, none does
+-- if no segment in bounds breaks a condition that only live segments can break, no segment does
 pub found_none : (Breaks : ℕ → Type 0) (dbr : DbrFields) (n m : ℕ) → ((q : ℕ) → Breaks q → in_bounds dbr q ≡ true) → ((q : ℕ) → in_bounds dbr q ≡ nat_lt q n) → n ≤ m → ((k : ℕ) → k < m → Breaks k → ⊥) → Finds Breaks None
 found_none Breaks dbr n m inside bounds enough below =
     λ q h. let lt : q < n = ltb-true q n (sym (bounds q) ∙ inside q h) in
     let far : q < m = omega arith in
     below q far h
 
--- what breaks a condition is in bounds
+-- a segment that breaks a condition is in bounds
 pub broken_inside : (condition : Condition) (core : List ℕ) (dbr : DbrFields) (q : ℕ) → Breaks condition core dbr q → in_bounds dbr q ≡ true
 broken_inside Brackets core dbr q k = live_in_bounds core dbr q k.sdw k.live
 broken_inside Gate core dbr q k = live_in_bounds core dbr q k.sdw k.callable.live

@@ -1,4 +1,4 @@
--- The table words of one process are told, by the numbers of their tables.
+-- The table words of one process are recorded, with the numbers of their tables.
 use Rattle.std.proofs.Common.{◌≡◌, ℕ, zero, suc, ◌+◌, ◌*◌, ◌/◌, ◌^◌, ◌<◌, ◌≤◌, refl, sym, ◌∙◌, ap, subst, inl, inr, arith}
 use Rattle.std.specs.Prelude.{◌⊎◌, Bool, true, false, List, slice_index, slice_get, Some, Result, Ok, Err}
 use Rattle.std.proofs.lemmas.Bool.{lt-ltb, cases_lt}
@@ -14,7 +14,8 @@ use Rattle.m36_audit.proofs.Bounds.{live_fits}
 use Rattle.m36_audit.proofs.Tellings.{all_same, all_more}
 use Rattle.m36_audit.proofs.TableWords.{sdw_before, no_sdw_back, With_even, half_old, half_new, odd_here, directory_before, no_directory_back, directory_new, directory_here, pages_past, no_pages_back, whole_has_none, none_past, page_new, page_here, sofar_is, is_sofar, nothing_so_far}
 
--- the numbers of the tables of earlier processes, and of those of process k that were looked at
+-- the numbers of the tables of earlier processes, and of those tables of process k that were
+-- visited
 abbrev pub Marked : List ℕ → List DbrFields → List ℕ → ℕ → (Table → ℕ → Type 0) → ℕ → ℕ → Type 0
 Marked core dbrs firsts k V a x =
     Below (Identified core dbrs firsts) k a x ⊎ ((t : Table) × V t a × (x ≡ identity firsts k t))
@@ -133,7 +134,7 @@ module _ (core : List ℕ) (dbrs : List DbrFields) (firsts : List ℕ) (small : 
         subst (λ (m : ℕ). Tells (SoFar core dbr m m (256 * m)) (segment_told core dbr firsts k n (segments_told core dbr firsts k n values))) e
         (segment_by dbr n bounds (segments_told core dbr firsts k n values) (segments_by n (omega arith) values t))
 
-    -- all table words of process k are told
+    -- all table words of process k are recorded
     pub process_told : slice_get dbrs k ≡ Some dbr → (values after : List ℕ) → after ≡ segments_told core dbr firsts k count values → AreTold (Below (Identified core dbrs firsts) k) size values → AreTold (Below (Identified core dbrs firsts) (k + 1)) size after
     unfolding Tells
     process_told process values after is t =

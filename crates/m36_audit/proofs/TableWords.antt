@@ -1,4 +1,4 @@
--- The table words of one segment more are marked.
+-- Marking the table words of one more segment.
 use Rattle.std.proofs.Common.{◌≡◌, ℕ, ◌+◌, ◌*◌, ◌/◌, ◌<◌, ◌≤◌, refl, sym, ◌∙◌, ap, subst, inl, inr, arith}
 use Rattle.std.specs.Prelude.{◌⊎◌, true, false, nat_lt, List, length, replicate, slice_index, Option, None, Ok}
 use Rattle.std.proofs.lemmas.Bool.{cases_lt, ltb-true}
@@ -11,7 +11,7 @@ use Rattle.m36_audit.specs.TableMarks.{tables_marked, least_marked, AreMarked, S
 use Rattle.m36_audit.proofs.Bounds.{live_fits, live_in_bounds, sdw_place_in_bounds}
 use Rattle.m36_audit.proofs.Marking.{marked_more, finds_same}
 
--- marks for the same words
+-- marks that mean the same words
 pub marked_same : (V W : Table → ℕ → Type 0) (size : ℕ) (tables : List ℕ) (least : Option ℕ) → ((t : Table) (a : ℕ) → V t a → W t a) → ((t : Table) (a : ℕ) → W t a → V t a) → AreMarked V size tables least → AreMarked W size tables least
 marked_same V W size tables least there back m =
     record {
@@ -24,7 +24,7 @@ marked_same V W size tables least there back m =
           m.least_two;
     }
 
--- the marks that a call left are those of one more mark
+-- the marks after a call are those with one more mark
 pub marked_by : (V : Table → ℕ → Type 0) (size : ℕ) (tables : List ℕ) (least : Option ℕ) (table b a : ℕ) → b ≡ a → (after : List ℕ) (then : Option ℕ) → after ≡ tables_marked tables table b → then ≡ least_marked tables least table b → AreMarked V size (tables_marked tables table a) (least_marked tables least table a) → AreMarked V size after then
 marked_by V size tables least table b a same after then e f m =
     let there : after ≡ tables_marked tables table a = e ∙ ap (tables_marked tables table) same in
@@ -95,7 +95,7 @@ module _ (core : List ℕ) (dbr : DbrFields) (seg : ℕ) where
           let lt : seg < seg + 1 = omega arith in
           (seg, lt, record { even = even; found = found; half = inr refl })
 
-      -- a descriptor's two words are marked
+      -- the two words of a descriptor are marked
       pub sdw_more : (size : ℕ) (tables : List ℕ) (least : Option ℕ) (after : List ℕ) (then : Option ℕ) → after ≡ tables_marked tables 1 even → then ≡ least_marked tables least 1 even → AreMarked (SoFar core dbr seg directories pages) size tables least → AreMarked (SoFar core dbr (seg + 1) directories pages) size (tables_marked after 1 (wrapped (even + 1))) (least_marked after then 1 (wrapped (even + 1)))
       unfolding With_even
       sdw_more size tables least after then e f m =
@@ -174,12 +174,12 @@ module _ (core : List ℕ) (dbr : DbrFields) (seg : ℕ) where
                 let far : page ≤ k.0 = omega arith in
                 absurd (here s k.0 a same far k.2)
 
-    -- where a segment has no page from a page on
+    -- a segment has no pages from this one on
     pub no_pages : (page : ℕ) → page ≤ 256 → ((n a : ℕ) → page ≤ n → IsPageWord core dbr seg n a → ⊥) → (size : ℕ) (tables : List ℕ) (least : Option ℕ) → AreMarked (SoFar core dbr sdws directories (256 * seg + page)) size tables least → AreMarked (SoFar core dbr sdws directories (256 * (seg + 1))) size tables least
     no_pages page few none size tables least m =
         marked_same (SoFar core dbr sdws directories (256 * seg + page)) (SoFar core dbr sdws directories (256 * (seg + 1))) size tables least (pages_past (256 * seg + page) (256 * (seg + 1)) (omega arith)) (no_pages_back page few none) m
 
-    -- where a segment has no page at all
+    -- a segment has no pages
     no_page_table : ((n a : ℕ) → IsPageWord core dbr seg n a → ⊥) → (size : ℕ) (tables : List ℕ) (least : Option ℕ) → AreMarked (SoFar core dbr sdws directories (256 * seg)) size tables least → AreMarked (SoFar core dbr sdws directories (256 * (seg + 1))) size tables least
     no_page_table none size tables least m =
         let e : 256 * seg ≡ 256 * seg + 0 = omega arith in
@@ -207,7 +207,7 @@ module _ (core : List ℕ) (dbr : DbrFields) (seg : ℕ) where
         let bounds : k.sdw.bound ≡ d.bound = ap (λ (x : SdwFields). x.bound) same in
         omega arith
 
-    -- the pages that begin within the bound are all
+    -- a segment has no pages after those that begin within the bound
     pub pages_done : (d : SdwFields) → core_sdw core dbr seg ≡ Ok d → (page : ℕ) → page ≤ 256 → d.bound / 64 < page → (size : ℕ) (tables : List ℕ) (least : Option ℕ) → AreMarked (SoFar core dbr sdws directories (256 * seg + page)) size tables least → AreMarked (SoFar core dbr sdws directories (256 * (seg + 1))) size tables least
     pages_done d live page few past size tables least m = no_pages page few (none_past d live page past) size tables least m
 
@@ -245,7 +245,7 @@ module _ (core : List ℕ) (dbr : DbrFields) (seg : ℕ) where
       page_more size tables least m =
           marked_more (SoFar core dbr sdws directories (256 * seg + page)) (SoFar core dbr sdws directories (256 * seg + page + 1)) (Pages seg) (page_at d page) (pages_past (256 * seg + page) (256 * seg + page + 1) (omega arith)) page_new page_here size tables least m
 
--- where every segment in bounds was looked at, every table word is marked
+-- once every segment in bounds was visited, every table word is marked
 module _ (core : List ℕ) (dbr : DbrFields) (n m : ℕ) (bounds : (q : ℕ) → in_bounds dbr q ≡ nat_lt q n) (enough : n ≤ m) where
   below : (q : ℕ) → in_bounds dbr q ≡ true → q < m
   below q h =

@@ -1,4 +1,4 @@
--- What is found by a test of a definition's answer.
+-- Values that are found by a test of the result of a definition.
 use Rattle.std.proofs.Common.{◌≡◌}
 use Rattle.std.specs.Prelude.{Bool, true, false, not, Option, Some, None, Result, Ok, Err}
 use Rattle.std.specs.Result.{result_ok}
@@ -10,7 +10,7 @@ tells None (Err e) h = λ a k. cc
 tells (Some a) (Ok b) h = cc
 tells (Some a) (Err e) h = cc
 
--- what a negated test tells of a value that it was read from
+-- a negated test of a value that was read gives this value
 pub off : (seen value : Bool) → seen ≡ value → not seen ≡ true → value ≡ false
 off true value e h = cc
 off false value e h = cc

@@ -1,11 +1,11 @@
--- One more number told of a core word.
+-- Recording one more number for a core word.
 use Rattle.std.proofs.Common.{◌≡◌, ℕ, ◌<◌, length, refl, sym, ◌∙◌, subst, inl, inr, arith}
 use Rattle.std.specs.Prelude.{◌⊎◌, Bool, true, false, ◌||◌, ◌==◌, if◌then◌else◌, List, slice_index, slice_set}
 use Rattle.std.proofs.lemmas.Bool.{cases_eq, eqb-true, eqb-false}
 use Rattle.std.proofs.lemmas.List.{get_or-set_same, get_or-set_other, length-set}
 use Rattle.m36_audit.specs.Told.{several, joined, joined_at, TwoOf, IsTold, AreTold}
 
--- what is told of the same numbers
+-- the same value, for the same numbers
 pub told_same : (V W : ℕ → Type 0) (value : ℕ) → ((x : ℕ) → V x → W x) → ((x : ℕ) → W x → V x) → IsTold V value → IsTold W value
 told_same V W value there back t =
     record {
@@ -19,7 +19,7 @@ all_same V W size values there back t =
     record { len = t.len; each = λ a inside. told_same (V a) (W a) (slice_index values a) (there a) (back a) (t.each a inside) }
 
 module _ (V W : ℕ → Type 0) (number seen : ℕ) (old : (x : ℕ) → V x → W x) (new : (x : ℕ) → W x → V x ⊎ (x ≡ number)) (here : W number) (small : number < several) (positive : (x : ℕ) → V x → 0 < x) (t : IsTold V seen) where
-  -- the number alone was told
+  -- only this number was recorded
   one_number : ((x : ℕ) → V x → x ≡ number) → IsTold W number
   one_number same =
       record {

@@ -1,4 +1,4 @@
--- The conditions on segments, as one.
+-- The conditions about segments, as one definition.
 use Rattle.std.specs.Prelude.{ℕ, List}
 use Rattle.m36_desc.specs.Fields.{DbrFields}
 use Rattle.m36_model.specs.Place.{core_sdw}

@@ -1,19 +1,21 @@
--- Equal descriptors of several processes: each has the number of the first descriptor with its
--- words. The numbers of the descriptors of a process, by its segments, follow those of the one before.
+-- Equal descriptors of several processes: equal ones have the same number, that of one of them.
+-- Descriptors are numbered by their segments; those of a process come after those of the processes
+-- before it.
 use Rattle.std.specs.Prelude.{◌≡◌, ℕ, ◌+◌, ◌*◌, ◌/◌, ◌%◌, ◌^◌, ◌<◌, List, length}
 use Rattle.std.specs.Prelude.{◌==◌, cond, slice_get, slice_index, slice_set, Option, Some, None, Ok}
 use Rattle.m36_word.specs.Pairs.{number_of}
 use Rattle.m36_desc.specs.Fields.{DbrFields}
 use Rattle.m36_model.specs.Place.{wrapped, sdw_place}
 
--- a process has so many of them, and all processes at most so many
+-- the number of descriptors of a process
 abbrev pub descriptors_of_process : ℕ
 descriptors_of_process = 2 ^ 15
 
+-- the most descriptors of all processes
 abbrev pub most_descriptors : ℕ
 most_descriptors = 2 ^ 18
 
--- the two words of a segment's descriptor stand in core, and make this number
+-- the two words of a segment's descriptor are in core, and this is their number
 pub record IsKey (core : List ℕ) (dbr : DbrFields) (seg key : ℕ) : Type 0 where
   pub at : ℕ
   pub found : sdw_place core dbr seg ≡ Ok at
@@ -23,13 +25,14 @@ pub record IsKey (core : List ℕ) (dbr : DbrFields) (seg key : ℕ) : Type 0 wh
   pub odd_is : slice_get core (wrapped (at + 1)) ≡ Some odd
   pub key_is : key ≡ number_of (record { even = even; odd = odd })
 
--- the descriptor of this number has these words
+-- the words of descriptor i have this number
 pub record KeyAt (core : List ℕ) (dbrs : List DbrFields) (i key : ℕ) : Type 0 where
   pub dbr : DbrFields
   pub process : slice_get dbrs (i / descriptors_of_process) ≡ Some dbr
   pub is : IsKey core dbr (i % descriptors_of_process) key
 
--- the first n descriptors have the numbers of the first ones with their words
+-- Each of the first n descriptors that is in core has in `firsts` the number of one of these n with
+-- the same words. Descriptors with the same words have the same number.
 pub record AreClasses (core : List ℕ) (dbrs : List DbrFields) (n : ℕ) (firsts : List ℕ)
     : Type 0 where
   pub len : length firsts ≡ descriptors_of_process * length dbrs
@@ -42,8 +45,8 @@ pub record AreClasses (core : List ℕ) (dbrs : List DbrFields) (n : ℕ) (first
       (i j key : ℕ) → i < n → j < n → KeyAt core dbrs i key → KeyAt core dbrs j key
       → slice_index firsts i ≡ slice_index firsts j
 
--- One more descriptor is noted in a map from words to the number of the first descriptor with them,
--- and in the list of these numbers.
+-- One more descriptor is recorded: in the map from words to the number of the first descriptor with
+-- these words, and in the list of these numbers.
 abbrev pub FirstNoted : (ℕ → Option ℕ) → (ℕ → Option ℕ) → List ℕ → List ℕ → ℕ → ℕ → Option ℕ
     → Type 0
 FirstNoted old new firsts after key number (Some first) =
@@ -52,13 +55,14 @@ FirstNoted old new firsts after key number None =
     ((q : ℕ) → new q ≡ cond (key == q) (Some number) (old q))
     × (after ≡ slice_set firsts number number)
 
+-- as `FirstNoted`, for a descriptor that may not be in core
 abbrev pub AreNoted : (ℕ → Option ℕ) → (ℕ → Option ℕ) → List ℕ → List ℕ → Option ℕ → ℕ → Type 0
 AreNoted old new firsts after None number = ((q : ℕ) → new q ≡ old q) × (after ≡ firsts)
 AreNoted old new firsts after (Some key) number =
     FirstNoted old new firsts after key number (old key)
 
--- The first n descriptors are noted: the map has the number of the first descriptor with its words
--- for each of them, and no others.
+-- The first n descriptors are recorded, with numbers as in `AreClasses`. The map has the number of
+-- each of them by its words, and nothing else.
 pub record AreNotedSo (core : List ℕ) (dbrs : List DbrFields) (n : ℕ) (places : ℕ → Option ℕ)
     (firsts : List ℕ) : Type 0 where
   pub len : length firsts ≡ descriptors_of_process * length dbrs

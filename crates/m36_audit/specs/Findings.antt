@@ -1,8 +1,8 @@
--- The findings of a verdict, as the definitions list them.
+-- The findings of a verdict, in the form that `m36_model` uses.
 use Rattle.std.specs.Prelude.{ℕ, List, map}
 use Rattle.m36_audit.specs.declared.verdict.Finding.{Finding}
 
--- a finding as a condition and a place
+-- the number of the condition, and the place
 abbrev pub pair_of : Finding → ℕ × ℕ
 pair_of f = (f.condition, f.place)
 

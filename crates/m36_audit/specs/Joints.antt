@@ -1,4 +1,4 @@
--- The findings of a joint audit, as the definitions list them.
+-- The findings of a joint audit, in the form that `m36_model` uses.
 use Rattle.std.specs.Prelude.{ℕ, List, ◌++◌, map, drop, length}
 use Rattle.m36_desc.specs.Fields.{DbrFields}
 use Rattle.m36_model.specs.JointAudit.{JointFound, AreFindingsFrom}
@@ -12,15 +12,15 @@ found_of f = record { process = f.process; condition = f.condition; place = f.pl
 abbrev pub all_found : List JointFinding → List JointFound
 all_found findings = map found_of findings
 
--- What is told of the core words is told of the first n processes: which have a table word there,
--- which have a word of a segment, and which tables these are.
+-- The first n processes are recorded for the core words: which of them have a table word there,
+-- which have a segment word there, and which tables these are.
 pub record AreShares (core : List ℕ) (dbrs : List DbrFields) (firsts : List ℕ) (n : ℕ)
     (tables segments identities : List ℕ) : Type 0 where
   pub of_tables : AreTold (Below (TableOwned core dbrs) n) (length core) tables
   pub of_segments : AreTold (Below (SegmentOwned core dbrs) n) (length core) segments
   pub of_identities : AreTold (Below (Identified core dbrs firsts) n) (length core) identities
 
--- The findings of the first n processes: with those of the rest behind them they are those of all.
+-- The findings of the first n processes: together with those of the rest they are those of all.
 pub record AreFoundSo (core : List ℕ) (dbrs : List DbrFields) (n : ℕ)
     (findings : List JointFinding) : Type 0 where
   pub whole :

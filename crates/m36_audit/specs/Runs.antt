@@ -1,4 +1,4 @@
--- The words of the segments as runs of core words, one for each page and two for each unpaged
+-- The words of the segments as runs of core words: one for each page, and two for each unpaged
 -- segment.
 use Rattle.std.specs.Prelude.{◌≡◌, ℕ, zero, suc, ◌+◌, ◌-◌, ◌*◌, ◌/◌, ◌%◌, ◌^◌, ◌<◌, ◌≤◌, min, Bool}
 use Rattle.std.specs.Prelude.{true, false, nat_lt, nat_le, ◌==◌, ◌&&◌, List, length, slice_index}
@@ -11,22 +11,23 @@ use Rattle.m36_model.specs.Place.{page_frame, last_page, core_sdw}
 use Rattle.m36_model.specs.declared.outcome.Refusal.{Refusal}
 use Rattle.m36_audit.specs.declared.run.Run.{Run}
 
--- how many words a segment has
+-- the number of words of a segment that are within its bound
 abbrev pub words : SdwFields → ℕ
 words d = 16 * (d.bound + 1)
 
--- an unpaged segment: its words up to the last address, and those past it, which go on at address 0
+-- the two runs of an unpaged segment: its words up to the last address, and those past it, which
+-- continue at address 0
 abbrev pub whole_run : SdwFields → ℕ → Option Run
 whole_run d zero = Some (record { first = d.addr; end = min (d.addr + words d) (2 ^ 24) })
 whole_run d (suc zero) = Some (record { first = 0; end = (d.addr + words d) - 2 ^ 24 })
 whole_run d (suc (suc n)) = None
 
--- a page in core
+-- the run of `count` words of a page that begins at this address, at most 1024 of them
 abbrev pub frame_run : Option ℕ → ℕ → Option Run
 frame_run None count = None
 frame_run (Some frame) count = Some (record { first = frame; end = frame + min 1024 count })
 
--- a page of a paged segment
+-- the run of a page of a paged segment
 abbrev pub page_run_by : Bool → List ℕ → SdwFields → ℕ → Option Run
 page_run_by false core d page = None
 page_run_by true core d page =
@@ -39,7 +40,7 @@ abbrev pub run_by : Bool → List ℕ → SdwFields → ℕ → Option Run
 run_by true core d piece = whole_run d piece
 run_by false core d piece = page_run core d piece
 
--- a segment whose brackets are out of order has no words
+-- the run of a segment with this number; a segment whose brackets are out of order has no words
 abbrev pub run_ordered : Bool → List ℕ → SdwFields → ℕ → Option Run
 run_ordered false core d piece = None
 run_ordered true core d piece = run_by d.unpaged core d piece
@@ -48,18 +49,20 @@ abbrev pub run_of : List ℕ → Result SdwFields Refusal → ℕ → Option Run
 run_of core (Err e) piece = None
 run_of core (Ok d) piece = run_ordered (in_order d) core d piece
 
--- The most pages of a segment. Each segment has as many numbers of runs, so that those of a process,
--- in which segment numbers have 15 bits, are 2^23.
+-- The most pages of a segment. Each segment has this many numbers of runs. Segment numbers have 15
+-- bits, so a process has 2^23 numbers of runs.
 abbrev pub pages_of_segment : ℕ
 pages_of_segment = 256
 
+-- how many numbers of runs each segment has
 abbrev pub runs_of_segment : ℕ
 runs_of_segment = pages_of_segment
 
+-- how many numbers of runs each process has
 abbrev pub runs_of_process : ℕ
 runs_of_process = 2 ^ 23
 
--- the runs of all segments by these numbers
+-- run k of a process, by these numbers
 unfoldable pub run : List ℕ → DbrFields → ℕ → Option Run
 run core dbr k =
     run_of core (core_sdw core dbr (k / runs_of_segment)) (k % runs_of_segment)
@@ -77,15 +80,16 @@ abbrev pub ends_at : ℕ → Option Run → Bool
 ends_at a None = false
 ends_at a (Some r) = r.end == a
 
+-- the run has this core word
 abbrev pub covers : ℕ → Option Run → Bool
 covers a None = false
 covers a (Some r) = nat_le r.first a && nat_lt a r.end
 
--- one more at a word; a word past the end of core is none
+-- counts with one more at a word; a word past the end of core is ignored
 abbrev pub counted : List ℕ → ℕ → List ℕ
 counted counts a = slice_set counts a (slice_index counts a + 1)
 
--- for each core word how many of the first n runs begin there, and how many end there
+-- for each core word the number of the first n runs that begin there, and of those that end there
 pub record AreCounted (runs : ℕ → Option Run) (n size : ℕ) (starts stops : List ℕ) : Type 0 where
   pub starts_len : length starts ≡ size
   pub stops_len : length stops ≡ size
@@ -100,7 +104,7 @@ abbrev pub ends_before : ℕ → Option Run → Bool
 ends_before a None = false
 ends_before a (Some r) = nat_lt r.end a
 
--- so many of the first n runs have begun before a word and not ended before it
+-- the number of the first n runs that begin before word a and do not end before it
 pub record AreOpen (runs : ℕ → Option Run) (n a open_runs : ℕ) : Type 0 where
   pub sum : open_runs + count_below (λ i. ends_before a (runs i)) n
       ≡ count_below (λ i. begins_before a (runs i)) n
@@ -109,6 +113,6 @@ pub record AreOpen (runs : ℕ → Option Run) (n a open_runs : ℕ) : Type 0 wh
 pub record InOrder (runs : ℕ → Option Run) : Type 0 where
   pub each : (i : ℕ) (r : Run) → runs i ≡ Some r → r.first ≤ r.end
 
--- how many of the runs of all segments cover a word
+-- the number of runs of all segments that cover a word
 abbrev pub coverage : List ℕ → DbrFields → ℕ → ℕ
 coverage core dbr a = count_below (λ i. covers a (run core dbr i)) runs_of_process

@@ -12,50 +12,53 @@ use Rattle.m36_audit.specs.Classes.{descriptors_of_process}
 use Rattle.m36_audit.specs.Runs.{runs_of_segment, runs_of_process, run, counted, count_below, covers}
 use Rattle.m36_audit.specs.Told.{several, joined, joined_at}
 
--- The number of a table among those of all processes: two processes have the same one exactly where
--- it is the page table of segments with equal descriptors.
+-- The number of a table among those of all processes. Tables of two processes have the same number
+-- exactly if they are page tables of segments with equal descriptors.
 abbrev pub identity : List ℕ → ℕ → Table → ℕ
 identity firsts k Sdws = 2 * k + 1
 identity firsts k Directory = 2 * k + 2
 identity firsts k (Pages seg) = 17 + slice_index firsts (descriptors_of_process * k + seg)
 
--- The numbers told of the table words of process k: of one descriptor, ..
+-- the values after the two words of a descriptor were recorded
 abbrev pub descriptor_told : ℕ → Result ℕ Refusal → List ℕ → List ℕ
 descriptor_told number (Ok even) values =
     joined_at (joined_at values even number) (wrapped (even + 1)) number
 descriptor_told number (Err e) values = values
 
--- .. of the word by which it is found, ..
+-- the values after the word through which a descriptor is found was recorded
 abbrev pub directory_told : ℕ → Bool → ℕ → List ℕ → List ℕ
 directory_told number true at values = values
 directory_told number false at values = joined_at values at number
 
--- .. of so many words of the page table of a segment, ..
+-- the values after the first n words of a segment's page table were recorded
 unfoldable pub pages_told : ℕ → SdwFields → ℕ → List ℕ → List ℕ
 pages_told number d zero values = values
 pages_told number d (suc n) values = joined_at (pages_told number d n values) (page_at d n) number
 
+-- the values after the words of the page table of a segment were recorded, if it is paged
 abbrev pub page_table_told : ℕ → SdwFields → Bool → List ℕ → List ℕ
 page_table_told number d true values = values
 page_table_told number d false values = pages_told number d (page_count d) values
 
+-- the values after the words of a segment's page table were recorded, if it is live and paged
 abbrev pub live_told : ℕ → Result SdwFields Refusal → List ℕ → List ℕ
 live_told number (Err e) values = values
 live_told number (Ok d) values = page_table_told number d d.unpaged values
 
--- .. of one segment, and of so many segments.
+-- the values after the table words of one segment were recorded
 unfoldable pub segment_told : List ℕ → DbrFields → List ℕ → ℕ → ℕ → List ℕ → List ℕ
 segment_told core dbr firsts k seg values =
     live_told (identity firsts k (Pages seg)) (core_sdw core dbr seg)
     (directory_told (identity firsts k Directory) dbr.unpaged (directory_at dbr seg)
     (descriptor_told (identity firsts k Sdws) (sdw_place core dbr seg) values))
 
+-- the values after the table words of the segments below n were recorded
 unfoldable pub segments_told : List ℕ → DbrFields → List ℕ → ℕ → ℕ → List ℕ → List ℕ
 segments_told core dbr firsts k zero values = values
 segments_told core dbr firsts k (suc n) values =
     segment_told core dbr firsts k n (segments_told core dbr firsts k n values)
 
--- a process has this table, by its number, at a core word
+-- process k has a table with number x at core word a
 pub record Identified (core : List ℕ) (dbrs : List DbrFields) (firsts : List ℕ) (k a x : ℕ)
     : Type 0 where
   pub dbr : DbrFields
@@ -64,7 +67,7 @@ pub record Identified (core : List ℕ) (dbrs : List DbrFields) (firsts : List �
   pub of : IsOf core dbr table a
   pub is : x ≡ identity firsts k table
 
--- a process has a table word there; it is told by its number and 1
+-- process k has a table word at core word a; its number is k + 1
 pub record TableOwned (core : List ℕ) (dbrs : List DbrFields) (k a x : ℕ) : Type 0 where
   pub dbr : DbrFields
   pub process : slice_get dbrs k ≡ Some dbr
@@ -72,7 +75,7 @@ pub record TableOwned (core : List ℕ) (dbrs : List DbrFields) (k a x : ℕ) : 
   pub of : IsOf core dbr table a
   pub is : x ≡ k + 1
 
--- a process has a word of a segment there
+-- process k has a segment word at core word a; its number is k + 1
 pub record SegmentOwned (core : List ℕ) (dbrs : List DbrFields) (k a x : ℕ) : Type 0 where
   pub dbr : DbrFields
   pub process : slice_get dbrs k ≡ Some dbr
@@ -81,23 +84,24 @@ pub record SegmentOwned (core : List ℕ) (dbrs : List DbrFields) (k a x : ℕ) 
   pub word : IsSegmentWord core dbr seg w a
   pub is : x ≡ k + 1
 
--- what one of the first n processes has there
+-- one of the first n processes has x at core word a
 abbrev pub Below : (ℕ → ℕ → ℕ → Type 0) → ℕ → ℕ → ℕ → Type 0
 Below Has n a x = (k : ℕ) × (k < n) × Has k a x
 
--- the value of a word after a process that has something there, or not, was told of it
+-- the value of a word after a process was recorded that may have something there
 abbrev pub owned : Bool → ℕ → ℕ → ℕ
 owned true seen number = joined seen number
 owned false seen number = seen
 
--- a process was told of the core words before a, where it has something as the test says
+-- a process was recorded for the core words before a, if it has something there as the test says
 pub record AreOwned (test : ℕ → Bool) (number a : ℕ) (old new : List ℕ) : Type 0 where
   pub len : length new ≡ length old
   pub before : (q : ℕ) → q < a → slice_index new q ≡ owned (test q) (slice_index old q) number
   pub after : (q : ℕ) → a ≤ q → slice_index new q ≡ slice_index old q
 
--- The runs of all segments of all processes whose descriptors are the first with their words, by
--- numbers: those of each process follow those of the one before.
+-- The runs of the first descriptors of all processes, by numbers: those of a process come after
+-- those of the processes before it. A descriptor is a first one if `firsts` has its own number for
+-- it.
 abbrev pub first_run : Bool → Option Run → Option Run
 first_run true r = r
 first_run false r = None
@@ -106,42 +110,44 @@ abbrev pub run_of_process : List ℕ → Option DbrFields → ℕ → Option Run
 run_of_process core None n = None
 run_of_process core (Some dbr) n = run core dbr n
 
+-- run n of all processes, if its segment has a first descriptor
 unfoldable pub joint_run : List ℕ → List DbrFields → List ℕ → ℕ → Option Run
 joint_run core dbrs firsts n =
     first_run (slice_index firsts (n / runs_of_segment) == n / runs_of_segment)
     (run_of_process core (slice_get dbrs (n / runs_of_process)) (n % runs_of_process))
 
--- how many runs a segment may have
+-- the most runs that a segment has
 abbrev pub piece_count : SdwFields → ℕ
 piece_count d = if d.unpaged then 2 else page_count d
 
--- the counts with one more run, if there is one
+-- counts of the runs that begin at each word, with one more run, if there is one
 abbrev pub starts_with : Option Run → List ℕ → List ℕ
 starts_with None starts = starts
 starts_with (Some r) starts = counted starts r.first
 
+-- counts of the runs that end at each word, with one more run, if there is one
 abbrev pub stops_with : Option Run → List ℕ → List ℕ
 stops_with None stops = stops
 stops_with (Some r) stops = counted stops r.end
 
--- one more can be counted at each word
+-- each count can be increased by one
 abbrev pub HasRoom : List ℕ → Type 0
 HasRoom counts = (a : ℕ) → slice_index counts a < 2 ^ 32 - 1
 
--- a core word told of a process, where it has something there
+-- the values after a process was recorded for a core word, if it has something there
 abbrev pub owned_at : Bool → List ℕ → ℕ → ℕ → List ℕ
 owned_at true values a number = joined_at values a number
 owned_at false values a number = values
 
--- By what was told of a core word: there are tables of two processes with two numbers, or a table
--- of one process and a segment word of another.
+-- By what is recorded for a core word: tables of two processes with different numbers have it, or a
+-- table of one process and a segment of another.
 abbrev pub is_between : ℕ → ℕ → ℕ → Bool
 is_between tables segments identities =
     (tables == several && identities == several)
     || ((not (tables == 0) && not (segments == 0))
     && (not (tables == segments) || tables == several))
 
--- how many runs of first segments cover a word
+-- the number of runs of first descriptors that cover a word
 abbrev pub joint_coverage : List ℕ → List DbrFields → List ℕ → ℕ → ℕ
 joint_coverage core dbrs firsts a =
     count_below (λ i. covers a (joint_run core dbrs firsts i)) (runs_of_process * length dbrs)

@@ -1,4 +1,4 @@
-//! The audit of a core and a descriptor segment base register.
+//! The audit of a core and a descriptor segment base register (DBR).
 
 ghost use Rattle.std.specs.Prelude.{ℕ, [], ◌≡◌, ◌^◌, ◌↔◌, IfOk, None, length, replicate};
 ghost use Rattle.m36_model.specs.Audit.{IsOf, AreFindings, IsAudited};
@@ -22,7 +22,7 @@ use m36_isol::{law_findings, law_window};
 use m36_word::NoMemory;
 use std::alloc::Global;
 
-/// The findings by the marks and the counts, one condition after another.
+/// The findings, from the marks and the counts: each condition in order.
 pub(crate) fn found(marks: &TableMarks, counts: &RunCounts, core: &Core, dbr: Dbr) -> Verdict
     requires marked { AreMarked (IsOf core.now dbr) (length core.now) marks.now.tables.items
         marks.now.least }
@@ -46,7 +46,7 @@ pub(crate) fn found(marks: &TableMarks, counts: &RunCounts, core: &Core, dbr: Db
     Verdict { findings }
 }
 
-/// The findings, where there is a place for a mark and two counts for each core word, all of them zero.
+/// The findings. `marks` and `counts` have an entry for each core word, all of them zero.
 fn judged(marks: &mut TableMarks, counts: &mut RunCounts, core: &Core, dbr: Dbr) -> Verdict
     requires tables { marks.old.tables.items ≡ replicate (length core.now) 0 }
     requires least { marks.old.least ≡ None }
@@ -59,10 +59,10 @@ fn judged(marks: &mut TableMarks, counts: &mut RunCounts, core: &Core, dbr: Dbr)
     found(marks, counts, core, dbr)
 }
 
-/// Decides the six audit conditions of the tables that a descriptor segment base register gives a core. The findings
-/// have for each condition that fails its number and the least segment, or core word, that breaks it, in order. Where
-/// there is none, all six hold, and the tables isolate each ring from 1 to 7. The error is want of memory alone, and
-/// that is taken before anything is looked at.
+/// Decides the six audit conditions of the tables that a DBR gives to a core. For each condition
+/// that fails, in order, the findings have its number and the least segment or core word that
+/// breaks it. If there are none, all six conditions hold, and the tables isolate each ring from 1
+/// to 7. Fails only if memory runs out, before anything is read.
 pub fn audit(alloc: Global, core: &Core, dbr: Dbr) -> Result<Verdict, NoMemory>
     ensures findings { IfOk result (λ v. AreFindings core.now dbr (pairs v.findings.items)) }
     ensures audited { IfOk result (λ v. (v.findings.items ≡ []) ↔ IsAudited core.now dbr) }

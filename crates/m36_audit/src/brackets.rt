@@ -11,7 +11,7 @@ use m36_core::Core;
 use m36_desc::{Dbr, Sdw};
 use m36_tables::in_order;
 
-/// Whether the brackets of a segment that was found are out of order.
+/// Whether the brackets of the segment, if there is one, are out of order.
 fn disordered(found: Option<Sdw>) -> bool
     ensures { result ≡ disordered found }
 {

@@ -1,4 +1,4 @@
-//! The conditions on segments, and the first segment that breaks one.
+//! The conditions about segments, and the first segment that breaks one.
 
 ghost use Rattle.std.specs.Prelude.{◌<◌, ◌^◌};
 ghost use Rattle.std.specs.Bool.{Decides};
@@ -11,14 +11,14 @@ use m36_core::Core;
 use m36_desc::Dbr;
 use m36_tables::segment_count;
 
-/// A condition that each live segment is to meet.
+/// A condition that each live segment has to satisfy.
 #[derive(Clone, Copy)]
 pub(crate) enum Condition {
-    /// The first: its ring brackets are in order.
+    /// The first condition: its ring brackets are in order.
     Brackets,
-    /// The fifth: where outer rings may call it, it is a gate.
+    /// The fifth condition: if rings above R2 may call it, it is a gate.
     Gate,
-    /// The sixth: where outer rings may call it, the ring that a call enters has a stack.
+    /// The sixth condition: if rings above R2 may call it, the ring that a call enters has a stack.
     Stack,
 }
 
@@ -34,7 +34,7 @@ fn breaks(condition: Condition, core: &Core, dbr: Dbr, seg: u16) -> bool
     }
 }
 
-/// The first live segment that breaks a condition.
+/// The first segment that breaks a condition.
 pub(crate) fn first_segment(condition: Condition, core: &Core, dbr: Dbr) -> Option<u32>
     ensures { Finds (Breaks condition core.now dbr) result }
 {

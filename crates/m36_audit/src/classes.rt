@@ -1,4 +1,4 @@
-//! Equal descriptors of several processes: which descriptor is the first with its words.
+//! Equal descriptors of several processes: the number of the first descriptor with the same words.
 
 ghost use Rattle.std.specs.Prelude.{ℕ, ◌≡◌, ◌+◌, ◌*◌, ◌<◌, ◌≤◌, ◌^◌, Some, IfOk, OnOk, MatchOption, length, slice_get, slice_set, slice_index, nat_eq};
 ghost use Rattle.std.specs.HashMap.{get};
@@ -14,7 +14,8 @@ use m36_word::NoMemory;
 use std::alloc::Global;
 use std::collections::HashMap;
 
-/// The two words of a segment's descriptor as one number, where both stand in core.
+/// The two words of a segment's descriptor as one number of 72 bits, or None unless both are in
+/// core.
 fn key(core: &Core, dbr: Dbr, seg: u16) -> Option<u128>
     requires { seg < 2 ^ 15 }
     ensures value { MatchOption result ((k : ℕ) → IsKey core.now dbr seg k → ⊥)
@@ -38,7 +39,7 @@ fn key(core: &Core, dbr: Dbr, seg: u16) -> Option<u128>
     Some(even as u128 * (1 << 36) + odd as u128)
 }
 
-/// Adds the bytes of a key where there is one.
+/// Adds the bytes of a key, if there is one.
 fn push_key(bytes: &mut Vec<u8>, key: Option<u128>) -> Result<(), NoMemory> {
     if let Some(key) = key {
         bytes.extend_from_slice(&key.to_le_bytes())?;
@@ -54,8 +55,8 @@ fn push_keys(bytes: &mut Vec<u8>, core: &Core, dbr: Dbr) -> Result<(), NoMemory>
     Ok(())
 }
 
-/// The seed of a table of all these keys: that of their bytes. So descriptors that collide under one
-/// seed do not under another.
+/// The seed of the hash map of all these keys, made of their bytes. So descriptors that collide
+/// under one seed do not under another.
 fn seed_of(alloc: Global, core: &Core, dbrs: &[Dbr]) -> Result<HashSeed, NoMemory> {
     let mut bytes = Vec::new(alloc);
     for dbr in dbrs {
@@ -64,7 +65,7 @@ fn seed_of(alloc: Global, core: &Core, dbrs: &[Dbr]) -> Result<HashSeed, NoMemor
     Ok(HashSeed::of(&bytes))
 }
 
-/// Notes the number of one descriptor, where its words stand in core.
+/// Records a descriptor and its number, if its words are in core.
 fn note(
     places: &mut HashMap<u128, u32, HashSeed>,
     firsts: &mut Vec<u32>,
@@ -72,7 +73,8 @@ fn note(
     number: u32,
 ) -> Result<(), NoMemory>
     requires { number < length firsts.old.items }
-    ensures { OnOk result (AreNoted (get nat_eq places.old) (get nat_eq places.new) firsts.old.items firsts.new.items key number) }
+    ensures { OnOk result (AreNoted (get nat_eq places.old) (get nat_eq places.new) firsts.old.items
+        firsts.new.items key number) }
 {
     let Some(key) = key else {
         return Ok(());
@@ -87,7 +89,7 @@ fn note(
     Ok(())
 }
 
-/// Notes the descriptors of process k.
+/// Records the descriptors of process k.
 fn note_process(
     places: &mut HashMap<u128, u32, HashSeed>,
     firsts: &mut Vec<u32>,
@@ -97,8 +99,10 @@ fn note_process(
 ) -> Result<(), NoMemory>
     requires process { k < length dbrs.now }
     requires few { length dbrs.now ≤ most_processes }
-    requires before { AreNotedSo core.now dbrs.now (descriptors_of_process * k) (get nat_eq places.old) firsts.old.items }
-    ensures { OnOk result (AreNotedSo core.now dbrs.now (descriptors_of_process * (k + 1)) (get nat_eq places.new) firsts.new.items) }
+    requires before { AreNotedSo core.now dbrs.now (descriptors_of_process * k)
+        (get nat_eq places.old) firsts.old.items }
+    ensures { OnOk result (AreNotedSo core.now dbrs.now (descriptors_of_process * (k + 1))
+        (get nat_eq places.new) firsts.new.items) }
 {
     let dbr = dbrs[k];
     let first = k as u32 * SEGMENTS as u32;
@@ -108,10 +112,12 @@ fn note_process(
     Ok(())
 }
 
-/// For each descriptor of each process the number of the first one with its words. The error is want of memory alone.
+/// For each descriptor of each process that is in core, the number of the first one with the same
+/// words. The contract leaves open which of these has the number. Fails only if memory runs out.
 pub(crate) fn classes(alloc: Global, core: &Core, dbrs: &[Dbr]) -> Result<Vec<u32>, NoMemory>
     requires { length dbrs.now ≤ most_processes }
-    ensures { IfOk result (λ firsts. AreClasses core.now dbrs.now (descriptors_of_process * length dbrs.now) firsts.items) }
+    ensures { IfOk result (λ firsts. AreClasses core.now dbrs.now
+        (descriptors_of_process * length dbrs.now) firsts.items) }
 {
     let mut firsts = zeros(alloc, dbrs.len() as u32 * SEGMENTS as u32)?;
     let mut places = HashMap::with_hasher(alloc, seed_of(alloc, core, dbrs)?);

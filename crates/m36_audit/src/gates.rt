@@ -1,5 +1,5 @@
-//! The fifth and the sixth condition: a segment that outer rings may call is a gate, and the ring that such a call enters
-//! has a stack.
+//! The fifth and the sixth condition: a segment that rings above R2 may call is a gate, and the
+//! ring that such a call enters has a stack.
 
 ghost use Rattle.std.specs.Prelude.{ℕ, ◌≡◌, ◌<◌, ◌^◌};
 ghost use Rattle.std.specs.Bool.{Decides};
@@ -11,14 +11,14 @@ use crate::live::live;
 use m36_core::Core;
 use m36_desc::{Dbr, Sdw};
 
-/// Whether rings outside the read bracket may call a segment.
+/// Whether rings above R2 may call a segment.
 fn callable(sdw: &Sdw) -> bool
     ensures { result ≡ callable sdw.now }
 {
     sdw.executable && sdw.r2 < sdw.r3
 }
 
-/// Whether outer rings may call a segment that was found, at every word.
+/// Whether rings above R2 may call the segment, if there is one, at every word: it is not a gate.
 fn enterable(found: Option<Sdw>) -> bool
     ensures { result ≡ enterable found }
 {
@@ -28,7 +28,8 @@ fn enterable(found: Option<Sdw>) -> bool
     }
 }
 
-/// Whether a segment that was found is a stack of the ring.
+/// Whether the segment, if there is one, is a stack of the ring: R and W are on, and R1 and R2 are
+/// the ring.
 fn serves(ring: u8, found: Option<Sdw>) -> bool
     ensures { result ≡ serves ring found }
 {

@@ -1,4 +1,4 @@
-//! Which tables of which segments each core word belongs to, over several processes.
+//! Which table of which segment has each core word, over several processes.
 
 ghost use Rattle.std.specs.Prelude.{ℕ, ◌≡◌, ◌+◌, ◌*◌, ◌/◌, ◌<◌, ◌≤◌, ◌^◌, IfOk, OnSome, length, slice_index};
 ghost use Rattle.m36_desc.specs.Fields.{SdwFields};
@@ -15,7 +15,7 @@ use m36_desc::{Dbr, Sdw};
 use m36_model::Refusal;
 use m36_tables::{descriptor, descriptor_place, directory_at, page_at, segment_count, wrapped};
 
-/// Tells the two words of a descriptor, by where it lies.
+/// Records the two words of a descriptor at this place, if it has one.
 fn tell_descriptor(told: &mut Told, place: Result<u32, Refusal>, number: u32)
     requires { IfOk place (λ a. a < 2 ^ 24) }
     ensures { told.new.values.items ≡ descriptor_told number place told.old.values.items }
@@ -29,7 +29,7 @@ fn tell_descriptor(told: &mut Told, place: Result<u32, Refusal>, number: u32)
     }
 }
 
-/// Tells the word of the descriptor segment's page table by which a descriptor is found.
+/// Records the word of the descriptor segment's page table through which a descriptor is found.
 fn tell_directory(told: &mut Told, dbr: Dbr, seg: u16, number: u32)
     requires { seg < 2 ^ 15 }
     ensures { told.new.values.items
@@ -40,7 +40,7 @@ fn tell_directory(told: &mut Told, dbr: Dbr, seg: u16, number: u32)
     }
 }
 
-/// Tells so many words of a segment's page table.
+/// Records the first `pages` words of a segment's page table.
 #[tactic(auto, unfolding(crate::specs::Shares::pages_told))]
 fn tell_pages(told: &mut Told, sdw: &Sdw, pages: u32, number: u32)
     requires { pages ≤ pages_of_segment }
@@ -51,7 +51,7 @@ fn tell_pages(told: &mut Told, sdw: &Sdw, pages: u32, number: u32)
     }
 }
 
-/// Tells the words of a segment's page table, if it has one.
+/// Records the words of a segment's page table, if the segment is paged.
 fn tell_page_table(told: &mut Told, sdw: &Sdw, number: u32)
     ensures { told.new.values.items
         ≡ page_table_told number sdw.now sdw.now.unpaged told.old.values.items }
@@ -61,7 +61,7 @@ fn tell_page_table(told: &mut Told, sdw: &Sdw, number: u32)
     }
 }
 
-/// Tells the words of the page table of a segment that may not be live.
+/// Records the words of a segment's page table, if the segment is live and paged.
 fn tell_live(told: &mut Told, found: Result<Sdw, Refusal>, number: u32)
     ensures { told.new.values.items ≡ live_told number found told.old.values.items }
 {
@@ -71,13 +71,15 @@ fn tell_live(told: &mut Told, found: Result<Sdw, Refusal>, number: u32)
     }
 }
 
-/// Tells the table words of one segment of process k, by the numbers of the first descriptors with equal words.
+/// Records the table words of one segment of process k. The number of its page table is that of the
+/// first descriptor with equal words.
 #[tactic(auto, unfolding(crate::specs::Shares::segment_told))]
 fn tell_segment(told: &mut Told, core: &Core, dbr: Dbr, firsts: &Vec<u32>, k: u32, seg: u16)
     requires seg { seg < 2 ^ 15 }
     requires process { k < most_processes }
     requires there { descriptors_of_process * k + seg < length firsts.now.items }
-    requires below { slice_index firsts.now.items (descriptors_of_process * k + seg) < most_descriptors }
+    requires below { slice_index firsts.now.items (descriptors_of_process * k + seg)
+        < most_descriptors }
     ensures { told.new.values.items
         ≡ segment_told core.now dbr firsts.now.items k seg told.old.values.items }
 {
@@ -87,7 +89,7 @@ fn tell_segment(told: &mut Told, core: &Core, dbr: Dbr, firsts: &Vec<u32>, k: u3
     tell_live(told, descriptor(core, dbr, seg), 17 + first);
 }
 
-/// Tells the table words of process k.
+/// Records the table words of process k.
 #[tactic(auto, unfolding(crate::specs::Shares::segments_told))]
 pub(crate) fn tell_tables(told: &mut Told, core: &Core, dbr: Dbr, firsts: &Vec<u32>, k: u32)
     requires process { k < most_processes }

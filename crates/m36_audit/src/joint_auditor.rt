@@ -31,19 +31,19 @@ use m36_isol::{law_joint_findings, law_schedule};
 use m36_word::NoMemory;
 use std::alloc::Global;
 
-/// What is known of each core word over several processes.
+/// What is recorded for each core word over several processes.
 #[derive(Drop)]
 struct Shares {
     /// The process that has a table word there.
     tables: Told,
-    /// The process that has a word of a segment there.
+    /// The process that has a segment word there.
     segments: Told,
-    /// The table.
+    /// The table that has a word there.
     identities: Told,
 }
 
 impl Shares {
-    /// Nothing is known.
+    /// Nothing is recorded. Fails only if memory runs out.
     fn new(alloc: Global, size: u32) -> Result<Shares, NoMemory>
         ensures tables { IfOk result (λ s. s.tables.values.items ≡ replicate size 0) }
         ensures segments { IfOk result (λ s. s.segments.values.items ≡ replicate size 0) }
@@ -60,7 +60,7 @@ impl Shares {
     }
 }
 
-/// The findings of process k, which the core words are told of.
+/// The findings of process k. Its words are recorded in `shares`.
 fn judged(
     marks: &mut TableMarks,
     counts: &mut RunCounts,
@@ -75,7 +75,8 @@ fn judged(
     requires marks_len { length marks.old.tables.items ≡ length core.now }
     requires starts_len { length counts.old.starts.items ≡ length core.now }
     requires stops_len { length counts.old.stops.items ≡ length core.now }
-    requires classes { AreClasses core.now dbrs.now (descriptors_of_process * length dbrs.now) firsts.now.items }
+    requires classes { AreClasses core.now dbrs.now (descriptors_of_process * length dbrs.now)
+        firsts.now.items }
     requires before { AreShares core.now dbrs.now firsts.now.items k
         shares.old.tables.values.items shares.old.segments.values.items
         shares.old.identities.values.items }
@@ -107,7 +108,7 @@ fn judged(
     found(marks, counts, core, dbr)
 }
 
-/// The findings of all processes, one after another.
+/// The findings of all processes, in order.
 fn judged_all(
     marks: &mut TableMarks,
     counts: &mut RunCounts,
@@ -120,7 +121,8 @@ fn judged_all(
     requires marks_len { length marks.old.tables.items ≡ length core.now }
     requires starts_len { length counts.old.starts.items ≡ length core.now }
     requires stops_len { length counts.old.stops.items ≡ length core.now }
-    requires classes { AreClasses core.now dbrs.now (descriptors_of_process * length dbrs.now) firsts.now.items }
+    requires classes { AreClasses core.now dbrs.now (descriptors_of_process * length dbrs.now)
+        firsts.now.items }
     requires before { AreShares core.now dbrs.now firsts.now.items 0
         shares.old.tables.values.items shares.old.segments.values.items
         shares.old.identities.values.items }
@@ -140,7 +142,7 @@ fn judged_all(
     findings
 }
 
-/// The findings, where there is a place for each mark, count and number, of which none is told yet.
+/// The findings. Nothing is recorded in `shares` before.
 fn jointly_judged(
     marks: &mut TableMarks,
     counts: &mut RunCounts,
@@ -153,7 +155,8 @@ fn jointly_judged(
     requires marks_len { length marks.old.tables.items ≡ length core.now }
     requires starts_len { length counts.old.starts.items ≡ length core.now }
     requires stops_len { length counts.old.stops.items ≡ length core.now }
-    requires classes { AreClasses core.now dbrs.now (descriptors_of_process * length dbrs.now) firsts.now.items }
+    requires classes { AreClasses core.now dbrs.now (descriptors_of_process * length dbrs.now)
+        firsts.now.items }
     requires before { AreShares core.now dbrs.now firsts.now.items 0
         shares.old.tables.values.items shares.old.segments.values.items
         shares.old.identities.values.items }
@@ -176,17 +179,25 @@ fn jointly_judged(
     Joint { findings }
 }
 
-/// Decides the joint audit of processes on one core, by their descriptor segment base registers: the six conditions of each,
-/// and that no table word of one lies on a table word or a segment word of another, but for the page tables of segments
-/// with equal descriptors, nor a segment word of one on one of another, but for the same word of such segments. The
-/// findings are those of each process in order, and then for each condition between processes that fails the least core
-/// word that breaks it. Where there is none, every schedule of the processes is isolated in each ring from 1 to 7. The
-/// error is want of memory alone, and that is taken before any finding is made.
+/// Decides the joint audit of one to eight processes on one core, by their DBRs. The conditions are
+/// the six of each process, and two between processes:
+///
+/// - No table word of one process is a table word or a segment word of another, except in the page
+///   tables of segments with equal descriptors.
+/// - No segment word of one process is at the core address of one of another, except for the same
+///   word of such segments.
+///
+/// The findings are those of each process in order, and then, for each condition between processes
+/// that fails, the least core word that breaks it. If there are none, every schedule of the
+/// processes is isolated in each ring from 1 to 7. Fails only if memory runs out, before any
+/// finding is made.
 pub fn joint(alloc: Global, core: &Core, dbrs: &[Dbr]) -> Result<Joint, NoMemory>
     requires some { 1 ≤ length dbrs.now }
     requires few { length dbrs.now ≤ most_processes }
-    ensures findings { IfOk result (λ j. AreJointFindings core.now dbrs.now (all_found j.findings.items)) }
-    ensures audited { IfOk result (λ j. (j.findings.items ≡ []) ↔ IsJointlyAudited core.now dbrs.now) }
+    ensures findings { IfOk result (λ j. AreJointFindings core.now dbrs.now
+        (all_found j.findings.items)) }
+    ensures audited { IfOk result (λ j. (j.findings.items ≡ [])
+        ↔ IsJointlyAudited core.now dbrs.now) }
     ensures isolated { IfOk result (λ j. j.findings.items ≡ []
         → JointlyIsolated core_store (map (core_tables core.now) dbrs.now)) }
 {

@@ -1,4 +1,5 @@
-//! Counts of the runs of segment words over several processes: of segments with equal descriptors those of one alone.
+//! Counts the runs of segment words over several processes. Of segments with equal descriptors,
+//! only the runs of the first one are counted.
 
 ghost use Rattle.std.specs.Prelude.{ℕ, ◌≡◌, ◌+◌, ◌*◌, ◌/◌, ◌<◌, ◌≤◌, ◌^◌, Ok, Some, true, length, slice_get, slice_index};
 ghost use Rattle.m36_desc.specs.Access.{in_order};
@@ -15,7 +16,7 @@ use m36_core::Core;
 use m36_desc::{Dbr, Sdw};
 use m36_tables::{in_order, segment_count};
 
-/// How many runs a segment may have.
+/// The most runs that a segment has.
 fn pieces(sdw: &Sdw) -> u32
     ensures most { result ≤ runs_of_segment }
     ensures value { result ≡ piece_count sdw.now }
@@ -27,7 +28,7 @@ fn pieces(sdw: &Sdw) -> u32
     }
 }
 
-/// One run of a segment.
+/// One run of a segment, if there is one with this number.
 fn piece_run(core: &Core, sdw: &Sdw, piece: u32) -> Option<Run>
     requires { piece < piece_count sdw.now }
     ensures { result ≡ run_by sdw.now.unpaged core.now sdw.now piece }
@@ -42,7 +43,7 @@ fn piece_run(core: &Core, sdw: &Sdw, piece: u32) -> Option<Run>
     }
 }
 
-/// Counts one run of a segment, if there is one.
+/// Counts one run of a segment, if there is one with this number.
 fn count_piece(counts: &mut RunCounts, core: &Core, sdw: &Sdw, piece: u32)
     requires piece { piece < piece_count sdw.now }
     requires room { HasRoom counts.old.starts.items }
@@ -58,7 +59,7 @@ fn count_piece(counts: &mut RunCounts, core: &Core, sdw: &Sdw, piece: u32)
     }
 }
 
-/// Counts the runs of the segment with this number, which is live and whose brackets are in order.
+/// Counts the runs of the segment with this number, which is live and has its brackets in order.
 fn count_pieces(
     counts: &mut RunCounts,
     core: &Core,
@@ -72,17 +73,20 @@ fn count_pieces(
     requires runs { (piece : ℕ) → piece < runs_of_segment
         → joint_run core.now dbrs.now firsts.now.items (runs_of_segment * number + piece)
         ≡ run_by sdw.now.unpaged core.now sdw.now piece }
-    requires before { AreCounted (joint_run core.now dbrs.now firsts.now.items) (runs_of_segment * number)
-        (length core.now) counts.old.starts.items counts.old.stops.items }
-    ensures { AreCounted (joint_run core.now dbrs.now firsts.now.items) (runs_of_segment * (number + 1))
-        (length core.now) counts.new.starts.items counts.new.stops.items }
+    requires before { AreCounted (joint_run core.now dbrs.now firsts.now.items)
+        (runs_of_segment * number) (length core.now) counts.old.starts.items
+        counts.old.stops.items }
+    ensures { AreCounted (joint_run core.now dbrs.now firsts.now.items)
+        (runs_of_segment * (number + 1)) (length core.now) counts.new.starts.items
+        counts.new.stops.items }
 {
     for piece in 0..pieces(sdw) {
         count_piece(counts, core, sdw, piece);
     }
 }
 
-/// Counts the runs of a segment, if its descriptor is the first with its words, and it is live with its brackets in order.
+/// Counts the runs of a segment, if its descriptor is the first with its words, it is live, and its
+/// brackets are in order.
 fn count_first(
     counts: &mut RunCounts,
     core: &Core,
@@ -96,11 +100,11 @@ fn count_first(
     requires seg { seg < 2 ^ 15 }
     requires there { length firsts.now.items ≡ descriptors_of_process * length dbrs.now }
     requires before { AreCounted (joint_run core.now dbrs.now firsts.now.items)
-        (runs_of_segment * (descriptors_of_process * k + seg)) (length core.now) counts.old.starts.items
-        counts.old.stops.items }
+        (runs_of_segment * (descriptors_of_process * k + seg)) (length core.now)
+        counts.old.starts.items counts.old.stops.items }
     ensures { AreCounted (joint_run core.now dbrs.now firsts.now.items)
-        (runs_of_segment * (descriptors_of_process * k + seg + 1)) (length core.now) counts.new.starts.items
-        counts.new.stops.items }
+        (runs_of_segment * (descriptors_of_process * k + seg + 1)) (length core.now)
+        counts.new.starts.items counts.new.stops.items }
 {
     let number = (1 << 15) * k as u32 + seg as u32;
     if firsts[number as usize] != number {
@@ -125,15 +129,15 @@ fn count_process(counts: &mut RunCounts, core: &Core, dbrs: &[Dbr], firsts: &Vec
         (runs_of_segment * (descriptors_of_process * k)) (length core.now) counts.old.starts.items
         counts.old.stops.items }
     ensures { AreCounted (joint_run core.now dbrs.now firsts.now.items)
-        (runs_of_segment * (descriptors_of_process * (k + 1))) (length core.now) counts.new.starts.items
-        counts.new.stops.items }
+        (runs_of_segment * (descriptors_of_process * (k + 1))) (length core.now)
+        counts.new.starts.items counts.new.stops.items }
 {
     for seg in 0..segment_count(dbrs[k]) {
         count_first(counts, core, dbrs, firsts, k, seg);
     }
 }
 
-/// Counts the runs of all processes. None is counted before.
+/// Counts the runs of all processes. No run is counted before.
 pub(crate) fn count_processes(counts: &mut RunCounts, core: &Core, dbrs: &[Dbr], firsts: &Vec<u32>)
     requires few { length dbrs.now ≤ most_processes }
     requires there { length firsts.now.items ≡ descriptors_of_process * length dbrs.now }

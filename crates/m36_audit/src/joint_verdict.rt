@@ -1,4 +1,4 @@
-//! What a joint audit finds.
+//! The findings of a joint audit.
 
 ghost use Rattle.std.specs.Prelude.{ℕ, [], ◌≡◌, ◌++◌, ◌+◌, ◌*◌, ◌<◌, ◌≤◌, Some, None};
 ghost use Rattle.std.specs.Bool.{Decides};
@@ -13,17 +13,17 @@ use arrayvec::ArrayVec;
 /// A condition that fails, and the least place that breaks it.
 #[derive(Clone, Copy, PartialEq, Eq)]
 pub struct JointFinding {
-    /// Of the first, fifth and sixth condition of a process a segment number of 15 bits; of the others an address of a core
-    /// word.
+    /// For the first, fifth and sixth condition of a process a segment number of 15 bits; for the
+    /// others a core address.
     pub place: u32,
-    /// The number of the process, from 0, or none for the two conditions between processes.
+    /// The number of the process, from 0, or None for the two conditions between processes.
     pub process: Option<u8>,
-    /// 1 to 6 of one process; 2 and 3 between processes.
+    /// The number of the condition: 1 to 6 for one process, 2 and 3 between processes.
     pub condition: u8,
 }
 
 impl Default for JointFinding {
-    /// What fills the places of a list that hold no finding yet.
+    /// The filler for unused slots of a list of findings.
     fn default() -> JointFinding
         ensures { result ≡ record { place = 0; process = None; condition = 0 } }
     {
@@ -35,14 +35,15 @@ impl Default for JointFinding {
     }
 }
 
-/// The findings of a joint audit: those of each process in order, and one for each condition between processes that fails.
+/// The findings of a joint audit: those of each process in order, and one for each condition
+/// between processes that fails.
 #[derive(Drop)]
 pub struct Joint {
     pub findings: ArrayVec<JointFinding, 50>,
 }
 
 impl Joint {
-    /// Whether nothing was found.
+    /// Whether there are no findings: all conditions hold.
     pub fn yes(&self) -> bool
         ensures { Decides result (self.now.findings.items ≡ []) }
     {
@@ -50,7 +51,7 @@ impl Joint {
     }
 }
 
-/// Notes what was found of one process.
+/// Adds the findings of one process.
 pub(crate) fn note_process(findings: &mut ArrayVec<JointFinding, 50>, process: u8, own: &Verdict)
     requires room { array_vec_len findings.old ≤ 42 }
     ensures listed { all_found findings.new.items
@@ -67,7 +68,7 @@ pub(crate) fn note_process(findings: &mut ArrayVec<JointFinding, 50>, process: u
     }
 }
 
-/// Notes what was found of a condition between processes.
+/// Adds the finding of a condition between processes, if there is one.
 pub(crate) fn note_between(
     findings: &mut ArrayVec<JointFinding, 50>,
     condition: u8,

@@ -1,6 +1,6 @@
-//! The two conditions between processes: no table word of one lies on a table word or a segment word of another, but for
-//! shared page tables, and no two segment words of two on one core word, but for the same word of shared segments. One
-//! pass over core each.
+//! The two conditions between processes: no table word of one is a table word or a segment word of
+//! another, except in shared page tables; and no core word is segment words of two, except the same
+//! word of shared segments. One pass over core each.
 
 ghost use Rattle.std.specs.Prelude.{ℕ, ◌≡◌, ◌*◌, ◌<◌, ◌≤◌, ◌^◌, ◌+◌, ◌==◌, ◌&&◌, ◌||◌, not, nat_lt, length, slice_index};
 ghost use Rattle.std.specs.Bool.{Decides};
@@ -17,8 +17,8 @@ use crate::words::count_at;
 use m36_core::Core;
 use m36_desc::Dbr;
 
-/// Whether different processes have a table word and a segment word at a core word, or table words that are not shared, by
-/// what was told of it.
+/// Whether a core word is table words of different processes that are not shared, or a table word
+/// of one process and a segment word of another, by what is recorded for it.
 fn is_between(tables: u32, segments: u32, identities: u32) -> bool
     ensures { result ≡ is_between tables segments identities }
 {
@@ -26,7 +26,8 @@ fn is_between(tables: u32, segments: u32, identities: u32) -> bool
     tables == SEVERAL && identities == SEVERAL || tables != 0 && segments != 0 && parted
 }
 
-/// The first core word at which a table word of one process lies on a table word or a segment word of another.
+/// The first core word that is a table word of one process, and a table word that is not shared or
+/// a segment word of another.
 pub(crate) fn on_joint_table(
     tables: &Told,
     segments: &Told,
@@ -35,7 +36,8 @@ pub(crate) fn on_joint_table(
     dbrs: &[Dbr],
     firsts: &Vec<u32>,
 ) -> Option<u32>
-    requires classes { AreClasses core.now dbrs.now (descriptors_of_process * length dbrs.now) firsts.now.items }
+    requires classes { AreClasses core.now dbrs.now (descriptors_of_process * length dbrs.now)
+        firsts.now.items }
     requires tables { AreTold (Below (TableOwned core.now dbrs.now) (length dbrs.now))
         (length core.now) tables.now.values.items }
     requires segments { AreTold (Below (SegmentOwned core.now dbrs.now) (length dbrs.now))
@@ -53,7 +55,8 @@ pub(crate) fn on_joint_table(
     None
 }
 
-/// How many of the runs of first segments cover a word, from how many were open before it.
+/// The number of runs of first descriptors that cover word `a`, from the number that were open
+/// before it.
 fn open_joint(
     counts: &RunCounts,
     core: &Core,
@@ -78,15 +81,15 @@ fn open_joint(
     open_runs + begin - end
 }
 
-/// Whether two processes have different segment words at a core word, by what was told of it and how many of the runs of
-/// first segments cover it.
+/// Whether a core word is different segment words of two processes, by what is recorded for it and
+/// the number of runs of first descriptors that cover it.
 fn is_parted(segments: u32, open_runs: u32) -> bool
     ensures { result ≡ ((segments == several) && nat_lt 1 open_runs) }
 {
     segments == SEVERAL && open_runs > 1
 }
 
-/// The first core word at which a segment word of one process lies on one of another.
+/// The first core word that is different segment words of two processes.
 pub(crate) fn on_joint_segment(
     segments: &Told,
     counts: &RunCounts,
@@ -95,7 +98,8 @@ pub(crate) fn on_joint_segment(
     firsts: &Vec<u32>,
 ) -> Option<u32>
     requires few { length dbrs.now ≤ most_processes }
-    requires classes { AreClasses core.now dbrs.now (descriptors_of_process * length dbrs.now) firsts.now.items }
+    requires classes { AreClasses core.now dbrs.now (descriptors_of_process * length dbrs.now)
+        firsts.now.items }
     requires segments { AreTold (Below (SegmentOwned core.now dbrs.now) (length dbrs.now))
         (length core.now) segments.now.values.items }
     requires counted { AreCounted (joint_run core.now dbrs.now firsts.now.items)

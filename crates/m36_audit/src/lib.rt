@@ -1,45 +1,55 @@
-//! The auditor: whether the tables of a core image isolate its rings.
+//! The auditor: it decides whether the tables of a core isolate its rings.
 //!
-//! A processor keeps its rings apart by segment descriptors, page tables and the rules of access. Whether they do it rests
-//! on the tables themselves: a page table that lies in a writable segment, or two segments on one core word, undo every
-//! rule. `audit` looks at the tables that a descriptor segment base register gives a core, and decides six conditions:
+//! A processor separates its rings by segment descriptors, page tables and the rules of access.
+//! This works only if the tables themselves are sound: a page table in a writable segment, or two
+//! segments on one core word, defeat every rule. `audit` reads the tables that a descriptor segment
+//! base register (DBR) gives to a core, and decides six conditions:
 //!
-//! 1. each live segment has its ring brackets in order;
-//! 2. no core word is a word of two tables;
-//! 3. no word of a segment lies on a table word;
-//! 4. no two words of segments lie on one core word;
-//! 5. each segment that rings outside its read bracket may call is a gate;
-//! 6. and the ring that such a call enters has a stack of its own.
+//! 1. Each live segment has its ring brackets in order.
+//! 2. No core word is a word of two tables.
+//! 3. No core word is both a table word and a word of a segment.
+//! 4. No core word is two words of segments.
+//! 5. Each segment that rings above R2 may call is a gate.
+//! 6. The ring that such a call enters has a stack.
 //!
-//! The contract of `audit`: its findings are, for each condition that fails and in this order, the least segment (1, 5, 6)
-//! or the least core word (2, 3, 4) that breaks it, and nothing else (`findings`). There is none exactly where all six hold
-//! (`audited`), and then each ring from 1 to 7 is isolated (`isolated`): whatever stands in rings r and above, up to a
-//! fault, a stop or a gate call no word changes that ring r may not write, and nothing is told that ring r may not read.
-//! `yes` tells whether there is none. The only other answer is want of memory, before anything is looked at.
+//! The findings of `audit` are, for each condition that fails and in this order, the least segment
+//! (1, 5, 6) or the least core word (2, 3, 4) that breaks it (clause `findings`). There are none
+//! exactly if all six conditions hold (`audited`), and then each ring r from 1 to 7 is isolated
+//! (`isolated`): for programs in ring r and above, up to a fault, a stop or a gate call, no word
+//! changes that ring r may not write, and no record depends on a word that ring r may not read.
+//! `Verdict::yes` says whether there are no findings. The only error is `NoMemory`, before anything
+//! is read.
 //!
-//! `joint` decides the same of several processes on one core, one to eight, by the descriptor segment base register of each,
-//! and two conditions between them: no table word of one is a table word or a word of a segment of another, but for the page
-//! table of a segment that both have, and no word of a segment of one lies on one of another, but for the same word of such
-//! a segment. Two segments are one where their descriptors are equal words. Its findings are those of each process in order,
-//! and then the least core word that breaks each condition between processes. Where there is none, every schedule of the
-//! processes is isolated in each ring from 1.
+//! `joint` decides the same for one to eight processes on one core, each with its DBR, and two
+//! conditions between them. No table word of one process is a table word or a segment word of
+//! another, except in the page table of a segment that both have. No segment word of one is at the
+//! core address of one of another, except for the same word of such a segment. Two segments are the
+//! same if their descriptors are equal words. The findings are those of each process in order, and
+//! then the least core word that breaks each condition between processes. If there are none, every
+//! schedule of the processes is isolated in each ring from 1 to 7.
 //!
-//! What `audit` costs: memory for a mark and two counts for each core word, and work that grows with the words of core, of the
-//! descriptors and of the page tables, and not with the words of the segments. Each table word is marked with the table it
-//! belongs to. Segment words are never looked at one by one: a page or an unpaged segment is a run of core words, for each
-//! core word it is counted how many runs begin and end there, and one pass over core keeps how many are open.
+//! Cost of `audit`: memory for one mark and two counts for each core word, and time that grows with
+//! the words of core, of the descriptors and of the page tables, but not with the words of the
+//! segments. Each table word is marked with its table. Segment words are not visited one by one: a
+//! page or an unpaged segment is a run of core words. For each core word, the auditor counts the
+//! runs that begin and end there. One pass over core then knows how many runs are open at each
+//! word.
 //!
-//! What `joint` costs: three numbers more for each core word, and one for each descriptor. The marks and the counts are used
-//! again for each process. Of each core word it is told, each as none, one or several, which processes have a table word
-//! there, which have a word of a segment, and which tables these are; each descriptor has the number of the first one with
-//! its words, so the page tables of equal descriptors are one table. Runs are counted once more, over all processes, of the
-//! first segments alone. So the work grows with the words of core, of the descriptors and of the page tables, and not with
-//! pairs of them. The numbers of the descriptors are told by a map, with an entry for each different descriptor of the processes.
-//! Its seed is that of all descriptors, so they cannot be chosen so that they collide.
-//! All memory is taken before any finding is made.
+//! Cost of `joint`: three more numbers for each core word, and one for each descriptor. The marks
+//! and counts are used again for each process. Three values are recorded for each core word, each
+//! of them "none", one number, or "several": the process that has a table word there, the process
+//! that has a segment word there, and the table. Each descriptor gets the number of the first one
+//! with the same words, so page tables of equal descriptors count as one table. Runs are counted
+//! once more over all processes, for first descriptors only. So the time grows with the words of
+//! core, of the descriptors and of the page tables, and not with pairs of them.
 //!
-//! Source: Multics Processor Manual AL39, "Addressing -- segmentation and paging", "Access control"; Schroeder and Saltzer,
-//! "A hardware architecture for implementing protection rings" (1972). The six conditions are this project's choice.
+//! A hash map finds the numbers of equal descriptors, with an entry for each different descriptor.
+//! Its seed depends on all descriptors, so descriptors that collide under one seed do not under
+//! another. All memory is allocated before any finding is made.
+//!
+//! Source: Multics Processor Manual AL39, "Addressing -- segmentation and paging", "Access
+//! control"; Schroeder and Saltzer, "A hardware architecture for implementing protection rings"
+//! (1972). The six conditions are this project's choice.
 #![tactic(auto)]
 
 pub mod auditor;

@@ -8,7 +8,7 @@ use m36_core::Core;
 use m36_desc::{Dbr, Sdw};
 use m36_tables::descriptor;
 
-/// The descriptor of a segment, where the segment is live.
+/// The descriptor of a segment, or None if the segment is not live.
 #[tactic(auto, using(crate::proofs::Telling::tells))]
 pub(crate) fn live(core: &Core, dbr: Dbr, seg: u16) -> Option<Sdw>
     requires { seg < 2 ^ 15 }

@@ -1,4 +1,4 @@
-//! Which processes have table words and words of segments at each core word.
+//! Which processes have table words and segment words at each core word.
 
 ghost use Rattle.std.specs.Prelude.{ℕ, ◌≡◌, ◌+◌, ◌<◌, ◌≤◌, ◌^◌, ◌==◌, not, nat_lt, length, slice_index, slice_set};
 ghost use Rattle.m36_model.specs.Audit.{IsOf};
@@ -15,7 +15,7 @@ use crate::words::{mark_at, open_at};
 use m36_core::Core;
 use m36_desc::Dbr;
 
-/// Tells a core word of a process that has something there.
+/// Records a process for a core word, if it has something there.
 fn tell_owner(told: &mut Told, a: u32, has: bool, number: u32)
     ensures { told.new.values.items ≡ owned_at has told.old.values.items a number }
 {
@@ -24,7 +24,8 @@ fn tell_owner(told: &mut Told, a: u32, has: bool, number: u32)
     }
 }
 
-/// Tells each core word of process k, where it has a table word there, and where it has a word of a segment.
+/// Records process k for each core word: in `tables` if it has a table word there, and in
+/// `segments` if it has a segment word there. Its number is k + 1.
 pub(crate) fn tell_owners(
     tables: &mut Told,
     segments: &mut Told,

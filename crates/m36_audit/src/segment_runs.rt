@@ -1,4 +1,5 @@
-//! Counts of the runs in which the words of the segments lie: one for each page in core, and two for each unpaged segment.
+//! Counts the runs of core words that the segments occupy: one for each page in core, and two for
+//! each unpaged segment.
 
 ghost use Rattle.std.specs.Prelude.{ℕ, ◌≡◌, ◌+◌, ◌*◌, ◌/◌, ◌<◌, ◌≤◌, ◌^◌, true, false, Ok, length};
 ghost use Rattle.m36_desc.specs.Access.{in_order};
@@ -11,12 +12,12 @@ use m36_core::Core;
 use m36_desc::{Dbr, Sdw};
 use m36_tables::{in_order, page_frame, segment_count};
 
-/// Addresses have 24 bits.
+/// The number of core addresses: they have 24 bits.
 const ADDRESSES: u32 = 1 << 24;
-/// Words in a page.
+/// The number of words of a page.
 const PAGE: u32 = 1024;
 
-/// How many words a segment has.
+/// The number of words of a segment that are within its bound.
 fn words(sdw: &Sdw) -> u32
     ensures value { result ≡ words sdw.now }
     ensures most { result ≤ 2 ^ 18 }
@@ -24,7 +25,7 @@ fn words(sdw: &Sdw) -> u32
     16 * (sdw.bound as u32 + 1)
 }
 
-/// The words of a page that are within the bound, where the page is in core.
+/// The words of a page that are within the bound, or None if the page is in no frame.
 pub(crate) fn page_run(core: &Core, sdw: &Sdw, page: u32) -> Option<Run>
     requires { page ≤ last_page sdw.now }
     ensures { result ≡ page_run core.now sdw.now page }
@@ -49,7 +50,7 @@ pub(crate) fn first_run(sdw: &Sdw) -> Run
     }
 }
 
-/// The words of an unpaged segment past the last address, which go on at address 0.
+/// The words of an unpaged segment past the last address. They continue at address 0.
 pub(crate) fn second_run(sdw: &Sdw) -> Run
     ensures { Some result ≡ whole_run sdw.now 1 }
 {
@@ -74,7 +75,7 @@ fn count_whole(counts: &mut RunCounts, core: &Core, dbr: Dbr, seg: u16, sdw: &Sd
     counts.add(second_run(sdw));
 }
 
-/// Counts the run of one page, where the page is in core.
+/// Counts the run of one page, if the page is in a frame.
 fn count_page(counts: &mut RunCounts, core: &Core, dbr: Dbr, seg: u16, sdw: &Sdw, page: u32)
     requires seg { seg < 2 ^ 15 }
     requires live { core_sdw core.now dbr seg ≡ Ok sdw.now }
@@ -132,12 +133,12 @@ fn count_segment(counts: &mut RunCounts, core: &Core, dbr: Dbr, seg: u16)
     }
 }
 
-/// Counts the runs of all segments. None is counted before.
+/// Counts the runs of all segments. No run is counted before.
 pub(crate) fn count_segments(counts: &mut RunCounts, core: &Core, dbr: Dbr)
     requires before { AreCounted (run core.now dbr) 0 (length core.now) counts.old.starts.items
         counts.old.stops.items }
-    ensures { AreCounted (run core.now dbr) runs_of_process (length core.now) counts.new.starts.items
-        counts.new.stops.items }
+    ensures { AreCounted (run core.now dbr) runs_of_process (length core.now)
+        counts.new.starts.items counts.new.stops.items }
 {
     for seg in 0..segment_count(dbr) {
         count_segment(counts, core, dbr, seg);

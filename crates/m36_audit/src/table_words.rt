@@ -1,5 +1,5 @@
-//! Marks for every table word: those of the descriptors, of the descriptor segment's page table, and of the page tables of
-//! the live paged segments.
+//! Marks all table words: those of the descriptors, of the descriptor segment's page table, and of
+//! the page tables of the live paged segments.
 
 ghost use Rattle.std.specs.Prelude.{ℕ, ◌≡◌, ◌+◌, ◌*◌, ◌/◌, ◌<◌, ◌≤◌, ◌^◌, true, false, Ok, length};
 ghost use Rattle.m36_model.specs.Audit.{IsOf};
@@ -16,10 +16,10 @@ use m36_tables::{descriptor_place, directory_at, page_at, segment_count, wrapped
 /// Marks the two words of a segment's descriptor.
 fn mark_descriptor(marks: &mut TableMarks, core: &Core, dbr: Dbr, seg: u16)
     requires seg { seg < 2 ^ 15 }
-    requires before { AreMarked (SoFar core.now dbr seg seg (pages_of_segment * seg)) (length core.now)
-        marks.old.tables.items marks.old.least }
-    ensures { AreMarked (SoFar core.now dbr (seg + 1) seg (pages_of_segment * seg)) (length core.now)
-        marks.new.tables.items marks.new.least }
+    requires before { AreMarked (SoFar core.now dbr seg seg (pages_of_segment * seg))
+        (length core.now) marks.old.tables.items marks.old.least }
+    ensures { AreMarked (SoFar core.now dbr (seg + 1) seg (pages_of_segment * seg))
+        (length core.now) marks.new.tables.items marks.new.least }
 {
     match descriptor_place(core, dbr, seg) {
         Ok(even) => {
@@ -30,14 +30,15 @@ fn mark_descriptor(marks: &mut TableMarks, core: &Core, dbr: Dbr, seg: u16)
     }
 }
 
-/// Marks the word of the descriptor segment's page table by which a segment's descriptor is found.
+/// Marks the word of the descriptor segment's page table through which a segment's descriptor is
+/// found.
 fn mark_directory(marks: &mut TableMarks, core: &Core, dbr: Dbr, seg: u16)
     requires seg { seg < 2 ^ 15 }
     requires bounds { in_bounds dbr seg ≡ true }
-    requires before { AreMarked (SoFar core.now dbr (seg + 1) seg (pages_of_segment * seg)) (length core.now)
-        marks.old.tables.items marks.old.least }
-    ensures { AreMarked (SoFar core.now dbr (seg + 1) (seg + 1) (pages_of_segment * seg)) (length core.now)
-        marks.new.tables.items marks.new.least }
+    requires before { AreMarked (SoFar core.now dbr (seg + 1) seg (pages_of_segment * seg))
+        (length core.now) marks.old.tables.items marks.old.least }
+    ensures { AreMarked (SoFar core.now dbr (seg + 1) (seg + 1) (pages_of_segment * seg))
+        (length core.now) marks.new.tables.items marks.new.least }
 {
     if !dbr.unpaged {
         marks.mark(DIRECTORY, directory_at(dbr, seg));
@@ -51,8 +52,8 @@ fn mark_page_table(marks: &mut TableMarks, core: &Core, dbr: Dbr, seg: u16, sdw:
     requires paged { sdw.now.unpaged ≡ false }
     requires before { AreMarked (SoFar core.now dbr (seg + 1) (seg + 1) (pages_of_segment * seg))
         (length core.now) marks.old.tables.items marks.old.least }
-    ensures { AreMarked (SoFar core.now dbr (seg + 1) (seg + 1) (pages_of_segment * (seg + 1))) (length core.now)
-        marks.new.tables.items marks.new.least }
+    ensures { AreMarked (SoFar core.now dbr (seg + 1) (seg + 1) (pages_of_segment * (seg + 1)))
+        (length core.now) marks.new.tables.items marks.new.least }
 {
     let pages = sdw.bound as u32 / 64 + 1;
     for page in 0..pages {
@@ -60,13 +61,13 @@ fn mark_page_table(marks: &mut TableMarks, core: &Core, dbr: Dbr, seg: u16, sdw:
     }
 }
 
-/// Marks the words of a segment's page table, if it has one.
+/// Marks the words of a segment's page table, if the segment is live and paged.
 fn mark_pages(marks: &mut TableMarks, core: &Core, dbr: Dbr, seg: u16)
     requires seg { seg < 2 ^ 15 }
     requires before { AreMarked (SoFar core.now dbr (seg + 1) (seg + 1) (pages_of_segment * seg))
         (length core.now) marks.old.tables.items marks.old.least }
-    ensures { AreMarked (SoFar core.now dbr (seg + 1) (seg + 1) (pages_of_segment * (seg + 1))) (length core.now)
-        marks.new.tables.items marks.new.least }
+    ensures { AreMarked (SoFar core.now dbr (seg + 1) (seg + 1) (pages_of_segment * (seg + 1)))
+        (length core.now) marks.new.tables.items marks.new.least }
 {
     match live(core, dbr, seg) {
         Some(sdw) => {
@@ -78,7 +79,7 @@ fn mark_pages(marks: &mut TableMarks, core: &Core, dbr: Dbr, seg: u16)
     }
 }
 
-/// Marks every table word. No word has a mark before.
+/// Marks all table words. No word has a mark before.
 pub(crate) fn mark_tables(marks: &mut TableMarks, core: &Core, dbr: Dbr)
     requires before { AreMarked (SoFar core.now dbr 0 0 0) (length core.now) marks.old.tables.items
         marks.old.least }

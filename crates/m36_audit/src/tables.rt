@@ -1,4 +1,4 @@
-//! Which table each core word belongs to: the second condition.
+//! The table of each core word: the second condition.
 
 ghost use Rattle.std.specs.Prelude.{ℕ, ◌≡◌, IfOk, None, length, replicate};
 ghost use Rattle.m36_audit.specs.TableMarks.{tables_marked, least_marked, lesser};
@@ -6,22 +6,23 @@ ghost use Rattle.m36_audit.specs.TableMarks.{tables_marked, least_marked, lesser
 use m36_word::NoMemory;
 use std::alloc::Global;
 
-/// The mark of the descriptors.
+/// The mark of descriptor words.
 pub(crate) const SDWS: u16 = 1;
-/// The mark of the page table of the descriptor segment.
+/// The mark of words of the descriptor segment's page table.
 pub(crate) const DIRECTORY: u16 = 2;
-/// The mark of the page table of segment 0.
+/// The mark of words of the page table of segment 0. That of segment n is `PAGES + n`.
 pub(crate) const PAGES: u16 = 3;
 
-/// For each core word the first table that it was seen to belong to, and the least word at which a second one was seen.
+/// For each core word the first table that was recorded for it, and the least word for which a
+/// second one was.
 #[derive(Drop)]
 pub(crate) struct TableMarks {
-    /// A mark for each core word, and 0 for none.
+    /// The mark of each core word, or 0 if it has none.
     pub(crate) tables: Vec<u16>,
     pub(crate) least: Option<u32>,
 }
 
-/// The lesser of two places, of which the first may be none.
+/// The lesser of two addresses; the first may be absent.
 fn lesser(least: Option<u32>, a: u32) -> u32
     ensures { Some result ≡ lesser least a }
 {
@@ -32,7 +33,7 @@ fn lesser(least: Option<u32>, a: u32) -> u32
 }
 
 impl TableMarks {
-    /// No word has a mark.
+    /// No word has a mark. Fails only if memory runs out.
     pub(crate) fn new(alloc: Global, size: u32) -> Result<TableMarks, NoMemory>
         ensures tables { IfOk result (λ m. m.tables.items ≡ replicate size 0) }
         ensures least { IfOk result (λ m. m.least ≡ None) }
@@ -46,7 +47,7 @@ impl TableMarks {
         })
     }
 
-    /// Takes all marks away.
+    /// Removes all marks.
     pub(crate) fn clear(&mut self)
         ensures tables { self.new.tables.items ≡ replicate (length self.old.tables.items) 0 }
         ensures least { self.new.least ≡ None }
@@ -55,7 +56,7 @@ impl TableMarks {
         self.least = None;
     }
 
-    /// Marks a core word as one of a table. A word past the end of core is none.
+    /// Marks a core word as a word of a table. A word past the end of core is ignored.
     #[tactic(auto, unfolding(crate::specs::TableMarks::tables_marked, crate::specs::TableMarks::least_marked))]
     pub(crate) fn mark(&mut self, table: u16, a: u32)
         ensures tables { self.new.tables.items ≡ tables_marked self.old.tables.items table a }

@@ -1,4 +1,4 @@
-//! Numbers told of core words.
+//! Which number was recorded for each core word: none, one, or several.
 
 ghost use Rattle.std.specs.Prelude.{ℕ, ◌≡◌, ◌<◌, IfOk, replicate, slice_index, vec_len};
 ghost use Rattle.m36_audit.specs.Told.{joined, joined_at};
@@ -7,16 +7,17 @@ use crate::run::zeros;
 use m36_word::NoMemory;
 use std::alloc::Global;
 
-/// Stands for two different numbers, or more.
+/// The value of a word for which different numbers were recorded.
 pub(crate) const SEVERAL: u32 = 0xffff_ffff;
 
-/// For each core word which number was told of it: 0 for none, and `SEVERAL` where two different ones were told.
+/// For each core word the number that was recorded for it: 0 if none was, and `SEVERAL` if
+/// different ones were.
 #[derive(Drop)]
 pub(crate) struct Told {
     pub(crate) values: Vec<u32>,
 }
 
-/// What stands at a word after one more number was told of it.
+/// The value of a word after one more number was recorded for it.
 #[tactic(auto, unfolding(crate::specs::Told::joined))]
 fn joined(seen: u32, number: u32) -> u32
     ensures { result ≡ joined seen number }
@@ -29,7 +30,7 @@ fn joined(seen: u32, number: u32) -> u32
 }
 
 impl Told {
-    /// Nothing is told.
+    /// Nothing is recorded. Fails only if memory runs out.
     pub(crate) fn new(alloc: Global, size: u32) -> Result<Told, NoMemory>
         ensures { IfOk result (λ t. t.values.items ≡ replicate size 0) }
     {
@@ -37,7 +38,7 @@ impl Told {
         Ok(Told { values })
     }
 
-    /// Tells one more number of a core word. A word past the end of core is none.
+    /// Records a number for a core word. A word past the end of core is ignored.
     pub(crate) fn tell(&mut self, a: u32, number: u32)
         ensures { self.new.values.items ≡ joined_at self.old.values.items a number }
     {
@@ -47,7 +48,7 @@ impl Told {
         }
     }
 
-    /// What was told of a core word.
+    /// The value of a core word.
     pub(crate) fn at(&self, a: u32) -> u32
         requires { a < vec_len self.now.values }
         ensures { result ≡ slice_index self.now.values.items a }

@@ -1,4 +1,4 @@
-//! What an audit finds.
+//! The findings of an audit.
 
 ghost use Rattle.std.specs.Prelude.{ℕ, [], ◌≡◌, ◌++◌, ◌+◌, ◌<◌, ◌≤◌};
 ghost use Rattle.std.specs.Bool.{Decides};
@@ -11,14 +11,15 @@ use arrayvec::ArrayVec;
 /// A condition that fails, and the least place that breaks it.
 #[derive(Clone, Copy, PartialEq, Eq)]
 pub struct Finding {
-    /// Of the first, fifth and sixth condition a segment number of 15 bits; of the others an address of a core word.
+    /// For the first, fifth and sixth condition a segment number of 15 bits; for the others a core
+    /// address.
     pub place: u32,
-    /// 1 to 6.
+    /// The number of the condition, 1 to 6.
     pub condition: u8,
 }
 
 impl Default for Finding {
-    /// What fills the places of a list that hold no finding yet.
+    /// The filler for unused slots of a list of findings.
     fn default() -> Finding
         ensures { result ≡ record { place = 0; condition = 0 } }
     {
@@ -36,7 +37,7 @@ pub struct Verdict {
 }
 
 impl Verdict {
-    /// Whether nothing was found.
+    /// Whether there are no findings: all six conditions hold.
     pub fn yes(&self) -> bool
         ensures { Decides result (self.now.findings.items ≡ []) }
     {
@@ -44,7 +45,7 @@ impl Verdict {
     }
 }
 
-/// Notes what was found of a condition.
+/// Adds the finding of a condition, if there is one.
 pub(crate) fn note(findings: &mut ArrayVec<Finding, 6>, condition: u8, found: Option<u32>)
     requires room { array_vec_len findings.old < 6 }
     ensures listed { pairs findings.new.items ≡ pairs findings.old.items ++ noted condition found }

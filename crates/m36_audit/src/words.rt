@@ -1,5 +1,5 @@
-//! The third and the fourth condition: no segment word lies on a table word, and no two segment words on one core word.
-//! One pass over core each, which counts the runs that are open.
+//! The third and the fourth condition: no core word is both a table word and a segment word, and
+//! none is two segment words. One pass over core each, which counts the open runs.
 
 ghost use Rattle.std.specs.Prelude.{ℕ, ◌≡◌, ◌<◌, ◌^◌, ◌+◌, ◌==◌, ◌&&◌, not, nat_lt, length, slice_index, vec_len};
 ghost use Rattle.std.specs.Bool.{Decides};
@@ -12,7 +12,7 @@ use crate::tables::TableMarks;
 use m36_core::Core;
 use m36_desc::Dbr;
 
-/// The count at a word.
+/// The count of a word.
 pub(crate) fn count_at(counts: &Vec<u32>, a: u32) -> u32
     requires { a < vec_len counts.now }
     ensures { result ≡ slice_index counts.now.items a }
@@ -20,7 +20,7 @@ pub(crate) fn count_at(counts: &Vec<u32>, a: u32) -> u32
     counts[a as usize]
 }
 
-/// The mark at a word.
+/// The mark of a word.
 pub(crate) fn mark_at(marks: &TableMarks, a: u32) -> u16
     requires { a < vec_len marks.now.tables }
     ensures { result ≡ slice_index marks.now.tables.items a }
@@ -28,7 +28,7 @@ pub(crate) fn mark_at(marks: &TableMarks, a: u32) -> u16
     marks.tables[a as usize]
 }
 
-/// How many runs cover a word, from how many were open before it.
+/// The number of runs that cover word `a`, from the number that were open before it.
 pub(crate) fn open_at(counts: &RunCounts, core: &Core, dbr: Dbr, a: u32, open_runs: u32) -> u32
     requires counted { AreCounted (run core.now dbr) runs_of_process (length core.now)
         counts.now.starts.items counts.now.stops.items }
@@ -42,7 +42,8 @@ pub(crate) fn open_at(counts: &RunCounts, core: &Core, dbr: Dbr, a: u32, open_ru
     open_runs + begin - end
 }
 
-/// Whether a word that so many runs cover has a mark too.
+/// Whether a word with this number of open runs and this mark is both a segment word and a table
+/// word.
 fn shared(open_runs: u32, mark: u16) -> bool
     ensures { result ≡ (nat_lt 0 open_runs && not (mark == 0)) }
 {
@@ -69,7 +70,7 @@ fn is_on_segment(core: &Core, dbr: Dbr, a: u32, open_runs: u32) -> bool
     open_runs > 1
 }
 
-/// The first core word on which a segment word and a table word lie.
+/// The first core word that is both a segment word and a table word.
 pub(crate) fn on_table(marks: &TableMarks, counts: &RunCounts, core: &Core, dbr: Dbr) -> Option<u32>
     requires marked { AreMarked (IsOf core.now dbr) (length core.now) marks.now.tables.items
         marks.now.least }
@@ -87,7 +88,7 @@ pub(crate) fn on_table(marks: &TableMarks, counts: &RunCounts, core: &Core, dbr:
     None
 }
 
-/// The first core word on which two segment words lie.
+/// The first core word that is two segment words.
 pub(crate) fn on_segment(counts: &RunCounts, core: &Core, dbr: Dbr) -> Option<u32>
     requires counted { AreCounted (run core.now dbr) runs_of_process (length core.now)
         counts.now.starts.items counts.now.stops.items }

@@ -31,10 +31,12 @@ sdw_of even odd =
       limit = field odd 22 14;
     }
 
+-- the even word of a descriptor
 abbrev pub sdw_even : SdwFields → ℕ
 sdw_even s =
     s.addr * 2 ^ 12 + s.r1 * 2 ^ 9 + s.r2 * 2 ^ 6 + s.r3 * 2 ^ 3 + of_bit s.f * 2 ^ 2 + s.fc
 
+-- the odd word of a descriptor
 abbrev pub sdw_odd : SdwFields → ℕ
 sdw_odd s =
     s.bound * 2 ^ 21 + of_bit s.readable * 2 ^ 20 + of_bit s.executable * 2 ^ 19
@@ -52,6 +54,7 @@ ptw_of w =
       fc = field w 34 2;
     }
 
+-- the word of these fields
 abbrev pub ptw_word : PtwFields → ℕ
 ptw_word p =
     p.addr * 2 ^ 18 + of_bit p.used * 2 ^ 9 + of_bit p.modified * 2 ^ 6 + of_bit p.f * 2 ^ 2 + p.fc
@@ -66,9 +69,11 @@ dbr_of even odd =
       stack = field odd 24 12;
     }
 
+-- the even word of the register
 abbrev pub dbr_even : DbrFields → ℕ
 dbr_even d = d.addr * 2 ^ 12
 
+-- the odd word of the register
 abbrev pub dbr_odd : DbrFields → ℕ
 dbr_odd d = d.bnd * 2 ^ 21 + of_bit d.unpaged * 2 ^ 16 + d.stack
 
@@ -83,6 +88,7 @@ bitno_of odd = field odd 21 6
 abbrev pub tag_of : ℕ → ℕ
 tag_of w = field w 30 6
 
+-- the odd word of an ITS or ITP pair with these fields
 abbrev pub odd_of : ℕ → ℕ → ℕ → ℕ
 odd_of number bit tag = number * 2 ^ 18 + bit * 2 ^ 9 + tag
 
@@ -96,6 +102,7 @@ segno_of even = field even 3 15
 abbrev pub rnr_of : ℕ → ℕ
 rnr_of even = field even 18 3
 
+-- the fields of an ITS pair, from its two words
 abbrev pub its_of : ℕ → ℕ → ItsFields
 its_of even odd =
     record {
@@ -112,6 +119,7 @@ its_even p = p.seg * 2 ^ 18 + p.ring * 2 ^ 15 + its_tag
 abbrev pub its_odd : ItsFields → ℕ
 its_odd p = odd_of p.word p.bit p.tag
 
+-- the ITS pair of these fields
 abbrev pub its_pair : ItsFields → Pair
 its_pair p = record { even = its_even p; odd = its_odd p }
 
@@ -119,6 +127,7 @@ its_pair p = record { even = its_even p; odd = its_odd p }
 abbrev pub itp_tag : ℕ
 itp_tag = 0o41
 
+-- the fields of an ITP pair, from its two words
 abbrev pub itp_of : ℕ → ℕ → ItpFields
 itp_of even odd =
     record {
@@ -144,6 +153,7 @@ ptr_of even odd =
       bit = bitno_of odd;
     }
 
+-- the ITS pair that stores a pointer register
 abbrev pub its_of_ptr : PtrFields → ItsFields
 its_of_ptr p = record { seg = p.seg; ring = p.ring; word = p.word; bit = p.bit; tag = 0 }
 

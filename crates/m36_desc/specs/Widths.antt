@@ -5,6 +5,7 @@ use Rattle.m36_desc.specs.Descriptors.{sdw_of, sdw_even, sdw_odd, ptw_of, ptw_wo
 use Rattle.m36_desc.specs.Descriptors.{dbr_even, dbr_odd, ptr_of, ptr_even, ptr_odd, its_of}
 use Rattle.m36_desc.specs.Descriptors.{its_even, its_odd, itp_of, itp_even, itp_odd, packed_of}
 
+-- the fields of an SDW are within their widths
 pub record IsSdw (s : SdwFields) : Type 0 where
   pub addr : s.addr < 2 ^ 24
   pub r1 : s.r1 < 2 ^ 3
@@ -14,21 +15,25 @@ pub record IsSdw (s : SdwFields) : Type 0 where
   pub bound : s.bound < 2 ^ 14
   pub limit : s.limit < 2 ^ 14
 
+-- the fields of a PTW are within their widths
 pub record IsPtw (p : PtwFields) : Type 0 where
   pub addr : p.addr < 2 ^ 18
   pub fc : p.fc < 2 ^ 2
 
+-- the fields of the DBR are within their widths
 pub record IsDbr (d : DbrFields) : Type 0 where
   pub addr : d.addr < 2 ^ 24
   pub bnd : d.bnd < 2 ^ 14
   pub stack : d.stack < 2 ^ 12
 
+-- the fields of a pointer register are within their widths
 pub record IsPtr (p : PtrFields) : Type 0 where
   pub seg : p.seg < 2 ^ 15
   pub ring : p.ring < 2 ^ 3
   pub word : p.word < 2 ^ 18
   pub bit : p.bit < 2 ^ 6
 
+-- the fields of an ITS pair are within their widths
 pub record IsIts (p : ItsFields) : Type 0 where
   pub seg : p.seg < 2 ^ 15
   pub ring : p.ring < 2 ^ 3
@@ -36,6 +41,7 @@ pub record IsIts (p : ItsFields) : Type 0 where
   pub bit : p.bit < 2 ^ 6
   pub tag : p.tag < 2 ^ 6
 
+-- the fields of an ITP pair are within their widths
 pub record IsItp (p : ItpFields) : Type 0 where
   pub pr : p.pr < 2 ^ 3
   pub word : p.word < 2 ^ 18

@@ -5,6 +5,7 @@ use Rattle.m36_word.specs.Field.{field, offset_limit}
 use Rattle.m36_word.specs.Bits.{is_on, of_bit}
 use Rattle.m36_inst.specs.Fields.{InstFields, IsInst}
 
+-- the fields of a word
 abbrev pub inst_of : ℕ → InstFields
 inst_of w =
     record {
@@ -16,6 +17,7 @@ inst_of w =
       tag = field w 30 6;
     }
 
+-- the word of these fields
 abbrev pub inst_word : InstFields → ℕ
 inst_word i =
     i.y * 2 ^ 18 + i.code * 2 ^ 9 + of_bit i.bit27 * 2 ^ 8 + of_bit i.inhibit * 2 ^ 7
@@ -25,7 +27,7 @@ inst_word i =
 abbrev pub pr_number : InstFields → ℕ
 pr_number i = i.y / 2 ^ 15
 
--- and the offset, bits 3-17
+-- the offset from a pointer register, bits 3-17
 abbrev pub offset_field : InstFields → ℕ
 offset_field i = i.y % 2 ^ 15
 

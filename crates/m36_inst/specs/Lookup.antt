@@ -37,15 +37,18 @@ row_of effect reg =
       privileged = is_privileged effect;
     }
 
+-- the row of an operation code with bit 27, if it has an instruction
 abbrev pub row_at : ℕ → Bool → Option Row
 row_at code bit27 = option_map (λ e. row_of e.effect e.reg) (entry_at code bit27)
 
+-- the name of an operation code with bit 27, if it has an instruction
 abbrev pub name_at : ℕ → Bool → Option (List ℕ)
 name_at code bit27 = option_map (λ e. e.name) (entry_at code bit27)
 
 abbrev pub code_of : Entry → ℕ × Bool
 code_of e = (e.code, e.bit27)
 
+-- the operation code and bit 27 of a name, if an instruction has it
 abbrev pub code_named : List ℕ → Option (ℕ × Bool)
 code_named name = option_map code_of (entry_named name)
 

@@ -7,6 +7,7 @@ use Rattle.m36_inst.specs.Lookup.{entry_at, row_of}
 use Rattle.m36_inst.specs.Table.{Entry}
 use Rattle.m36_inst.specs.declared.rows.Named.{Named}
 
+-- a name with blanks after it, five characters in all
 abbrev pub padded : List ℕ → List ℕ
 padded name = take 5 (name ++ replicate 5 0x20)
 

@@ -133,7 +133,7 @@ pub record IsGrouped (g : Group) (e : Effect) : Type 0 where
   pub direct : takes_direct e ≡ direct_in g
   pub privileged : is_privileged e ≡ false
 
--- the same, for an instruction in any group except `Other`
+-- as `IsGrouped`, for an instruction in any group except `Other`
 abbrev pub Fits : Group → Effect → Type 0
 Fits group.Other e = Unit {0}
 Fits g e = IsGrouped g e

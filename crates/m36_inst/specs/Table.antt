@@ -43,15 +43,15 @@ in_fours low high even odd stem effect =
     ∷ numbered high even stem 4 effect ∷ numbered (high + 1) odd stem 5 effect
     ∷ numbered (high + 2) even stem 6 effect ∷ numbered (high + 3) odd stem 7 effect ∷ []
 
--- the same with bit 27 off for all
+-- as `in_fours`, with bit 27 off for all
 abbrev pub two_fours : ℕ → ℕ → List ℕ → Effect → List Entry
 two_fours low high stem effect = in_fours low high false false stem effect
 
--- the same with bit 27 off for even registers and on for odd ones
+-- as `in_fours`, with bit 27 off for even registers and on for odd ones
 abbrev pub even_off : ℕ → ℕ → List ℕ → Effect → List Entry
 even_off low high stem effect = in_fours low high false true stem effect
 
--- the same with bit 27 on for even registers and off for odd ones
+-- as `in_fours`, with bit 27 on for even registers and off for odd ones
 abbrev pub even_on : ℕ → ℕ → List ℕ → Effect → List Entry
 even_on low high stem effect = in_fours low high true false stem effect
 
@@ -233,6 +233,7 @@ privileged =
     ++ on 0o532 (codes "camp") effect.Camp
     ++ off 0o212 (codes "absa") effect.Absa
 
+-- all instructions
 abbrev pub table : List Entry
 table =
     data_movement ++ fixed_point ++ boolean ++ shifts ++ pointer_registers ++ special_stores

@@ -1,5 +1,6 @@
--- A step that reaches as many new pages as it references meets no absent page; and where it meets one that is then in a
--- frame, with the pages that it has referenced, the next attempt reaches one more.
+-- A step that reaches as many new pages as it references has no page fault. If it has one, and the
+-- page is then in a frame with the pages that it has referenced, the next attempt reaches one new
+-- page more.
 use Rattle.std.proofs.Common.{◌≡◌, refl, sym, ◌∙◌, ap, subst, arith}
 use Rattle.std.specs.Prelude.{ℕ, zero, suc, ◌/◌, ◌≤◌, ◌≢◌, Bool, true, false, List, Option, Result, Ok, Err}
 use Rattle.m36_model.specs.Fields.{AtFields}
@@ -31,7 +32,7 @@ module _ {A : Type 0} (g : RegsFields) (dbr : g.dbr ≡ booted_dbr) (start : Fla
   abbrev AsksSo : Act A → Type 0
   AsksSo p = Asks post stop R p
 
-  -- so many new pages are reached behind a request
+  -- m new pages are reached after a request
   pub record ReachesOn (q : Request) (next : Result Answer Fault → Act A) (x : Mid (List ℕ)) (m : ℕ) : Type 0 where
     pub most : ℕ
     pub enough : m ≤ most
@@ -51,7 +52,7 @@ module _ {A : Type 0} (g : RegsFields) (dbr : g.dbr ≡ booted_dbr) (start : Fla
     abbrev Here : Request → Fault → Type 0
     Here q f = IsCutHere core frames laid kept g dbr start q f
 
-    -- a page fault at a page that is not to be absent
+    -- a page fault at a page that is not absent
     away : (most : ℕ) (b : Bool) (m : ℕ) (last : Option AtFields) (q : Request) (next : Result Answer Fault → Act A) (x : Mid (List ℕ)) (y : Mid Flat) → Stands x y → InPage q → fresh last q ≡ b → cost b m ≤ most → HoldsLast core last → Reaches g most last (ask q next) x → (f : Fault) → (serve core_store g x q).reply ≡ Err f → f.number ≡ 17 → Here q f → ⊥
     away zero true m last q next x y k inside b h holds r f e number here = omega arith
     away zero false m last q next x y k inside b h holds r f e number here =
@@ -126,7 +127,7 @@ module _ {A : Type 0} (g : RegsFields) (dbr : g.dbr ≡ booted_dbr) (start : Fla
     Gets p =
         (k n j : ℕ) (last : Option AtFields) (x z : Mid (List ℕ)) (y : Mid Flat) (f : Fault) → Plan plan_post n j last p → AsksSo p → First x y → Next z y → HoldsLast core last → EndsAt x.refs last → Reaches g k last p x → IsCut g f p x → Each (On (Holds now)) (run core_store g p x).mid.refs → HoldsAt now f.at → Reaches g (suc k) last p z
 
-    -- the counts
+    -- counts of pages
     up_first : (b : Bool) (P : ℕ → Type 0) → P zero → P 1 → P (left b zero)
     up_first true P x y = x
     up_first false P x y = y
@@ -135,7 +136,7 @@ module _ {A : Type 0} (g : RegsFields) (dbr : g.dbr ≡ booted_dbr) (start : Fla
     up_more true k P x = x
     up_more false k P x = x
 
-    -- behind an answer that is that of the first attempt
+    -- after an answer that is that of the first attempt
     behind : (q : Request) (next : Result Answer Fault → Act A) (a : Answer) → Gets (next (Ok a)) → (k n j : ℕ) (last : Option AtFields) (x z : Mid (List ℕ)) (y : Mid Flat) (f : Fault) → Plan plan_post n j last (ask q next) → AsksSo (ask q next) → First x y → (serve core_store g x q).reply ≡ Ok a → First (serve core_store g x q).mid (serve flat_store g y q).mid → Next (serve core_store g z q).mid (serve flat_store g y q).mid → Reaches g k last (ask q next) x → IsCut g f (next (Ok a)) (serve core_store g x q).mid → Each (On (Holds now)) (run core_store g (next (Ok a)) (serve core_store g x q).mid).mid.refs → HoldsAt now f.at → Reaches g (left (fresh last q) k) (last_by q.kind q.at) (next (Ok a)) (serve core_store g z q).mid
     behind q next a rest zero n j last x z y f plan asks k e mids others r c refs at =
         let t = serve core_store g x q in
@@ -175,7 +176,7 @@ module _ {A : Type 0} (g : RegsFields) (dbr : g.dbr ≡ booted_dbr) (start : Fla
     from_answer q next a rest k n j last x z y f plan asks s l ends e other mids seen r c refs at (is_away h eh number over here) =
         absurd (not_away (has_page q.kind) q next a last n j x z y refl plan asks s l ends e seen refs h eh number here)
 
-    -- the first attempt was cut here: the page was new, and it is in a frame now
+    -- the first attempt ended here with a page fault: the page was new, and it is in a frame now
     there_now : (q : Request) (next : Result Answer Fault → Act A) (f h : Fault) (z : Mid (List ℕ)) (y : Mid Flat) → Next z y → IsCutHere core frames laid kept g dbr start q h → h ≡ f → HoldsAt now f.at → IsOn now frames now_laid now_kept g dbr start z y q next → IsThere (serve core_store g z q).reply
     there_now q next f h z y l here same at (goes_on b eb other mids seen) = subst IsThere (sym eb) tt
     there_now q next f h z y l here same at (is_over v ev over there) = subst IsThere (sym ev) there

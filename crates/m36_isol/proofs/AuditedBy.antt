@@ -1,4 +1,4 @@
--- The audit conditions are by the tables alone.
+-- The audit conditions depend only on the tables.
 use Rattle.std.proofs.Common.{◌≡◌, sym, ◌∙◌, ap, subst}
 use Rattle.std.specs.Prelude.{ℕ, ◌+◌, ◌*◌, ◌<◌, List, Ok}
 use Rattle.m36_desc.specs.Fields.{SdwFields, DbrFields}
@@ -74,6 +74,6 @@ audited_at : (core now : List ℕ) (dbr d : DbrFields) → dbr ≡ d → IsAudit
 audited_at core now dbr d e audited h =
     subst (λ (x : DbrFields). core_tables now x ≡ core_tables core dbr → IsAudited now x) e (λ k. still_audited core dbr now (matches core dbr now k) audited) h
 
--- where the tables are equal but for marks, the audit conditions hold alike
+-- if the tables are equal except for marks, the audit conditions hold of both cores or of neither
 pub audited_by : (core now : List ℕ) (dbr d : DbrFields) → IsAudited core dbr → core_tables now d ≡ core_tables core dbr → IsAudited now d
 audited_by core now dbr d audited h = audited_at core now dbr d (sym (same_dbr core now dbr d h)) audited h

@@ -1,5 +1,5 @@
--- The core of a booted image, with the words that are kept of pages in no frame, stands for a flat memory, and goes on
--- doing so through marks and writes.
+-- The core of a booted image, with the kept words of pages in no frame, represents a flat memory,
+-- and still does after marks and writes.
 use Rattle.std.proofs.Common.{◌≡◌, refl, sym, ◌∙◌, ap, subst, inl, inr, ⊎_elim, arith, eqb-true}
 use Rattle.std.specs.Prelude.{ℕ, zero, suc, ◌+◌, ◌*◌, ◌/◌, ◌%◌, ◌<◌, ◌≤◌, ◌⊎◌, Bool, true, false, ◌&&◌, ◌==◌, if◌then◌else◌, List, [], ◌∷◌, length, take, slice_get, Option, Some, option_map, Result, Ok, Err}
 use Rattle.std.proofs.lemmas.Bool.{eqb-false, ltb-true, and_parts, eq-eqb}
@@ -36,7 +36,7 @@ get_take (x ∷ xs) zero i h = absurd (omega arith)
 get_take (x ∷ xs) (suc n) zero h = refl
 get_take (x ∷ xs) (suc n) (suc i) h = get_take xs n i (omega arith)
 
--- Words past the first stay out of them.
+-- the spot is not among the first words of core
 abbrev IsPast : ℕ → Spot → Type 0
 IsPast n (Core_word a) = n ≤ a
 IsPast n (Segment_word seg w) = Unit {0}
@@ -57,7 +57,7 @@ take_marks xs n [] h = refl
 take_marks xs n (m ∷ list) h =
     take_marks (with_mark xs m) n list h.1 ∙ take-set-le n xs m.address _ h.0
 
--- the descriptors of a booted core and of the flat memory whose descriptors are its first words
+-- a booted core and the flat memory have the same descriptors
 low_place : (seg : ℕ) → in_bounds booted_dbr seg ≡ true → (2 * seg < 2047) × (wrapped (0 + 2 * seg) ≡ 2 * seg)
 low_place seg bounds =
     let parts = and_parts _ _ bounds in
@@ -100,13 +100,13 @@ module _ (core : List ℕ) (frames : ℕ) (laid : IsLaid core frames) where
   apart : AreApart core booted_dbr
   apart = laid_apart core frames laid
 
-  -- the place of a word is by the tables
+  -- the place of a word depends only on the tables
   pub place_same : (now : List ℕ) → Matches core booted_dbr now → (seg w : ℕ) → place core_store now booted_dbr seg w ≡ place core_store core booted_dbr seg w
   place_same now m seg w =
       let L = lawful core booted_dbr apart in
       place_tables core_store booted_dbr (HasTables core booted_dbr) (IsSegmentSpot core booted_dbr) (IsMarkedFrom core booted_dbr) L now (has_tables core booted_dbr now m) seg w ∙ sym (place_tables core_store booted_dbr (HasTables core booted_dbr) (IsSegmentSpot core booted_dbr) (IsMarkedFrom core booted_dbr) L core refl seg w)
 
-  -- the core stays that of the image
+  -- core is still that of the image
   same_word : (v u : Option ℕ) (x y : ℕ) → v ≡ Some x → u ≡ Some y → option_map unmarked v ≡ option_map unmarked u → unmarked x ≡ unmarked y
   same_word v u x y e f h =
       let k : option_map unmarked (Some x) ≡ option_map unmarked (Some y) = sym (ap (option_map unmarked) e) ∙ h ∙ ap (option_map unmarked) f in
@@ -140,14 +140,14 @@ module _ (core : List ℕ) (frames : ℕ) (laid : IsLaid core frames) where
     abbrev with_kept : List ℕ → Paged
     with_kept now = record { core = now; kept = kept }
 
-    -- the core stands for a flat memory
+    -- core represents a flat memory
     pub record StandsFor (now : List ℕ) (f : Flat) : Type 0 where
       pub matching : Matches core booted_dbr now
       pub low : take descriptor_words now ≡ take descriptor_words core
       pub descriptors : f.descriptors ≡ take descriptor_words core
       pub content : (seg w : ℕ) → word_at (with_kept now) seg w (place core_store core booted_dbr seg w) ≡ f.content seg w
 
-    -- the spots of one word
+    -- the spots of one word in core and in the flat memory
     pub record IsPair (p q : Spot) : Type 0 where
       pub seg : ℕ
       pub w : ℕ
@@ -213,7 +213,7 @@ module _ (core : List ℕ) (frames : ℕ) (laid : IsLaid core frames) where
         let past : 2048 ≤ a = omega arith in
         past
 
-    -- words written at paired spots
+    -- words written at the two spots of a word
     spot_of_pair : (p q : Spot) → IsPair p q → IsSegmentSpot core booted_dbr p
     spot_of_pair p q k = subst (IsSegmentSpot core booted_dbr) (sym k.here) (k.seg, k.w, k.word)
 
@@ -229,7 +229,7 @@ module _ (core : List ℕ) (frames : ℕ) (laid : IsLaid core frames) where
     firsts Q f (x ∷ c) [] h = absurd h
     firsts Q f (x ∷ c) (y ∷ d) h = (f x.spot y.spot h.0.spot, firsts Q f c d h.1)
 
-    -- two writes hit one word, or neither does
+    -- two writes both change a word, or neither does
     test_by : (p q : Spot) → IsPair p q → (seg w a : ℕ) → IsSegmentWord core booted_dbr seg w a → (s t : Bool) → same_spot p (Core_word a) ≡ s → same_spot q (Segment_word seg w) ≡ t → s ≡ t
     test_by p q k seg w a word true true e f = refl
     test_by p q k seg w a word false false e f = refl
@@ -258,7 +258,7 @@ module _ (core : List ℕ) (frames : ℕ) (laid : IsLaid core frames) where
         let here : (if same_spot x.spot (Core_word a) then written x.part v x.value else v) ≡ (if same_spot y.spot (Segment_word seg w) then written y.part v y.value else v) = λ i. if test i then written (part i) v (value i) else v in
         ap (overlay c (Core_word a)) here ∙ overlays seg w a word c d h.1 _
 
-    -- a word that is nowhere is not written
+    -- a word that has no place is not written
     missed : (seg w : ℕ) (why : Refusal) → place core_store core booted_dbr seg w ≡ Err why → (p q : Spot) → IsPair p q → (t : Bool) → same_spot q (Segment_word seg w) ≡ t → t ≡ false
     missed seg w why none p q k false e = refl
     missed seg w why none p q k true e =

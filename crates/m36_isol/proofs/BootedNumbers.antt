@@ -1,4 +1,4 @@
--- The numbers of a booted core are those of its parts.
+-- The numbers of a booted core follow from those of its parts.
 use Rattle.std.proofs.Common.{◌≡◌, refl, arith}
 use Rattle.std.specs.Prelude.{ℕ, ◌+◌, ◌*◌, ◌^◌}
 use Rattle.m36_isol.specs.BootedNumbers.{BootedNumbersLaw}

@@ -13,7 +13,7 @@ use Rattle.m36_model.specs.declared.outcome.Refusal.{Refusal}
 use Rattle.m36_isol.proofs.Program.{Meets, Either}
 use Rattle.m36_isol.proofs.Alike.{Sees, May, Known}
 
--- a chain that ends, ends in the ring of its last point
+-- a chain that ends is in the ring of its last point
 abbrev EndsInRing : Point → Move → Type 0
 EndsInRing p (Ends last) = last.at.ring ≡ p.ring
 EndsInRing p (Fails h) = Unit {0}
@@ -53,7 +53,7 @@ move_ends : (g : RegsFields) (p : Point) → EndsInRing p (move_of_point g p)
 unfolding move_of_point
 move_ends g p = tag_tests g p (p.tag % 16) (p.tag / 16 == 0) (p.tag / 16 == 1) (p.tag / 16 == 2)
 
--- of a formed address
+-- a formed address is in ring r or above
 abbrev pub InRing : ℕ → ChainEnd → Type 0
 InRing r c = r ≤ c.last.at.ring
 
@@ -101,7 +101,8 @@ module _ (sdws : ℕ → Result SdwFields Refusal) (r : ℕ) (g : RegsFields) (e
   move_meets next h p low Counts e =
       (may_read_word p p.y low, (λ f. tt), (λ a known. tally_meets p (p.tag % 16) a low (p.tag % 16 == indirect_only)))
 
-  -- From a point in ring r or above the chain makes no reference below r, and ends in ring r or above.
+  -- From a point in ring r or above, the chain makes no reference below r, and ends in ring r or
+  -- above.
   pub chain_meets : (n : ℕ) (p : Point) → r ≤ p.ring → MeetsChain (chain n g p)
   unfolding chain
   chain_meets zero p low = exhausted_meets p low (move_of_point g p) (move_ends g p)

@@ -1,4 +1,4 @@
--- The content of a segment is, by the tables, the words at its spots.
+-- The content of a segment is the words at its spots, which depend only on the tables.
 use Rattle.std.proofs.Common.{◌≡◌, refl, sym, ◌∙◌, ap}
 use Rattle.std.specs.Prelude.{ℕ, Bool, true, false, ◌&&◌, if◌then◌else◌, List, [], ◌∷◌, Some, Result, Ok, Err}
 use Rattle.m36_desc.specs.Fields.{SdwFields, DbrFields}
@@ -8,7 +8,7 @@ use Rattle.m36_model.specs.Sight.{content_in, word_of}
 use Rattle.m36_model.specs.StoreLaw.{Each, same_spot, overlay, IsWord, Lawful}
 use Rattle.m36_model.specs.declared.outcome.Refusal.{Refusal}
 
--- writes elsewhere leave a word
+-- writes to other words do not change a word
 pub overlay_none : (puts : List Change) (p : Spot) (v : ℕ) → Each (λ (c : Change). same_spot c.spot p ≡ false) puts → overlay puts p v ≡ v
 overlay_none [] p v h = refl
 overlay_none (c ∷ puts) p v h =
@@ -50,13 +50,13 @@ module _ {S : Type 0} (o : Store S) (dbr : DbrFields) (Has : S → Type 0) (Lies
   same_words s t seg w (Err e) found h = refl
   same_words s t seg w (Ok p) found h = ap (λ (x : ℕ). Some x) (h p (word_by seg w p (L.sdws seg) refl found))
 
-  -- equal words are equal content
+  -- equal words mean equal content
   pub content_equal : (s t : S) → Has s → Has t → (seg w : ℕ) → ((p : Spot) → IsWord L.sdws L.spots seg w p → o.word s p ≡ o.word t p) → content_in o s dbr seg w ≡ content_in o t dbr seg w
   unfolding content_in
   content_equal s t h k seg w words =
       ap (word_of o s) (place_tables s h seg w) ∙ same_words s t seg w (by_tables seg w) refl words ∙ sym (ap (word_of o t) (place_tables t k seg w))
 
-  -- and equal content is equal words
+  -- equal content means equal words
   pub words_equal : (s t : S) → Has s → Has t → (seg w : ℕ) (p : Spot) → IsWord L.sdws L.spots seg w p → content_in o s dbr seg w ≡ content_in o t dbr seg w → o.word s p ≡ o.word t p
   words_equal s t h k seg w p word e =
       let here = L.word_is s h seg w p word in

@@ -23,7 +23,7 @@ module _ (core : List ℕ) (dbr : DbrFields) (audited : IsAudited core dbr) wher
   pub core_gates : IsGuarded dbr (core_sdw core dbr)
   core_gates = guards dbr (core_sdw core dbr) audited.fifth audited.sixth
 
-  -- the descriptors of which the store's law speaks are those in core
+  -- the descriptors in the store's law are those in core
   descriptor : (seg : ℕ) → core_sdw core dbr seg ≡ (lawful core dbr (are_apart core dbr audited)).sdws seg
   descriptor seg = (lawful core dbr (are_apart core dbr audited)).sdw_is core refl seg
 
@@ -50,7 +50,7 @@ module _ (core : List ℕ) (dbr : DbrFields) (audited : IsAudited core dbr) wher
   backed s h =
       subst (λ (d : DbrFields). Backed core_store (core_tables core dbr) d) (sym (same_dbr core s.store dbr s.regs.dbr h)) backed_here
 
-  -- descriptors are by the tables
+  -- descriptors depend only on the tables
   pub by_tables : (s : State (List ℕ)) → tables_of core_store s ≡ core_tables core dbr → (seg : ℕ) → core_sdw s.store s.regs.dbr seg ≡ core_sdw core dbr seg
   by_tables s h seg =
       let e = same_dbr core s.store dbr s.regs.dbr h in

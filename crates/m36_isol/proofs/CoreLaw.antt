@@ -1,4 +1,4 @@
--- The list of core words as a store owes what the laws want, where the audit conditions hold of its tables.
+-- Core is a store as the laws require, if the audit conditions hold of its tables.
 use Rattle.std.proofs.Common.{◌≡◌, refl, sym, ◌∙◌, ap, subst, inl, inr, ⊎_elim, length-set, eqb-true}
 use Rattle.std.specs.Prelude.{ℕ, ◌<◌, Bool, true, false, ◌==◌, if◌then◌else◌, List, [], ◌∷◌, length, slice_index, slice_set, Some, Result, Ok}
 use Rattle.std.proofs.lemmas.Bool.{eqb-false, and_parts}
@@ -25,7 +25,7 @@ placed_order d w h = (and_parts (in_order d) (within d w) h).0
 pub placed_within : (d : SdwFields) (w : ℕ) → placed d w ≡ true → within d w ≡ true
 placed_within d w h = (and_parts (in_order d) (within d w) h).1
 
--- one word put, read at an address
+-- the word at an address after one write
 word_put : (now : List ℕ) (spot : Spot) (part : Part) (v a : ℕ) → a < length now → core_word (put_one now spot part v) (Core_word a) ≡ (if same_spot spot (Core_word a) then written part (core_word now (Core_word a)) v else core_word now (Core_word a))
 word_put now (Segment_word s w) part v a inside = refl
 word_put now (Core_word b) part v a inside = by_test (b == a) refl
@@ -48,7 +48,7 @@ words_put now (p ∷ puts) a inside =
     let more = words_put next puts a (subst (λ (n : ℕ). a < n) (sym (size_put now p.spot p.part p.value)) inside) in
     more ∙ ap (overlay puts (Core_word a)) (word_put now p.spot p.part p.value a inside)
 
--- the audit has three conditions on core words
+-- three of the audit conditions say that table words and segment words are separate
 pub are_apart : (core : List ℕ) (dbr : DbrFields) → IsAudited core dbr → AreApart core dbr
 are_apart core dbr audited =
     record { tables = audited.second; segments = audited.third; words = audited.fourth }
@@ -60,7 +60,7 @@ module _ (core : List ℕ) (dbr : DbrFields) (apart : AreApart core dbr) where
   abbrev pub spots_by : SdwFields → ℕ → ℕ → Result Spot Refusal
   spots_by d seg w = core_spot core dbr d seg w
 
-  -- a word by the tables lies at a word of a segment
+  -- a word of a segment by the tables is a segment word in core
   pub segment_spot : (seg w a : ℕ) (p : Spot) → IsWord sdws_of spots_by seg w p → p ≡ Core_word a → IsSegmentWord core dbr seg w a
   segment_spot seg w a p h e =
       place_is core_store core dbr seg w (Core_word a) (record { sdw = h.sdw; live = h.live; inside = h.inside; found = h.found ∙ ap (λ (q : Spot). Ok q) e })
@@ -70,7 +70,7 @@ module _ (core : List ℕ) (dbr : DbrFields) (apart : AreApart core dbr) where
       let inside = core_spot_inside core dbr h.sdw seg w p h.found in
       subst (λ (q : Spot). IsSegmentSpot core dbr q) (sym inside.spot) (seg, w, segment_spot seg w inside.address p h inside.spot)
 
-  -- words put at words of segments are no table words
+  -- writes to segment words change no table word
   segment_harmless : (now : List ℕ) (a v : ℕ) → IsSegmentSpot core dbr (Core_word a) → IsHarmless core dbr now a v
   segment_harmless now a v h =
       record {
@@ -91,7 +91,7 @@ module _ (core : List ℕ) (dbr : DbrFields) (apart : AreApart core dbr) where
   lies_each : (puts : List Change) → Each (IsSpot sdws_of spots_by) puts → Each (λ (p : Change). IsSegmentSpot core dbr p.spot) puts
   lies_each puts h = each_map (IsSpot sdws_of spots_by) (λ (p : Change). IsSegmentSpot core dbr p.spot) (λ p k. lies_at k.seg k.w p.spot k.word) puts h
 
-  -- a word of a segment lies inside core
+  -- a word of a segment is in core
   pub inside_at : (a seg w : ℕ) → IsSegmentWord core dbr seg w a → a < length core
   inside_at a seg w h =
       let k = place_parts core_store core dbr seg w (Core_word a) h in
@@ -125,7 +125,7 @@ module _ (core : List ℕ) (dbr : DbrFields) (apart : AreApart core dbr) where
   marked_at now new near (Core_word a) lies =
       ⊎_elim (λ e. e) (λ k. absurd (ptw_no_segment a k.0 lies)) (near.words a)
 
-  -- two words of segments are apart
+  -- different words of segments have different addresses
   same_place : (p p' : Spot) → same_spot p p' ≡ true → IsSegmentSpot core dbr p → p ≡ p'
   same_place (Core_word a) (Core_word b) e lies = ap (λ (c : ℕ). Core_word c) (eqb-true a b e)
   same_place (Core_word a) (Segment_word s w) e lies = cc

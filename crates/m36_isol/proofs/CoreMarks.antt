@@ -1,4 +1,5 @@
--- Marks and puts in core: the tables stay but for marks, and so do all words but those that are put.
+-- Marks and writes in core: tables do not change except for marks, nor do words that are not
+-- written.
 use Rattle.std.proofs.Common.{◌≡◌, refl, sym, ◌∙◌, ap, subst, inl, inr, arith, length-set, eqb-true}
 use Rattle.std.specs.Prelude.{ℕ, ◌/◌, ◌<◌, ◌≤◌, Bool, true, false, ◌==◌, if◌then◌else◌, List, [], ◌∷◌, length, slice_get, slice_index, slice_set, Option, Some, None, option_map, Result, Ok}
 use Rattle.std.proofs.lemmas.Bool.{eqb-false, leb-true}
@@ -18,7 +19,7 @@ use Rattle.m36_isol.specs.MarkBits.{MarksKeepBits}
 use Rattle.m36_isol.proofs.Lists.{set_other, set_same, get_set_past, index_of_get}
 use Rattle.m36_isol.proofs.CoreTables.{Matches, same_sdw}
 
--- marks put on a word twice
+-- setting marks twice
 used_used : (w : ℕ) → with_used (with_used w) ≡ with_used w
 unfolding with_used
 used_used w = omega arith
@@ -40,7 +41,7 @@ marked_again u v w (inl e) (inr f) = inr (f ∙ ap (λ (x : ℕ). with_modified 
 marked_again u v w (inr e) (inl f) = inr (f ∙ ap with_used e ∙ used_modified u)
 marked_again u v w (inr e) (inr f) = inr (f ∙ ap (λ (x : ℕ). with_modified (with_used x)) e ∙ modified_modified u)
 
--- marks are taken off by unmarked
+-- `unmarked` removes marks
 unmarked_used : (w : ℕ) → unmarked (with_used w) ≡ unmarked w
 unfolding unmarked with_used
 unmarked_used w = omega arith
@@ -58,7 +59,7 @@ is_marked true w = inr refl
 is_marked false w = inl refl
 
 module _ (core : List ℕ) (dbr : DbrFields) where
-  -- one word is as it was or marked, twice
+  -- one word is unchanged or marked, twice
   but_marked_again : (a u v w : ℕ) → IsButMarked core dbr a u v → IsButMarked core dbr a v w → IsButMarked core dbr a u w
   but_marked_again a u v w (inl e) (inl f) = inl (f ∙ e)
   but_marked_again a u v w (inl e) (inr k) = subst (λ (x : ℕ). IsButMarked core dbr a x w) e (inr k)
@@ -72,7 +73,7 @@ module _ (core : List ℕ) (dbr : DbrFields) where
   marked_then first mid last h k =
       record { size = k.size ∙ h.size; words = λ a. but_marked_again a _ _ _ (h.words a) (k.words a) }
 
-  -- a word is set that is no word of a descriptor in core, and no PTW but for marks
+  -- a write to a word that is no word of a descriptor in core, and to no PTW except by marks
   pub record IsHarmless (now : List ℕ) (a v : ℕ) : Type 0 where
     pub descriptor : (x : ℕ) → slice_get now a ≡ Some x → (seg : ℕ) → IsSdwWord core dbr seg a → ⊥
     pub ptw : (x : ℕ) → slice_get now a ≡ Some x → IsPtwWord core dbr a → unmarked v ≡ unmarked x
@@ -104,7 +105,7 @@ module _ (core : List ℕ) (dbr : DbrFields) where
   pub set_matches : (now : List ℕ) (a v : ℕ) → Matches core dbr now → IsHarmless now a v → Matches core dbr (slice_set now a v)
   set_matches now a v m h = set_by now a v (slice_get now a) refl m h
 
-  -- where the audit holds, a mark on a PTW changes no table but for marks
+  -- if the audit conditions hold, a mark on a PTW changes no table except for marks
   module _ (apart : AreApart core dbr) where
     pub ptw_apart : (a seg : ℕ) → a < length core → IsPtwWord core dbr a → IsSdwWord core dbr seg a → ⊥
     ptw_apart a seg inside (inl k) h =
@@ -127,7 +128,7 @@ module _ (core : List ℕ) (dbr : DbrFields) where
     marks_match now [] k h = k
     marks_match now (m ∷ list) k h = marks_match (with_mark now m) list (mark_matches now m k h.0) h.1
 
-  -- a mark leaves each word as it was, or marked
+  -- a mark leaves each word unchanged or marked
   mark_word : (now : List ℕ) (m : Mark) → IsPtwWord core dbr m.address → (a : ℕ) (t : Bool) → (a == m.address) ≡ t → IsButMarked core dbr a (slice_index now a) (slice_index (with_mark now m) a)
   mark_word now m ptw a false e = inl (get_or-set_other now m.address a _ 0 (eqb-false a m.address e))
   mark_word now m ptw a true e =
@@ -149,7 +150,7 @@ module _ (core : List ℕ) (dbr : DbrFields) where
   marks_near now (m ∷ list) h =
       marked_then now (with_mark now m) _ (mark_near now m h.0) (marks_near (with_mark now m) list h.1)
 
-  -- the marks of a reference to a placed word stand on PTWs
+  -- the marks of a reference to a word with a place are on PTWs
   bounds_by : (seg : ℕ) (d : SdwFields) (b : Bool) → in_bounds dbr seg ≡ b → sdw_at core (sdw_place_by b dbr.unpaged dbr seg (ptw_at core (directory_at dbr seg))) ≡ Ok d → in_bounds dbr seg ≡ true
   bounds_by seg d true e h = e
   bounds_by seg d false e h = cc

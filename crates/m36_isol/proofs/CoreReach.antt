@@ -21,7 +21,7 @@ use Rattle.m36_isol.proofs.StepLaws.{tables_by, dbr_or}
 use Rattle.m36_isol.proofs.AuditedBy.{same_dbr, audited_by}
 use Rattle.m36_isol.proofs.CoreIsolated.{guarded_by, backed}
 
--- words put elsewhere leave a word
+-- writes at other spots do not change a word
 put_elsewhere : (now : List ℕ) (spot : Spot) (part : Part) (v a : ℕ) → (spot ≡ Core_word a → ⊥) → slice_index (put_one now spot part v) a ≡ slice_index now a
 put_elsewhere now (Core_word b) part v a other =
     get_or-set_other now b a _ 0 (λ e. other (ap (λ (c : ℕ). Core_word c) (sym e)))
@@ -40,7 +40,7 @@ module _ (core : List ℕ) (g : RegsFields) (audited : IsAudited core g.dbr) (st
   abbrev here : State (List ℕ)
   here = record { regs = g; store = store }
 
-  -- a reached spot at an address is a word of a segment in reach
+  -- a spot that ring r can change is, in core, a word of a segment that ring r can change
   reachable : (a : ℕ) (p : Spot) → IsReached law.sdws law.spots r p → p ≡ Core_word a → IsReachable r here a
   reachable a p k e =
       record {
@@ -63,12 +63,12 @@ module _ (core : List ℕ) (g : RegsFields) (audited : IsAudited core g.dbr) (st
       let other = each_map (λ (c : Change). IsReached law.sdws law.spots r c.spot) (λ (c : Change). c.spot ≡ Core_word a → ⊥) (λ c reached e. none (reachable a c.spot reached e)) _ writes in
       subst (λ (v : ℕ). IsButMarked core g.dbr a (slice_index store a) v) (sym (puts_elsewhere _ _ a other)) (k.mid.kept.near.words a)
 
--- Of core words a step changes those in reach alone, but for marks.
+-- In core, a step changes only words of segments that ring r can change, and marks.
 pub core_words : (core : List ℕ) (dbr : DbrFields) → IsAudited core dbr → CoreReachLaw core dbr
 core_words core dbr audited r s above a none =
     subst (λ (d : DbrFields). IsAudited core d → core_tables s.store s.regs.dbr ≡ core_tables core d → IsButMarked core d a (slice_index s.store a) (slice_index (state_after core_store s).store a)) (same_dbr core s.store dbr s.regs.dbr above.tables) (λ here tables. words_after core s.regs here s.store tables r above.low a none) audited above.tables
 
--- A step that executes no LDBR keeps the audit conditions.
+-- A step that executes no LDBR preserves the audit conditions.
 pub core_kept : KeptLaw
 core_kept s audited none =
     let T = core_tables s.store s.regs.dbr in

@@ -1,5 +1,5 @@
--- Two cores with the same table words, but for marks, have the same descriptors and places; and equal tables are equal
--- table words.
+-- Two cores whose table words are equal except for marks have the same descriptors and places; and
+-- equal tables mean equal table words.
 use Rattle.std.proofs.Common.{◌≡◌, refl, sym, ◌∙◌, ap, subst, inl, inr, ⊎_elim, arith, eq-or-lt_of_le, le_of_suc-le-suc}
 use Rattle.std.specs.Prelude.{ℕ, zero, suc, ◌+◌, ◌*◌, ◌/◌, ◌%◌, ◌≤◌, ◌⊎◌, Bool, true, false, not, ◌&&◌, ◌==◌, if◌then◌else◌, List, [], ◌∷◌, length, slice_get, Option, Some, None, option_map, Result, Ok, Err}
 use Rattle.std.proofs.lemmas.Bool.{leb-true}
@@ -12,13 +12,13 @@ use Rattle.m36_model.specs.Audit.{IsSdwWord, IsPageWord}
 use Rattle.m36_model.specs.CoreLaw.{HasTables, IsPtwWord}
 use Rattle.m36_model.specs.declared.outcome.Refusal.{Refusal}
 
--- the table words of one core stand in another too
+-- two cores have the same table words except for marks
 pub record Matches (core : List ℕ) (dbr : DbrFields) (now : List ℕ) : Type 0 where
   pub size : length now ≡ length core
   pub descriptors : (seg a : ℕ) → IsSdwWord core dbr seg a → slice_get now a ≡ slice_get core a
   pub ptws : (a : ℕ) → IsPtwWord core dbr a → option_map unmarked (slice_get now a) ≡ option_map unmarked (slice_get core a)
 
--- what marks leave of a PTW
+-- the parts of a PTW that marks do not change
 unmarked_high : (u v : ℕ) → unmarked u ≡ unmarked v → u / 1024 ≡ v / 1024
 unfolding unmarked
 unmarked_high u v h = omega arith
@@ -85,7 +85,7 @@ module _ (core : List ℕ) (dbr : DbrFields) (now : List ℕ) (m : Matches core 
       let n = m.size in
       cc
 
-  -- the same table words are the same tables
+  -- the same table words mean the same tables
   entry_by : (a : ℕ) → IsPtwWord core dbr a → ptw_entry now a ≡ ptw_entry core a
   entry_by a h = let e = m.ptws a h in λ i. (a, e i)
 
@@ -127,7 +127,7 @@ module _ (core : List ℕ) (dbr : DbrFields) (now : List ℕ) (m : Matches core 
       let pages = λ (seg : ℕ). ap (page_entries now) (same_sdw seg) ∙ page_entries_by seg (core_sdw core dbr seg) refl in
       λ i. record { dbr = dbr; size = size i; of = λ seg. record { directory = directory seg i; sdw = sdws seg i; pages = pages seg i } }
 
--- and the same tables are the same table words
+-- the same tables mean the same table words
 module _ (core : List ℕ) (dbr : DbrFields) (now : List ℕ) (h : HasTables core dbr now) where
   size_of : length now ≡ length core
   unfolding core_tables
@@ -165,7 +165,7 @@ module _ (core : List ℕ) (dbr : DbrFields) (now : List ℕ) (h : HasTables cor
       let e = ap (λ (t : SegTable). t.sdw) (table_of seg) in
       sdw_half seg a k.even k.half (sdw_place now dbr seg) (e ∙ ap (sdw_entries core) k.found)
 
-  -- with the table words of the descriptor segment alone the descriptors are the same
+  -- descriptors depend only on the table words of the descriptor segment
   directory_word : (seg : ℕ) → in_bounds dbr seg ≡ true → dbr.unpaged ≡ false → option_map unmarked (slice_get now (directory_at dbr seg)) ≡ option_map unmarked (slice_get core (directory_at dbr seg))
   directory_word seg bounds paged =
       directory_of seg (in_bounds dbr seg) dbr.unpaged bounds paged (ap (λ (t : SegTable). t.directory) (table_of seg))

@@ -1,4 +1,4 @@
--- The parts of effects: none but calls, returns, and loads of the DBR touch the ring or the DBR.
+-- The parts of effects: only calls, returns, and loads of the DBR change the ring or the DBR.
 use Rattle.std.proofs.Common.{◌≡◌, refl, ◌∙◌, length-set}
 use Rattle.std.specs.Prelude.{ℕ, Bool, true, false, List, [], ◌∷◌, length, Result, Ok, Err}
 use Rattle.m36_desc.specs.Fields.{PtrFields}
@@ -19,7 +19,7 @@ use Rattle.m36_model.specs.Transfers.{gone_to, transfer_by, transfer_where, with
 use Rattle.m36_model.specs.Privileged.{store_dbr, load_absolute_address}
 use Rattle.m36_model.specs.Isolation.{HasPointers}
 
--- of what an effect gives, where it is not refused
+-- P holds of the result of an effect that is not refused
 abbrev pub OfOk : (EffectFields → Type 0) → Result EffectFields ℕ → Type 0
 OfOk P (Ok x) = P x
 OfOk P (Err n) = Unit {0}
@@ -28,13 +28,13 @@ pub of_ok : (P R : EffectFields → Type 0) → ((x : EffectFields) → P x → 
 of_ok P R f (Ok x) h = f x h
 of_ok P R f (Err n) h = tt
 
--- the ring, the DBR and the count of pointer registers stay
+-- the ring, the DBR and the number of pointer registers do not change
 pub record Keeps (g h : RegsFields) : Type 0 where
   pub ring : h.ppr.prr ≡ g.ppr.prr
   pub dbr : h.dbr ≡ g.dbr
   pub pointers : HasPointers g → HasPointers h
 
--- and so many words are put
+-- besides, `count` words are given to be written
 pub record IsPlain (g : RegsFields) (count : ℕ) (x : EffectFields) : Type 0 where
   pub keeps : Keeps g x.regs
   pub count_is : length x.put ≡ count

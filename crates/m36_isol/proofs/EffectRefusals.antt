@@ -1,4 +1,4 @@
--- With which faults an effect is refused.
+-- The faults with which an effect may be refused.
 use Rattle.std.proofs.Common.{◌≡◌, arith}
 use Rattle.std.specs.Prelude.{ℕ, ◌<◌, Result, Ok, Err}
 use Rattle.m36_inst.specs.Operands.{operand_of}

@@ -1,5 +1,5 @@
--- Each effect, one line an instruction: it changes the ring in CALL6 and RTCD alone, the DBR in LDBR alone, and puts as
--- many words as its operand kind writes.
+-- One line for each effect: only CALL6 and RTCD change the ring, only LDBR changes the DBR, and as
+-- many words are given to be written as the operand kind requires.
 use Rattle.std.proofs.Common.{◌≡◌, refl, ◌∙◌, ap, subst, inl, inr, arith, length-set}
 use Rattle.std.specs.Prelude.{ℕ, zero, suc, ◌<◌, List, [], ◌∷◌, length, slice_get, slice_set, Some, Result, Ok}
 use Rattle.m36_desc.specs.Fields.{PtrFields}
@@ -24,7 +24,7 @@ plain_effect : (e : Effect) (g : RegsFields) (f : FinalFields) (o : OperandField
 plain_effect e g f o v h =
     of_ok (IsPlain g (words_written (operand_of e))) (IsEffect e g f o) (λ x p. record { ring = inl p.keeps.ring; dbr = inl p.keeps.dbr; count = p.count_is; pointers = p.keeps.pointers }) v h
 
--- a pointer register that is set, of eight
+-- setting one of eight pointer registers
 get_set : (xs : List PtrFields) (i : ℕ) (p : PtrFields) → i < length xs → slice_get (slice_set xs i p) i ≡ Some p
 get_set [] i p h = absurd (omega arith)
 get_set (x ∷ xs) zero p h = refl

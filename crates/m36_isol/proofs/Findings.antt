@@ -1,11 +1,12 @@
--- The findings of an audit: none exactly where all conditions hold, and one list of them.
+-- The findings of an audit: there are none exactly if all conditions hold, and there is only one
+-- list of them.
 use Rattle.std.proofs.Common.{◌≡◌, refl, sym, ◌∙◌, ap, subst, le_antisymm}
 use Rattle.std.specs.Prelude.{ℕ, List, [], ◌∷◌, ◌++◌, Option, Some, None}
 use Rattle.m36_desc.specs.Fields.{DbrFields}
 use Rattle.m36_model.specs.Audit.{Finds, noted, AreFindings, IsAudited}
 use Rattle.m36_isol.specs.Findings.{FindingsLaw}
 
--- what is found of one condition is determined
+-- the finding of one condition is determined
 pub same_find : (Breaks : ℕ → Type 0) (x y : Option ℕ) → Finds Breaks x → Finds Breaks y → x ≡ y
 same_find Breaks None None h k = refl
 same_find Breaks None (Some p) h k = absurd (h p k.0)
@@ -19,7 +20,7 @@ finds_none : (Breaks : ℕ → Type 0) → ((p : ℕ) → Breaks p → ⊥) → 
 finds_none Breaks none None h = refl
 finds_none Breaks none (Some p) h = absurd (none p h.0)
 
--- nothing noted is nothing found
+-- if nothing is listed for a condition, it has no finding
 noted_none : (n : ℕ) (x : Option ℕ) → [] ≡ noted n x → x ≡ None
 noted_none n None h = refl
 noted_none n (Some p) h = cc

@@ -1,4 +1,5 @@
--- A flat memory as a store owes what the laws want, and is isolated where its descriptors pass the audit.
+-- A flat memory is a store as the laws require, and is isolated if the audit conditions hold of its
+-- descriptors.
 use Rattle.std.proofs.Common.{◌≡◌, refl, sym, ◌∙◌, ap, subst, eqb-true}
 use Rattle.std.specs.Prelude.{ℕ, ◌+◌, ◌*◌, Bool, true, false, ◌==◌, if◌then◌else◌, List, [], ◌∷◌, slice_get, Option, Some, None, Result, Ok}
 use Rattle.std.proofs.lemmas.Bool.{and_parts}
@@ -31,7 +32,7 @@ abbrev second_word : List (ℕ × Option ℕ) → Option ℕ
 second_word [] = None
 second_word (e ∷ es) = first_word es
 
--- equal tables are equal descriptors
+-- equal tables mean equal descriptors
 table_sdw : (dbr : DbrFields) (b : Bool) (seg : ℕ) (xs ys : List ℕ) → flat_table_by b xs seg ≡ flat_table_by b ys seg → flat_sdw_by b xs seg ≡ flat_sdw_by b ys seg
 table_sdw dbr false seg xs ys h = refl
 table_sdw dbr true seg xs ys h =
@@ -44,7 +45,7 @@ unfolding flat_sdw flat_tables
 same_flat_sdw s dbr now has seg =
     table_sdw dbr (in_bounds dbr seg) seg now.descriptors s.descriptors (ap (λ (t : Tables). t.of seg) has)
 
--- what is put changes no descriptor
+-- writes change no descriptor
 put_one_descriptors : (s : Flat) (p : Spot) (part : Part) (v : ℕ) → (flat_put_one s p part v).descriptors ≡ s.descriptors
 put_one_descriptors s (Core_word a) part v = refl
 put_one_descriptors s (Segment_word seg w) part v = refl
@@ -60,7 +61,7 @@ unfolding flat_tables
 put_tables s dbr puts =
     ap (λ (l : List ℕ). record { dbr = dbr; size = 0; of = λ seg. flat_table_by (in_bounds dbr seg) l seg }) (put_descriptors s puts)
 
--- a word after puts
+-- a word after writes
 word_put : (now : Flat) (p : Spot) (part : Part) (v seg w : ℕ) → flat_word (flat_put_one now p part v) (Segment_word seg w) ≡ (if same_spot p (Segment_word seg w) then written part (flat_word now (Segment_word seg w)) v else flat_word now (Segment_word seg w))
 word_put now (Core_word a) part v seg w = refl
 word_put now (Segment_word s w') part v seg w = refl

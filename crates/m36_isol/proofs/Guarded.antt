@@ -1,4 +1,4 @@
--- Gates and stacks, by the fifth and the sixth audit condition on descriptors.
+-- Gates and stacks, from the fifth and sixth audit condition.
 use Rattle.std.proofs.Common.{◌≡◌}
 use Rattle.std.specs.Prelude.{ℕ, ◌<◌, true, false, Result, Ok}
 use Rattle.std.proofs.lemmas.Bool.{false_from_ne_true, true_from_ne_false}

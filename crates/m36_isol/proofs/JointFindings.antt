@@ -1,4 +1,5 @@
--- The findings of a joint audit: none exactly where all conditions hold, and one list of them.
+-- The findings of a joint audit: there are none exactly if all conditions hold, and there is only
+-- one list of them.
 use Rattle.std.proofs.Common.{◌≡◌, refl, sym, ◌∙◌, subst}
 use Rattle.std.specs.Prelude.{ℕ, zero, suc, ◌+◌, List, [], ◌∷◌, ◌++◌, slice_get, Option, Some, None}
 use Rattle.m36_desc.specs.Fields.{DbrFields}
@@ -19,7 +20,7 @@ none_of_process : (i : ℕ) (findings : List (ℕ × ℕ)) → [] ≡ of_process
 none_of_process i [] h = refl
 none_of_process i (f ∷ findings) h = cc
 
--- none of any process: each holds
+-- if there are no findings, the conditions of each process hold
 sound_from : (i : ℕ) (core : List ℕ) (dbrs : List DbrFields) → AreFindingsFrom i core dbrs [] → (k : ℕ) (dbr : DbrFields) → slice_get dbrs k ≡ Some dbr → IsAudited core dbr
 sound_from i core [] f k dbr at = cc
 sound_from i core (d ∷ dbrs) f zero dbr at =

@@ -1,5 +1,6 @@
--- The list of core words as a store owes what the laws want to each of several processes, where the joint audit
--- conditions hold: the tables of every process stay but for marks, and no word of a segment of any of them is marked.
+-- Core is a store as the laws require for each of several processes, if the joint audit conditions
+-- hold: the tables of every process do not change except for marks, and no segment word of any of
+-- them is marked.
 use Rattle.std.proofs.Common.{◌≡◌, refl, sym, ◌∙◌, ap, subst, inl, inr, eqb-true}
 use Rattle.std.specs.Prelude.{ℕ, ◌<◌, ◌⊎◌, Bool, true, false, ◌==◌, List, [], ◌∷◌, length, slice_get, slice_index, Some, Result}
 use Rattle.std.proofs.lemmas.Bool.{eqb-false}
@@ -22,7 +23,7 @@ use Rattle.m36_isol.proofs.CoreMarks.{IsHarmless, ptw_apart, set_matches, unmark
 use Rattle.m36_isol.proofs.CoreLaw.{placed_within, are_apart, words_put, segment_spot, lies_at, inside_at, marked_near, apart_at, word_at}
 
 module _ (core : List ℕ) (dbrs : List DbrFields) where
-  -- the core has the tables of every process, but for marks
+  -- core has the tables of every process, except for marks
   abbrev pub HasAll : List ℕ → Type 0
   HasAll now = (i : ℕ) (dbr : DbrFields) → slice_get dbrs i ≡ Some dbr → HasTables core dbr now
 
@@ -39,14 +40,14 @@ module _ (core : List ℕ) (dbrs : List DbrFields) where
   LiesInSome (Core_word a) = IsSomeWord a
   LiesInSome (Segment_word s w) = ⊥
 
-  -- one place of the list has one base register
+  -- one index of the list has one DBR
   pub one_dbr : (i j : ℕ) (dbr other : DbrFields) → slice_get dbrs i ≡ Some dbr → slice_get dbrs j ≡ Some other → (i == j) ≡ true → other ≡ dbr
   one_dbr i j dbr other at there e =
       let same : slice_get dbrs i ≡ Some other = ap (slice_get dbrs) (eqb-true i j e) ∙ there in
       cc
 
   module _ (audited : IsJointlyAudited core dbrs) where
-    -- a table word of any process is no word of a segment of any
+    -- a table word of any process is not a segment word of any process
     table_and_word : (i : ℕ) (dbr : DbrFields) → slice_get dbrs i ≡ Some dbr → (t : Table) (a : ℕ) → IsOf core dbr t a → IsSomeWord a → ⊥
     table_and_word i dbr at t a of k = by_test (i == k.process) refl
       where
@@ -69,7 +70,7 @@ module _ (core : List ℕ) (dbrs : List DbrFields) where
     ptw_and_word i dbr at a (inl d) k = table_and_word i dbr at Directory a d k
     ptw_and_word i dbr at a (inr p) k = table_and_word i dbr at (Pages p.0) a (p.1, p.2) k
 
-    -- a page table word of any process is no descriptor word of any
+    -- a PTW of one process is not a descriptor word of another
     sdw_of_other : (i j : ℕ) (dbr other : DbrFields) → slice_get dbrs i ≡ Some dbr → slice_get dbrs j ≡ Some other → (i == j) ≡ false → (a seg : ℕ) → a < length core → IsPtwWord core dbr a → IsSdwWord core other seg a → ⊥
     sdw_of_other i j dbr other at there e a seg inside (inl d) h =
         audited.tables a (record {
@@ -100,7 +101,7 @@ module _ (core : List ℕ) (dbrs : List DbrFields) where
             ptw_apart core dbr (are_apart core dbr (audited.each i dbr at)) a seg inside ptw (subst (λ (d : DbrFields). IsSdwWord core d seg a) (one_dbr i j dbr other at there e) h)
         by_test false e = sdw_of_other i j dbr other at there e a seg inside ptw h
 
-    -- words put at words of segments are table words of no process
+    -- writes to segment words change no table word of any process
     word_harmless : (j : ℕ) (other : DbrFields) → slice_get dbrs j ≡ Some other → (now : List ℕ) (a v : ℕ) → IsSomeWord a → IsHarmless core other now a v
     word_harmless j other there now a v k =
         record {
@@ -119,7 +120,7 @@ module _ (core : List ℕ) (dbrs : List DbrFields) where
     puts_match j other there now (p ∷ puts) h m =
         puts_match j other there (put_one now p.spot p.part p.value) puts h.1 (put_matches j other there now p.spot p.part p.value h.0 m)
 
-    -- marks of one process on its page table words change no table of any, but for marks
+    -- marks of one process on its PTWs change no table of any process, except for marks
     mark_matches : (i j : ℕ) (dbr other : DbrFields) → slice_get dbrs i ≡ Some dbr → slice_get dbrs j ≡ Some other → (now : List ℕ) (m : Mark) → Matches core other now → IsPtwWord core dbr m.address → Matches core other (with_mark now m)
     mark_matches i j dbr other at there now m k ptw =
         set_matches core other now m.address _ k (record {
@@ -199,7 +200,7 @@ module _ (core : List ℕ) (dbrs : List DbrFields) where
             put_word = λ s has puts spots p lies. put_at s has puts p lies;
           }
 
-      -- what its descriptors are, and where its words lie
+      -- its descriptors, and the places of its words
       pub joint_sdws : joint_lawful.sdws ≡ core_sdw core dbr
       unfolding joint_lawful
       joint_sdws = refl

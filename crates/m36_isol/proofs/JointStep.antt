@@ -1,5 +1,5 @@
--- A step of one process, seen by another: the tables of all stay, words that were equal stay equal, and words that the
--- ring may not reach stay as they were.
+-- A step of one process, seen by another: the tables of all processes do not change, words that
+-- were equal are equal again, and words that the ring may not change do not change.
 use Rattle.std.proofs.Common.{◌≡◌, refl, sym, ◌∙◌, ap, subst, eqb-true}
 use Rattle.std.specs.Prelude.{ℕ, ◌+◌, ◌≤◌, Bool, true, false, ◌==◌, List, slice_get, Some, Result, Ok}
 use Rattle.std.proofs.lemmas.Bool.{eqb-false}
@@ -21,7 +21,7 @@ use Rattle.m36_isol.proofs.OneStep.{after_run, writes_of, after_has, after_word,
 use Rattle.m36_isol.proofs.CoreIsolated.{core_gates}
 use Rattle.m36_isol.proofs.JointLaw.{HasAll, LiesInSome, joint_lawful, joint_sdws, joint_word}
 
--- segments with equal descriptor words have one descriptor
+-- segments with equal descriptor words have the same descriptor
 same_descriptor : (core : List ℕ) (dbr other : DbrFields) (seg other_seg : ℕ) → AreSame core dbr other seg other_seg → core_sdw core other other_seg ≡ core_sdw core dbr seg
 unfolding core_sdw
 same_descriptor core dbr other seg other_seg h =
@@ -32,7 +32,7 @@ same_descriptor core dbr other seg other_seg h =
     let words : sdw_words (slice_get core h.at) (slice_get core (wrapped (h.at + 1))) ≡ sdw_words (slice_get core h.other_at) (slice_get core (wrapped (h.other_at + 1))) = λ i. sdw_words (even i) (odd i) in
     here ∙ sym words ∙ sym there
 
--- spots in core that are the same
+-- core spots that are the same have the same address
 same_address : (p q : Spot) (a b : ℕ) → p ≡ Core_word a → q ≡ Core_word b → same_spot p q ≡ true → a ≡ b
 same_address p q a b e f h =
     let k : same_spot (Core_word a) (Core_word b) ≡ true = sym (ap (λ (x : Spot). same_spot x (Core_word b)) e) ∙ sym (ap (same_spot p) f) ∙ h in
@@ -60,7 +60,7 @@ module _ (core : List ℕ) (dbrs : List DbrFields) (audited : IsJointlyAudited c
   word_after s h p lies =
       after_word core_store g (HasAll core dbrs) (LiesInSome core dbrs) (IsMarkedFrom core g.dbr) law joint_guarded r low s h p lies
 
-  -- equal content in sight of the process that steps
+  -- equal content that the process which steps can see
   pub joint_see_equal : (s t : List ℕ) → HasAll core dbrs s → HasAll core dbrs t → ((seg w : ℕ) → Sees law.sdws r seg → content_in core_store s g.dbr seg w ≡ content_in core_store t g.dbr seg w) → equal s t
   joint_see_equal s t h k contents =
       see_equal core_store g (HasAll core dbrs) (LiesInSome core dbrs) (IsMarkedFrom core g.dbr) law joint_guarded r low s t h k contents
@@ -69,7 +69,7 @@ module _ (core : List ℕ) (dbrs : List DbrFields) (audited : IsJointlyAudited c
     abbrev its : Lawful core_store other (HasAll core dbrs) (LiesInSome core dbrs) (IsMarkedFrom core other)
     its = joint_lawful core dbrs audited j other there
 
-    -- content of another process that was equal stays equal
+    -- content of another process that was equal is equal again
     pub other_agrees : (s t : List ℕ) → HasAll core dbrs s → HasAll core dbrs t → equal s t → (seg w : ℕ) → content_in core_store s other seg w ≡ content_in core_store t other seg w → content_in core_store (after s) other seg w ≡ content_in core_store (after t) other seg w
     other_agrees s t h k same seg w e =
         content_equal core_store other (HasAll core dbrs) (LiesInSome core dbrs) (IsMarkedFrom core other) its (after s) (after t) (all_after s h) (all_after t k) seg w (λ p word. word_after s h p (its.lies seg w p word) ∙ ap (overlay (writes s) p) (words_equal core_store other (HasAll core dbrs) (LiesInSome core dbrs) (IsMarkedFrom core other) its s t h k seg w p word e) ∙ ap (λ (c : List Change). overlay c p (core_store.word t p)) alike ∙ sym (word_after t k p (its.lies seg w p word)))
@@ -81,7 +81,8 @@ module _ (core : List ℕ) (dbrs : List DbrFields) (audited : IsJointlyAudited c
         alike =
             same_writes core_store g (HasAll core dbrs) (LiesInSome core dbrs) (IsMarkedFrom core g.dbr) law joint_guarded r low s t h k same
 
-    -- a segment of the other process with the descriptor of one in reach is in reach
+    -- a segment of the other process with the descriptor of a segment that ring r can change: ring
+    -- r can change it
     reach_of_same : (seg other_seg : ℕ) → AreSame core g.dbr other seg other_seg → Reaches law.sdws r seg → Reaches its.sdws r other_seg
     reach_of_same seg other_seg same k =
         let mine = joint_sdws core dbrs audited i g.dbr at in
@@ -108,7 +109,7 @@ module _ (core : List ℕ) (dbrs : List DbrFields) (audited : IsJointlyAudited c
           differ = λ one. none (reach_of_same k.seg seg one.segment k.reaches);
         }))
 
-    -- what the ring may not reach in another process stays
+    -- segments of another process that the ring cannot change do not change
     pub other_unreached : (i == j) ≡ false → (s : List ℕ) → HasAll core dbrs s → (seg w : ℕ) → (Reaches its.sdws r seg → ⊥) → content_in core_store (after s) other seg w ≡ content_in core_store s other seg w
     other_unreached differ s h seg w none =
         content_equal core_store other (HasAll core dbrs) (LiesInSome core dbrs) (IsMarkedFrom core other) its (after s) s (all_after s h) h seg w (λ p word. word_after s h p (its.lies seg w p word) ∙ overlay_none _ p (core_store.word s p) (each_map (λ (c : Change). IsReached law.sdws law.spots r c.spot) (λ (c : Change). same_spot c.spot p ≡ false) (λ c k. apart_by differ seg w p word none c k (same_spot c.spot p) refl) _ (reached_writes core_store g (HasAll core dbrs) (LiesInSome core dbrs) (IsMarkedFrom core g.dbr) law joint_guarded r low s h)))

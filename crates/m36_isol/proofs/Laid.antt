@@ -1,4 +1,5 @@
--- The core of a booted image: where its words lie, and that table words and words of segments are apart.
+-- The core of a booted image: where its words are, and that table words and segment words are
+-- separate.
 use Rattle.std.proofs.Common.{◌≡◌, refl, sym, ◌∙◌, ap, inl, inr, ⊎_elim, arith}
 use Rattle.std.specs.Prelude.{ℕ, zero, suc, ◌+◌, ◌*◌, ◌/◌, ◌%◌, ◌^◌, ◌<◌, ◌≤◌, ◌⊎◌, Bool, true, false, ◌==◌, List, [], ◌∷◌, length, slice_get, slice_index, Option, Some, option_map, Result, Ok, Err}
 use Rattle.std.proofs.lemmas.Bool.{leb-true, ltb-true, lt-ltb, and_parts}
@@ -22,7 +23,7 @@ get_inside [] i h = absurd (omega arith)
 get_inside (x ∷ xs) zero h = refl
 get_inside (x ∷ xs) (suc i) h = get_inside xs i (omega arith)
 
--- the words of pages that are in a frame or in none
+-- words of pages that are in a frame, or in none
 absent_as : (v offset : ℕ) → unmarked v ≡ absent_ptw → in_frame (Some (ptw_of v)) offset ≡ Err absence
 unfolding unmarked
 absent_as v offset h = same_frame (Some v) (Some absent_ptw) offset (ap (λ (n : ℕ). Some n) h)
@@ -55,7 +56,7 @@ module _ (core : List ℕ) (frames : ℕ) (laid : IsLaid core frames) where
       let k : w / 16 ≤ d.bound = leb-true (w / 16) d.bound inside in
       record { sdw = d; live = live; begins = omega arith }
 
-  -- where the page table word of a page stands
+  -- the address of the PTW of a page
   pub page_address : (seg page : ℕ) (d : SdwFields) → core_sdw core booted_dbr seg ≡ Ok d → page ≤ d.bound / 64 → page_at d page ≡ table_at seg + page
   page_address seg page d live begins =
       let k = laid.segments seg d live in
@@ -73,7 +74,7 @@ module _ (core : List ℕ) (frames : ℕ) (laid : IsLaid core frames) where
       let all : length core ≡ 1024 * (146 + frames) = laid.size in
       omega arith
 
-  -- the page table word by which a word is found
+  -- the PTW through which a word is found
   ptw_of_word : (seg w : ℕ) (d : SdwFields) → core_sdw core booted_dbr seg ≡ Ok d → within d w ≡ true → ptw_at core (page_at d (w / 1024)) ≡ Some (ptw_of (slice_index core (table_at seg + w / 1024)))
   ptw_of_word seg w d live inside =
       let p = page_of_word seg w d live inside in
@@ -99,7 +100,7 @@ module _ (core : List ℕ) (frames : ℕ) (laid : IsLaid core frames) where
       let high : frame < 146 + frames = h.pageable.1 in
       spot_by seg w d live inside (Ok (frame * 1024 + w % 1024)) (resident_as (slice_index core (table_at seg + w / 1024)) frame (w % 1024) h.word (omega arith) (omega arith)) ∙ inside_at (length core) (frame * 1024 + w % 1024) (omega arith)
 
-  -- where a word of a segment lies
+  -- the address of a segment word
   pub record LiesIn (seg w a : ℕ) : Type 0 where
     pub frame : ℕ
     pub page : IsPage core seg (w / 1024)
@@ -121,7 +122,7 @@ module _ (core : List ℕ) (frames : ℕ) (laid : IsLaid core frames) where
       let inside = (and_parts (in_order k.sdw) (within k.sdw w) k.inside).1 in
       lies_by seg w a k.sdw k.live inside k.found (laid.pages seg (w / 1024) (page_of_word seg w k.sdw k.live inside))
 
-  -- descriptor words are the first 2,048
+  -- the descriptor words are the first 2,048 words
   sdw_low : (seg even : ℕ) → in_bounds booted_dbr seg ≡ true → wrapped (0 + 2 * seg) ≡ even → even < 2047
   sdw_low seg even bounds e =
       let k : 2 * seg < 16 * (127 + 1) = ltb-true (2 * seg) (16 * (127 + 1)) (and_parts _ _ bounds).0 in
@@ -136,7 +137,7 @@ module _ (core : List ℕ) (frames : ℕ) (laid : IsLaid core frames) where
       let low = sdw_found seg h.even (in_bounds booted_dbr seg) refl h.found in
       ⊎_elim (λ e. omega arith) (λ e. omega arith) h.half
 
-  -- page table words come behind them, one table behind another, and frames behind these
+  -- the page tables follow them, one after another, and the frames follow these
   page_word_at : (seg page a : ℕ) → IsPageWord core booted_dbr seg page a → (2048 + 256 * seg ≤ a) × (a < 2048 + 256 * seg + 256) × (a < 149504)
   page_word_at seg page a h =
       let k = laid.segments seg h.sdw h.live in

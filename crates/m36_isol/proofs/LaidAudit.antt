@@ -1,4 +1,5 @@
--- The audit of a booted core is by its descriptors, whatever frames its pages are in.
+-- Whether the audit conditions hold of a booted core depends only on its descriptors, whatever
+-- frames its pages are in.
 use Rattle.std.proofs.Common.{◌≡◌, refl, sym, ◌∙◌, ap}
 use Rattle.std.specs.Prelude.{ℕ, ◌+◌, ◌*◌, List, take, Ok}
 use Rattle.m36_desc.specs.Fields.{SdwFields}

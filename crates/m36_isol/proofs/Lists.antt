@@ -1,4 +1,4 @@
--- Words of a list after one of them is set.
+-- The words of a list after one of them was set.
 use Rattle.std.proofs.Common.{◌≡◌, refl, ap, arith}
 use Rattle.std.specs.Prelude.{ℕ, zero, suc, ◌≢◌, List, [], ◌∷◌, map, length, slice_get, slice_index, slice_set, Some, None}
 
@@ -12,7 +12,8 @@ index_of_get [] i x h = cc
 index_of_get (y ∷ xs) zero x h = cc
 index_of_get (y ∷ xs) (suc i) x h = index_of_get xs i x h
 
--- A list of anything: at another place than the one that is set, at that one, and beside a list that is as long.
+-- a list of any values: at another index than the one that was set, at this one, and beside a list
+-- of the same length
 pub set_other : {A : Type 0} (xs : List A) (i j : ℕ) (v : A) → j ≢ i → slice_get (slice_set xs i v) j ≡ slice_get xs j
 set_other [] i j v h = refl
 set_other (x ∷ xs) zero zero v h = absurd (h refl)
@@ -31,7 +32,7 @@ get_beside (x ∷ xs) [] i v e h = absurd (omega arith)
 get_beside (x ∷ xs) (y ∷ ys) zero v e h = (y, refl)
 get_beside (x ∷ xs) (y ∷ ys) (suc i) v e h = get_beside xs ys i v (omega arith) h
 
--- a place of a list with each of its elements changed
+-- an element of a list after a map
 pub get_map : {A B : Type 0} (f : A → B) (xs : List A) (i : ℕ) (x : A) → slice_get xs i ≡ Some x → slice_get (map f xs) i ≡ Some (f x)
 get_map f [] i x h = cc
 get_map f (y ∷ xs) zero x h = let same : y ≡ x = cc in ap (λ z. Some (f z)) same

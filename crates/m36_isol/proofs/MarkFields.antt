@@ -1,4 +1,4 @@
--- The bits that marks put on are those that the fields of a page table word tell as used and modified.
+-- The bits that marks turn on are the fields `used` and `modified` of a PTW.
 use Rattle.std.proofs.Common.{◌≡◌, ℕ, true, false, ap, ◌∙◌, arith}
 use Rattle.std.specs.Prelude.{◌==◌}
 use Rattle.m36_word.specs.Field.{field}

@@ -1,5 +1,5 @@
--- Two stores of which the first may lack words that the second has: one request, and a run, is served alike by both, or
--- the first lacks a word, or both tell a place.
+-- Two stores, of which the first may lack words that the second has. A request, or a run, has the
+-- same result over both, or the first store lacks a word, or both report a core address.
 use Rattle.std.proofs.Common.{◌≡◌, refl, sym, ◌∙◌, ap, subst, arith}
 use Rattle.std.specs.Prelude.{ℕ, zero, suc, ◌+◌, ◌≢◌, ◌≤◌, Bool, true, false, ◌==◌, List, [], ◌∷◌, ◌++◌, map, length, slice_get, Option, Some, None, Result, Ok, Err}
 use Rattle.m36_desc.specs.Fields.{SdwFields, DbrFields}
@@ -26,8 +26,8 @@ pub record ArePaired (Pair : Spot → Spot → Type 0) (c d : Change) : Type 0 w
   pub part : c.part ≡ d.part
   pub value : c.value ≡ d.value
 
--- What two stores owe each other, of which the second has no marks. M says of which stores it holds, and Pair which spots
--- are those of one word.
+-- What holds of two stores, of which the second has no marks. M says which stores are related, and
+-- Pair which spots are those of one word.
 pub record Mirrors {S F : Type 0} (o : Store S) (o' : Store F) (dbr : DbrFields) (M : S → F → Type 0) (Pair : Spot → Spot → Type 0) (Lacks : ℕ → ℕ → Type 0) : Type 0 where
   pub sdw : (s : S) (f : F) → M s f → (seg : ℕ) → o.sdw s dbr seg ≡ o'.sdw f dbr seg
   pub dead : (s : S) (f : F) → M s f → (seg : ℕ) (why : Refusal) → o.sdw s dbr seg ≡ Err why → why.number ≢ 17
@@ -37,11 +37,11 @@ pub record Mirrors {S F : Type 0} (o : Store S) (o' : Store F) (dbr : DbrFields)
   pub marked : (s : S) (f : F) → M s f → (kind : RequestKind) (seg w : ℕ) (d : SdwFields) → o.sdw s dbr seg ≡ Ok d → within d w ≡ true → M (o.marked s dbr kind seg w) (o'.marked f dbr kind seg w)
   pub quiet : (f : F) (kind : RequestKind) (seg w : ℕ) → o'.marked f dbr kind seg w ≡ f
 
--- numbers of refusals
+-- other fault numbers than that of a page fault
 other_number : (n : ℕ) → n ≡ 20 → n ≢ 17
 other_number n e h = omega arith
 
--- two lists in pairs
+-- two lists, element by element
 pub two_append : {A B : Type 0} (P : A → B → Type 0) (xs more : List A) (ys rest : List B) → EachTwo P xs ys → EachTwo P more rest → EachTwo P (xs ++ more) (ys ++ rest)
 two_append P [] more [] rest h k = k
 two_append P [] more (y ∷ ys) rest h k = absurd h
@@ -65,7 +65,7 @@ get_two P (x ∷ xs) [] k h = absurd h
 get_two P (x ∷ xs) (y ∷ ys) zero h = two_at x y refl refl h.0
 get_two P (x ∷ xs) (y ∷ ys) (suc k) h = get_two P xs ys k h.1
 
--- puts under paired claims are paired changes
+-- puts for related claims are related changes
 change_by : (Pair : Spot → Spot → Type 0) (p : Put) (x y : Option Spot) (c d : List Change) → AreAt Pair x y → EachTwo (ArePaired Pair) c d → EachTwo (ArePaired Pair) (change_of p x c) (change_of p y d)
 change_by Pair p x y c d (neither e f) h = rw (e, f) h
 change_by Pair p x y c d (two_at a b e f pair) h =
@@ -77,7 +77,7 @@ paired_changes Pair claims others h [] = tt
 paired_changes Pair claims others h (p ∷ puts) =
     change_by Pair p (slice_get claims p.claim) (slice_get others p.claim) (changes claims puts) (changes others puts) (get_two Pair claims others p.claim h) (paired_changes Pair claims others h puts)
 
--- places of several words
+-- the spots of several words
 pub data AreSpotted (Pair : Spot → Spot → Type 0) (Lacks : ℕ → ℕ → Type 0) (seg : ℕ) (r r' : Result (List Spot) (ℕ × Refusal)) : Type 0 where
   all_found : (ps qs : List Spot) → r ≡ Ok ps → r' ≡ Ok qs → EachTwo Pair ps qs → AreSpotted Pair Lacks seg r r'
   refused_alike : (w : ℕ) (why : Refusal) → r ≡ Err (w, why) → r' ≡ Err (w, why) → why.number ≢ 17 → AreSpotted Pair Lacks seg r r'
@@ -102,13 +102,13 @@ by_bound Pair Lacks seg w false x x' rest rest' one h =
     refused_alike w (violation 15) refl refl (other_number 20 refl)
 by_bound Pair Lacks seg w true x x' rest rest' one h = one_spotted Pair Lacks seg w x x' rest rest' (one refl) h
 
--- answers that may differ in the place alone
+-- answers that differ at most in the core address
 pub record SameButPlace (a b : Answer) : Type 0 where
   pub sdw : a.sdw ≡ b.sdw
   pub words : a.words ≡ b.words
   pub first : a.first ≡ b.first
 
--- where two steps stand alike; the second has changed nothing
+-- two steps in related states; the second store has not changed
 pub record AreMids {S F : Type 0} (M : S → F → Type 0) (Pair : Spot → Spot → Type 0) (start : F) (x : Mid S) (y : Mid F) : Type 0 where
   pub mirrors : M x.store y.store
   pub still : y.store ≡ start
@@ -121,11 +121,11 @@ pub data IsServed {S F : Type 0} (M : S → F → Type 0) (Pair : Spot → Spot 
   cut : (f : Fault) → t.reply ≡ Err f → f.number ≡ 17 → Lacks f.at.seg f.at.word → t.mid ≡ x → IsServed M Pair Lacks start kind x t u
   told_place : kind ≡ Locate → (a b : Answer) → t.reply ≡ Ok a → u.reply ≡ Ok b → SameButPlace a b → AreMids M Pair start t.mid u.mid → IsServed M Pair Lacks start kind x t u
 
--- a request and its parts
+-- a request from its parts
 abbrev pub asked : RequestKind → AtFields → ℕ → List Put → Request
 asked kind at count pending = record { kind = kind; at = at; count = count; pending = pending }
 
--- the answers of a kind that reads, of a Write, and of a kind that leaves the store
+-- the replies to a kind that reads, to a Write, and to a kind that leaves the store unchanged
 abbrev read_answer : {S : Type 0} → Store S → RegsFields → RequestKind → AtFields → List Put → SdwFields → Mid S → List Spot → List Reference → Served S
 read_answer o g kind at pending d m list refs =
     record {
@@ -149,7 +149,7 @@ abbrev plain_answer : {S : Type 0} → SdwFields → ℕ → Mid S → Served S
 plain_answer d place m =
     record { reply = Ok (record { sdw = d; first = length m.claims; place = place; words = [] }); mid = m }
 
--- the list of references with one more, or with the last one made a pair
+-- the references after one more, or after the last one was made a pair
 abbrev pub one_more : RequestKind → AtFields → ℕ → List Put → List Reference → List Reference
 one_more kind at count pending refs = with_reference kind (asked kind at count pending) refs
 
@@ -200,7 +200,7 @@ module _ {S F : Type 0} (o : Store S) (o' : Store F) (g : RegsFields) (M : S →
   served_place d x y k a b =
       told_place refl _ _ refl refl (record { sdw = refl; words = refl; first = two_lengths Pair x.claims y.claims k.claims }) k
 
-  -- the places of words
+  -- the spots of words
   spots_mirror : (s : S) (f : F) → M s f → (d : SdwFields) (seg : ℕ) → o.sdw s g.dbr seg ≡ Ok d → in_order d ≡ true → (w n : ℕ) → AreSpotted Pair Lacks seg (spots_of o s g.dbr d seg w n) (spots_of o' f g.dbr d seg w n)
   unfolding spots_of
   spots_mirror s f h d seg live ordered w zero = all_found [] [] refl refl tt
@@ -217,7 +217,7 @@ module _ {S F : Type 0} (o : Store S) (o' : Store F) (g : RegsFields) (M : S →
       by_test true x rest qs e = refl
       by_test false x rest qs e = cc
 
-  -- words are found, or the first that is not is told
+  -- all words are found, or the first that is not is reported
   abbrev serves_list : RequestKind → AtFields → ℕ → List Put → SdwFields → Mid S → Mid F → Result (List Spot) (ℕ × Refusal) → Result (List Spot) (ℕ × Refusal) → Type 0
   serves_list kind at count pending d x y v v' =
       Serves kind x (serve_places o g x (asked kind at count pending) d v) (serve_places o' g y (asked kind at count pending) d v')
@@ -271,14 +271,15 @@ module _ {S F : Type 0} (o : Store S) (o' : Store F) (g : RegsFields) (M : S →
       refused_both kind (fault_by why at) x y k (L.dead x.store y.store k.mirrors at.seg why e)
   by_sdw kind at count pending some x y k (Ok d) e = by_rights kind at count pending some d x y k e _ refl
 
-  -- One request is served alike, or the first store lacks a word, or both tell a place.
+  -- One request has the same result over both stores, or the first store lacks a word, or both
+  -- report a core address.
   pub serve_mirrors : (x : Mid S) (y : Mid F) → Stand x y → (q : Request) → 1 ≤ q.count → Serves q.kind x (serve o g x q) (serve o' g y q)
   unfolding serve
   serve_mirrors x y k q some =
       let there = L.sdw x.store y.store k.mirrors q.at.seg in
       subst (λ (v : Result SdwFields Refusal). Serves q.kind x (serve_sdw o g x q (o.sdw x.store g.dbr q.at.seg)) (serve_sdw o' g y q v)) there (by_sdw q.kind q.at q.count q.pending some x y k (o.sdw x.store g.dbr q.at.seg) refl)
 
--- A program that is done at a refusal, as it is stated.
+-- A program that is done after a refusal, with a value as `stop` says.
 abbrev pub Stops : {A : Type 0} → (Fault → A → Type 0) → Fault → Act A → Type 0
 Stops stop f (done a) = stop f a
 Stops stop f (ask q next) = ⊥
@@ -289,8 +290,8 @@ EndTwo R (done a) (done b) = R a b
 EndTwo R (done a) (ask q next) = ⊥
 EndTwo R (ask q next) m = ⊥
 
--- A program is done at each refusal; its value is as stated; and where it asks for a place in core, it is done then, and
--- two places give related values.
+-- A program is done after each refusal. Its value is as `post` says. If it asks for a core address,
+-- it is done then, and two addresses give related values.
 abbrev pub Asks : {A : Type 0} → (A → Type 0) → (Fault → A → Type 0) → (A → A → Type 0) → Act A → Type 0
 Asks post stop R (done a) = post a
 Asks post stop R (ask q next) =
@@ -351,7 +352,8 @@ module _ {A S F : Type 0} (o : Store S) (o' : Store F) (g : RegsFields) (M : S �
   by_served q next h x mirrors t u (told_place kind a b e f near mids) rest =
       rw (e, f) (two_run (next (Ok a)) (next (Ok b)) (h.3 kind a b near) t.mid u.mid mids)
 
-  -- A run goes alike over both stores, or is cut at a word that the first lacks, or tells a place.
+  -- A run has the same result over both stores, or ends at a word that the first lacks, or reports
+  -- a core address.
   pub run_mirrors : (m : Act A) (x : Mid S) (y : Mid F) → Asks post stop R m → AreMids M Pair start x y → Ends (run o g m x) (run o' g m y)
   unfolding run
   run_mirrors (done a) x y h k = same refl k h

@@ -1,5 +1,6 @@
--- One step over two stores of which the first may lack words: its program is done at each refusal with the registers as
--- they were and nothing put, has no page fault of its own, and asks for a place in core in ABSA alone.
+-- One step over two stores, of which the first may lack words. The program of the step is done
+-- after each refusal, with the registers unchanged and nothing to write. It makes no page fault of
+-- its own, and asks for a core address only for ABSA.
 use Rattle.std.proofs.Common.{◌≡◌, refl, sym, ◌∙◌, ap, subst, inl, inr, ⊎_elim, arith}
 use Rattle.std.specs.Prelude.{ℕ, zero, suc, ◌+◌, ◌*◌, ◌/◌, ◌%◌, ◌^◌, ◌<◌, ◌≤◌, ◌≢◌, ◌⊎◌, Bool, true, false, not, ◌&&◌, ◌||◌, ◌==◌, if◌then◌else◌, [], slice_index, Option, Some, None, Result, Ok, Err}
 use Rattle.m36_inst.specs.Instruction.{inst_of}
@@ -32,19 +33,19 @@ use Rattle.m36_isol.proofs.Program.{Either}
 use Rattle.m36_isol.proofs.Effects.{effect_law}
 use Rattle.m36_isol.proofs.Mirror.{Stops, EndTwo, Asks, asks_then}
 
--- numbers that are no page fault's
+-- numbers below 16 are not that of a page fault
 below : (n : ℕ) → n < 16 → n ≢ 17
 below n h e = omega arith
 
 above : (n : ℕ) → 17 < n → n ≢ 17
 above n h e = omega arith
 
--- a program's own refusal is no page fault
+-- a refusal by the program itself is not a page fault
 abbrev pub OwnHalt : Halt → Type 0
 OwnHalt (halt.Fault f) = f.number ≢ 17
 OwnHalt (halt.Stop s) = Unit {0}
 
--- it is done at a refusal with that fault
+-- the program is done after a refusal, with its fault
 abbrev pub FailsSo : {A : Type 0} → Fault → Result A Halt → Type 0
 FailsSo f v = v ≡ Err (halt.Fault f)
 
@@ -128,11 +129,11 @@ module _ (g : RegsFields) where
   chain_asks zero p = exhausted_asks p (move_of_point g p) (move_owns g p)
   chain_asks (suc n) p = move_asks (chain n g) (chain_asks n) p (move_of_point g p) (move_owns g p)
 
-  -- what an operation leaves of the DBR
+  -- the DBR after an operation
   abbrev pub LeavesDbr : Effect → Performed → Type 0
   LeavesDbr e p = (p.regs.dbr ≡ g.dbr) ⊎ ((e ≡ effect.Ldbr) × (p.overflow ≡ false))
 
-  -- two ABSA that were told two places
+  -- two ABSA that got different core addresses
   pub record ArePlaced (e : Effect) (v w : Result Performed Halt) : Type 0 where
     pub p : Performed
     pub q : Performed
@@ -237,7 +238,7 @@ module _ (g : RegsFields) where
   unfolding operate
   operate_asks e n c = on_asks e n c c.last.direct
 
-  -- what the program of a step gives: no page fault of its own, and another DBR by LDBR alone
+  -- the result of a step's program: no page fault of its own, and only LDBR changes the DBR
   pub record EndsWithLdbr (e : Ending) : Type 0 where
     pub word : ℕ
     pub fetched : e.word ≡ Some word
@@ -249,13 +250,14 @@ module _ (g : RegsFields) where
     pub present : IsPresent e.outcome
     pub dbr : (e.after.dbr ≡ g.dbr) ⊎ EndsWithLdbr e
 
-  -- at a refusal: the registers as they were, nothing put, and the fault
+  -- after a refusal: the registers are unchanged, nothing is to be written, and the outcome is the
+  -- fault
   pub record StopsSo (f : Fault) (e : Ending) : Type 0 where
     pub after : e.after ≡ g
     pub puts : e.puts ≡ []
     pub outcome : e.outcome ≡ Faulted f
 
-  -- two ABSA that were told two places
+  -- the ends of two ABSA that got different core addresses
   pub record EndPlaced (e d : Ending) : Type 0 where
     pub word : ℕ
     pub fetched : e.word ≡ Some word

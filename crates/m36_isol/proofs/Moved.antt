@@ -1,5 +1,5 @@
--- Where pages have moved between frames and the words kept, the core is that of the same booted image, and stands for the
--- same flat memory.
+-- After pages have moved between frames and the kept words, core is that of the same booted image,
+-- and represents the same flat memory.
 use Rattle.std.proofs.Common.{◌≡◌, refl, sym, ◌∙◌, ap, inl, inr, arith, eqb-true}
 use Rattle.std.specs.Prelude.{ℕ, ◌+◌, ◌*◌, ◌/◌, ◌%◌, ◌⊎◌, Bool, true, false, ◌==◌, if◌then◌else◌, List, length, take, slice_index, Option, Some, None, Result, Ok, Err}
 use Rattle.m36_desc.specs.Fields.{SdwFields}
@@ -14,7 +14,7 @@ use Rattle.m36_model.specs.declared.outcome.Refusal.{Refusal}
 use Rattle.m36_isol.proofs.Laid.{page_of_word, absent_spot, resident_spot}
 use Rattle.m36_isol.proofs.Booted.{flat_descriptor}
 
--- descriptors are in the first words
+-- the descriptors are in the first words of core
 pub same_descriptors : (core now : List ℕ) → take descriptor_words now ≡ take descriptor_words core → (seg : ℕ) → core_sdw now booted_dbr seg ≡ core_sdw core booted_dbr seg
 same_descriptors core now e seg =
     let f : Flat = record { descriptors = take descriptor_words core; content = λ s w. 0 } in
@@ -26,7 +26,7 @@ not_resident frame h = omega arith
 one_frame : (f k : ℕ) → resident_ptw f ≡ resident_ptw k → f ≡ k
 one_frame f k h = omega arith
 
--- the frame of a page, as its page table word tells
+-- the frame of a page, as its PTW says
 frame_as : (core : List ℕ) (frames : ℕ) (frame_of : ℕ → ℕ → Option ℕ) → IsResidence core frames frame_of → (seg page : ℕ) → IsPage core seg page → (v : Option ℕ) → frame_of seg page ≡ v → page_word core seg page ≡ ptw_of_page v
 frame_as core frames frame_of r seg page p v e = r.words seg page p ∙ ap ptw_of_page e
 
@@ -36,7 +36,7 @@ holder core frames frame_of r seg page frame p h None e =
 holder core frames frame_of r seg page frame p h (Some k) e =
     e ∙ ap Some (one_frame k frame (sym (frame_as core frames frame_of r seg page p (Some k) e) ∙ h))
 
--- by the residence, a core with these descriptors is that of the image
+-- a core with these descriptors and this residence is that of the image
 pub laid_by : (core : List ℕ) (frames : ℕ) → IsLaid core frames → (now : List ℕ) → length now ≡ length core → take descriptor_words now ≡ take descriptor_words core → (frame_of : ℕ → ℕ → Option ℕ) → IsResidence now frames frame_of → IsLaid now frames
 laid_by core frames laid now size low frame_of r =
     record {

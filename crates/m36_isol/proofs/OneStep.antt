@@ -1,4 +1,4 @@
--- One step in ring r and above, of one state and of two that agree.
+-- One step in ring r and above: of one state, and of two states that agree.
 use Rattle.std.proofs.Common.{◌≡◌, refl, sym, ◌∙◌, ap, subst}
 use Rattle.std.specs.Prelude.{ℕ, ◌≤◌, Bool, true, false, List, []}
 use Rattle.m36_model.specs.Registers.{RegsFields}
@@ -42,7 +42,7 @@ module _ {S : Type 0} (o : Store S) (g : RegsFields) (Has : S → Type 0) (Lies 
   pub one_run : (s : S) → Has s → AreRan (Alike o Has Lies Near L.sdws L.spots r s s) (IsEnded L.sdws r g) (step_run s) (step_run s)
   one_run s h = both_run s s h h (λ seg w p sees word. refl)
 
-  -- what is written lies in reach
+  -- all words that are written are in reach
   pub reached_writes : (s : S) → Has s → Each (λ (c : Change). IsReached L.sdws L.spots r c.spot) (writes_of s)
   reached_writes s h = each_change (IsReached L.sdws L.spots r) _ (one_run s h).mid.claimed _
 
@@ -59,7 +59,7 @@ module _ {S : Type 0} (o : Store S) (g : RegsFields) (Has : S → Type 0) (Lies 
       let k = (one_run s h).mid.kept in
       L.put_word _ k.has (writes_of s) (spot_writes s h) p lies ∙ ap (overlay (writes_of s) p) (k.words p lies)
 
-  -- outside reach nothing changes
+  -- out of reach nothing changes
   apart_by : (seg w : ℕ) (p : Spot) → IsWord L.sdws L.spots seg w p → (Reaches L.sdws r seg → ⊥) → (c : Change) → IsReached L.sdws L.spots r c.spot → (t : Bool) → same_spot c.spot p ≡ t → same_spot c.spot p ≡ false
   apart_by seg w p word none c k false e = e
   apart_by seg w p word none c k true e =
@@ -74,7 +74,7 @@ module _ {S : Type 0} (o : Store S) (g : RegsFields) (Has : S → Type 0) (Lies 
   unreached s h seg w none =
       content_equal o g.dbr Has Lies Near L (after_run s) s (after_has s h) h seg w (λ p word. unreached_word s h seg w p word none)
 
-  -- two states with equal words in sight
+  -- two states in which words that ring r can see are equal
   module _ (s t : S) (h : Has s) (k : Has t) (equal : SeeEqual o L.sdws L.spots r s t) where
     pub same_record : step_record g (step_run s) ≡ step_record g (step_run t)
     same_record =
@@ -97,7 +97,7 @@ module _ {S : Type 0} (o : Store S) (g : RegsFields) (Has : S → Type 0) (Lies 
         let claims = b.mid.claims in
         λ i. changes (claims i) (value i).puts
 
-    -- content that was equal stays equal, in sight or not
+    -- content that was equal is equal again, whether ring r can see it or not
     pub equal_stays : (seg w : ℕ) → content_in o s g.dbr seg w ≡ content_in o t g.dbr seg w → content_in o (after_run s) g.dbr seg w ≡ content_in o (after_run t) g.dbr seg w
     equal_stays seg w e =
         content_equal o g.dbr Has Lies Near L (after_run s) (after_run t) (after_has s h) (after_has t k) seg w (λ p word. after_word s h p (L.lies seg w p word) ∙ ap (overlay (writes_of s) p) (words_equal o g.dbr Has Lies Near L s t h k seg w p word e) ∙ ap (λ (c : List Change). overlay c p (o.word t p)) same_writes ∙ sym (after_word t k p (L.lies seg w p word)))
@@ -111,7 +111,7 @@ module _ {S : Type 0} (o : Store S) (g : RegsFields) (Has : S → Type 0) (Lies 
     after_content seg w sees =
         content_equal o g.dbr Has Lies Near L (after_run s) (after_run t) (after_has s h) (after_has t k) seg w (λ p word. after_equal seg w p sees word)
 
-  -- equal content in sight is equal words in sight
+  -- equal content that ring r can see means equal words that it can see
   pub see_equal : (s t : S) → Has s → Has t → ((seg w : ℕ) → Sees L.sdws r seg → content_in o s g.dbr seg w ≡ content_in o t g.dbr seg w) → SeeEqual o L.sdws L.spots r s t
   see_equal s t h k contents seg w p sees word =
       words_equal o g.dbr Has Lies Near L s t h k seg w p word (contents seg w sees)

@@ -1,4 +1,4 @@
--- What an operation does in ring r and above: it stays there but for a gate call.
+-- An operation in ring r and above stays in ring r and above, except for a gate call.
 use Rattle.std.proofs.Common.{◌≡◌, refl, sym, ◌∙◌, ap, subst, inl, inr, ⊎_elim, arith, le_trans, lt_irrefl, lt_of_lt_of_le, eqb-true, true≢false}
 use Rattle.std.proofs.lemmas.Bool.{cases_lt}
 use Rattle.std.specs.Prelude.{ℕ, ◌+◌, ◌*◌, ◌<◌, ◌≤◌, ◌⊎◌, Bool, true, false, ◌==◌, nat_lt, if◌then◌else◌, List, [], slice_get, Option, Some, None, Result, Ok, Err}
@@ -46,14 +46,14 @@ module _ (sdws : ℕ → Result SdwFields Refusal) (r : ℕ) (g : RegsFields) wh
     pub stack : is_stack_of sdw.r2 (sdws (8 * g.dbr.stack + sdw.r2)) ≡ true
     pub overflow : p.overflow ≡ false
 
-  -- what an operation leaves
+  -- the result of an operation
   pub record IsPerformed (e : Effect) (c : ChainEnd) (p : Performed) : Type 0 where
     pub ring : (r ≤ p.regs.ppr.prr) ⊎ IsFallen e c p
     pub dbr : (p.regs.dbr ≡ g.dbr) ⊎ ((e ≡ effect.Ldbr) × (p.overflow ≡ false))
     pub pointers : HasPointers g → HasPointers p.regs
 
   module _ (low : r ≤ g.ppr.prr) where
-    -- an effect that is no call
+    -- an effect that is not a call
     abbrev MeetsEffect : Effect → ChainEnd → Result Performed Halt → Type 0
     MeetsEffect e c v = Either (IsPerformed e c) AnyHalt v
 
@@ -72,7 +72,7 @@ module _ (sdws : ℕ → Result SdwFields Refusal) (r : ℕ) (g : RegsFields) wh
       abbrev MeetsOperation : Effect → ChainEnd → Operation → Type 0
       MeetsOperation e c m = Meets (May sdws r g) (Known sdws g) (Either (IsPerformed e c) AnyHalt) m
 
-      -- an instruction of another operand kind than CALL6's is no CALL6
+      -- an instruction whose operand kind is not that of CALL6 is not CALL6
       no_call : (e : Effect) (k : Operand) → operand_of e ≡ k → (k ≡ kind.Call6 → ⊥) → e ≡ effect.Call6 → ⊥
       no_call e k is other call = other (sym is ∙ ap operand_of call)
 
@@ -102,9 +102,10 @@ module _ (sdws : ℕ → Result SdwFields Refusal) (r : ℕ) (g : RegsFields) wh
       transferring_meets e n c true plain high =
           (record { some = omega arith; ring = tt }, (λ f. tt), (λ a known. plain_by e n c Whole 0 no_operand plain high _ refl))
 
-      -- CALL6 is the one way down
+      -- only CALL6 enters a lower ring
       module _ (guarded : IsGuarded g.dbr sdws) where
-        -- another segment than the one that executes, since that one's read bracket reaches r
+        -- the target is not the segment that is executed, since r is within the read bracket of
+        -- that one
         other_segment : (seg : ℕ) (d : SdwFields) → sdws seg ≡ Ok d → d.r2 < r → (t : Bool) → (seg == g.ppr.psr) ≡ t → t ≡ false
         other_segment seg d live below false e = refl
         other_segment seg d live below true e =
@@ -180,7 +181,7 @@ module _ (sdws : ℕ → Result SdwFields Refusal) (r : ℕ) (g : RegsFields) wh
         kind_meets e n c kind.N is high = plain_by e n c Whole 0 no_operand (no_call e kind.N is (λ x. cc)) high _ refl
         kind_meets e n c kind.Call6 is high = calling_meets e n c high
 
-        -- a direct operand, which CALL6 does not take
+        -- CALL6 does not accept a direct operand
         direct_call : (e : Effect) → takes_direct e ≡ true → e ≡ effect.Call6 → ⊥
         direct_call e takes call = let k = ap takes_direct call in true≢false (sym takes ∙ k)
 
@@ -192,7 +193,7 @@ module _ (sdws : ℕ → Result SdwFields Refusal) (r : ℕ) (g : RegsFields) wh
         on_meets e n c None high = kind_meets e n c (operand_of e) refl high
         on_meets e n c (Some w) high = direct_meets e n c w (takes_direct e) refl high
 
-        -- An operation whose address is in ring r or above stays there, but for a gate call.
+        -- An operation whose address is in ring r or above stays there, except for a gate call.
         pub operate_meets : (e : Effect) (n : ℕ) (c : ChainEnd) → r ≤ c.last.at.ring → MeetsOperation e c (operate e n g c)
         unfolding operate
         operate_meets e n c high = on_meets e n c c.last.direct high

@@ -1,4 +1,5 @@
--- Page services one after another: each attempt gets further, and after 18 services no page is absent.
+-- Consecutive page services: each attempt reaches one page more, and after 18 services there is no
+-- page fault.
 use Rattle.std.proofs.Common.{◌≡◌, refl, sym, ◌∙◌, ap, subst, arith}
 use Rattle.std.specs.Prelude.{ℕ, zero, suc, ◌+◌, ◌/◌, ◌≢◌, ◌⊎◌, List, [], ◌∷◌, Option, Some, None}
 use Rattle.std.proofs.Common.{inl, inr}
@@ -31,12 +32,12 @@ resident_apart frame h = omega arith
 none_apart : (v : Option ℕ) (frame : ℕ) → v ≡ None → v ≡ Some frame → ⊥
 none_apart v frame e f = cc
 
--- what is said of each member of two facts
+-- two facts about each element of a list give a third
 each_two : {A : Type 0} (P Q R : A → Type 0) → ((x : A) → P x → Q x → R x) → (xs : List A) → Each P xs → Each Q xs → Each R xs
 each_two P Q R f [] h k = tt
 each_two P Q R f (x ∷ xs) h k = (f x h.0 k.0, each_two P Q R f xs h.1 k.1)
 
--- ---- where pages have moved
+-- ---- after pages have moved
 module _ (frames : ℕ) (old new : Paged) (moved : IsMoved frames old new) where
   page_before : (seg page : ℕ) → IsPage new.core seg page → IsPage old.core seg page
   page_before seg page p =
@@ -69,7 +70,7 @@ module _ (frames : ℕ) where
   ReachesState k g core =
       Reaches g k None (program g) (record { store = core; claims = []; refs = [] })
 
-  -- it is of the booted image, and the step from here reaches so many new pages
+  -- core is that of the booted image, and the step from here reaches k new pages
   record IsReady (k : ℕ) (s : PagedState) : Type 0 where
     dbr : s.regs.dbr ≡ booted_dbr
     laid : IsLaid s.memory.core frames
@@ -78,12 +79,12 @@ module _ (frames : ℕ) where
   abbrev begin : {S : Type 0} → S → Mid S
   begin s = record { store = s; claims = []; refs = [] }
 
-  -- where two steps over one flat memory begin
+  -- the beginning of two steps over one flat memory
   first_stands : (g : RegsFields) (dbr : g.dbr ≡ booted_dbr) (core : List ℕ) (laid : IsLaid core frames) (kept : ℕ → ℕ → ℕ) (f : Flat) → flat_of (record { core = core; kept = kept }) ≡ f → Stand core frames laid kept g dbr f (begin core) (begin f)
   first_stands g dbr core laid kept f e =
       record { mirrors = subst (λ (x : Flat). StandsFor core frames laid kept core x) e (stands_first core frames laid kept); still = refl; claims = tt; refs = refl }
 
-  -- a step that ends in a page fault is cut there
+  -- a step that ends with a page fault ends at this page
   cut_from : (g : RegsFields) (core : List ℕ) (fault : Fault) → (record_of core_store (record { regs = g; store = core })).outcome ≡ Faulted fault → fault.number ≡ 17 → IsCut g fault (program g) (begin core)
   unfolding record_of
   cut_from g core fault outcome number =
@@ -139,7 +140,7 @@ module _ (frames : ℕ) where
       let m : suc k + n ≡ k + suc n = omega arith in
       subst (λ (i : ℕ). IsReady i new) m (all_services n (suc k) served.0 new (one_service k old served.0 ready served.1) served.2)
 
-  -- a step that reaches 18 new pages meets no absent page
+  -- a step that reaches 18 new pages has no page fault
   ends_present : (g : RegsFields) (dbr : g.dbr ≡ booted_dbr) (core : List ℕ) (laid : IsLaid core frames) (kept : ℕ → ℕ → ℕ) → ReachesState 18 g core → IsPresent (record_of core_store (record { regs = g; store = core })).outcome
   unfolding record_of
   ends_present g dbr core laid kept reaches =

@@ -1,4 +1,4 @@
--- A step over the core of a booted image: the flat step, or a page fault, or an ABSA.
+-- A step over the core of a booted image: it is the flat step, or a page fault, or an ABSA.
 use Rattle.std.proofs.Common.{◌≡◌, refl, sym, ◌∙◌, ap, subst, inl, inr, ⊎_elim}
 use Rattle.std.specs.Prelude.{ℕ, ◌⊎◌, List, []}
 use Rattle.m36_desc.specs.Fields.{DbrFields}
@@ -41,7 +41,7 @@ module _ (frames : ℕ) (kept : ℕ → ℕ → ℕ) (g : RegsFields) (core : Li
   begins : AreMids M Pair there.store (start here) (start there)
   begins = record { mirrors = stands_first core frames laid kept; still = refl; claims = tt; refs = refl }
 
-  -- what a core that stands for some flat memory keeps
+  -- what holds of a core that represents a flat memory
   keeps : (kept_so : (now : List ℕ) (f : Flat) → M now f → IsFlatStep kept here ⊎ IsPageFault kept here ⊎ IsAbsaStep kept here) → (f : Flat) → M (state_after core_store here).store f → IsPagedStep frames kept here
   keeps cases f m =
       record {
@@ -51,7 +51,7 @@ module _ (frames : ℕ) (kept : ℕ → ℕ → ℕ) (g : RegsFields) (core : Li
         pages = λ seg page p. same_page_word core frames laid (state_after core_store here).store m.matching seg page p;
       }
 
-  -- the words of a step are written alike
+  -- both steps write the same words
   puts_alike : (x : Mid (List ℕ)) (y : Mid Flat) → AreMids M Pair there.store x y → (puts others : List Put) → puts ≡ others → M (core_put x.store (changes x.claims puts)) (flat_put y.store (changes y.claims others))
   puts_alike x y k puts others e =
       let pairs = paired_changes Pair x.claims y.claims k.claims puts in

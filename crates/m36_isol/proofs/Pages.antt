@@ -1,4 +1,4 @@
--- What a request to a store comes to, and which references a run records.
+-- The results of a request to a store, and the references that a run records.
 use Rattle.std.proofs.Common.{◌≡◌, refl, sym, ◌∙◌, ap, subst, arith}
 use Rattle.std.specs.Prelude.{ℕ, zero, suc, ◌+◌, ◌-◌, ◌/◌, ◌<◌, ◌≤◌, ◌≢◌, Bool, true, false, ◌==◌, List, [], ◌∷◌, ◌++◌, length, Option, Some, None, Result, Ok, Err}
 use Rattle.m36_desc.specs.Fields.{SdwFields}
@@ -27,7 +27,7 @@ module _ {S : Type 0} (o : Store S) (g : RegsFields) where
     no_right : why.number ≡ 20 → IsCause m q why w
     no_place : (d : SdwFields) → places o m.store g.dbr d q ≡ Err (w, why) → IsCause m q why w
 
-  -- it is refused at one of its words and changes nothing, or its words have places
+  -- a request is refused at one of its words and changes nothing, or its words have spots
   pub data IsReplied (m : Mid S) (q : Request) (t : Served S) : Type 0 where
     is_refused : (why : Refusal) (w : ℕ) → t ≡ refused m q w why → q.at.word ≤ w → w < q.at.word + q.count → IsCause m q why w → IsReplied m q t
     is_answered : (a : Answer) → t.reply ≡ Ok a → t.mid.refs ≡ with_reference q.kind q m.refs → (d : SdwFields) → o.sdw m.store g.dbr q.at.seg ≡ Ok d → in_order d ≡ true → (spots : List Spot) → places o m.store g.dbr d q ≡ Ok spots → IsReplied m q t
@@ -112,7 +112,7 @@ module _ {S : Type 0} (o : Store S) (g : RegsFields) where
   unfolding places
   places_placed s d q ps plain some h = parts_placed (is_target q.kind) s d q ps plain some h
 
-  -- a target has no page to meet
+  -- the target of a transfer or call has no page fault
   bound_number : (b : Bool) (w x : ℕ) (why : Refusal) → bound_only b w ≡ Err (x, why) → why.number ≡ 20
   bound_number true w x why h = cc
   bound_number false w x why h =
@@ -138,7 +138,7 @@ module _ {S : Type 0} (o : Store S) (g : RegsFields) where
 
 -- ---- the references that are recorded
 
--- the even word of an odd one
+-- the reference to the even word, for a reference to the odd one
 abbrev pub even_reference : Request → Reference
 even_reference q =
     record { kind = reference.Indirect; at = record { seg = q.at.seg; word = q.at.word - 1; ring = q.at.ring }; count = 2 }
@@ -199,11 +199,11 @@ few_references s =
 
 -- ---- the pages of references
 
--- what is said of the pages of references
+-- K holds of the page of a reference
 abbrev pub On : (ℕ → ℕ → Type 0) → Reference → Type 0
 On K e = K e.at.seg (e.at.word / 1024)
 
--- the last reference is the one before
+-- the last reference is the one before the request
 pub record EndsWith (refs : List Reference) (at : AtFields) : Type 0 where
   pub more : List Reference
   pub reference : Reference
@@ -233,7 +233,7 @@ each_front : {A : Type 0} (P : A → Type 0) (xs : List A) (x : A) → Each P (x
 each_front P [] x h = (tt, h.0)
 each_front P (y ∷ xs) x h = let k = each_front P xs x h.1 in ((h.0, k.0), k.1)
 
--- the page of the even word is that of the odd one
+-- the even word and the odd word are on the same page
 even_page : (last : Option AtFields) (at : AtFields) → FollowsEven last at → (at.word - 1) / 1024 ≡ at.word / 1024
 even_page (Some last) at h =
     let next = h.1 in
@@ -242,7 +242,7 @@ even_page (Some last) at h =
 even_page None at h = absurd h
 
 module _ (K : ℕ → ℕ → Type 0) where
-  -- what is known of the pages of references after a request was known before, and of its page
+  -- what is known of the pages of references after a request was known before it, and of its page
   pub record WasKnown (kind : RequestKind) (q : Request) (refs : List Reference) : Type 0 where
     pub before : Each (On K) refs
     pub here : touches kind ≡ true → K q.at.seg (q.at.word / 1024)
@@ -276,7 +276,7 @@ module _ (K : ℕ → ℕ → Type 0) where
   was_known Call q refs last follows ends h = record { before = h; here = λ yes. cc }
   was_known Locate q refs last follows ends h = record { before = h; here = λ yes. cc }
 
-  -- with that of the page of a request
+  -- the same with the page of a request
   odd_all : (q : Request) (refs : List Reference) → K q.at.seg ((q.at.word - 1) / 1024) → Each (On K) refs → Each (On K) (with_odd q refs)
   odd_all q [] here h = tt
   odd_all q (e ∷ []) here h = (here, tt)

@@ -1,4 +1,4 @@
--- The place of a word, taken apart and put together.
+-- The place of a word: what it consists of.
 use Rattle.std.proofs.Common.{◌≡◌, refl, ◌∙◌, ap}
 use Rattle.std.specs.Prelude.{ℕ, ◌<◌, Bool, true, false, ◌&&◌, List, length, nat_lt, Some, Result, Ok, Err}
 use Rattle.std.proofs.lemmas.Bool.{ltb-true}
@@ -14,7 +14,7 @@ place_joined true true spot h = refl
 place_joined true false spot h = cc
 place_joined false b spot h = cc
 
--- a word of a live segment, where the descriptor places it
+-- a word of a live segment to which the descriptor gives a spot
 pub record IsPlaced {S : Type 0} (o : Store S) (s : S) (dbr : DbrFields) (seg w : ℕ) (p : Spot) : Type 0 where
   pub sdw : SdwFields
   pub live : o.sdw s dbr seg ≡ Ok sdw
@@ -41,12 +41,12 @@ pub place_parts : {S : Type 0} (o : Store S) (s : S) (dbr : DbrFields) (seg w : 
 unfolding place
 place_parts o s dbr seg w p h = place_taken o s dbr seg w p (o.sdw s dbr seg) refl h
 
--- the content of a placed word is the word at its spot
+-- the content of a word with a spot is the word at this spot
 pub content_placed : {S : Type 0} (o : Store S) (s : S) (dbr : DbrFields) (seg w : ℕ) (p : Spot) → IsPlaced o s dbr seg w p → content_in o s dbr seg w ≡ Some (o.word s p)
 unfolding content_in
 content_placed o s dbr seg w p h = ap (word_of o s) (place_is o s dbr seg w p h)
 
--- in core a word lies at an address inside
+-- the spot of a word in core is an address inside core
 pub record IsInside (core : List ℕ) (p : Spot) : Type 0 where
   pub address : ℕ
   pub spot : p ≡ Core_word address

@@ -1,5 +1,5 @@
--- How many pages a step references, and how many references it records: counts over the program of a step. A reference to
--- the page of the reference just before it meets no new page.
+-- Limits on the pages that a step references and on the references that it records, counted over
+-- the program of a step. A reference to the page of the reference before it references no new page.
 use Rattle.std.proofs.Common.{◌≡◌, refl, arith, eqb-true}
 use Rattle.std.specs.Prelude.{ℕ, zero, suc, ◌+◌, ◌-◌, ◌/◌, ◌%◌, ◌≤◌, ◌≢◌, Bool, true, false, not, ◌&&◌, ◌==◌, if◌then◌else◌, slice_index, Option, Some, None, Result, Ok, Err}
 use Rattle.std.proofs.lemmas.Bool.{eq-eqb}
@@ -25,7 +25,7 @@ use Rattle.m36_model.specs.declared.outcome.Halt.{Halt}
 use Rattle.m36_model.specs.declared.outcome.Halt.TheVariants as halt
 use Rattle.m36_word.specs.Field.{field}
 
--- the kinds that add a reference to those recorded
+-- the kinds that record a reference
 abbrev pub adds : RequestKind → Bool
 adds Fetch = true
 adds Indirect = true
@@ -36,7 +36,7 @@ adds Transfer = false
 adds Call = false
 adds Locate = false
 
--- the kinds whose words have places
+-- the kinds that reference pages
 abbrev pub has_page : RequestKind → Bool
 has_page Fetch = true
 has_page Indirect = true
@@ -57,7 +57,7 @@ fresh_by (Some last) at = not (same_page last at)
 abbrev pub fresh : Option AtFields → Request → Bool
 fresh last q = has_page q.kind && fresh_by last q.at
 
--- the place of the reference before
+-- the place of the reference before a request
 abbrev pub last_by : RequestKind → AtFields → Option AtFields
 last_by Fetch at = Some at
 last_by Indirect at = Some at
@@ -83,7 +83,7 @@ Follows Transfer last at = Unit {0}
 Follows Call last at = Unit {0}
 Follows Locate last at = Unit {0}
 
--- the words of a reference lie on one page
+-- the words of a reference are on one page
 abbrev pub InPage : Request → Type 0
 InPage q = (q.at.word % 1024 + q.count ≤ 1024) × (1 ≤ q.count)
 
@@ -91,8 +91,8 @@ abbrev pub cost : Bool → ℕ → ℕ
 cost true n = suc n
 cost false n = n
 
--- A program makes at most n references to new pages and records at most k, and what is left of both where it is done is as
--- stated of its value.
+-- A program makes at most n references to new pages and records at most k references. What is left
+-- of both at its end is as stated of its value.
 abbrev pub Plan : {A : Type 0} → (ℕ → ℕ → A → Type 0) → ℕ → ℕ → Option AtFields → Act A → Type 0
 Plan post n k last (done a) = post n k a
 Plan post n k last (ask q next) =
@@ -105,12 +105,12 @@ plan_then mid post n k last (done a) f h rest = rest n k last a h
 plan_then mid post n k last (ask q next) f h rest =
     (h.0, h.1, h.2, h.3, h.4, h.5, (λ reply. plan_then mid post h.2 h.3 (last_by q.kind q.at) (next reply) f (h.6 reply) rest))
 
--- what a reference to any page costs at most
+-- the most that a reference costs
 cost_more : (b : Bool) (n : ℕ) → cost b n ≤ suc n
 cost_more true n = omega arith
 cost_more false n = omega arith
 
--- a reference to a page just referenced costs nothing
+-- a reference to the page of the one before costs nothing
 same_is : (last at : AtFields) → last.seg ≡ at.seg → last.word / 1024 ≡ at.word / 1024 → fresh_by (Some last) at ≡ false
 same_is last at e f =
     let x = eq-eqb last.seg at.seg e in
@@ -126,7 +126,7 @@ free false n h = omega arith
 one_in : (w : ℕ) → (w % 1024 + 1 ≤ 1024) × (1 ≤ 1)
 one_in w = (omega arith, omega arith)
 
--- what is left of both after the address: for the operand
+-- what is left of both after the address, for the operand
 abbrev Left : {A : Type 0} → ℕ → ℕ → A → Type 0
 Left n k a = (1 ≤ n) × (2 ≤ k)
 
@@ -142,7 +142,7 @@ module _ (g : RegsFields) where
   abbrev PlansChain : ℕ → ℕ → Option AtFields → Formation → Type 0
   PlansChain n k last m = Plan Left n k last m
 
-  -- what follows an answer, and a refusal
+  -- what comes after an answer, and after a refusal
   answered_plan : {A : Type 0} (post : ℕ → ℕ → Result A Halt → Type 0) (n k : ℕ) (last : Option AtFields) (next : Answer → Act (Result A Halt)) → ((a : Answer) → Plan post n k last (next a)) → ((h : Halt) → post n k (Err h)) → (reply : Result Answer Fault) → Plan post n k last (answered next reply)
   answered_plan post n k last next h stop (Ok a) = h a
   answered_plan post n k last next h stop (Err f) = stop (halt.Fault f)
@@ -153,7 +153,7 @@ module _ (g : RegsFields) where
   exhausted_plan n k last p (Reads word held) h e = (h, e)
   exhausted_plan n k last p Counts h e = (h, e)
 
-  -- so many more indirect words, from every point
+  -- n more indirect words, from each point
   abbrev PlansOn : ℕ → (Point → Formation) → Type 0
   PlansOn c next = (n k : ℕ) (last : Option AtFields) (p : Point) → c + 1 ≤ n → c + 3 ≤ k → PlansChain n k last (next p)
 

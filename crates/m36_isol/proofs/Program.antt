@@ -1,4 +1,5 @@
--- Programs of a step: what holds of every run by the program's structure, and when two runs stay alike.
+-- Programs of a step: what holds of every run of a program by its structure, and when two runs have
+-- the same results.
 use Rattle.std.proofs.Common.{◌≡◌, refl, subst}
 use Rattle.std.specs.Prelude.{Result, Ok, Err}
 use Rattle.m36_model.specs.Registers.{RegsFields}
@@ -7,7 +8,8 @@ use Rattle.m36_model.specs.Store.{Store, Mid, Served, Ran, serve, run}
 use Rattle.m36_model.specs.declared.outcome.Fault.{Fault}
 use Rattle.m36_model.specs.declared.outcome.Halt.{Halt}
 
--- Each request of the program may be made, and its value is as stated; of an answer what is known is told to what follows.
+-- Each request of the program may be made, and its value is as stated. What is known of an answer
+-- may be used for the rest of the program.
 abbrev pub Meets : {A : Type 0} → (Request → Type 0) → (Request → Answer → Type 0) → (A → Type 0) → Act A → Type 0
 Meets may fact post (done a) = post a
 Meets may fact post (ask q next) =
@@ -20,12 +22,12 @@ meets_then may fact mid post (done a) k h next = next a h
 meets_then may fact mid post (ask q n) k h next =
     (h.0, (λ f. meets_then may fact mid post (n (Err f)) k (h.1 f) next), (λ a known. meets_then may fact mid post (n (Ok a)) k (h.2 a known) next))
 
--- what is stated of a value or of an end
+-- what holds of a value, or of an end
 abbrev pub Either : {A : Type 0} → (A → Type 0) → (Halt → Type 0) → Result A Halt → Type 0
 Either ok halted (Ok a) = ok a
 Either ok halted (Err h) = halted h
 
--- two replies to one request
+-- the replies to one request to two stores
 pub record AreServed {S S' : Type 0} (Alike : Mid S → Mid S' → Type 0) (Known : Answer → Type 0) (t : Served S) (u : Served S') : Type 0 where
   pub reply : t.reply ≡ u.reply
   pub mid : Alike t.mid u.mid
@@ -36,12 +38,13 @@ pub record AreRan {A S S' : Type 0} (Alike : Mid S → Mid S' → Type 0) (Post 
   pub mid : Alike t.mid u.mid
   pub post : Post t.value
 
--- what the program goes on with after a reply
+-- how the program continues after a reply
 meets_reply : {A : Type 0} (may : Request → Type 0) (fact : Request → Answer → Type 0) (post : A → Type 0) (q : Request) (next : Result Answer Fault → Act A) → Meets may fact post (ask q next) → (reply : Result Answer Fault) → ((a : Answer) → reply ≡ Ok a → fact q a) → Meets may fact post (next reply)
 meets_reply may fact post q next h (Ok a) known = h.2 a (known a refl)
 meets_reply may fact post q next h (Err f) known = h.1 f
 
--- Two runs of one program stay alike where each request that may be made is answered alike.
+-- Two runs of one program have the same results if each request that may be made has the same
+-- reply.
 module _ {A S S' : Type 0} (o : Store S) (o' : Store S') (g : RegsFields) (may : Request → Type 0) (fact : Request → Answer → Type 0) (Alike : Mid S → Mid S' → Type 0) (alike : (x : Mid S) (y : Mid S') (q : Request) → may q → Alike x y → AreServed Alike (fact q) (serve o g x q) (serve o' g y q)) (post : A → Type 0) where
   pub run_alike : (m : Act A) (x : Mid S) (y : Mid S') → Meets may fact post m → Alike x y → AreRan Alike post (run o g m x) (run o' g m y)
   unfolding run

@@ -1,4 +1,5 @@
--- The program of a step in ring r and above: it makes no reference below r, and ends there but for a gate call.
+-- The program of a step in ring r and above: it makes no reference below r, and ends there except
+-- for a gate call.
 use Rattle.std.proofs.Common.{◌≡◌, refl, ◌∙◌, ap, inl, inr, ⊎_elim, arith, le_trans, eqb-true}
 use Rattle.std.specs.Prelude.{ℕ, ◌+◌, ◌*◌, ◌<◌, ◌≤◌, ◌⊎◌, Bool, true, false, not, ◌&&◌, ◌==◌, slice_get, slice_index, Option, Some, None, Result, Ok, Err}
 use Rattle.std.proofs.lemmas.Bool.{or_right}
@@ -32,7 +33,7 @@ use Rattle.m36_isol.proofs.Chains.{InRing, AnyHalt, chain_meets}
 use Rattle.m36_isol.proofs.Operations.{IsFallen, IsPerformed, operate_meets}
 
 module _ (sdws : ℕ → Result SdwFields Refusal) (r : ℕ) (g : RegsFields) where
-  -- the step ended in a gate call
+  -- the step ended with a gate call
   pub record IsGone (e : Ending) : Type 0 where
     pub word : ℕ
     pub fetched : e.word ≡ Some word
@@ -52,7 +53,7 @@ module _ (sdws : ℕ → Result SdwFields Refusal) (r : ℕ) (g : RegsFields) wh
     pub pointer : HasPointers g → slice_get e.after.pr 7 ≡ Some (record { seg = 8 * g.dbr.stack + sdw.r2; ring = sdw.r2; word = 0; bit = 0 })
     pub stack : is_stack_of sdw.r2 (sdws (8 * g.dbr.stack + sdw.r2)) ≡ true
 
-  -- the step was an LDBR that completed, in ring 0
+  -- the step has executed LDBR to its end, in ring 0
   pub record LoadsDbr (e : Ending) : Type 0 where
     pub word : ℕ
     pub fetched : e.word ≡ Some word
@@ -166,7 +167,7 @@ module _ (sdws : ℕ → Result SdwFields Refusal) (r : ℕ) (g : RegsFields) wh
       decoded_meets w right lowest (Some row) e =
           admitted_meets row.0 row.1 w e (is_privileged row.0 && not right) (ldbr_lowest row.0 right lowest)
 
-    -- the right to privileged instructions is of ring 0
+    -- only ring 0 has the right to privileged instructions
     right_lowest : (privileged : Bool) → (privileged && (g.ppr.prr == 0)) ≡ true → g.ppr.prr ≡ 0
     right_lowest true h = eqb-true g.ppr.prr 0 h
     right_lowest false h = cc
@@ -175,7 +176,8 @@ module _ (sdws : ℕ → Result SdwFields Refusal) (r : ℕ) (g : RegsFields) wh
     fetch_sees d live m =
         record { sdw = d; live = live; opens = or_right d.readable d.executable m.executable; high = le_trans low m.high }
 
-    -- The program of a step makes no reference below r, and ends in r or above but for a gate call.
+    -- The program of a step makes no reference below r, and ends in r or above except for a gate
+    -- call.
     pub program_meets : IsGuarded g.dbr sdws → MeetsEnd (program g)
     unfolding program
     program_meets guarded =

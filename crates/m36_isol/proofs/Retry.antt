@@ -1,4 +1,4 @@
--- A step over the core of a booted image: it meets a page that is in no frame, or none.
+-- A step over the core of a booted image, which has a page fault or none.
 use Rattle.std.proofs.Common.{◌≡◌, refl, sym, ◌∙◌, ap, subst, inl, inr, ⊎_elim, arith, eqb-true}
 use Rattle.std.specs.Prelude.{ℕ, ◌/◌, ◌≤◌, ◌≢◌, ◌⊎◌, Bool, true, false, ◌&&◌, ◌==◌, List, Option, Some, None, Result, Ok, Err}
 use Rattle.std.proofs.lemmas.Bool.{and_parts, not-false}
@@ -26,7 +26,7 @@ use Rattle.m36_isol.proofs.Pages.{IsReplied, is_refused, is_answered, serve_repl
 abbrev pub Holds : List ℕ → ℕ → ℕ → Type 0
 Holds core seg page = IsPage core seg page → page_word core seg page ≡ absent_ptw → ⊥
 
--- it is in none
+-- it is in no frame
 pub record IsAbsent (core : List ℕ) (seg page : ℕ) : Type 0 where
   pub page_is : IsPage core seg page
   pub word : page_word core seg page ≡ absent_ptw
@@ -58,7 +58,7 @@ two_over : {A : Type 0} (R : A → A → Type 0) (m : Act A) → EndTwo R m m �
 two_over R (done a) h = tt
 two_over R (ask q next) h = h
 
--- kinds with pages
+-- kinds that reference pages
 pub page_target : (kind : RequestKind) → has_page kind ≡ false → is_target kind ≡ true
 page_target Fetch h = cc
 page_target Indirect h = cc
@@ -99,7 +99,7 @@ seen_or_located Transfer = inl (λ h. cc)
 seen_or_located Call = inl (λ h. cc)
 seen_or_located Locate = inr refl
 
--- the place of the reference before is that of the request, where it is one
+-- the place of the reference before is that of the request, if there is one
 pub last_holds : (core : List ℕ) (kind : RequestKind) (at : AtFields) → (has_page kind ≡ true → HoldsAt core at) → HoldsLast core (last_by kind at)
 last_holds core Fetch at h = h refl
 last_holds core Indirect at h = h refl
@@ -110,7 +110,7 @@ last_holds core Transfer at h = tt
 last_holds core Call at h = tt
 last_holds core Locate at h = tt
 
--- numbers of refusals
+-- fault numbers of refusals
 violation_number : (n : ℕ) → n ≡ 20 → n ≡ 17 → ⊥
 violation_number n e h = omega arith
 
@@ -136,7 +136,7 @@ module _ (core : List ℕ) (frames : ℕ) (laid : IsLaid core frames) where
       absurd (laid.dead seg why live (ap (λ (r : Refusal). r.number) k))
   lacks_by seg w (Ok d) live h = by_tests seg w d live (in_order d) (within d w) refl h
 
-  -- a word that is lacking is of a page that is in no frame
+  -- a word without a place is of a page that is in no frame
   pub lacks_page : (seg w : ℕ) → Lacks core seg w → IsAbsent core seg (w / 1024)
   unfolding place
   lacks_page seg w h = lacks_by seg w (core_sdw core booted_dbr seg) refl h
@@ -167,7 +167,7 @@ module _ (core : List ℕ) (frames : ℕ) (laid : IsLaid core frames) where
         let there : core_spot x.store booted_dbr d q.at.seg q.at.word ≡ Ok p.spot = subst (λ (b : DbrFields). core_spot x.store b d q.at.seg q.at.word ≡ Ok p.spot) dbr p.found in
         not_lacking _ p.spot there (same ∙ none)
 
-    -- where a page fault is
+    -- the request is refused with a page fault
     pub record IsCutHere (q : Request) (f : Fault) : Type 0 where
       pub absent : IsAbsent core q.at.seg (q.at.word / 1024)
       pub seg : f.at.seg ≡ q.at.seg
@@ -230,7 +230,7 @@ module _ (core : List ℕ) (frames : ℕ) (laid : IsLaid core frames) where
     target_there x y k q inside target f h =
         target_by x y k q target (serve core_store g x q) (serve_replied core_store g x q inside.1) f h
 
-    -- the reference that is recorded of an answered request, and its page
+    -- the reference that an answered request records, and its page
     pub record IsRead (x : Mid (List ℕ)) (q : Request) : Type 0 where
       pub refs : (serve core_store g x q).mid.refs ≡ with_reference q.kind q x.refs
       pub holds : has_page q.kind ≡ true → HoldsAt core q.at
@@ -248,7 +248,7 @@ module _ (core : List ℕ) (frames : ℕ) (laid : IsLaid core frames) where
     pub was_read : (x : Mid (List ℕ)) (y : Mid Flat) → Stand x y → (q : Request) → InPage q → (a : Answer) → (serve core_store g x q).reply ≡ Ok a → IsRead x q
     was_read x y k q inside a h = read_by x y k q inside (serve_replied core_store g x q inside.1) a h
 
-    -- a reference to the page of the one before
+    -- a reference to the page of the reference before
     and_false : (a b : Bool) → a ≡ true → (a && b) ≡ false → b ≡ false
     and_false true b e h = h
     and_false false b e h = cc

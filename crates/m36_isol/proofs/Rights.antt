@@ -1,4 +1,4 @@
--- What an allowed reference tells of the descriptor.
+-- The brackets and rights that an allowed reference needs.
 use Rattle.std.proofs.Common.{◌≡◌, refl, inl, inr, ⊎_elim, arith, eqb-true}
 use Rattle.std.specs.Prelude.{ℕ, ◌==◌, ◌<◌, ◌⊎◌, Bool, true, false, not, ◌&&◌, nat_le, List, [], ◌∷◌, None}
 use Rattle.std.proofs.lemmas.Bool.{ltb-false, leb-false, leb-true, and_parts, not-false}
@@ -8,7 +8,7 @@ use Rattle.m36_model.specs.Act.{RequestKind, Fetch, Indirect, Odd, Read, Write, 
 use Rattle.m36_model.specs.Store.{rows, denied}
 use Rattle.m36_isol.specs.Rights.{IsOrdered, MayFetch, MayRead, MayWrite, MayTransfer, MayCall, RightsLaw}
 
--- no row's condition holds
+-- the condition of no row holds
 abbrev NoneHold : List (Bool × ℕ) → Type 0
 NoneHold [] = Unit {0}
 NoneHold (row ∷ more) = (row.0 ≡ false) × NoneHold more
@@ -21,7 +21,7 @@ none_hold : (list : List (Bool × ℕ)) → first_of list ≡ None → NoneHold 
 none_hold [] h = tt
 none_hold (row ∷ more) h = none_holds row.0 row.1 more (none_hold more) h
 
--- every allowed reference finds the brackets in order
+-- the brackets are in order for every allowed reference
 pub denied_order : (kind : RequestKind) (d : SdwFields) (trr prr : ℕ) (same : Bool) (word : ℕ) → denied kind d trr prr same word ≡ None → in_order d ≡ true
 unfolding denied
 denied_order Fetch d trr prr same word h = not-false _ (none_hold (rows Fetch d trr prr same word) h).0

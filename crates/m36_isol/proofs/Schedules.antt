@@ -30,7 +30,7 @@ module _ (core : List ℕ) (dbrs : List DbrFields) (audited : IsJointlyAudited c
   abbrev All : Type 0
   All = Processes (List ℕ)
 
-  -- as many registers as base registers, and each process runs in r or above, on its own tables
+  -- there are as many registers as DBRs, and each process runs in r or above, on its own tables
   pub record AreSound (s : All) : Type 0 where
     pub count : length s.regs ≡ length dbrs
     pub each : (i : ℕ) (g : RegsFields) (dbr : DbrFields) → slice_get s.regs i ≡ Some g → slice_get dbrs i ≡ Some dbr → IsAbove core_store (core_tables core dbr) r (process_of s g)
@@ -39,7 +39,7 @@ module _ (core : List ℕ) (dbrs : List DbrFields) (audited : IsJointlyAudited c
   UnreachedAll start now =
       (i : ℕ) (g h : RegsFields) → slice_get start.regs i ≡ Some g → slice_get now.regs i ≡ Some h → Unreached core_store r (process_of start g) (process_of now h)
 
-  -- the base register of a process
+  -- the DBR of a process
   base : (s : All) → AreSound s → (i : ℕ) (g : RegsFields) → slice_get s.regs i ≡ Some g → slice_get dbrs i ≡ Some g.dbr
   base s sound i g at =
       let k = get_beside s.regs dbrs i g (sym sound.count) at in
@@ -119,7 +119,7 @@ module _ (core : List ℕ) (dbrs : List DbrFields) (audited : IsJointlyAudited c
             let same = same_dbr core s.store dbr h.dbr above.tables in
             ap (core_tables next.store) same ∙ all_left k dbr there
 
-    -- in r and above, they are sound again
+    -- if the step ends in r or above, the processes are sound again
     sound_next : nat_le r (record_of core_store here).after.ppr.prr ≡ true → AreSound next
     sound_next high = record { count = count_next; each = each_next }
       where
@@ -150,7 +150,7 @@ module _ (core : List ℕ) (dbrs : List DbrFields) (audited : IsJointlyAudited c
                 subst (λ (x : RegsFields). r ≤ x.ppr.prr) (after_is core_store here ∙ own e) low
             low_by false e = (before e).low
 
-    -- what the ring may not reach in another process stays
+    -- segments of another process that the ring cannot change do not change
     in_reach : (j : ℕ) (x : RegsFields) (there : slice_get dbrs j ≡ Some x.dbr) (seg : ℕ) → Reaches (joint_lawful core dbrs audited j x.dbr there).sdws r seg → InReach core_store (process_of s x) r seg
     in_reach j x there seg reach =
         let law = joint_lawful core dbrs audited j x.dbr there in
@@ -161,7 +161,7 @@ module _ (core : List ℕ) (dbrs : List DbrFields) (audited : IsJointlyAudited c
     other_content j x there e seg w none =
         other_unreached core dbrs audited i g at_base r low_here j x.dbr there e s.store (has_all s sound) seg w (λ reach. none (in_reach j x there seg reach))
 
-    -- what no process may reach from r stays
+    -- what no process can change from ring r does not change
     unreached_step : (k : ℕ) (h h' : RegsFields) → slice_get s.regs k ≡ Some h → slice_get next.regs k ≡ Some h' → Unreached core_store r (process_of s h) (process_of next h')
     unreached_step k h h' at_k at' = by_test (i == k) refl
       where
@@ -185,7 +185,7 @@ module _ (core : List ℕ) (dbrs : List DbrFields) (audited : IsJointlyAudited c
     falls_step below =
         core_fall core g.dbr (audited.each i g.dbr at_base) r here some above_here (subst (λ (x : RegsFields). x.ppr.prr < r) (after_is core_store here) below)
 
-    -- two stores on which all processes agree
+    -- two stores for which all processes agree
     module _ (other : List ℕ) (agree : AgreeAll core_store r s (record { regs = s.regs; store = other })) where
       abbrev twin : All
       twin = record { regs = s.regs; store = other }
@@ -209,7 +209,7 @@ module _ (core : List ℕ) (dbrs : List DbrFields) (audited : IsJointlyAudited c
       regs_next : next.regs ≡ twin_next.regs
       regs_next = ap (λ (x : RegsFields). slice_set s.regs i x) alike_regs
 
-      -- what the process that steps sees is equal
+      -- what the process that steps can see is equal
       sees_equal : equal core dbrs audited i g at_base r low_here s.store other
       sees_equal =
           joint_see_equal core dbrs audited i g at_base r low_here s.store other (has_all s sound) (has_all twin twin_sound) (λ seg w sees. (agree.each i g at).contents seg w (in_sight seg sees))
@@ -224,7 +224,7 @@ module _ (core : List ℕ) (dbrs : List DbrFields) (audited : IsJointlyAudited c
       other_alike j x there seg w e =
           other_agrees core dbrs audited i g at_base r low_here j x.dbr there s.store other (has_all s sound) (has_all twin twin_sound) sees_equal seg w e
 
-      -- a segment in sight after the step was in sight before it
+      -- a segment that ring r can see after the step could be seen before it
       sight_before : (j : ℕ) (x : RegsFields) (there : slice_get dbrs j ≡ Some x.dbr) (seg : ℕ) → InSight core_store (record { regs = x; store = left.store }) r seg → InSight core_store (process_of s x) r seg
       sight_before j x there seg k =
           let law = joint_lawful core dbrs audited j x.dbr there in
@@ -269,7 +269,7 @@ module _ (core : List ℕ) (dbrs : List DbrFields) (audited : IsJointlyAudited c
                   subst (λ (x : RegsFields). Agree core_store r (process_of next x) (process_of twin_next x)) regs agree_own
               by_test false e = agree_other k h e at'
 
-  -- reach is by the tables
+  -- what a ring can change depends only on the tables
   same_reach : (s t : All) → AreSound s → AreSound t → (k : ℕ) (g h : RegsFields) → slice_get s.regs k ≡ Some g → slice_get t.regs k ≡ Some h → (seg : ℕ) → InReach core_store (process_of t h) r seg → InReach core_store (process_of s g) r seg
   same_reach s t sound sound_t k g h at at_t seg reach =
       let own = base s sound k g at in
@@ -298,7 +298,7 @@ module _ (core : List ℕ) (dbrs : List DbrFields) (audited : IsJointlyAudited c
           let same : core_tables core own.0 ≡ t = cc in
           tables_next s sound i g at k h own.0 at' own.1 ∙ same
 
-  -- what is said of the rest of two windows
+  -- what holds of the rest of two windows
   pub record AreKept (first second : All) (es fs : List (Event (List ℕ))) : Type 0 where
     pub processes : map (λ (e : Event (List ℕ)). e.process) es ≡ map (λ (e : Event (List ℕ)). e.process) fs
     pub told : map (λ (e : Event (List ℕ)). e.told) es ≡ map (λ (e : Event (List ℕ)). e.told) fs
@@ -310,13 +310,13 @@ module _ (core : List ℕ) (dbrs : List DbrFields) (audited : IsJointlyAudited c
   none_left first second =
       record { processes = refl; told = refl; agree = tt; kept = tt; kept_other = tt }
 
-  -- the events that are left, by whether the window goes on
+  -- the rest of the events, if the window continues
   rest_by : (first second : All) (goes high : Bool) (es fs : List (Event (List ℕ))) → (high ≡ true → AreKept first second (cut_events r es) (cut_events r fs)) → AreKept first second (only_if (goes && high) (cut_events r es)) (only_if (goes && high) (cut_events r fs))
   rest_by first second true true es fs h = h refl
   rest_by first second true false es fs h = none_left first second
   rest_by first second false high es fs h = none_left first second
 
-  -- what the windows of the rest of a schedule keep
+  -- what holds of the windows of the rest of a schedule
   abbrev Rest : All → All → List ℕ → Type 0
   Rest first second schedule =
       (a b : All) → AreSound a → AgreeAll core_store r a b → UnreachedAll first a → UnreachedAll second b → AreKept first second (window_of core_store r schedule a) (window_of core_store r schedule b)
@@ -350,7 +350,7 @@ module _ (core : List ℕ) (dbrs : List DbrFields) (audited : IsJointlyAudited c
       let here = windows_by first second sound_first sound_second i schedule (windows first second sound_first sound_second schedule) a sound b.store (subst (AgreeAll core_store r a) (sym joined) agree) so_far (subst (UnreachedAll second) (sym joined) so_far_other) (slice_get a.regs i) refl in
       subst (λ (x : All). AreKept first second (window_of core_store r (i ∷ schedule) a) (window_of core_store r (i ∷ schedule) x)) joined here
 
--- Where the joint audit conditions hold, every schedule is isolated.
+-- If the joint audit conditions hold, every schedule is isolated.
 pub jointly_isolated : (core : List ℕ) (dbrs : List DbrFields) → IsJointlyAudited core dbrs → JointlyIsolated core_store (map (core_tables core) dbrs)
 jointly_isolated core dbrs audited r some high a b above agree schedule =
     let sound : AreSound core dbrs audited r some a = record { count = above.count ∙ length-map dbrs (core_tables core); each = λ i g dbr at there. above.each i g (core_tables core dbr) at (get_map (core_tables core) dbrs i dbr there) } in

@@ -1,4 +1,5 @@
--- One request to two stores that stand alike: equal replies, and they stand alike again.
+-- One request to two stores in which the same words can be seen: the replies are equal, and so are
+-- these words after it.
 use Rattle.std.proofs.Common.{◌≡◌, refl, sym, ◌∙◌, ap, subst, ⊎_elim}
 use Rattle.std.proofs.Math.Nat.{le_trans}
 use Rattle.std.specs.Prelude.{ℕ, ◌+◌, ◌≤◌, true, ◌==◌, List, [], ◌∷◌, ◌++◌, map, length, Option, Some, None, Result, Ok, Err}
@@ -27,7 +28,7 @@ module _ {S : Type 0} (o : Store S) (g : RegsFields) (Has : S → Type 0) (Lies 
   abbrev Serves : Request → Served S → Served S → Type 0
   Serves q t u = AreServed Stand (Known L.sdws g q) t u
 
-  -- marks keep what is known of a store
+  -- marks preserve what is known of a store
   after_mark : (start now : S) → IsKept o Has Lies Near start now → (kind : RequestKind) (seg w : ℕ) (p : Spot) → IsWord L.sdws L.spots seg w p → IsKept o Has Lies Near start (o.marked now g.dbr kind seg w)
   after_mark start now k kind seg w p word =
       record {
@@ -36,7 +37,7 @@ module _ {S : Type 0} (o : Store S) (g : RegsFields) (Has : S → Type 0) (Lies 
         near = L.near_then start now _ k.near (L.marks_near now k.has kind seg w p word);
       }
 
-  -- the words of a segment in sight are read alike, also where claimed words are seen as put
+  -- the words of a segment that ring r can see are read with equal values, also with pending writes
   one_read : (s t : S) → IsKept o Has Lies Near first s → IsKept o Has Lies Near other t → (puts : List Change) → Each (IsSpot L.sdws L.spots) puts → (seg w : ℕ) (p : Spot) → Sees L.sdws r seg → IsWord L.sdws L.spots seg w p → o.word (o.put s puts) p ≡ o.word (o.put t puts) p
   one_read s t k l puts spots seg w p sees word =
       let lies = L.lies seg w p word in
@@ -50,7 +51,7 @@ module _ {S : Type 0} (o : Store S) (g : RegsFields) (Has : S → Type 0) (Lies 
       let more = words_read s t k l puts spots seg (w + 1) sees list h.1 in
       cc
 
-  -- the spots of a Write are reached
+  -- the spots of a Write are in reach
   all_reached : (seg w : ℕ) → Reaches L.sdws r seg → (list : List Spot) → AreWords L.sdws L.spots seg w list → Each (IsReached L.sdws L.spots r) list
   all_reached seg w reaches [] h = tt
   all_reached seg w reaches (p ∷ list) h =
@@ -59,7 +60,7 @@ module _ {S : Type 0} (o : Store S) (g : RegsFields) (Has : S → Type 0) (Lies 
   spot_of_reached : (p : Change) → IsReached L.sdws L.spots r p.spot → IsSpot L.sdws L.spots p
   spot_of_reached p h = record { seg = h.seg; w = h.w; word = h.word }
 
-  -- what may be read is in sight
+  -- ring r can see what may be read
   reader : (seg ring : ℕ) (d : SdwFields) → L.sdws seg ≡ Ok d → MayRead d ring (seg == g.ppr.psr) → r ≤ ring → Sees L.sdws r g.ppr.psr → Sees L.sdws r seg
   reader seg ring d live m high executes =
       ⊎_elim
@@ -74,7 +75,7 @@ module _ {S : Type 0} (o : Store S) (g : RegsFields) (Has : S → Type 0) (Lies 
   abbrev Allows : RequestKind → AtFields → SdwFields → Type 0
   Allows kind at d = denied kind d at.ring g.ppr.prr (at.seg == g.ppr.psr) at.word ≡ None
 
-  -- the answers of a kind that reads, of a Write, and of a kind that leaves the store
+  -- the replies to a kind that reads, to a Write, and to a kind that leaves the store unchanged
   abbrev read_answer : RequestKind → AtFields → List Put → SdwFields → Mid S → List Spot → List Reference → Served S
   read_answer kind at pending d m list refs =
       record {
@@ -144,7 +145,7 @@ module _ {S : Type 0} (o : Store S) (g : RegsFields) (Has : S → Type 0) (Lies 
         known = known_answer _ _ live allowed _ refl;
       }
 
-  -- a refusal leaves all as it was
+  -- a refusal changes nothing
   served_refused : (q : Request) (f : Fault) (x y : Mid S) → Stand x y → Serves q (record { reply = Err f; mid = x }) (record { reply = Err f; mid = y })
   served_refused q f x y k = record { reply = refl; mid = k; known = λ a e. cc }
 
@@ -160,7 +161,7 @@ module _ {S : Type 0} (o : Store S) (g : RegsFields) (Has : S → Type 0) (Lies 
       let words = are_words o g.dbr Has Lies Near L at.seg d live ordered x.store k.kept.has at.word count list found in
       served_reading kind at count pending d live allowed sees x y k list b.spot b.word words refs more same each
 
-  -- with the places found
+  -- after the places were found
   by_list : (kind : RequestKind) (at : AtFields) (count : ℕ) (pending : List Put) → 1 ≤ count → MayRing L.sdws r g kind at.ring → (d : SdwFields) → L.sdws at.seg ≡ Ok d → Allows kind at d → (x y : Mid S) → Stand x y → (v : Result (List Spot) (ℕ × Refusal)) → places o x.store g.dbr d (asked kind at count pending) ≡ v → Serves (asked kind at count pending) (serve_places o g x (asked kind at count pending) d v) (serve_places o g y (asked kind at count pending) d v)
   unfolding places
   by_list kind at count pending some ring d live allowed x y k (Err e) found = served_refused _ _ x y k
@@ -211,7 +212,7 @@ module _ {S : Type 0} (o : Store S) (g : RegsFields) (Has : S → Type 0) (Lies 
   by_sdw q may (Ok d) e x y k =
       by_rights q may d e (denied q.kind d q.at.ring g.ppr.prr (q.at.seg == g.ppr.psr) q.at.word) refl x y k
 
-  -- A request that may be made is served alike to two steps that stand alike.
+  -- A request that may be made has equal replies from both stores.
   pub serve_alike : (x y : Mid S) (q : Request) → May L.sdws r g q → Stand x y → Serves q (serve o g x q) (serve o g y q)
   unfolding serve
   serve_alike x y q may k =

@@ -1,4 +1,4 @@
--- The spots of a reference, and the changes that puts mean.
+-- The spots of a reference, and the changes that puts make.
 use Rattle.std.proofs.Common.{◌≡◌, refl, sym, ◌∙◌, subst, arith}
 use Rattle.std.specs.Prelude.{ℕ, zero, suc, ◌+◌, ◌≤◌, Bool, true, false, List, [], ◌∷◌, ◌++◌, slice_get, Option, Some, None, Result, Ok, Err}
 use Rattle.std.proofs.lemmas.Bool.{and_from}
@@ -16,7 +16,7 @@ pub each_append : {A : Type 0} (P : A → Type 0) (xs ys : List A) → Each P xs
 each_append P [] ys h k = k
 each_append P (x ∷ xs) ys h k = (h.0, each_append P xs ys h.1 k)
 
--- the words of a segment from one on lie at these spots
+-- these are the spots of the words of a segment from word w on
 abbrev pub AreWords : (ℕ → Result SdwFields Refusal) → (SdwFields → ℕ → ℕ → Result Spot Refusal) → ℕ → ℕ → List Spot → Type 0
 AreWords sdws spots seg w [] = Unit {0}
 AreWords sdws spots seg w (p ∷ ps) = IsWord sdws spots seg w p × AreWords sdws spots seg (w + 1) ps
@@ -35,7 +35,7 @@ module _ {S : Type 0} (o : Store S) (dbr : DbrFields) (Has : S → Type 0) (Lies
   same_spots s t h k w zero = refl
   same_spots s t h k w (suc n) = same_one s t h k w (within d w) refl _ _ (same_spots s t h k (w + 1) n)
 
-  -- what is found in place of a reference to one word or more
+  -- the spots of a reference begin with that of its first word
   pub record Begins (w : ℕ) (list : List Spot) : Type 0 where
     pub spot : Spot
     pub more : List Spot
@@ -76,7 +76,7 @@ module _ {S : Type 0} (o : Store S) (dbr : DbrFields) (Has : S → Type 0) (Lies
   begins s h w (suc n) list some e =
       begins_by s h w (within d w) refl (o.spot s dbr d seg w) refl (spots_of o s dbr d seg (w + 1) n) (λ ps f. are_words s h (w + 1) n ps f) list e
 
--- what is claimed under a number
+-- the claim with a number
 each_at : {A : Type 0} (P : A → Type 0) (xs : List A) → Each P xs → (i : ℕ) (x : A) → slice_get xs i ≡ Some x → P x
 each_at P [] h i x e = cc
 each_at P (y ∷ xs) h zero x e = let f : y ≡ x = cc in subst P f h.0
@@ -86,7 +86,7 @@ changed_by : (P : Spot → Type 0) (p : Put) (found : Option Spot) → ((spot : 
 changed_by P p None h rest k = k
 changed_by P p (Some spot) h rest k = (h spot refl, k)
 
--- a put reaches a claimed word alone
+-- a put changes only a claimed word
 pub each_change : (P : Spot → Type 0) (claims : List Spot) → Each P claims → (puts : List Put) → Each (λ c. P c.spot) (changes claims puts)
 unfolding changes
 each_change P claims h [] = tt

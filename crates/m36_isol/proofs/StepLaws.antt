@@ -1,4 +1,4 @@
--- The laws of one step, over any store that owes what the laws want wherever its tables are T.
+-- The laws of one step, over any store that is as the laws require if its tables are T.
 use Rattle.std.proofs.Common.{◌≡◌, refl, sym, ◌∙◌, ap, subst, inl, inr, ⊎_elim, arith}
 use Rattle.std.specs.Prelude.{ℕ, ◌+◌, ◌*◌, ◌<◌, ◌≤◌, ◌⊎◌, true, [], Result, Ok, Err}
 use Rattle.m36_desc.specs.Fields.{SdwFields, DbrFields}
@@ -21,7 +21,7 @@ use Rattle.m36_isol.proofs.Programs.{IsGone}
 use Rattle.m36_isol.proofs.Contents.{place_tables}
 use Rattle.m36_isol.proofs.OneStep.{one_run, after_has, unreached, same_record, equal_stays, after_content, see_equal}
 
--- what is known of a store where its tables are T
+-- what is known of a store if its tables are T
 pub record Backed {S : Type 0} (o : Store S) (T : Tables) (dbr : DbrFields) : Type 1 where
   pub Has : S → Type 0
   pub Lies : Spot → Type 0
@@ -31,7 +31,7 @@ pub record Backed {S : Type 0} (o : Store S) (T : Tables) (dbr : DbrFields) : Ty
   pub has : (s : S) → o.tables s dbr ≡ T → Has s
   pub tables : (s : S) → Has s → o.tables s dbr ≡ T
 
--- what a stack is
+-- a segment is a stack of a ring
 pub record IsStack (sdws : ℕ → Result SdwFields Refusal) (ring seg : ℕ) : Type 0 where
   pub sdw : SdwFields
   pub live : sdws seg ≡ Ok sdw
@@ -75,14 +75,14 @@ module _ {S : Type 0} (o : Store S) (T : Tables) (g : RegsFields) (B : Backed o 
       let k = one_run o g B.Has B.Lies B.Near B.law B.guarded r low store has_here in
       each_map (IsAllowedReference B.law.sdws r) (IsWithin o r here) (λ e h. allowed_within e.at.seg e.kind h) _ k.mid.allowed
 
-  -- the DBR stays above ring 0
+  -- above ring 0 the DBR does not change
   pub dbr_stays : 1 ≤ r → (state_after o here).regs.dbr ≡ g.dbr
   unfolding state_after
   dbr_stays some =
       let k = one_run o g B.Has B.Lies B.Near B.law B.guarded r low store has_here in
       ⊎_elim (λ same. same) (λ loads. let zero_ring = loads.lowest in absurd (omega arith)) k.post.dbr
 
-  -- the DBR stays but for an LDBR that completes
+  -- the DBR does not change unless the step executes LDBR
   pub dbr_or : ((state_after o here).regs.dbr ≡ g.dbr) ⊎ ExecutesLdbr (record_of o here)
   unfolding state_after record_of
   dbr_or =
@@ -99,7 +99,7 @@ module _ {S : Type 0} (o : Store S) (T : Tables) (g : RegsFields) (B : Backed o 
   unfolding state_after
   has_after = after_has o g B.Has B.Lies B.Near B.law B.guarded r low store has_here
 
-  -- the segments in sight after the step are in sight before it
+  -- the segments that ring r can see after the step could be seen before it
   sees_after : 1 ≤ r → (seg : ℕ) → InSight o (state_after o here) r seg → Sees B.law.sdws r seg
   sees_after some seg k =
       let live = subst (λ (d : DbrFields). o.sdw (state_after o here).store d seg ≡ Ok k.sdw) (dbr_stays some) k.live in
@@ -110,7 +110,7 @@ module _ {S : Type 0} (o : Store S) (T : Tables) (g : RegsFields) (B : Backed o 
   unreached_here some seg w none =
       ap (λ (d : DbrFields). content_in o (state_after o here).store d seg w) (dbr_stays some) ∙ unreached o g B.Has B.Lies B.Near B.law B.guarded r low store has_here seg w (λ k. none (in_reach seg k))
 
-  -- below r a step ends through a gate alone
+  -- a step ends below r only by a gate call
   gate_call : HasPointers g → (state_after o here).regs.ppr.prr < r → IsGateCall o here r (record_of o here)
   unfolding record_of state_after
   gate_call pointers below =
@@ -165,7 +165,7 @@ module _ {S : Type 0} (o : Store S) (T : Tables) (g : RegsFields) (B : Backed o 
   regs_alike =
       ap (λ (e : StepRecord). e.after) (same_record o g B.Has B.Lies B.Near B.law B.guarded r low store other (B.has store tables) (B.has other same) equal_words)
 
-  -- content after the step, by the DBR of before
+  -- content after the step, by the DBR before it
   content_alike : (seg w : ℕ) → Sees B.law.sdws r seg → content_in o (state_after o one).store g.dbr seg w ≡ content_in o (state_after o two).store g.dbr seg w
   unfolding state_after
   content_alike seg w sees =
@@ -210,7 +210,7 @@ module _ {S : Type 0} (o : Store S) (T : Tables) (g : RegsFields) (B : Backed o 
       after_two : tables_of o (state_after o two) ≡ T
       after_two = tables_by o T g B r low other same stays_two
 
--- The laws, over all states whose tables are T.
+-- The laws, for all states whose tables are T.
 module _ {S : Type 0} (o : Store S) (T : Tables) (backs : (s : State S) → tables_of o s ≡ T → Backed o T s.regs.dbr) where
   pub sight_law : SightLaw o T
   sight_law r s above = refs_within o T s.regs (backs s above.tables) r above.low s.store above.tables
@@ -248,7 +248,7 @@ module _ {S : Type 0} (o : Store S) (T : Tables) (backs : (s : State S) → tabl
   marks_twin a other tables same contents =
       marks_alike o T a.regs (backs a tables) 0 (omega arith) a.store other tables same (λ seg w sees. contents seg w)
 
-  -- equal registers, tables but for marks, and content: nothing differs
+  -- if registers, tables except for marks, and content are equal, nothing differs
   pub marks_law : MarksLaw o T
   marks_law a b regs tables same contents =
       let p = twin a b regs in

@@ -1,4 +1,4 @@
--- An instruction that is started again after each page service: how far it gets.
+-- An instruction that is restarted after each page service: how far it gets.
 use Rattle.std.proofs.Common.{◌≡◌, refl, sym, ap, subst, inl, inr, eqb-true}
 use Rattle.std.specs.Prelude.{ℕ, zero, suc, ◌≢◌, ◌⊎◌, Bool, true, false, ◌==◌, List, Option, Result, Ok, Err}
 use Rattle.std.proofs.lemmas.Bool.{eqb-false}
@@ -15,18 +15,18 @@ use Rattle.m36_isol.proofs.Plan.{fresh, last_by, InPage, Follows, Plan}
 use Rattle.m36_isol.proofs.Pages.{IsReplied, is_refused, is_answered, serve_replied, On, EndsAt, ends_after, was_known}
 use Rattle.m36_isol.proofs.Retry.{IsThere, IsOver, stops_over}
 
--- how many new pages are left to be reached
+-- the number of new pages that are left
 abbrev pub left : Bool → ℕ → ℕ
 left true k = k
 left false k = suc k
 
--- the run is cut at a page in no frame, with this fault
+-- the run ends with this page fault
 abbrev pub CutBy : Fault → Result Answer Fault → Type 0 → Type 0
 CutBy f (Ok a) rest = rest
 CutBy f (Err h) rest = (h ≡ f) × (h.number ≡ 17)
 
 module _ {A : Type 0} (g : RegsFields) where
-  -- the run makes so many references to new pages before it meets an absent one, or ends
+  -- the run makes this many references to new pages before it has a page fault or ends
   abbrev pub Reaches : ℕ → Option AtFields → Act A → Mid (List ℕ) → Type 0
   Reaches zero last p m = Unit {0}
   Reaches (suc k) last (done a) m = Unit {0}
@@ -56,9 +56,9 @@ module _ {A : Type 0} (g : RegsFields) where
   over_run (done a) m h = refl
   over_run (ask q next) m h = absurd h
 
-  -- ---- a run ends as the program states, or is cut
+  -- ---- a run ends as the program states, or with a page fault
   module _ (post : A → Type 0) (stop : Fault → A → Type 0) (R : A → A → Type 0) (present : (f : Fault) (a : A) → f.number ≢ 17 → stop f a → post a) where
-    -- cut, and its value is as the program states
+    -- the run ended with a page fault, and its value is as the program states
     pub record EndsCut (p : Act A) (m : Mid (List ℕ)) : Type 0 where
       pub fault : Fault
       pub is_cut : IsCut fault p m
@@ -137,7 +137,7 @@ module _ {A : Type 0} (g : RegsFields) where
           let t = serve core_store g m q in
           subst (λ (x : Mid (List ℕ)). Each (On K) x.refs) (over_run (next (Err f)) t.mid (stops_over stop f (next (Err f)) (asks.1 f))) h
 
-      -- what is known of all pages in the end was known before
+      -- what is known of all pages at the end was known before
       pub kept_back : (n k : ℕ) (last : Option AtFields) (p : Act A) (m : Mid (List ℕ)) → Plan plan_post n k last p → Asks post stop R p → EndsAt m.refs last → Each (On K) (run core_store g p m).mid.refs → Each (On K) m.refs
       unfolding run
       kept_back n k last (done a) m plan asks ends h = h

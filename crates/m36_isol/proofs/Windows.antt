@@ -1,4 +1,4 @@
--- Whole windows, by induction on the count of steps.
+-- Whole windows, by induction on the number of steps.
 use Rattle.std.proofs.Common.{◌≡◌, refl, sym, ◌∙◌, subst, leb-true}
 use Rattle.std.specs.Prelude.{ℕ, zero, suc, ◌<◌, ◌≤◌, Bool, true, false, nat_le, List, [], ◌∷◌, map}
 use Rattle.m36_model.specs.Registers.{RegsFields}
@@ -17,7 +17,7 @@ unfolding record_of state_after
 after_is o s = refl
 
 module _ {S : Type 0} (o : Store S) (T : Tables) (r : ℕ) (some : 1 ≤ r) (reach : ReachLaw o T) (fall : FallLaw o T) (agrees : AgreeLaw o T) (same_sdws : (s t : State S) → tables_of o s ≡ T → tables_of o t ≡ T → (seg : ℕ) → o.sdw s.store s.regs.dbr seg ≡ o.sdw t.store t.regs.dbr seg) (pointers_stay : (s : State S) → IsAbove o T r s → HasPointers (state_after o s).regs) where
-  -- what the laws say of the rest of two windows
+  -- what the laws say about the rest of two windows
   pub record AreKept (first second : State S) (steps others : List (Visited S)) : Type 0 where
     pub told : map (λ (v : Visited S). v.told) steps ≡ map (λ (v : Visited S). v.told) others
     pub agree : EachTwo (λ (v w : Visited S). Agree o r v.after w.after) steps others
@@ -27,7 +27,7 @@ module _ {S : Type 0} (o : Store S) (T : Tables) (r : ℕ) (some : 1 ≤ r) (rea
   none_left : (first second : State S) → AreKept first second [] []
   none_left first second = record { told = refl; agree = tt; kept = tt; kept_other = tt }
 
-  -- reach is by the tables
+  -- what a ring can change depends only on the tables
   same_reach : (s t : State S) → tables_of o s ≡ T → tables_of o t ≡ T → (seg : ℕ) → InReach o s r seg → InReach o t r seg
   same_reach s t h k seg reached =
       record { sdw = reached.sdw; live = sym (same_sdws s t h k seg) ∙ reached.live; opens = reached.opens; high = reached.high }
@@ -44,7 +44,7 @@ module _ {S : Type 0} (o : Store S) (T : Tables) (r : ℕ) (some : 1 ≤ r) (rea
         falls = λ below. fall r s some above (subst (λ (g : RegsFields). g.ppr.prr < r) (after_is o s) below);
       }
 
-  -- the next state is above r too
+  -- the next state is in ring r or above too
   above_on : (s : State S) → IsAbove o T r s → tables_of o (state_after o s) ≡ T → nat_le r (record_of o s).after.ppr.prr ≡ true → IsAbove o T r (state_after o s)
   above_on s above after high =
       record {

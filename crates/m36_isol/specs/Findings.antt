@@ -1,10 +1,11 @@
--- What the findings of an audit mean.
+-- The meaning of the findings of an audit.
 use Rattle.std.specs.Prelude.{◌≡◌, ℕ, List, []}
 use Rattle.m36_desc.specs.Fields.{DbrFields}
 use Rattle.m36_model.specs.Audit.{AreFindings, IsAudited}
 use Rattle.m36_model.specs.JointAudit.{JointFound, AreJointFindings, IsJointlyAudited}
 
--- An audit finds nothing exactly where all six conditions hold, and there is one list of findings.
+-- An audit finds nothing exactly if all six conditions hold, and there is only one list of
+-- findings.
 pub record FindingsLaw : Type 0 where
   pub sound : (core : List ℕ) (dbr : DbrFields) → AreFindings core dbr [] → IsAudited core dbr
   pub complete :
@@ -14,7 +15,8 @@ pub record FindingsLaw : Type 0 where
       (core : List ℕ) (dbr : DbrFields) (findings others : List (ℕ × ℕ))
       → AreFindings core dbr findings → AreFindings core dbr others → findings ≡ others
 
--- A joint audit finds nothing exactly where all conditions hold, and there is one list of findings.
+-- A joint audit finds nothing exactly if all conditions hold, and there is only one list of
+-- findings.
 pub record JointFindingsLaw : Type 0 where
   pub sound :
       (core : List ℕ) (dbrs : List DbrFields) → AreJointFindings core dbrs []

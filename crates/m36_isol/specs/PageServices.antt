@@ -1,5 +1,5 @@
--- Page services: an instruction that ends at a page in no frame is started again once the page is
--- in a frame. How often that is at most.
+-- Page services: an instruction that ends with a page fault is restarted after its page was brought
+-- into a frame. How often this can happen.
 use Rattle.std.specs.Prelude.{◌≡◌, ◌≢◌, ℕ, zero, suc, ◌+◌, ◌*◌, ◌/◌, ◌<◌, ◌≤◌, ◌⊎◌, List}
 use Rattle.std.specs.Prelude.{slice_index, Some}
 use Rattle.m36_model.specs.Registers.{RegsFields}
@@ -24,8 +24,7 @@ abbrev pub IsUnreferenced : List Reference → ℕ → ℕ → Type 0
 IsUnreferenced refs seg page =
     Each (λ e. (e.at.seg ≡ seg) × (e.at.word / 1024 ≡ page) → ⊥) refs
 
--- The page table word of a page at this core word: the page is in a frame, and no reference is to
--- it.
+-- The core word at an address is the PTW of a page that is in a frame and that no reference is to.
 pub record MayLoseUsed (core : List ℕ) (refs : List Reference) (a : ℕ) : Type 0 where
   pub seg : ℕ
   pub page : ℕ
@@ -34,14 +33,15 @@ pub record MayLoseUsed (core : List ℕ) (refs : List Reference) (a : ℕ) : Typ
   pub free : IsUnreferenced refs seg page
   pub is : table_at seg + page ≡ a
 
+-- the address is outside of a frame
 abbrev pub IsOutsideFrame : ℕ → ℕ → Type 0
 IsOutsideFrame frame a = (a < 1024 * frame) ⊎ (1024 * frame + 1024 ≤ a)
 
--- A page service. The page comes into one frame, and the page that was in this frame, if any, goes.
--- Which frame it is, is free, but a page that the instruction has referenced stays. No content
--- changes. The page table words of the two pages are given exactly. Every other core word outside of
--- the frame is as it was, but the used marks of pages without a reference may be off. The words that
--- are kept for every page but the one that goes are as they were.
+-- A page service. The page is brought into a frame, and the page that was there, if any, is
+-- evicted. The frame is any one, except that pages which the instruction has referenced stay. No
+-- content changes. The PTWs of the two pages are given exactly. Every other core word outside of
+-- the frame is unchanged, except that used bits of pages without a reference may be turned off. The
+-- kept words of every page except the evicted one are unchanged.
 pub record IsPageService
     (frames seg page : ℕ) (refs : List Reference) (old new : Paged) : Type 0 where
   pub moved : IsMoved frames old new
@@ -62,20 +62,21 @@ pub record IsPageService
   pub kept :
       (s w : ℕ) → (Occupies old.core s (w / 1024) frame → ⊥) → new.kept s w ≡ old.kept s w
 
--- the state of a processor over paged memory
+-- the registers of a processor, and paged memory
 pub record PagedState : Type 0 where
   pub regs : RegsFields
   pub memory : Paged
 
+-- the state over core alone
 abbrev pub core_state : PagedState → State (List ℕ)
 core_state s = record { regs = s.regs; store = s.memory.core }
 
--- the paged memory that a step leaves
+-- the paged memory after a step
 abbrev pub stepped_memory : PagedState → Paged
 stepped_memory s =
     record { core = (state_after core_store (core_state s)).store; kept = s.memory.kept }
 
--- A step that ends in a page fault, and the service of that page. The registers are as before.
+-- a step that ends with a page fault, and the service of that page; the registers are unchanged
 pub record IsServed (frames : ℕ) (old new : PagedState) : Type 0 where
   pub fault : IsPageFault old.memory.kept (core_state old)
   pub regs : new.regs ≡ old.regs
@@ -83,18 +84,18 @@ pub record IsServed (frames : ℕ) (old new : PagedState) : Type 0 where
       IsPageService frames fault.fault.at.seg (fault.fault.at.word / 1024)
       (record_of core_store (core_state old)).refs.items (stepped_memory old) new.memory
 
--- so many of them, one after another
+-- n of them, one after another
 unfoldable pub AreServed : ℕ → ℕ → PagedState → PagedState → Type 0
 AreServed frames zero old new = new ≡ old
 AreServed frames (suc n) old new =
     (mid : PagedState) × IsServed frames old mid × AreServed frames n mid new
 
--- an instruction references at most so many pages: its own, one for each indirect word, and that of
+-- the most pages that an instruction references: its own, one for each indirect word, and that of
 -- its operand
 abbrev pub pages_of_an_instruction : ℕ
 pages_of_an_instruction = indirect_words + 2
 
--- After as many page services as an instruction references pages, it meets no absent page.
+-- After as many page services as an instruction can reference pages, it has no page fault.
 abbrev pub PagesLaw : Type 0
 PagesLaw =
     (frames : ℕ) (old new : PagedState) → old.regs.dbr ≡ booted_dbr → IsLaid old.memory.core frames

@@ -1,14 +1,15 @@
--- How many references a step records.
+-- The number of references that a step records.
 use Rattle.std.specs.Prelude.{ℕ, ◌+◌, ◌≤◌, List, length}
 use Rattle.m36_model.specs.Store.{State}
 use Rattle.m36_model.specs.Core.{core_store}
 use Rattle.m36_model.specs.Step.{indirect_words, record_of}
 
--- A step records at most so many references: one of its fetch, one of each indirect word of its
--- address, one of the new value of a tally word, and at most two of its operand.
+-- The most references that a step records: its fetch, one for each indirect word of its address,
+-- one for the new value of a tally word, and two for its operand.
 abbrev pub references_of_a_step : ℕ
 references_of_a_step = indirect_words + 4
 
+-- no step records more references
 abbrev pub FewReferencesLaw : Type 0
 FewReferencesLaw =
     (s : State (List ℕ)) → length (record_of core_store s).refs.items ≤ references_of_a_step

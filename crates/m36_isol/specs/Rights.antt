@@ -1,44 +1,44 @@
--- What an allowed reference tells of the descriptor: the brackets and rights in plain terms, which
--- the laws use.
+-- The brackets and rights that an allowed reference needs, as the laws use them.
 use Rattle.std.specs.Prelude.{◌≡◌, ℕ, ◌<◌, ◌≤◌, ◌⊎◌, Bool, true, false, None}
 use Rattle.m36_desc.specs.Fields.{SdwFields}
 use Rattle.m36_model.specs.Act.{RequestKind, Fetch, Indirect, Odd, Read, Write, Transfer, Call}
 use Rattle.m36_model.specs.Store.{denied}
 
--- the brackets are in order, as for every allowed reference
+-- the brackets are in order; every allowed reference needs this
 pub record IsOrdered (d : SdwFields) : Type 0 where
   pub first : d.r1 ≤ d.r2
   pub second : d.r2 ≤ d.r3
 
--- an instruction is fetched within the execute bracket
+-- an instruction is fetched within the execute bracket, with E on
 pub record MayFetch (d : SdwFields) (prr : ℕ) : Type 0 where
   pub low : d.r1 ≤ prr
   pub high : prr ≤ d.r2
   pub executable : d.executable ≡ true
 
--- a reader stands in the read bracket, and the segment is readable or the one that executes
+-- a read is within the read bracket; R is on, or the segment is the one that the processor executes
 pub record MayRead (d : SdwFields) (trr : ℕ) (same : Bool) : Type 0 where
   pub high : trr ≤ d.r2
   pub opens : (d.readable ≡ true) ⊎ (same ≡ true)
 
--- a writer stands in the write bracket
+-- a write is within the write bracket, with W on
 pub record MayWrite (d : SdwFields) (trr : ℕ) : Type 0 where
   pub high : trr ≤ d.r1
   pub writable : d.writable ≡ true
 
--- a transfer is as a fetch in the ring of the reference, and stays in its ring
+-- a transfer is checked as a fetch in the ring of the reference, which is that of execution
 pub record MayTransfer (d : SdwFields) (trr prr : ℕ) : Type 0 where
   pub fetch : MayFetch d trr
   pub ring : trr ≡ prr
 
--- a caller stands between the first and the third bracket, and enters the gate of another segment
--- below its limiter
+-- a call comes from a ring from R1 to R3, and goes to a segment with E on; into a gate of another
+-- segment, it goes to a word below the call limiter
 pub record MayCall (d : SdwFields) (trr : ℕ) (same : Bool) (word : ℕ) : Type 0 where
   pub executable : d.executable ≡ true
   pub entry : d.no_gate ≡ false → same ≡ false → word < d.limit
   pub high : trr ≤ d.r3
   pub low : d.r1 ≤ trr
 
+-- what an allowed reference of each kind needs
 pub record RightsLaw : Type 0 where
   pub order :
       (kind : RequestKind) (d : SdwFields) (trr prr : ℕ) (same : Bool) (word : ℕ)

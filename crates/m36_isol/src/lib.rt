@@ -1,18 +1,22 @@
 //! The laws on which isolation rests.
 //!
-//! Where the six audit conditions hold of the tables of a core, each ring from 1 to 7 is isolated: for any programs in
-//! that ring and above, up to the first fault, stop or gate call, no word changes that the ring may not write, and no
-//! step depends on a word that it may not read (`law_window`). The other functions are the facts on the way: of stores,
-//! of rights, of effects, of one step, of two states that look the same, and of the conditions themselves. The one
-//! premise beside the audit is that the processor has eight pointer registers, which its type gives.
+//! If the six audit conditions hold of the tables of a core, each ring r from 1 to 7 is isolated
+//! (`law_window`). That is: for any programs in ring r and above, up to the first fault, stop or
+//! gate call, no word changes that ring r may not write, and no step depends on a word that ring r
+//! may not read. Besides the audit, the only premise is that the processor has eight pointer
+//! registers, which its type ensures.
 //!
-//! Each law is a function that takes nothing and does nothing. Its contract is the law: a statement on the definitions
-//! of the machine alone, for all states. The proofs go over stores in general (what a store owes is `law_store`) and
-//! over programs that ask them (a step is such a program); so the laws of a step are proved by kinds of operands and by
-//! rules of the address chain, and only what an effect changes goes over all instructions.
+//! The other functions are facts that this needs: about stores, rights, effects, one step, two
+//! states that look the same from a ring, and the conditions themselves.
 //!
-//! Source: Schroeder and Saltzer, "A hardware architecture for implementing protection rings" (1972); Multics Processor
-//! Manual AL39, "Access control".
+//! Each law is a function without arguments and with an empty body. Its contract is the law: a
+//! statement about the definitions of the machine, for all states. The proofs are about any store
+//! that satisfies `law_store`, and about programs that ask a store; a step is such a program. So
+//! the laws of a step are proved by the kinds of operands and the rules of the address chain. Only
+//! what an effect changes is proved for each instruction.
+//!
+//! Source: Schroeder and Saltzer, "A hardware architecture for implementing protection rings"
+//! (1972); Multics Processor Manual AL39, "Access control".
 #![tactic(auto)]
 
 ghost use Rattle.std.specs.Prelude.{ℕ, List, map};
@@ -37,27 +41,30 @@ ghost use Rattle.m36_isol.specs.References.{FewReferencesLaw};
 ghost use Rattle.m36_model.specs.Laws.{EffectLaw, EffectRefusals, DependsLaw, SightLaw, ReachLaw, CoreReachLaw};
 ghost use Rattle.m36_model.specs.Laws.{FallLaw, MarksLaw, AgreeLaw, KeptLaw};
 
-/// An audit finds nothing exactly where all six conditions hold, and there is one list of findings.
+/// An audit finds nothing exactly if all six conditions hold, and there is only one list of
+/// findings.
 pub fn law_findings()
     ensures { FindingsLaw }
 {}
 
-/// What an allowed reference tells of the brackets and the rights of its segment.
+/// What the brackets and the rights of a segment have to be for a reference to be allowed.
 pub fn law_rights()
     ensures { RightsLaw }
 {}
 
-/// Where the audit conditions hold, a segment that rings outside its read bracket may call is a gate, and the ring that
-/// a call enters has a stack.
+/// If the audit conditions hold, a segment that rings above R2 may call is a gate, and the ring
+/// that a call enters has a stack.
 pub fn law_gates()
     ensures { GatesLaw }
 {}
 
-/// Core as a store owes what the laws want, where table words and words of segments are apart, as three of the audit
-/// conditions say: descriptors and places are by the tables but for marks; a word at the place of a segment word is its
-/// content; marks and words written at segment words change neither tables nor other words. A mark changes no other bit
-/// of its page table word, and the bits that it puts on are those that the fields of the word tell as used and modified.
-/// A used mark that is put off changes that field alone.
+/// Core is a store as the laws require, if table words and words of segments are separate, as three
+/// of the audit conditions say: descriptors and places depend on the tables without marks; the word
+/// at the place of a segment word is its content; marks, and words written at segment words, change
+/// neither tables nor other words.
+///
+/// A mark changes no other bit of its page table word, and turns on the bits that are the fields
+/// `used` and `modified`. Turning the used bit off changes only that field.
 pub fn law_store()
     ensures marks { MarksKeepBits }
     ensures fields { MarksAreFields }
@@ -67,15 +74,16 @@ pub fn law_store()
         (IsMarkedFrom core dbr) }
 {}
 
-/// An effect changes the ring in CALL6 and RTCD alone and the DBR in LDBR alone, and puts as many words as its operand
-/// kind writes. None is refused with a directed fault, an access violation, or fault tag 2 or 3.
+/// Only CALL6 and RTCD change the ring, and only LDBR changes the DBR. An effect gives as many
+/// words to write as its operand kind requires. No effect is refused with a directed fault, an
+/// access violation, or fault tag 2 or 3.
 pub fn law_effect()
     ensures effects { EffectLaw }
     ensures refusals { EffectRefusals }
 {}
 
-/// In ring r and above a step refers to segments in sight of r alone, and writes to segments in reach of r alone; and
-/// what stands outside the sight of r alters no record.
+/// In ring r and above, a step refers only to segments that ring r can see, and writes only
+/// segments that ring r can change. What ring r cannot see does not affect the record of a step.
 pub fn law_sight()
     ensures depends { (core : List ℕ) (dbr : DbrFields) → IsAudited core dbr
         → DependsLaw core_store (core_tables core dbr) }
@@ -83,69 +91,79 @@ pub fn law_sight()
         → SightLaw core_store (core_tables core dbr) }
 {}
 
-/// In ring r and above a step changes no content outside the reach of r, and of core words those in reach alone, but
-/// for marks on page table words.
+/// In ring r and above, a step does not change the content of a segment that ring r cannot change.
+/// In core, it changes only words of segments that ring r can change, and marks of page table
+/// words.
 pub fn law_reach()
     ensures content { (core : List ℕ) (dbr : DbrFields) → IsAudited core dbr
         → ReachLaw core_store (core_tables core dbr) }
     ensures words { (core : List ℕ) (dbr : DbrFields) → IsAudited core dbr → CoreReachLaw core dbr }
 {}
 
-/// From ring r and above a step ends below r by a gate call alone.
+/// From ring r or above, a step ends in a ring below r only by a gate call.
 pub fn law_fall()
     ensures { (core : List ℕ) (dbr : DbrFields) → IsAudited core dbr
         → FallLaw core_store (core_tables core dbr) }
 {}
 
-/// Marks alter no descriptor, no place and no record.
+/// Marks affect no descriptor, no place and no record.
 pub fn law_marks()
     ensures { (core : List ℕ) (dbr : DbrFields) → IsAudited core dbr
         → MarksLaw core_store (core_tables core dbr) }
 {}
 
-/// In ring r and above one step of two states that agree tells the same, and leaves them agreeing.
+/// In ring r and above, a step from each of two states that agree has the same record, and the
+/// states after it agree.
 pub fn law_agree()
     ensures { (core : List ℕ) (dbr : DbrFields) → IsAudited core dbr
         → AgreeLaw core_store (core_tables core dbr) }
 {}
 
-/// Where the audit conditions hold, the tables isolate each ring.
+/// If the audit conditions hold, the tables isolate each ring from 1 to 7.
 pub fn law_window()
     ensures { (core : List ℕ) (dbr : DbrFields) → IsAudited core dbr
         → Isolated core_store (core_tables core dbr) }
 {}
 
-/// A step in any ring that executes no LDBR keeps the audit conditions.
+/// A step in any ring preserves the audit conditions, unless it executes LDBR.
 pub fn law_kept()
     ensures { KeptLaw }
 {}
 
-/// A joint audit of several processes finds nothing exactly where all its conditions hold, and there is one list of
-/// findings.
+/// A joint audit of several processes finds nothing exactly if all its conditions hold, and there
+/// is only one list of findings.
 pub fn law_joint_findings()
     ensures { JointFindingsLaw }
 {}
 
-/// Where the joint audit conditions hold of a core and the descriptor segment base registers of several processes, every
-/// schedule of them is isolated in each ring from 1 to 7: whatever the processes do in that ring and above, until one of
-/// them faults, stops, or leaves through a gate, no word changes that the ring may not write, and no event depends on a
-/// word that it may not read; the event that ends below the ring is a call through a gate of its own process.
+/// If the joint audit conditions hold of a core and the DBRs of several processes, every schedule
+/// of these processes is isolated in each ring r from 1 to 7. That is: while the processes run in
+/// ring r and above, until one of them faults, stops, or leaves through a gate, no word changes
+/// that ring r may not write, and no event depends on a word that ring r may not read. An event
+/// that ends below ring r is a call through a gate of its own process.
 pub fn law_schedule()
-    ensures { (core : List ℕ) (dbrs : List DbrFields) → IsJointlyAudited core dbrs → JointlyIsolated core_store (map (core_tables core) dbrs) }
+    ensures { (core : List ℕ) (dbrs : List DbrFields) → IsJointlyAudited core dbrs
+        → JointlyIsolated core_store (map (core_tables core) dbrs) }
 {}
 
-/// A flat memory, of descriptors and of the content of segments without page tables, owes what the laws want, and where
-/// the audit conditions that speak of descriptors hold of it, its tables isolate each ring.
+/// A flat memory has descriptors and the content of segments, without page tables. It is a store as
+/// the laws require. If the audit conditions about descriptors hold of it, its tables isolate each
+/// ring.
 pub fn law_flat()
-    ensures store { (s : Flat) (dbr : DbrFields) → Lawful flat_store dbr (HasDescriptors s dbr) IsFlatSpot IsSameFlat }
-    ensures window { (s : Flat) (dbr : DbrFields) → IsFlatAudited s dbr → Isolated flat_store (flat_tables s dbr) }
+    ensures store { (s : Flat) (dbr : DbrFields)
+        → Lawful flat_store dbr (HasDescriptors s dbr) IsFlatSpot IsSameFlat }
+    ensures window { (s : Flat) (dbr : DbrFields) → IsFlatAudited s dbr
+        → Isolated flat_store (flat_tables s dbr) }
 {}
 
-/// Of the core of a booted image, whatever frames its pages are in, table words and words of segments are apart. A step
-/// over it is the step over the flat memory for which it stands, or ends at a page that is in no frame, or executes ABSA,
-/// and leaves the core that of the image. Moves of pages between frames and the words that are kept change nothing that
-/// the flat memory shows. The audit conditions hold of it as of its descriptors. The numbers of its layout are those of its
-/// parts.
+/// Laws of the core of a booted image, whatever frames its pages are in:
+///
+/// - Its table words and words of segments are separate.
+/// - A step over it is the step over the flat memory that it represents, or ends with a page fault,
+///   or executes ABSA. After the step, core is still that of a booted image.
+/// - Moving pages between frames and the kept words does not change the flat memory.
+/// - Whether the audit conditions hold depends only on the descriptors.
+/// - The numbers of the layout are those of its parts.
 pub fn law_paged()
     ensures apart { (core : List ℕ) (frames : ℕ) → IsLaid core frames → AreApart core booted_dbr }
     ensures step { PagedStepLaw }
@@ -155,14 +173,15 @@ pub fn law_paged()
     ensures numbers { BootedNumbersLaw }
 {}
 
-/// A step records at most 20 references. A booted image has at least 24 frames, so one of them holds no page that the step
-/// has referenced.
+/// A step records at most 20 references. A booted image has at least 24 frames, so there is always
+/// one whose page the step has not referenced.
 pub fn law_references()
     ensures { FewReferencesLaw }
 {}
 
-/// An instruction references at most 18 pages. So where it is started again after the service of each page that it met in
-/// no frame, and the pages that it has referenced stay in their frames, it meets none after 18 services.
+/// An instruction references at most 18 pages. So if it is restarted after the service of each page
+/// fault, and the pages that it has referenced stay in their frames, it has no page fault after 18
+/// services.
 pub fn law_pages()
     ensures { PagesLaw }
 {}

@@ -69,6 +69,7 @@ answered k (Err f) = done (Err (halt.Fault f))
 abbrev pub refer : {A : Type 0} → Request → (Answer → Act (Result A Halt)) → Act (Result A Halt)
 refer q k = ask q (answered k)
 
+-- continues with a value, or ends as `halted` says
 abbrev pub either : {A B : Type 0} → (A → Act B) → (Halt → Act B) → Result A Halt → Act B
 either k halted (Ok a) = k a
 either k halted (Err h) = halted h

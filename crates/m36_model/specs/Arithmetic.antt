@@ -41,36 +41,39 @@ in_range half z = int_le (pos 0 -ℤ pos half) z && int_lt z (pos half)
 unfoldable pub modulo : ℤ → ℕ → ℕ
 modulo z n = unsigned_abs (int_rem_euclid z (pos n))
 
--- A sum with a carry in: the true sum modulo 2^k. Carry is on if the unsigned sum is at least 2^k,
--- and overflow if the signed sum is out of range.
+-- the sum with a carry in, modulo 2^k
 unfoldable pub sum_value : ℕ → ℕ → ℕ → Bool → ℕ
 sum_value half x y carry_in = (x + y + of_bit carry_in) % (2 * half)
 
+-- carry of a sum: the unsigned sum is at least 2^k
 unfoldable pub sum_carry : ℕ → ℕ → ℕ → Bool → Bool
 sum_carry half x y carry_in = nat_le (2 * half) (x + y + of_bit carry_in)
 
+-- overflow of a sum: the signed sum is out of range
 unfoldable pub sum_overflow : ℕ → ℕ → ℕ → Bool → Bool
 sum_overflow half x y carry_in =
     not (in_range half (signed half x +ℤ signed half y +ℤ pos (of_bit carry_in)))
 
+-- a sum with a carry in
 unfoldable pub sum : ℕ → ℕ → ℕ → Bool → SumFields
 sum half x y carry_in =
     result_of half (sum_value half x y carry_in) (sum_carry half x y carry_in)
     (sum_overflow half x y carry_in)
 
--- A difference with a borrow: the true difference modulo 2^k. Carry is on if the unsigned minuend
--- is at least the subtrahend plus the borrow, and overflow if the signed difference is out of
--- range.
+-- the difference with a borrow, modulo 2^k
 unfoldable pub difference_value : ℕ → ℕ → ℕ → Bool → ℕ
 difference_value half x y borrow = (x + 2 * half - (y + of_bit borrow)) % (2 * half)
 
+-- carry of a difference: the unsigned minuend is at least the subtrahend plus the borrow
 unfoldable pub difference_carry : ℕ → ℕ → ℕ → Bool → Bool
 difference_carry half x y borrow = nat_le (y + of_bit borrow) x
 
+-- overflow of a difference: the signed difference is out of range
 unfoldable pub difference_overflow : ℕ → ℕ → ℕ → Bool → Bool
 difference_overflow half x y borrow =
     not (in_range half (signed half x -ℤ signed half y -ℤ pos (of_bit borrow)))
 
+-- a difference with a borrow
 unfoldable pub difference : ℕ → ℕ → ℕ → Bool → SumFields
 difference half x y borrow =
     result_of half (difference_value half x y borrow) (difference_carry half x y borrow)
@@ -80,8 +83,8 @@ difference half x y borrow =
 unfoldable pub negation : ℕ → ℕ → SumFields
 negation half x = difference half 0 x false
 
--- The result of a comparison: zero if both are equal, negative if the first is less as a signed
--- number, carry as for their difference.
+-- The result of a comparison: zero exactly if both are equal, negative exactly if the first is less
+-- as a signed number, carry as for their difference.
 pub record ComparisonFields : Type 0 where
   pub zero : Bool
   pub negative : Bool
@@ -90,6 +93,7 @@ pub record ComparisonFields : Type 0 where
 unfoldable pub is_less : ℕ → ℕ → ℕ → Bool
 is_less half x y = int_lt (signed half x) (signed half y)
 
+-- compares two numbers
 unfoldable pub comparison : ℕ → ℕ → ℕ → ComparisonFields
 comparison half x y =
     record { zero = x == y; negative = is_less half x y; carry = difference_carry half x y false }
@@ -98,15 +102,15 @@ comparison half x y =
 unfoldable pub product : ℕ → ℕ → ℕ
 product x y = modulo (signed (2 ^ 35) x *ℤ signed (2 ^ 35) y) (2 ^ 72)
 
--- The signed quotient of words is truncated toward zero; the remainder has the sign of the
--- dividend.
+-- the signed quotient of words, truncated toward zero
 unfoldable pub quotient : ℕ → ℕ → ℕ
 quotient x y = modulo (int_div (signed (2 ^ 35) x) (signed (2 ^ 35) y)) (2 ^ 36)
 
+-- the remainder, which has the sign of the dividend
 unfoldable pub remainder : ℕ → ℕ → ℕ
 remainder x y = modulo (int_rem (signed (2 ^ 35) x) (signed (2 ^ 35) y)) (2 ^ 36)
 
--- A division is refused if the divisor is 0, or if the quotient is out of range, which is only that
--- of -2^35 by -1 (this project's choice).
+-- A division is refused exactly if the divisor is 0, or if the quotient is out of range, which is
+-- only that of -2^35 by -1 (this project's choice).
 unfoldable pub is_divide_check : ℕ → ℕ → Bool
 is_divide_check x y = (y == 0) || ((x == 2 ^ 35) && (y == 2 ^ 36 - 1))

@@ -14,6 +14,7 @@ use Rattle.m36_model.specs.declared.outcome.Refusal.{Refusal}
 abbrev pub descriptor_words : ℕ
 descriptor_words = 2048
 
+-- the DBR of a booted image: 2,048 words, and the stacks are segments 8 to 15
 abbrev pub booted_dbr : DbrFields
 booted_dbr = record { addr = 0; bnd = 127; unpaged = true; stack = 1 }
 
@@ -25,6 +26,7 @@ table_words = 256
 abbrev pub booted_segments : ℕ
 booted_segments = 576
 
+-- the core address of the page table of a segment
 abbrev pub table_at : ℕ → ℕ
 table_at seg = descriptor_words + table_words * seg
 

@@ -16,6 +16,7 @@ use Rattle.m36_model.specs.Results.{OperandFields, EffectFields, leaves}
 abbrev pub stack_segment : RegsFields → ℕ → ℕ
 stack_segment g ring = if ring == g.ppr.prr then (ptr g 6).seg else ring_stack g.dbr ring
 
+-- a pointer to word 0 of that stack
 abbrev pub stack_pointer : RegsFields → ℕ → PtrFields
 stack_pointer g ring = pointer (stack_segment g ring) ring 0
 
@@ -38,6 +39,7 @@ pointer_in_ring ring p = record p { ring = ring }
 abbrev pub all_in_ring : ℕ → List PtrFields → List PtrFields
 all_in_ring ring pointers = map (pointer_in_ring ring) pointers
 
+-- the registers after a return to the word that the pair names
 abbrev pub returned : ItsFields → ℕ → RegsFields → RegsFields
 returned its ring g =
     record g {

@@ -55,6 +55,7 @@ found_by_tag tag = if tag == its_tag then Its else if tag == itp_tag then Itp el
 abbrev pub indirect_tag : ℕ → ℕ
 indirect_tag w = tag_of w
 
+-- what the word at this word number is
 unfoldable pub found : ℕ → ℕ → Found
 found word w = if word % 2 == 0 then found_by_tag (indirect_tag w) else Plain
 

@@ -64,7 +64,7 @@ turn_even o g s word held m (Ok a) =
     turn_found o g s word held a m (found word (slice_index a.words 0))
 turn_even o g s word held m (Err f) = refused_with (halt.Fault f) m
 
--- at a point that reads an indirect word, if there were fewer than 16
+-- what follows at a point that reads an indirect word; a 17th one is not read
 abbrev pub turn_reads : {S : Type 0} → Store S → RegsFields → Stage S → ℕ → Option ℕ → Bool → Turn S
 turn_reads o g s word held true =
     let t = serve o g s.mid (indirect Indirect s.point word) in
@@ -90,7 +90,7 @@ abbrev pub turn_tally :
 turn_tally o g s m (Ok a) = turn_tally_by o g s a m (s.point.tag % 16 == indirect_only)
 turn_tally o g s m (Err f) = refused_with (halt.Fault f) m
 
--- at a point that reads a tally word, if there were fewer than 16 indirect words
+-- what follows at a point that reads a tally word, which may be the 16th indirect word at most
 abbrev pub turn_counts : {S : Type 0} → Store S → RegsFields → Stage S → Bool → Turn S
 turn_counts o g s true =
     let t = serve o g s.mid (indirect Indirect s.point s.point.y) in turn_tally o g s t.mid t.reply
@@ -130,5 +130,6 @@ pub record IsOneChain {S : Type 0} (o : Store S) (g : RegsFields) (p : Point)
       → IsChain o g (first_stage p m ∷ other) said → (other ≡ more) × (said ≡ answer)
   pub same : run o g (chain indirect_words g p) m ≡ answer
 
+-- From each point there is exactly one chain over core.
 abbrev pub OneChain : Type 0
 OneChain = (g : RegsFields) (p : Point) (m : Mid (List ℕ)) → IsOneChain core_store g p m

@@ -12,26 +12,26 @@ use Rattle.m36_model.specs.Results.{tested, compared, completes, completes_with}
 unfoldable pub compare : Working → ℕ → RegsFields → Result EffectFields ℕ
 compare r v g = completes (with_indicators (compared (comparison (half r) (value r g) v) g.ind) g)
 
--- zero and negative are set by a number
+-- zero and negative are set by a number; h is half of its range
 abbrev pub test : ℕ → ℕ → RegsFields → Result EffectFields ℕ
 test h v g = completes (tested h v g)
 
--- SZN: by the word
+-- SZN: zero and negative by the word
 unfoldable pub test_word : ℕ → RegsFields → Result EffectFields ℕ
 test_word v g = test (2 ^ 35) v g
 
--- SZNC: by the word, and 0 to the word
+-- SZNC: zero and negative by the word, and 0 to the word
 unfoldable pub test_and_clear : ℕ → RegsFields → Result EffectFields ℕ
 test_and_clear v g = completes_with (tested (2 ^ 35) v g) (0 ∷ [])
 
--- CMK: by the bits in which A and the word differ and Q is 0
+-- CMK: zero and negative by the bits in which A and the word differ and Q is 0
 unfoldable pub compare_masked : ℕ → RegsFields → Result EffectFields ℕ
 compare_masked v g = test (2 ^ 35) (and_not_of 36 (xor_of 36 g.a v) g.q) g
 
--- CANA, CANQ, CANAQ, CANX: by register AND value
+-- CANA, CANQ, CANAQ, CANX: zero and negative by register AND value
 unfoldable pub test_and : Working → ℕ → RegsFields → Result EffectFields ℕ
 test_and r v g = test (half r) (and_of (width r) (value r g) v) g
 
--- CNAA, CNAQ, CNAAQ, CNAX: by register AND NOT value
+-- CNAA, CNAQ, CNAAQ, CNAX: zero and negative by register AND NOT value
 unfoldable pub test_and_not : Working → ℕ → RegsFields → Result EffectFields ℕ
 test_and_not r v g = test (half r) (and_not_of (width r) (value r g) v) g

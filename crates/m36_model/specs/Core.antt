@@ -10,6 +10,7 @@ use Rattle.m36_model.specs.Store.{Spot, Core_word, Segment_word, Change, SegTabl
 use Rattle.m36_model.specs.Store.{written}
 use Rattle.m36_model.specs.declared.outcome.Refusal.{Refusal}
 
+-- the word at a spot
 abbrev pub core_word : List ℕ → Spot → ℕ
 core_word core (Core_word a) = slice_index core a
 core_word core (Segment_word s w) = 0
@@ -61,9 +62,11 @@ segment_table core dbr seg =
       pages = page_entries core (core_sdw core dbr seg);
     }
 
+-- the tables of core, without marks
 unfoldable pub core_tables : List ℕ → DbrFields → Tables
 core_tables core dbr = record { dbr = dbr; size = length core; of = segment_table core dbr }
 
+-- core as a store
 abbrev pub core_store : Store (List ℕ)
 core_store =
     record {

@@ -49,6 +49,7 @@ abbrev pub is_absa : Effect → Bool
 is_absa effect.Absa = true
 is_absa _ = false
 
+-- the effect of an instruction, whose name has the number n
 unfoldable pub exec : Effect → ℕ → RegsFields → FinalFields → OperandFields → Result EffectFields ℕ
 exec effect.Lda n g f o = load A (operand A o) g  -- C(Y) → C(A)
 exec effect.Ldq n g f o = load Q (operand Q o) g  -- C(Y) → C(Q)

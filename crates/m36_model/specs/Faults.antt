@@ -22,6 +22,8 @@ derail = 6
 abbrev pub lockup_fault : ℕ
 lockup_fault = 7
 
+-- a privileged instruction without the right to it, or a direct operand or a modification that is
+-- not allowed
 abbrev pub illegal_procedure : ℕ
 illegal_procedure = 10
 
@@ -39,7 +41,7 @@ directed_fault fc = 16 + fc
 abbrev pub missing_page_code : ℕ
 missing_page_code = 1
 
--- its fault
+-- the fault of a page that is in no frame
 abbrev pub missing_page : ℕ
 missing_page = directed_fault missing_page_code
 

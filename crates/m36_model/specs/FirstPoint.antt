@@ -34,5 +34,6 @@ first_point_by true g i =
       carrier = record { seg = g.ppr.psr; word = g.ppr.ic; ring = max g.ppr.prr p.ring };
     }
 
+-- the first point of the instruction i
 unfoldable pub first_point : RegsFields → InstFields → Point
 first_point g i = first_point_by i.by_pr g i

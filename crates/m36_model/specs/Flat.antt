@@ -28,6 +28,7 @@ flat_sdw s dbr seg = flat_sdw_by (in_bounds dbr seg) s.descriptors seg
 abbrev pub flat_spot : Flat → DbrFields → SdwFields → ℕ → ℕ → Result Spot Refusal
 flat_spot s dbr d seg w = Ok (Segment_word seg w)
 
+-- the word at a spot
 abbrev pub flat_word : Flat → Spot → ℕ
 flat_word s (Core_word a) = 0
 flat_word s (Segment_word seg w) = s.content seg w
@@ -42,6 +43,7 @@ flat_put_one s (Core_word a) part v = s
 flat_put_one s (Segment_word seg w) part v =
     record s { content = content_with s.content seg w part v }
 
+-- the memory with words written, in order
 unfoldable pub flat_put : Flat → List Change → Flat
 flat_put s [] = s
 flat_put s (p ∷ puts) = flat_put (flat_put_one s p.spot p.part p.value) puts
@@ -57,6 +59,7 @@ flat_table_by true words seg =
     }
 flat_table_by false words seg = record { directory = []; sdw = []; pages = [] }
 
+-- the tables of a flat memory: the words of its descriptors
 unfoldable pub flat_tables : Flat → DbrFields → Tables
 flat_tables s dbr =
     record { dbr = dbr; size = 0; of = λ seg. flat_table_by (in_bounds dbr seg) s.descriptors seg }
@@ -65,6 +68,7 @@ flat_tables s dbr =
 abbrev pub flat_marked : Flat → DbrFields → RequestKind → ℕ → ℕ → Flat
 flat_marked s dbr kind seg w = s
 
+-- a flat memory as a store
 abbrev pub flat_store : Store Flat
 flat_store =
     record {

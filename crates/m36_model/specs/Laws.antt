@@ -45,6 +45,7 @@ pub record IsEffect (e : Effect) (g : RegsFields) (f : FinalFields) (o : Operand
   pub count : length x.put ≡ words_written (operand_of e)
   pub pointers : HasPointers g → HasPointers x.regs
 
+-- `IsEffect` holds of every effect that is not refused.
 abbrev pub EffectLaw : Type 0
 EffectLaw =
     (e : Effect) (n : ℕ) (g : RegsFields) (f : FinalFields) (o : OperandFields) (x : EffectFields)
@@ -70,6 +71,7 @@ MayRefer o r s seg reference.Indirect = InSight o s r seg
 MayRefer o r s seg reference.Read = InSight o s r seg
 MayRefer o r s seg reference.Write = InReach o s r seg
 
+-- a completed reference is to a segment that ring r can see or, for a Write, can change
 abbrev pub IsWithin : {S : Type 0} → Store S → ℕ → State S → Reference → Type 0
 IsWithin o r s e = MayRefer o r s e.at.seg e.kind
 
@@ -117,6 +119,7 @@ pub record MarksAlterNothing {S : Type 0} (o : Store S) (a b : State S) : Type 0
   pub places : (seg w : ℕ) → place o a.store a.regs.dbr seg w ≡ place o b.store b.regs.dbr seg w
   pub told : record_of o a ≡ record_of o b
 
+-- the law of marks, for states whose tables are T
 abbrev pub MarksLaw : {S : Type 0} → Store S → Tables → Type 0
 MarksLaw {S} o T =
     (a b : State S) → a.regs ≡ b.regs → tables_of o a ≡ T → tables_of o b ≡ T
@@ -133,6 +136,7 @@ pub record IsAlike {S : Type 0} (o : Store S) (T : Tables) (r : ℕ) (a b : Stat
       → content o (state_after o a) seg w ≡ content o (state_after o b) seg w
   pub tables : tables_of o (state_after o a) ≡ T
 
+-- A step of two states that agree, in ring r and above, leaves them alike.
 abbrev pub AgreeLaw : {S : Type 0} → Store S → Tables → Type 0
 AgreeLaw {S} o T =
     (r : ℕ) (a b : State S) → 1 ≤ r → IsAbove o T r a → Agree o r a b → IsAlike o T r a b

@@ -37,6 +37,7 @@ here g = record { seg = g.ppr.psr; word = g.ppr.ic; ring = g.ppr.prr }
 abbrev pub plain_fault : ℕ → AtFields → Fault
 plain_fault number at = fault_by (plain_refusal number) at
 
+-- such a fault, as what ends a step
 abbrev pub fault_at : ℕ → AtFields → Halt
 fault_at number at = halt.Fault (plain_fault number at)
 
@@ -44,6 +45,7 @@ fault_at number at = halt.Fault (plain_fault number at)
 abbrev pub fault_here : ℕ → RegsFields → Fault
 fault_here number g = plain_fault number (here g)
 
+-- a fault at the instruction, as what ends a step
 abbrev pub halt_here : ℕ → RegsFields → Halt
 halt_here number g = halt.Fault (fault_here number g)
 
@@ -52,7 +54,7 @@ halt_here number g = halt.Fault (fault_here number g)
 abbrev pub pair_ring : ℕ → ℕ → ℕ → ℕ
 pair_ring trr r1 named = max (max trr r1) named
 
--- the pointer for a register number of 8 or more, which does not occur
+-- the value for a pointer register that does not exist
 abbrev pub no_ptr : PtrFields
 no_ptr = record { seg = 0; ring = 0; word = 0; bit = 0 }
 
@@ -101,10 +103,11 @@ at_point p word = record { seg = p.seg; word = word; ring = p.ring }
 abbrev pub final_at : Point → ℕ → Option ℕ → FinalFields
 final_at p word direct = record { at = at_point p word; bit = p.bit; direct = direct }
 
+-- the chain ends at this word of the point's segment
 abbrev pub ends_at : Point → ℕ → Move
 ends_at p word = Ends (final_at p word None)
 
--- with a direct operand, the address is that of the point itself
+-- the chain ends with a direct operand; its address is that of the point itself
 abbrev pub ends_direct : Point → ℕ → Move
 ends_direct p operand = Ends (final_at p p.y (Some operand))
 

@@ -31,5 +31,6 @@ holds_for operand.R2 got = is_pair got
 holds_for operand.R16 got = is_block got
 holds_for _ got = is_empty got
 
+-- the words have this form, as a property
 abbrev pub HoldsFor : Operand → Held → Type 0
 HoldsFor kind got = IsTrue (holds_for kind got)

@@ -33,12 +33,12 @@ frame_named p = p.addr / 16
 abbrev pub frame_at : PtwFields → ℕ
 frame_at p = frame_named p * 1024
 
--- the address of a word of a page, if F of its PTW is on
+-- the address of a word of a page, by its PTW, whose F is on or not
 abbrev pub in_frame_by : Bool → PtwFields → ℕ → Result ℕ Refusal
 in_frame_by true p offset = Ok (wrapped (frame_at p + offset))
 in_frame_by false p offset = Err (directed p.fc)
 
--- the same for a PTW that may be missing: past the end of core
+-- the address of a word of a page, or a store fault if its PTW is past the end of core
 abbrev pub in_frame : Option PtwFields → ℕ → Result ℕ Refusal
 in_frame None offset = Err store_fault
 in_frame (Some p) offset = in_frame_by p.f p offset
@@ -87,6 +87,7 @@ abbrev pub sdw_place_by : Bool → Bool → DbrFields → ℕ → Option PtwFiel
 sdw_place_by false unpaged dbr seg p = Err (violation out_of_segment_bounds)
 sdw_place_by true unpaged dbr seg p = place_from unpaged dbr.addr (2 * seg) p
 
+-- the core address of the even word of a segment's descriptor; it may be past the end of core
 abbrev pub sdw_place : List ℕ → DbrFields → ℕ → Result ℕ Refusal
 sdw_place core dbr seg =
     sdw_place_by (in_bounds dbr seg) dbr.unpaged dbr seg (ptw_at core (directory_at dbr seg))
@@ -96,11 +97,13 @@ abbrev pub live_by : Bool → ℕ → ℕ → Result SdwFields Refusal
 live_by true even odd = Ok (sdw_of even odd)
 live_by false even odd = Err (directed (sdw_of even odd).fc)
 
+-- the descriptor in two words, each of which may be past the end of core
 abbrev pub sdw_words : Option ℕ → Option ℕ → Result SdwFields Refusal
 sdw_words None odd = Err store_fault
 sdw_words (Some even) None = Err store_fault
 sdw_words (Some even) (Some odd) = live_by (sdw_of even odd).f even odd
 
+-- the descriptor whose even word is at this address; the odd word is at the next one modulo 2^24
 abbrev pub sdw_at : List ℕ → Result ℕ Refusal → Result SdwFields Refusal
 sdw_at core (Err e) = Err e
 sdw_at core (Ok a) = sdw_words (slice_get core a) (slice_get core (wrapped (a + 1)))
@@ -114,6 +117,7 @@ abbrev pub inside_core_by : Bool → ℕ → Result Spot Refusal
 inside_core_by true a = Ok (Core_word a)
 inside_core_by false a = Err store_fault
 
+-- an address as a spot, if it is below the size of core
 abbrev pub inside_core : ℕ → Result ℕ Refusal → Result Spot Refusal
 inside_core size (Ok a) = inside_core_by (nat_lt a size) a
 inside_core size (Err e) = Err e
@@ -122,11 +126,11 @@ inside_core size (Err e) = Err e
 abbrev pub word_place_by : Bool → SdwFields → ℕ → Option PtwFields → Result ℕ Refusal
 word_place_by unpaged d w p = place_from unpaged d.addr w p
 
--- the same, with the PTW from core; the address may be past the end of core
+-- the address of a word within the bound, with the PTW from core; it may be past the end of core
 abbrev pub word_place : List ℕ → SdwFields → ℕ → Result ℕ Refusal
 word_place core d w = word_place_by d.unpaged d w (ptw_at core (page_at d (w / 1024)))
 
--- the spot of a word within the bound: the same, if the address is in core
+-- the spot of a word within the bound, or a store fault if its address is past the end of core
 unfoldable pub core_spot : List ℕ → DbrFields → SdwFields → ℕ → ℕ → Result Spot Refusal
 core_spot core dbr d seg w = inside_core (length core) (word_place core d w)
 
@@ -152,6 +156,7 @@ with_modified w = (w / 128 * 128 + 64) + w % 64
 unfoldable pub without_used : ℕ → ℕ
 without_used w = w / 1024 * 1024 + w % 512
 
+-- a PTW marked as used or, for a write, as used and modified
 abbrev pub marked_word : Bool → ℕ → ℕ
 marked_word true w = with_modified (with_used w)
 marked_word false w = with_used w
@@ -165,9 +170,11 @@ abbrev pub marks_passed : Bool → ℕ → Bool → List Mark
 marks_passed unpaged a modified =
     if unpaged then [] else record { address = a; modified = modified } ∷ []
 
+-- the mark in the descriptor segment's PTW, if the descriptor segment is paged
 abbrev pub directory_marks : DbrFields → ℕ → List Mark
 directory_marks dbr seg = marks_passed dbr.unpaged (directory_at dbr seg) false
 
+-- the mark in the segment's PTW for word w, if the segment is live and paged
 abbrev pub page_marks : Bool → ℕ → Result SdwFields Refusal → List Mark
 page_marks write w (Err e) = []
 page_marks write w (Ok d) =
@@ -177,6 +184,7 @@ page_marks write w (Ok d) =
 abbrev pub marks_by : DbrFields → ℕ → Bool → ℕ → Result SdwFields Refusal → List Mark
 marks_by dbr seg write w sdw = directory_marks dbr seg ++ page_marks write w sdw
 
+-- the marks of a reference to word w of a segment
 unfoldable pub marks : List ℕ → DbrFields → RequestKind → ℕ → ℕ → List Mark
 marks core dbr kind seg w = marks_by dbr seg (is_write kind) w (core_sdw core dbr seg)
 

@@ -45,7 +45,7 @@ pair_before p words = ptr_even p ∷ ptr_odd p ∷ words
 unfoldable pub store_pointer : ℕ → RegsFields → Result EffectFields ℕ
 store_pointer n g = completes_with g (pair_before (ptr g n) [])
 
--- SPBP: the same, with 0 as the odd word
+-- SPBP: as SPRI0 to SPRI7, with 0 as the odd word
 unfoldable pub store_base_pointer : ℕ → RegsFields → Result EffectFields ℕ
 store_base_pointer n g = completes_with g (ptr_even (ptr g n) ∷ 0 ∷ [])
 
@@ -72,6 +72,7 @@ pointer_in o f n =
     pointer_raised (ptr_of (slice_index o.got (2 * n)) (slice_index o.got (2 * n + 1))) f.at.ring
     o.ring
 
+-- the eight pointers of an operand block, PR0 first
 abbrev pub pointers_in : OperandFields → FinalFields → List PtrFields
 pointers_in o f =
     pointer_in o f 0 ∷ pointer_in o f 1 ∷ pointer_in o f 2 ∷ pointer_in o f 3 ∷ pointer_in o f 4
@@ -90,8 +91,8 @@ unfoldable pub load_packed : ℕ → ℕ → RegsFields → FinalFields → Resu
 load_packed n w g f = load_packed_by (field w 0 2 == 3) n w g f
 
 -- EPAQ: the segment to A 3-17, the ring to A 33-35, the computed address to Q 0-17, the bit number
--- to Q 30-35, and zeros to the rest. Zero is on if AQ is 0; no other indicator changes (this
--- project's choice).
+-- to Q 30-35, and zeros to the rest. Zero is on exactly if AQ is 0; no other indicator changes
+-- (this project's choice).
 abbrev pub address_even : FinalFields → ℕ
 address_even f = f.at.seg * 2 ^ 18 + f.at.ring
 

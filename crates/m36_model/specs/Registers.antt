@@ -4,6 +4,8 @@ use Rattle.m36_desc.specs.Fields.{PtrFields, DbrFields}
 use Rattle.m36_model.specs.Fields.{PprFields}
 use Rattle.m36_model.specs.declared.registers.Ind.{Ind}
 
+-- all registers of the processor; x has the eight index registers, and pr the eight pointer
+-- registers
 pub record RegsFields : Type 0 where
   pub a : ℕ
   pub q : ℕ

@@ -26,6 +26,7 @@ abbrev pub word_at : Paged → ℕ → ℕ → Result Spot Refusal → ℕ
 word_at m seg w (Ok spot) = core_word m.core spot
 word_at m seg w (Err why) = if why.number == missing_page then m.kept seg w else 0
 
+-- the content of word w of a segment of the booted image
 unfoldable pub paged_content : Paged → ℕ → ℕ → ℕ
 paged_content m seg w = word_at m seg w (place core_store m.core booted_dbr seg w)
 
@@ -59,6 +60,7 @@ abbrev pub word_in : Option ℕ → List ℕ → ℕ → ℕ → ℕ
 word_in (Some frame) core w kept = slice_index core (1024 * frame + w % 1024)
 word_in None core w kept = kept
 
+-- the content of a word by the frame of its page, if it is in one
 abbrev pub resident_word : Paged → Option ℕ → ℕ → ℕ → ℕ
 resident_word m frame seg w = word_in frame m.core w (m.kept seg w)
 

@@ -64,11 +64,11 @@ effect_fields e = record { regs = e.regs; put = words_of_held e.put; overflow = 
 abbrev pub word : OperandFields → ℕ
 word o = slice_index o.got 0
 
--- bits 0 to 17 of it
+-- bits 0 to 17 of the operand word
 abbrev pub upper : OperandFields → ℕ
 upper o = field (word o) 0 18
 
--- bits 18 to 35 of it
+-- bits 18 to 35 of the operand word
 abbrev pub lower : OperandFields → ℕ
 lower o = field (word o) 18 18
 
@@ -149,19 +149,23 @@ words Q v = v ∷ []
 words AQ v = upper_word v ∷ lower_word v ∷ []
 words (X n) v = v ∷ []
 
--- Indicators. Zero is on if the result is 0, and negative if its first bit is on. Indicators that
--- are not named do not change. Arithmetic turns overflow on, never off.
+-- Zero is on exactly if the number is 0, and negative exactly if its first bit is on. Indicators
+-- that are not named do not change.
 unfoldable pub zn : ℕ → ℕ → Ind → Ind
 zn h v i =
     let s = result_of h v false false in
     record i { zero = s.zero; negative = s.negative }
 
+-- zero, negative and carry get these values
 abbrev pub with_zn_carry : Bool → Bool → Bool → Ind → Ind
 with_zn_carry z n c i = record i { zero = z; negative = n; carry = c }
 
+-- zero, negative and carry are set by a result
 unfoldable pub zn_carry : SumFields → Ind → Ind
 zn_carry s i = with_zn_carry s.zero s.negative s.carry i
 
+-- zero and negative are set by a result; overflow is turned on if the result has it, and never off;
+-- carry is c
 abbrev pub with_zn_overflow : SumFields → Bool → Ind → Ind
 with_zn_overflow s c i =
     record i {
@@ -171,12 +175,15 @@ with_zn_overflow s c i =
       overflow = i.overflow || s.overflow;
     }
 
+-- zero, negative and overflow are set by a result; carry does not change
 unfoldable pub zn_overflow : SumFields → Ind → Ind
 zn_overflow s i = with_zn_overflow s i.carry i
 
+-- zero, negative, carry and overflow are set by a result
 unfoldable pub zn_carry_overflow : SumFields → Ind → Ind
 zn_carry_overflow s i = with_zn_overflow s s.carry i
 
+-- zero, negative and carry are set by a comparison
 unfoldable pub compared : ComparisonFields → Ind → Ind
 compared c i = with_zn_carry c.zero c.negative c.carry i
 
@@ -198,16 +205,16 @@ moved_on g = record g { ppr = record g.ppr { ic = next_word g } }
 abbrev pub leaves : RegsFields → Result EffectFields ℕ
 leaves g = Ok (record { regs = g; put = []; overflow = false })
 
--- A result that continues with the next instruction: with new registers,
+-- new registers, with the instruction counter at the next instruction
 abbrev pub completes : RegsFields → Result EffectFields ℕ
 completes g = leaves (moved_on g)
 
--- with words to write and perhaps overflow,
+-- as `completes`, with words to write, and perhaps overflow
 abbrev pub completes_or_overflows : RegsFields → List ℕ → Bool → Result EffectFields ℕ
 completes_or_overflows g put overflow =
     Ok (record { regs = moved_on g; put = put; overflow = overflow })
 
--- and with words to write.
+-- as `completes`, with words to write
 abbrev pub completes_with : RegsFields → List ℕ → Result EffectFields ℕ
 completes_with g put = completes_or_overflows g put false
 
@@ -219,11 +226,11 @@ takes r v i g = with_indicators i (with_value r v g)
 abbrev pub tested : ℕ → ℕ → RegsFields → RegsFields
 tested h v g = with_indicators (zn h v g.ind) g
 
--- a register gets a value, by which zero and negative are set
+-- a register with a new value, by which zero and negative are set
 abbrev pub takes_tested : Working → ℕ → RegsFields → RegsFields
 takes_tested r v g = takes r v (zn (half r) v g.ind) g
 
--- a register gets a value, by which zero and negative are set
+-- an effect that gives a register a value, by which zero and negative are set
 abbrev pub becomes : Working → ℕ → RegsFields → Result EffectFields ℕ
 becomes r v g = completes (takes_tested r v g)
 

@@ -12,6 +12,7 @@ pub record Visited (S : Type 0) : Type 0 where
   pub told : StepRecord
   pub after : State S
 
+-- the run continues after this outcome
 abbrev pub is_next : Outcome → Bool
 is_next Next = true
 is_next (Faulted f) = false

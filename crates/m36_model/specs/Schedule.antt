@@ -32,6 +32,7 @@ stepped o s i g =
       store = (state_after o (process_of s g)).store;
     }
 
+-- the event of a step of process i, whose registers are g
 abbrev pub event : {S : Type 0} → Store S → Processes S → ℕ → RegsFields → Event S
 event o s i g =
     record { process = i; before = s; told = record_of o (process_of s g); after = stepped o s i g }
@@ -44,6 +45,7 @@ abbrev pub events_by :
 events_by o s i None rest = rest s
 events_by o s i (Some g) rest = event o s i g ∷ rest (stepped o s i g)
 
+-- the events of a schedule
 unfoldable pub events : {S : Type 0} → Store S → List ℕ → Processes S → List (Event S)
 events o [] s = []
 events o (i ∷ schedule) s = events_by o s i (slice_get s.regs i) (events o schedule)

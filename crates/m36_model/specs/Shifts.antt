@@ -6,6 +6,7 @@ use Rattle.std.specs.Int.{int_div_euclid}
 use Rattle.m36_word.specs.Signed.{signed}
 use Rattle.m36_model.specs.Arithmetic.{modulo}
 
+-- the count of a shift by this address, below 128
 abbrev pub count_of : ℕ → ℕ
 count_of address = address % 128
 
@@ -17,7 +18,8 @@ left_shift k v c = v * 2 ^ c % 2 ^ k
 unfoldable pub first_bits : ℕ → ℕ → ℕ → ℕ
 first_bits k v c = v * 2 ^ (c + 1) / 2 ^ k
 
--- Carry is on if these bits are neither all zeros nor all ones: the sign changes during the shift.
+-- Carry is on exactly if these bits are neither all zeros nor all ones: the sign changes during the
+-- shift.
 unfoldable pub left_shift_carry : ℕ → ℕ → ℕ → Bool
 left_shift_carry k v c = not (first_bits k v c == 0) && not (first_bits k v c == 2 ^ (c + 1) - 1)
 

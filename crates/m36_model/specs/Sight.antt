@@ -8,6 +8,7 @@ use Rattle.m36_model.specs.declared.outcome.Refusal.{Refusal}
 abbrev pub IsLive : {S : Type 0} → Store S → State S → ℕ → SdwFields → Type 0
 IsLive o s seg d = o.sdw s.store s.regs.dbr seg ≡ Ok d
 
+-- the word at a spot, if there is one
 abbrev pub word_of : {S : Type 0} → Store S → S → Result Spot Refusal → Option ℕ
 word_of o s (Ok spot) = Some (o.word s spot)
 word_of o s (Err e) = None
@@ -16,6 +17,7 @@ word_of o s (Err e) = None
 unfoldable pub content_in : {S : Type 0} → Store S → S → DbrFields → ℕ → ℕ → Option ℕ
 content_in o s dbr seg w = word_of o s (place o s dbr seg w)
 
+-- the content of word w of a segment, in a state
 abbrev pub content : {S : Type 0} → Store S → State S → ℕ → ℕ → Option ℕ
 content o s seg w = content_in o s.store s.regs.dbr seg w
 

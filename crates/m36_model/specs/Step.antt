@@ -54,6 +54,7 @@ pub record Performed : Type 0 where
   pub puts : List Put
   pub overflow : Bool
 
+-- the program that references the operand and performs the effect
 abbrev pub Operation : Type 0
 Operation = Act (Result Performed Halt)
 
@@ -87,6 +88,7 @@ tally_by old (Some b) = b
 abbrev pub with_tally : Bool → RegsFields → RegsFields
 with_tally runout g = record g { ind = record g.ind { tally = runout } }
 
+-- the registers with tally runout as the chain has set it
 unfoldable pub tallied : RegsFields → ChainEnd → RegsFields
 tallied g c = with_tally (tally_by g.ind.tally c.runout) g
 
@@ -94,6 +96,7 @@ tallied g c = with_tally (tally_by g.ind.tally c.runout) g
 abbrev pub perform : Effect → ℕ → RegsFields → ChainEnd → Part → ℕ → OperandFields → Operation
 perform e n g c part first o = done (performed g c part first (exec e n (tallied g c) c.last o))
 
+-- the operand of an effect that gets none
 abbrev pub no_operand : OperandFields
 no_operand = words_only []
 
@@ -104,6 +107,7 @@ aligned zero w = w
 aligned (suc zero) w = w
 aligned (suc (suc n)) w = w - w % suc (suc n)
 
+-- a place with its word number aligned in this way
 abbrev pub aligned_at : ℕ → AtFields → AtFields
 aligned_at count at = record { seg = at.seg; word = aligned count at.word; ring = at.ring }
 
@@ -207,9 +211,11 @@ abbrev pub with_operand :
 with_operand e n g c (Ok o) = perform e n g c Whole 0 o
 with_operand e n g c (Err f) = done (Err (halt.Fault f))
 
+-- performs the effect with a direct operand, if the instruction accepts one
 abbrev pub by_direct : Effect → ℕ → RegsFields → ChainEnd → ℕ → Bool → Operation
 by_direct e n g c w taken = with_operand e n g c (takes_word e g w taken)
 
+-- performs the effect with the operand at the end of the chain, or with a direct one
 abbrev pub operate_on : Effect → ℕ → RegsFields → ChainEnd → Option ℕ → Operation
 operate_on e n g c None = by_kind e n g c (operand_of e)
 operate_on e n g c (Some w) = by_direct e n g c w (takes_direct e)
@@ -227,6 +233,7 @@ pub record Ending : Type 0 where
   pub puts : List Put
   pub outcome : Outcome
 
+-- the outcome of a step that was ended before its effect
 abbrev pub outcome_of : Halt → Outcome
 outcome_of (halt.Fault f) = Faulted f
 outcome_of (halt.Stop s) = Stopped s
@@ -242,6 +249,7 @@ abbrev pub outcome_by : Bool → RegsFields → Outcome
 outcome_by true g = Faulted (fault_here overflow_fault g)
 outcome_by false g = Next
 
+-- the outcome of a step whose effect happened
 abbrev pub outcome_after : Bool → Bool → RegsFields → Outcome
 outcome_after overflow mask g = outcome_by (overflow && not mask) g
 
@@ -283,6 +291,7 @@ at_once _ g = halt.Stop stop.Dis
 abbrev pub no_address : Effect → RegsFields → ℕ → Act Ending
 no_address e g w = halted g (Some w) None (at_once e g)
 
+-- an instruction that may be executed
 abbrev pub started : Effect → ℕ → RegsFields → ℕ → Operand → Act Ending
 started e n g w kind.N = no_address e g w
 started e n g w _ = addressed e n g w
@@ -291,6 +300,7 @@ started e n g w _ = addressed e n g w
 abbrev pub is_barred : Effect → Bool → Bool
 is_barred e right = is_privileged e && not right
 
+-- an instruction; it is an illegal procedure if it is privileged and the step has no right to it
 abbrev pub admitted : Effect → ℕ → RegsFields → ℕ → Bool → Act Ending
 admitted e n g w true = halted g (Some w) None (halt_here illegal_procedure g)
 admitted e n g w false = started e n g w (operand_of e)
@@ -299,9 +309,11 @@ admitted e n g w false = started e n g w (operand_of e)
 abbrev pub effect_and_number : Row → Effect × ℕ
 effect_and_number row = (row.effect, row.reg)
 
+-- the instruction in a word and the number in its name, or None
 unfoldable pub decode : ℕ → Option (Effect × ℕ)
 decode w = option_map effect_and_number (row_at (inst_of w).code (inst_of w).bit27)
 
+-- a word that was fetched, and the instruction in it, if there is one
 abbrev pub decoded : RegsFields → ℕ → Bool → Option (Effect × ℕ) → Act Ending
 decoded g w privileged None = halted g (Some w) None (halt.Stop stop.Operation)
 decoded g w privileged (Some row) = admitted row.0 row.1 g w (is_barred row.0 privileged)
@@ -311,11 +323,13 @@ decoded g w privileged (Some row) = admitted row.0 row.1 g w (is_barred row.0 pr
 abbrev pub has_right : SdwFields → ℕ → Bool
 has_right d ring = d.privileged && (ring == 0)
 
+-- what follows the reply to the fetch
 abbrev pub fetched : RegsFields → Result Answer Fault → Act Ending
 fetched g (Err f) = halted g None None (halt.Fault f)
 fetched g (Ok a) =
     decoded g (slice_index a.words 0) (has_right a.sdw g.ppr.prr) (decode (slice_index a.words 0))
 
+-- the fetch of the instruction, in the ring of execution
 abbrev pub fetch_request : RegsFields → Request
 fetch_request g = record { kind = Fetch; at = here g; count = 1; pending = [] }
 
@@ -345,6 +359,7 @@ stepped o t =
 abbrev pub start : {S : Type 0} → State S → Mid S
 start s = begun s.store
 
+-- the run of a step's program over a store
 abbrev pub ran : {S : Type 0} → Store S → State S → Ran Ending S
 ran o s = run o s.regs (program s.regs) (start s)
 

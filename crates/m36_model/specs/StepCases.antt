@@ -121,11 +121,13 @@ pub record IsChanged {S : Type 0} (o : Store S) (g : RegsFields) (c : ChainEnd) 
   pub read : serve o g m (request_at Read c 1) ≡ record { reply = Ok answer; mid = between }
   pub write : IsClaimed o g (request_at Write c 1) part (got_word answer) between u
 
+-- the operand of an instruction that uses only its address; ABSA locates the word
 abbrev pub IsAddressed :
     {S : Type 0} → Store S → RegsFields → ChainEnd → Bool → Mid S → Reached S → Type 0
 IsAddressed o g c false m u = IsUnreferenced m no_operand u
 IsAddressed o g c true m u = IsReferenced o g (request_at Locate c 1) got_place m u
 
+-- the operand of a transfer: its target, if it is taken
 abbrev pub IsTargeted :
     {S : Type 0} → Store S → RegsFields → ChainEnd → Bool → Mid S → Reached S → Type 0
 IsTargeted o g c false m u = IsUnreferenced m no_operand u

@@ -84,9 +84,10 @@ pub record Conduct : Type 0 where
   pub touches : Bool
   -- it claims its words, to be written, and marks their page as modified
   pub claims : Bool
-  -- it examines a target, and checks no more than its bound
+  -- it checks a target: its rights and its bound; it references no word
   pub target : Bool
 
+-- the table of all kinds
 abbrev pub conduct : RequestKind → Conduct
 conduct Fetch = record { reads = true; touches = true; claims = false; target = false }
 conduct Indirect = record { reads = true; touches = true; claims = false; target = false }
@@ -148,6 +149,7 @@ abbrev pub when_ordered : {A : Type 0} → Bool → Result A Refusal → Result 
 when_ordered true given = given
 when_ordered false given = Err (violation illegal_ring_order)
 
+-- a spot, by the descriptor of its segment: brackets in order, bound, and place
 abbrev pub place_by :
     Result SdwFields Refusal → (SdwFields → Result Spot Refusal) → ℕ → Result Spot Refusal
 place_by (Ok d) spot word = when_ordered (in_order d) (place_within (within d word) (spot d))
@@ -164,6 +166,7 @@ abbrev pub first_ring_by : Result SdwFields Refusal → Result ℕ Refusal
 first_ring_by (Ok d) = when_ordered (in_order d) (Ok d.r1)
 first_ring_by (Err e) = Err e
 
+-- R1 of a segment
 unfoldable pub first_ring : {S : Type 0} → Store S → S → DbrFields → ℕ → Result ℕ Refusal
 first_ring o s dbr seg = first_ring_by (o.sdw s dbr seg)
 
@@ -261,14 +264,17 @@ recorded_kind Write = reference.Write
 recorded_kind Indirect = reference.Indirect
 recorded_kind _ = reference.Indirect
 
+-- the references with one more that has touched its words
 abbrev pub with_touched : RequestKind → Request → List Reference → List Reference
 with_touched Odd q refs = with_odd q refs
 with_touched kind q refs =
     refs ++ record { kind = recorded_kind kind; at = q.at; count = q.count } ∷ []
 
+-- the references with one more, if its kind sets marks
 abbrev pub with_reference : RequestKind → Request → List Reference → List Reference
 with_reference kind q refs = if touches kind then with_touched kind q refs else refs
 
+-- the claims with those of a request, if it is a Write
 abbrev pub with_claims : RequestKind → List Spot → List Spot → List Spot
 with_claims kind spots claims = if claims_words kind then claims ++ spots else claims
 

@@ -7,16 +7,16 @@ use Rattle.m36_model.specs.Results.{EffectFields, Working, A, half, value, words
 use Rattle.m36_model.specs.Results.{with_indicators, zn_carry, zn_carry_overflow, completes}
 use Rattle.m36_model.specs.Results.{completes_or_overflows, becomes_negative}
 
--- a result to the register; carry and overflow are set
+-- a result to the register; zero, negative, carry and overflow are set
 unfoldable pub into_register : Working → SumFields → RegsFields → Result EffectFields ℕ
 into_register r s g =
     completes_or_overflows (takes r s.value (zn_carry_overflow s g.ind) g) [] s.overflow
 
--- a result to the register; carry is set, and overflow is not changed
+-- a result to the register; zero, negative and carry are set, and overflow does not change
 unfoldable pub into_register_logical : Working → SumFields → RegsFields → Result EffectFields ℕ
 into_register_logical r s g = completes (takes r s.value (zn_carry s g.ind) g)
 
--- a result to the operand; carry and overflow are set
+-- a result to the operand; zero, negative, carry and overflow are set
 unfoldable pub into_operand : Working → SumFields → RegsFields → Result EffectFields ℕ
 into_operand r s g =
     completes_or_overflows (with_indicators (zn_carry_overflow s g.ind) g) (words r s.value)
@@ -26,7 +26,7 @@ into_operand r s g =
 unfoldable pub add : Working → ℕ → RegsFields → Result EffectFields ℕ
 add r v g = into_register r (sum (half r) (value r g) v false) g
 
--- ADLA, ADLQ, ADLAQ, ADLX: the same without overflow
+-- ADLA, ADLQ, ADLAQ, ADLX: as `add`, without overflow
 unfoldable pub add_logical : Working → ℕ → RegsFields → Result EffectFields ℕ
 add_logical r v g = into_register_logical r (sum (half r) (value r g) v false) g
 
@@ -42,7 +42,7 @@ sign_extended w = if nat_lt w (2 ^ 35) then w else (w + (2 ^ 72 - 2 ^ 36))
 unfoldable pub subtract : Working → ℕ → RegsFields → Result EffectFields ℕ
 subtract r v g = into_register r (difference (half r) (value r g) v false) g
 
--- SBLA, SBLQ, SBLAQ, SBLX: the same without overflow
+-- SBLA, SBLQ, SBLAQ, SBLX: as `subtract`, without overflow
 unfoldable pub subtract_logical : Working → ℕ → RegsFields → Result EffectFields ℕ
 subtract_logical r v g = into_register_logical r (difference (half r) (value r g) v false) g
 

@@ -28,6 +28,7 @@ decrement_increment = 0o14
 abbrev pub increment_decrement : ℕ
 increment_decrement = 0o16
 
+-- Td is one of these five
 abbrev pub is_tally_tag : ℕ → Bool
 is_tally_tag td =
     (td == subtract_delta) || (td == indirect_only) || (td == add_delta)

@@ -28,6 +28,7 @@ part_written _ = Whole
 abbrev pub FitsHalf : ℕ → Type 0
 FitsHalf w = w < 2 ^ 18
 
+-- one word of 18 bits
 abbrev pub IsHalf : List ℕ → Type 0
 IsHalf words = (length words ≡ 1) × All (λ w. FitsHalf w) words
 

@@ -93,6 +93,7 @@ at_instruction seg ring word =
       dbr = record { addr = 0; bnd = 63; unpaged = true; stack = 1 };
     }
 
+-- a word of a segment, in a ring
 abbrev pub at_word : ℕ → ℕ → ℕ → AtFields
 at_word seg word ring = record { seg = seg; word = word; ring = ring }
 

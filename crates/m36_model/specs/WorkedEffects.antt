@@ -95,6 +95,7 @@ QuotientIsCutTowardZero = divide 0o777777777775 (with_q 7) ≡ Ok (record {
   overflow = false;
 })
 
+-- a division by zero is refused
 abbrev pub DivisionByZeroIsRefused : Type 0
 DivisionByZeroIsRefused = divide 0 (with_q 7) ≡ Err divide_check
 

@@ -1,4 +1,4 @@
--- A block of 16 words is eight pairs, one after another.
+-- A block of 16 words is eight pairs in order.
 use Rattle.std.proofs.Common.{ℕ, zero, suc, ◌≡◌, ◌+◌, ◌<◌, ◌≤◌, List, [], ◌∷◌, ◌++◌, length, get_or, set, take, drop, refl, ap, sym, ◌∙◌, subst, append_assoc, append-nil, add-one, arith}
 use Rattle.std.proofs.lemmas.List.{take_more_set, take_all}
 use Rattle.std.proofs.Math.ListN.{drop_of_length-le}
@@ -12,7 +12,7 @@ use Rattle.m36_walk.specs.Runs.{LiesIn, words_from}
 use Rattle.m36_word.specs.Pairs.{pair_words}
 use Rattle.m36_walk.specs.Words.{run_changes}
 
--- the place of the next pair
+-- the address of the next pair
 abbrev pub pair_after : ℕ → ℕ
 pair_after a = wrapped (wrapped (a + 1) + 1)
 
@@ -39,7 +39,7 @@ words_of_pairs-append : (pairs : List Pair) (p : Pair) → words_of_pairs (pairs
 words_of_pairs-append [] p = refl
 words_of_pairs-append (q ∷ pairs) p = ap (λ ws. q.even ∷ (q.odd ∷ ws)) (words_of_pairs-append pairs p)
 
--- a pair more of a block that is read
+-- reading one more pair of a block
 pub block_read_on : (X whole : List ℕ) (a n m i : ℕ) (pairs : List Pair) (p : Pair) → i < length pairs → n ≡ m + 2 → words_from X a 2 ≡ pair_words p
     → whole ≡ words_of_pairs (take i pairs) ++ words_from X a n → whole ≡ words_of_pairs (take (i + 1) (set pairs i p)) ++ words_from X (pair_after a) m
 block_read_on X whole a n m i pairs p h e w k =
@@ -48,7 +48,7 @@ block_read_on X whole a n m i pairs p h e w k =
     let more : words_of_pairs (take (i + 1) (set pairs i p)) ≡ words_of_pairs (take i pairs) ++ pair_words p = rw (take_more_set pairs i p h) (words_of_pairs-append (take i pairs) p) in
     k ∙ rw (two, more) (sym (append_assoc (words_of_pairs (take i pairs)) (pair_words p) (words_from X (pair_after a) m)))
 
--- a pair more of a block that is written
+-- writing one more pair of a block
 put_on : (core words : List ℕ) (a : ℕ) (p : Pair) → core_put core (run_changes a (p.even ∷ (p.odd ∷ words))) ≡ core_put (core_put core (run_changes a (pair_words p))) (run_changes (pair_after a) words)
 unfolding core_put
 put_on core words a p = refl
@@ -61,11 +61,11 @@ block_put_on whole core new a i pairs p d h e f k =
     let rest : drop i pairs ≡ p ∷ drop (i + 1) pairs = cc in
     k ∙ rw (rest, f) (put_on core (words_of_pairs (drop (i + 1) pairs)) a p)
 
--- a block that is written whole
+-- the whole block was written
 pub block_put_whole : (core : List ℕ) (a i : ℕ) (pairs : List Pair) → length pairs ≤ i → core_put core (run_changes a (words_of_pairs (drop i pairs))) ≡ core
 block_put_whole core a i pairs h = rw (drop_of_length-le pairs h) (core_quiet core)
 
--- a block that is read whole
+-- the whole block was read
 no_words : (X : List ℕ) (a n : ℕ) → n ≤ 0 → words_from X a n ≡ []
 unfolding words_from
 no_words X a zero h = refl

@@ -1,4 +1,4 @@
--- Each kind of request to core, as the walk refers to it.
+-- Each kind of request to core, as the walk makes it.
 use Rattle.std.proofs.Common.{ℕ, ◌≡◌, true, false, List, Option, Result, Ok, Err, ◌==◌, refl, ap, sym, subst, ◌∙◌}
 use Rattle.m36_desc.specs.Fields.{SdwFields, DbrFields}
 use Rattle.m36_desc.specs.Access.{allowed, first_of, read_rows, write_rows, fetch_rows}
@@ -21,7 +21,7 @@ module _ (g : RegsFields) (core new : List ℕ) (claims : List Spot) (refs : Lis
   abbrev P : SdwFields → Result (List Spot) (ℕ × Refusal)
   P d = spots_of core_store core g.dbr d q.at.seg q.at.word q.count
 
-  -- a reference that sets marks has left core as its request does
+  -- a reference that sets marks leaves core as its request does
   marked_after : touches q.kind ≡ true → (result : Result Found Fault) → reached (λ d. allowed tt (R d)) P (core_sdw core g.dbr q.at.seg) q.at ≡ found_run q.count result → Marked g.dbr q.at (is_write q.kind) core new result → core_after core g.dbr q (found_run q.count result) ≡ new
   unfolding core_marked marks
   marked_after t (Ok f) h m =
@@ -29,14 +29,14 @@ module _ (g : RegsFields) (core new : List ℕ) (claims : List Spot) (refs : Lis
       rw (t, is) (sym m)
   marked_after t (Err f) h m = sym m
 
-  -- a reference that sets marks is served as it was found
+  -- a reference that sets marks is served by what was found
   pub referred : touches q.kind ≡ true → ((d : SdwFields) → denied q.kind d q.at.ring g.ppr.prr (q.at.seg == g.ppr.psr) q.at.word ≡ R d) → ((d : SdwFields) → places core_store core g.dbr d q ≡ P d) → (result : Result Found Fault)
       → reached (λ d. allowed tt (R d)) P (core_sdw core g.dbr q.at.seg) q.at ≡ found_run q.count result → Marked g.dbr q.at (is_write q.kind) core new result
       → serve core_store g (standing core claims refs) q ≡ served_by q new claims refs (found_run q.count result)
   referred t e f result h m =
       served_as g core claims refs q R P (found_run q.count result) e f h ∙ ap (λ c. served_by q c claims refs (found_run q.count result)) (marked_after t result h m)
 
--- What the walk found of so many words, by the rights that it examined.
+-- The result of the walk for `count` words, by the rights that it has checked.
 abbrev pub FoundBy : (SdwFields → Option ℕ) → List ℕ → DbrFields → AtFields → ℕ → Result Found Fault → Type 0
 FoundBy R core dbr at count result =
     reached (λ d. allowed tt (R d)) (λ d. spots_of core_store core dbr d at.seg at.word count) (core_sdw core dbr at.seg) at ≡ found_run count result

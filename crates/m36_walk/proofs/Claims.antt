@@ -1,4 +1,4 @@
--- Words that are put into the places that a Write has claimed.
+-- Words that are written to the spots that a Write has claimed.
 use Rattle.std.proofs.Common.{ℕ, ◌≡◌, ◌+◌, List, [], ◌∷◌, ◌++◌, length, slice_get, Some, Ok, Err, refl, ap, sym, ◌∙◌, append_assoc, length-append, slice_set, subst}
 use Rattle.m36_desc.specs.Fields.{SdwFields}
 use Rattle.m36_model.specs.Fields.{AtFields}
@@ -13,12 +13,12 @@ use Rattle.m36_walk.specs.Runs.{run_from}
 use Rattle.m36_walk.specs.Served.{request, served_by, at_place, IsWritten}
 use Rattle.m36_walk.specs.Words.{run_changes}
 
--- the claim that follows so many others
+-- the claim after a list of others
 slice_get-append : (before after : List Spot) (s : Spot) → slice_get (before ++ s ∷ after) (length before) ≡ Some s
 slice_get-append [] after s = refl
 slice_get-append (b ∷ before) after s = slice_get-append before after s
 
--- Words for the claims of a run, which follow earlier claims, are words for the places of the run.
+-- Words for the claims of a run, after earlier claims, are words for the addresses of the run.
 pub changes_of_run : (before : List Spot) (a : ℕ) (words : List ℕ) → changes (before ++ run_from a (length words)) (puts_from Whole (length before) words) ≡ run_changes a words
 unfolding changes run_from
 changes_of_run before a [] = refl
@@ -28,7 +28,7 @@ changes_of_run before a (w ∷ words) =
     let same = rw (append_assoc, length-append) at rest in
     rw claim (ap (λ cs. record { spot = Core_word a; part = Whole; value = w } ∷ cs) same)
 
--- Where nothing is claimed, nothing is put.
+-- If nothing is claimed, nothing is written.
 unclaimed : (first : ℕ) (words : List ℕ) → changes [] (puts_from Whole first words) ≡ []
 unfolding changes
 unclaimed first [] = refl
@@ -41,14 +41,14 @@ module _ (at : AtFields) (count : ℕ) (d : SdwFields) (words : List ℕ) where
       let nothing : core_put new (changes [] (puts_from Whole 0 words)) ≡ new = rw (unclaimed 0 words) (core_quiet new) in
       subst (λ (t : Served (List ℕ)). IsWritten t new words (Err f)) (sym e) (record { told = refl; core = sym nothing })
 
-  -- a Write that was answered, and whose words were put from its first place on
+  -- a Write that was answered, and whose words were written from its first address on
   pub written_answered : (s : Served (List ℕ)) (marked new : List ℕ) (a : ℕ) → s ≡ served_by (request Write at count []) marked [] [] (at_place d count (Ok a)) → length words ≡ count → new ≡ core_put marked (run_changes a words)
       → IsWritten s new words (Ok tt)
   written_answered s marked new a e n h =
       let put : changes (run_from a count) (puts_from Whole 0 words) ≡ run_changes a words = rw (← n) (changes_of_run [] a words) in
       subst (λ (t : Served (List ℕ)). IsWritten t new words (Ok tt)) (sym e) (record { told = refl; core = h ∙ ap (core_put marked) (sym put) })
 
--- one word that is put
+-- one word that is written
 pub put_one_word : (core : List ℕ) (a w : ℕ) → slice_set core a w ≡ core_put core (run_changes a (w ∷ []))
 unfolding core_put
 put_one_word core a w = refl

@@ -1,4 +1,5 @@
--- A page in front serves a request: it finds what the tables would find, and its marks are set already.
+-- A page in front serves a request: it finds what the tables would find, and its marks are already
+-- set.
 use Rattle.std.proofs.Common.{ℕ, ◌≡◌, ◌+◌, ◌%◌, ◌≤◌, arith, Bool, true, false, ◌==◌, List, length, Option, None, Ok, ap, sym, refl, ◌∙◌}
 use Rattle.m36_desc.specs.Fields.{SdwFields, DbrFields}
 use Rattle.m36_desc.specs.Access.{allowed, first_of, read_rows, write_rows, fetch_rows, transfer_rows}
@@ -71,7 +72,7 @@ module _ (core : List ℕ) (dbr : DbrFields) (at : AtFields) (ring count a : ℕ
   pub serves_odd : ServesRun (λ g. g.ppr.psr ≡ psr) Odd (record { core = core; dbr = dbr }) core at count (Ok a)
   serves_odd = λ g e k claims refs puts changed c. odd_told g dbr e core core at count claims refs puts changed c psr k (Ok (found core dbr at Rights false count a h)) found_read (marked core dbr at Rights false count a h)
 
--- the first ring bracket that is answered
+-- R1 in the answer
 pub ring_is : (core : List ℕ) (dbr : DbrFields) (at : AtFields) (ring count a : ℕ) → AnswersRead core dbr ring count a at → ring ≡ (sdw_in (record { core = core; dbr = dbr }) at.seg).r1
 ring_is core dbr at ring count a h = h.rights.1 ∙ ap (λ d. d.r1) (its_sdw core dbr at (λ d. MayRead at.ring d × (ring ≡ d.r1)) false count a h)
 
@@ -95,7 +96,7 @@ module _ (core : List ℕ) (dbr : DbrFields) (at : AtFields) (privileged : Bool)
   pub privileged_is : privileged ≡ (sdw_in (record { core = core; dbr = dbr }) at.seg).privileged
   privileged_is = h.rights.1 ∙ ap (λ d. d.privileged) (its_sdw core dbr at Fetches false 1 a h)
 
--- a transfer goes to a word of a page in front
+-- a transfer may go to a word of a page in front
 goes_by : (core : List ℕ) (dbr : DbrFields) (at : AtFields) (a : ℕ) (h : Answers core dbr (MayGo at.ring) false at.seg at.word 1 a) → reached (λ d. allowed tt (first_of (transfer_rows d at.ring at.ring))) (λ d. bound_only (within d at.word) at.word) (core_sdw core dbr at.seg) at ≡ at_target h.sdw (Ok (tt {0}))
 unfolding reached
 goes_by core dbr at a h = rw (h.found, h.rights, h.bound) refl

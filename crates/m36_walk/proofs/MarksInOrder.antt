@@ -1,4 +1,4 @@
--- Marks are set one after another.
+-- Marks are set in order.
 use Rattle.std.proofs.Common.{ℕ, List, [], ◌∷◌, ◌++◌, ◌≡◌, refl}
 use Rattle.m36_model.specs.Place.{Mark, with_mark, with_marks}
 

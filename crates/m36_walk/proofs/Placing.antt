@@ -1,4 +1,4 @@
--- The place of a word, whoever asks for it, is the place that a request for it is told.
+-- The core address of a word without access checks is the one that a request for it returns.
 use Rattle.std.proofs.Common.{ℕ, ◌≡◌, Bool, true, false, not, List, [], ◌∷◌, Result, Ok, Err, ap}
 use Rattle.m36_desc.specs.Fields.{SdwFields, DbrFields}
 use Rattle.m36_desc.specs.Access.{allowed, first_of, in_order, ordered_rows}

@@ -1,4 +1,5 @@
--- A reference to core is served by its descriptor, its rights and its places, in the order in which the walk examines them.
+-- A reference to core is served by its descriptor, its rights and its places, in the order in which
+-- the walk checks them.
 use Rattle.std.proofs.Common.{ℕ, ◌≡◌, List, Option, Some, None, Result, Ok, Err, ◌==◌, refl, ap, sym, ◌∙◌}
 use Rattle.m36_desc.specs.Fields.{SdwFields, DbrFields}
 use Rattle.m36_desc.specs.Access.{allowed}
@@ -44,7 +45,7 @@ module _ (g : RegsFields) (core : List ℕ) (claims : List Spot) (refs : List Re
   unfolding serve reached
   served = by_sdw (core_sdw core g.dbr q.at.seg)
 
-  -- The rights and the places may be given by other words for them.
+  -- The rights and the places may be replaced by equal ones.
   pub served_as : (R : SdwFields → Option ℕ) (P : SdwFields → Result (List Spot) (ℕ × Refusal)) (r : Result Reached Fault) → ((d : SdwFields) → rights d ≡ R d) → ((d : SdwFields) → places core_store core g.dbr d q ≡ P d)
       → reached (λ d. allowed tt (R d)) P (core_sdw core g.dbr q.at.seg) q.at ≡ r
       → serve core_store g (standing core claims refs) q ≡ answer r

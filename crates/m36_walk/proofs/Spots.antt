@@ -1,4 +1,5 @@
--- Within a block of 16 words places follow one another: so the places of a pair or block are a run from its first.
+-- Within a block of 16 words, core addresses are consecutive: so a pair or a block is a run from
+-- its first word.
 use Rattle.std.proofs.Common.{ℕ, zero, suc, ◌+◌, ◌-◌, ◌/◌, ◌%◌, ◌^◌, ◌≤◌, ◌<◌, ◌≡◌, Bool, true, false, List, length, Option, Some, None, Result, Ok, Err, nat_lt, refl, ap, ◌∙◌, sub-one, add-zero, lt-ltb, le-ltb, arith}
 use Rattle.m36_desc.specs.Fields.{SdwFields, PtwFields, DbrFields}
 use Rattle.m36_model.specs.Core.{core_store}
@@ -7,7 +8,7 @@ use Rattle.m36_model.specs.Store.{Core_word, within, placed_one, placed_next, sp
 use Rattle.m36_model.specs.declared.outcome.Refusal.{Refusal}
 use Rattle.m36_walk.specs.Runs.{run_from, examined, LiesIn}
 
--- where a word of the segment lies
+-- the core address of a word of the segment
 abbrev pub place_in : List ℕ → SdwFields → ℕ → Result ℕ Refusal
 place_in core d w = word_place_by d.unpaged d w (ptw_at core (page_at d (w / 1024)))
 
@@ -27,7 +28,7 @@ next_by true d w a p e h =
 next_by false d w a None e h = cc
 next_by false d w a (Some p) e h = next_in_frame p.f p (w % 1024) ((w + 1) % 1024) a e h
 
--- the next word of a block lies at the next place
+-- the next word of a block is at the next address
 next_place : (core : List ℕ) (d : SdwFields) (w a : ℕ) → w % 16 + 2 ≤ 16 → place_in core d w ≡ Ok a → place_in core d (w + 1) ≡ Ok (wrapped (a + 1))
 next_place core d w a h e =
     let page : (w + 1) / 1024 ≡ w / 1024 = omega arith in
@@ -37,7 +38,7 @@ next_place core d w a h e =
 next_within : (d : SdwFields) (w : ℕ) → w % 16 + 2 ≤ 16 → within d w ≡ true → within d (w + 1) ≡ true
 next_within d w h e = let block : (w + 1) / 16 ≡ w / 16 = omega arith in rw block e
 
--- the places of the words of a block, from one of them on
+-- the spots of the words of a block, from one of them on
 spots_run : (core : List ℕ) (dbr : DbrFields) (d : SdwFields) (seg n w a : ℕ) → w % 16 + suc n ≤ 16 → within d w ≡ true → place_in core d w ≡ Ok a
     → spots_of core_store core dbr d seg w (suc n) ≡ examined (length core) w a (suc n)
 unfolding spots_of examined core_spot
@@ -46,7 +47,7 @@ spots_run core dbr d seg (suc n) w a h e f =
     let rest = spots_run core dbr d seg n (w + 1) (wrapped (a + 1)) (omega arith) (next_within d w (omega arith) e) (next_place core d w a (omega arith) f) in
     rw (e, f) (ap (placed_one true w (inside_core_by (nat_lt a (length core)) a)) rest)
 
--- The words of a block are examined as a run from the place of the first.
+-- The words of a block are checked as a run from the address of the first.
 pub places_run : (core : List ℕ) (dbr : DbrFields) (d : SdwFields) (seg word count a : ℕ) → 1 ≤ count → word % 16 + count ≤ 16 → within d word ≡ true → place_in core d word ≡ Ok a
     → spots_of core_store core dbr d seg word count ≡ examined (length core) word a count
 places_run core dbr d seg word zero a h k e f = absurd (omega arith)
@@ -64,7 +65,7 @@ unfolding spots_of core_spot
 places_refused core dbr d seg word zero why h e f = absurd (omega arith)
 places_refused core dbr d seg word (suc n) why h e f = rw (e, f, add-zero) refl
 
--- A run, one word further on.
+-- A run, after its first word.
 further : (size word a n : ℕ) → a < size → examined size word a (suc n) ≡ placed_next (examined size (word + 1) (wrapped (a + 1)) n) (Core_word a)
 unfolding examined
 further size word a n h = let inside : nat_lt a size ≡ true = lt-ltb a size h in rw inside refl
@@ -87,7 +88,7 @@ unfolding LiesIn
 lies_further size a zero k h f = absurd (omega arith)
 lies_further size a (suc n) k h f = (h, rw sub-one at f)
 
--- A run whose next word lies past the end of core.
+-- The next word of a run is past the end of core.
 pub ends_outside : (size word a left : ℕ) → 0 < left → size ≤ a → examined size word a left ≡ Err (word, store_fault)
 unfolding examined
 ends_outside size word a zero k h = absurd (omega arith)
@@ -104,7 +105,7 @@ unfolding LiesIn
 lies_at_last size a zero h = tt
 lies_at_last size a (suc n) h = absurd (omega arith)
 
--- A run that ends within core is there whole.
+-- A run that ends before the end of core is in core.
 one_further : (size a n : ℕ) → size ≤ 2 ^ 24 → a + suc (suc n) ≤ size → wrapped (a + 1) ≡ a + 1
 one_further size a n h k = omega arith
 
@@ -122,8 +123,8 @@ lies_inside size a (suc zero) h k = lies_further size a 1 (omega arith) (omega a
 lies_inside size a (suc (suc n)) h k =
     lies_further size a (suc (suc n)) (omega arith) (omega arith) (rw (one_further size a n h k, sub-one) (lies_inside size (a + 1) (suc n) h (omega arith)))
 
--- what a walk along the rest of a run shows of the whole
+-- what the rest of a run says about the whole run
 pub ruleset walks_on = (refused_further, whole_further, lies_further, ends_outside)
 
--- what the first word's place shows of a run
+-- what the address of the first word says about a run
 pub ruleset by_first = (places_run, places_beyond, places_refused)

@@ -1,4 +1,4 @@
--- A reference that reads tells its words.
+-- A reference that reads returns its words.
 use Rattle.std.proofs.Common.{ℕ, zero, suc, ◌≡◌, ◌+◌, List, ◌∷◌, map, Option, Result, Ok, Err, true, false, ◌==◌, refl, ap, sym, ◌∙◌, slice_index}
 use Rattle.m36_desc.specs.Fields.{SdwFields, DbrFields}
 use Rattle.m36_desc.specs.Access.{first_of, read_rows, write_rows, fetch_rows}
@@ -17,7 +17,7 @@ use Rattle.m36_walk.specs.declared.reference.Found.{Found}
 use Rattle.m36_walk.proofs.Serving.{reached_is}
 use Rattle.m36_walk.proofs.ByKind.{FoundBy, read_served, indirect_served, odd_served, fetch_served, write_served}
 
--- the words at the places of a run
+-- the words at the spots of a run
 pub map-run_from : (X : List ℕ) (a n : ℕ) → map (core_word X) (run_from a n) ≡ words_from X a n
 unfolding run_from words_from
 map-run_from X a zero = refl
@@ -29,7 +29,7 @@ unfolding sdw_in
 found_sdw R core dbr at count f h =
     ap sdw_by (reached_is _ _ (core_sdw core dbr at.seg) at (record { sdw = f.sdw; spots = run_from f.place count }) h)
 
--- one request, whose words are told
+-- one request that returns its words
 telling : (q : Request) (d d' : SdwFields) (new : List ℕ) (claims : List Spot) (refs : List Reference) (words words' : List ℕ) → d' ≡ d → words ≡ words'
     → with_words q d new claims refs (Ok words) ≡ with_words q d' new claims refs (Ok words')
 telling q d d' new claims refs words words' e f = λ i. with_words q (sym e i) new claims refs (Ok (f i))

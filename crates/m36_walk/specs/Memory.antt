@@ -1,8 +1,8 @@
--- What contracts see of the walk.
+-- A walk as contracts see it.
 use Rattle.std.specs.Prelude.{ℕ, List}
 use Rattle.m36_desc.specs.Fields.{DbrFields}
 
--- the words of core, and the descriptor segment base register
+-- the words of core, and the DBR
 pub record Memory : Type 0 where
   pub core : List ℕ
   pub dbr : DbrFields

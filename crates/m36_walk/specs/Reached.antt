@@ -1,5 +1,5 @@
--- What a reference to core gives: descriptor, rights and places in this order, or the first
--- refusal, told at its word.
+-- The result of a reference to core: its descriptor and places, or the fault of the first check
+-- that fails: descriptor, rights, places, in this order.
 use Rattle.std.specs.Prelude.{ℕ, Bool, ◌≡◌, List, Result, Ok, Err}
 use Rattle.m36_desc.specs.Fields.{SdwFields, DbrFields}
 use Rattle.m36_desc.specs.declared.access.Acv.{Acv}
@@ -11,17 +11,17 @@ use Rattle.m36_model.specs.declared.outcome.Refusal.{Refusal}
 use Rattle.m36_walk.specs.Runs.{run_from, told_places}
 use Rattle.m36_walk.specs.declared.reference.Found.{Found}
 
--- a refusal, told at a word
+-- a refusal as a fault at a word
 abbrev pub told : {A : Type 0} → AtFields → Result A Refusal → Result A Fault
 told at (Ok a) = Ok a
 told at (Err why) = Err (fault_by why at)
 
--- an access violation, told at a word
+-- an access violation as a fault at a word
 abbrev pub told_acv : {A : Type 0} → AtFields → Result A Acv → Result A Fault
 told_acv at (Ok a) = Ok a
 told_acv at (Err acv) = Err (fault_by (violation acv.0) at)
 
--- a reference that is answered: the descriptor by which its words were found, and where they lie
+-- an answered reference: the descriptor through which its words were found, and their spots
 pub record Reached : Type 0 where
   pub sdw : SdwFields
   pub spots : List Spot
@@ -42,13 +42,14 @@ reached_sdw rights places at (Ok d) = reached_rights d (told_acv at (rights d))
     (told_places at (places d))
 reached_sdw rights places at (Err f) = Err f
 
--- by the descriptor of the segment, the rights that it gives, and the places of the words
+-- a reference from its parts: the descriptor of the segment, the rights that it gives, and the
+-- places of the words
 unfoldable pub reached : (SdwFields → Result Unit Acv)
     → (SdwFields → Result (List Spot) (ℕ × Refusal)) → Result SdwFields Refusal → AtFields
     → Result Reached Fault
 reached rights places sdw at = reached_sdw rights places at (told at sdw)
 
--- as the code finds it: a run of so many words
+-- the result of the code: the spots are a run of `count` words
 abbrev pub found_run : ℕ → Result Found Fault → Result Reached Fault
 found_run count (Ok f) = Ok (record { sdw = f.sdw; spots = run_from f.place count })
 found_run count (Err f) = Err f

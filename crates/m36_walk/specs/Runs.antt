@@ -1,4 +1,4 @@
--- Words that lie one after another: those of a pair or a block.
+-- Runs of consecutive core words: those of a pair or a block.
 use Rattle.std.specs.Prelude.{ℕ, zero, suc, ◌+◌, ◌<◌, true, List, [], ◌∷◌, Result, Ok, Err, nat_lt}
 use Rattle.std.specs.Prelude.{slice_index}
 use Rattle.m36_model.specs.Fields.{AtFields}
@@ -8,35 +8,35 @@ use Rattle.m36_model.specs.declared.outcome.Fault.{Fault}
 use Rattle.m36_model.specs.declared.outcome.Refusal.{Refusal}
 use Rattle.m36_walk.specs.declared.refusal.Refused.{Refused}
 
--- the spots of so many words from a place on
+-- the spots of n words from an address on
 unfoldable pub run_from : ℕ → ℕ → List Spot
 run_from a zero = []
 run_from a (suc n) = Core_word a ∷ run_from (wrapped (a + 1)) n
 
--- the words there
+-- the values of n words from an address on
 unfoldable pub words_from : List ℕ → ℕ → ℕ → List ℕ
 words_from core a zero = []
 words_from core a (suc n) = slice_index core a ∷ words_from core (wrapped (a + 1)) n
 
--- the run lies in core, or the first of its words that does not; word is the word number
--- of the first
+-- the spots of n words from an address on, or the first word that is past the end of core; `word`
+-- is the word number of the first
 unfoldable pub examined : ℕ → ℕ → ℕ → ℕ → Result (List Spot) (ℕ × Refusal)
 examined size word a zero = Ok []
 examined size word a (suc n) =
     placed_one true word (inside_core_by (nat_lt a size) a)
     (examined size (word + 1) (wrapped (a + 1)) n)
 
--- each word of the run lies in core
+-- each word of the run is in core
 unfoldable pub LiesIn : ℕ → ℕ → ℕ → Type 0
 LiesIn size a zero = Unit {0}
 LiesIn size a (suc n) = (a < size) × LiesIn size (wrapped (a + 1)) n
 
--- a refusal of one of the words, told at it
+-- a refusal as a fault at the word that is refused
 abbrev pub told_places : AtFields → Result (List Spot) (ℕ × Refusal) → Result (List Spot) Fault
 told_places at (Ok spots) = Ok spots
 told_places at (Err e) = Err (fault_in at e.0 e.1)
 
--- the run whose first place was found, or the word that is refused; word is the word number
+-- the run from the address that was found, or the word that is refused; `word` is the word number
 -- of the first
 abbrev pub run_by : ℕ → ℕ → Result ℕ Refused → Result (List Spot) (ℕ × Refusal)
 run_by word count (Ok a) = Ok (run_from a count)

@@ -1,4 +1,4 @@
--- Words as a reference sees them, and words as they are written.
+-- Pending words as references see them, and words that are written.
 use Rattle.std.specs.Prelude.{ℕ, ◌+◌, List, [], ◌∷◌, Option, Some, None}
 use Rattle.m36_model.specs.Act.{Whole}
 use Rattle.m36_model.specs.Store.{Change, Core_word}
@@ -6,16 +6,16 @@ use Rattle.m36_model.specs.Core.{core_put}
 use Rattle.m36_model.specs.Place.{wrapped}
 use Rattle.m36_walk.specs.declared.words.Pending.{Pending}
 
--- a pending word is a change that is still to be made
+-- a pending word as a change that is still to be made
 abbrev pub pending_changes : Option Pending → List Change
 pending_changes None = []
 pending_changes (Some p) = record { spot = Core_word p.place; part = Whole; value = p.word } ∷ []
 
--- core as it is seen with the pending word written
+-- core with the pending word written
 abbrev pub seen : List ℕ → Option Pending → List ℕ
 seen core pending = core_put core (pending_changes pending)
 
--- words for the places of a run, one after another
+-- words written to the addresses of a run, in order
 abbrev pub run_changes : ℕ → List ℕ → List Change
 run_changes a [] = []
 run_changes a (w ∷ words) = record { spot = Core_word a; part = Whole; value = w }

@@ -1,4 +1,4 @@
-//! Calls that change nothing: targets, places, ring brackets, and words that are only looked at.
+//! Calls that change nothing: targets, places, ring brackets, and words that are only read.
 
 ghost use Rattle.std.specs.Prelude.{ℕ, ◌≡◌, ◌<◌, ◌^◌, IfOk, length};
 ghost use Rattle.m36_desc.specs.Access.{ring_called};
@@ -17,7 +17,7 @@ use m36_tables::content;
 use m36_word::Word;
 
 impl Walk {
-    /// The place of a word in core, whoever asks for it: it examines no rights and sets no marks.
+    /// The core address of a word, without access checks. No marks are set.
     #[tactic(auto, unfolding(crate::specs::Runs::LiesIn))]
     pub fn place(&mut self, at: At) -> Result<u32, Fault>
         ensures value { ok_map Core_word result
@@ -30,7 +30,8 @@ impl Walk {
         find_place(&self.core, self.dbr, at)
     }
 
-    /// The word of a segment, whoever asks for it, where it has a place in core. It sets no marks.
+    /// The word of a segment, without access checks, or None if it has no place in core. No marks
+    /// are set.
     pub fn content(&self, seg: u16, word: u32) -> Option<Word>
         requires seg { seg < 2 ^ 15 }
         requires word { word < 2 ^ 18 }
@@ -39,7 +40,8 @@ impl Walk {
         content(&self.core, self.dbr, seg, word)
     }
 
-    /// Examines the target of a transfer in the ring of `at` from ring `prr`. It touches no page of the target.
+    /// Checks the target of a transfer, in the ring of `at` from ring `prr`. No page of the target
+    /// is referenced.
     pub fn transfer(&mut self, at: At, prr: u8) -> Result<(), Fault>
         ensures serves { ServesAsked (λ g. g.ppr.prr ≡ prr) Transfer self.old at
             (at_target (sdw_in self.old at.seg) result) }
@@ -48,7 +50,8 @@ impl Walk {
         find_transfer(&self.core, self.dbr, at, prr)
     }
 
-    /// Examines the target of CALL6 in the ring of `at`, called from `p`. The answer is the ring in which the call goes on.
+    /// Checks the target of CALL6, in the ring of `at`, called from `p`. Returns the ring in which
+    /// execution continues.
     pub fn call(&mut self, at: At, p: Ppr) -> Result<u8, Fault>
         ensures serves { ServesAsked (λ g. (g.ppr.psr ≡ p.psr) × (g.ppr.prr ≡ p.prr)) Call self.old
             at (at_target (sdw_in self.old at.seg) result) }
@@ -59,7 +62,7 @@ impl Walk {
         find_call(&self.core, self.dbr, at, p)
     }
 
-    /// The first ring bracket of a segment. A fault is told at word 0 of the segment in ring 0.
+    /// R1 of a segment. A fault is at word 0 of the segment in ring 0.
     pub fn first_ring(&mut self, seg: u16) -> Result<u8, Fault>
         requires { seg < 2 ^ 15 }
         ensures value { result

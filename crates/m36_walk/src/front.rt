@@ -1,4 +1,5 @@
-//! References that a page in front answers: they change nothing in core, since their marks are set.
+//! References that a page in front answers. They do not change core, since their marks are already
+//! set.
 
 ghost use Rattle.std.specs.Prelude.{ℕ, ◌≡◌, ◌+◌, ◌%◌, ◌<◌, ◌≤◌, ◌^◌, Ok, IfSome, IsTrue, length};
 ghost use Rattle.m36_associative.specs.Right.{AreRight};
@@ -14,7 +15,7 @@ use m36_core::Core;
 use m36_desc::Dbr;
 use m36_model::At;
 
-/// Reads so many words in the ring of `at`: the place of the first, and the first ring bracket of their segment.
+/// Reads `count` words in the ring of `at`: the core address of the first, and R1 of their segment.
 #[inline(always)]
 pub(crate) fn read_in_front(
     core: &Core,
@@ -46,7 +47,7 @@ pub(crate) fn read_in_front(
     }
 }
 
-/// Examines so many words that are to be written, in the ring of `at`: the place of the first.
+/// Checks `count` words that are to be written, in the ring of `at`: the core address of the first.
 #[inline(always)]
 pub(crate) fn write_in_front(
     core: &Core,
@@ -71,8 +72,8 @@ pub(crate) fn write_in_front(
     }
 }
 
-/// Fetches an instruction in the ring of `at` from the page that was fetched from last: its place, and whether its segment
-/// may execute privileged instructions.
+/// Fetches an instruction in the ring of `at` from the page that was fetched from last: its core
+/// address, and whether its segment may execute privileged instructions.
 #[inline(always)]
 pub(crate) fn fetch_in_front(
     core: &Core,
@@ -116,7 +117,7 @@ pub(crate) fn fetch_elsewhere(
     }
 }
 
-/// Reads a word in the ring of `at` and examines it to be written: its place.
+/// Reads a word in the ring of `at` and checks that it may be written: its core address.
 #[inline(always)]
 pub(crate) fn change_in_front(core: &Core, dbr: Dbr, memories: &mut Memories, at: At) -> Option<u32>
     requires right { AreRight core.now dbr memories.old }
@@ -133,7 +134,7 @@ pub(crate) fn change_in_front(core: &Core, dbr: Dbr, memories: &mut Memories, at
     }
 }
 
-/// Whether a transfer in the ring of `at`, from the same ring, goes to a word.
+/// Whether a transfer in the ring of `at`, from the same ring, may go to a word.
 #[inline(always)]
 pub(crate) fn transfer_in_front(core: &Core, dbr: Dbr, memories: &Memories, at: At) -> bool
     requires { AreRight core.now dbr memories.now }

@@ -1,4 +1,4 @@
-//! The marks that a reference sets in the page table words that it passes.
+//! The marks that a reference sets in the page table words through which it has passed.
 
 ghost use Rattle.std.specs.Prelude.{◌≡◌, ◌/◌, ◌<◌, ◌^◌, Ok, length};
 ghost use Rattle.m36_associative.specs.Right.{AreRight};
@@ -10,7 +10,7 @@ use m36_core::Core;
 use m36_desc::{Dbr, Sdw};
 use m36_tables::{directory_at, page_at};
 
-/// Marks the page table word of the descriptor segment for a segment.
+/// Marks the descriptor segment's page table word for a segment as used.
 #[inline(always)]
 #[tactic(auto, unfolding(m36_model::specs::Place::with_marks))]
 fn mark_directory(core: &mut Core, memories: &mut Memories, dbr: Dbr, seg: u16)
@@ -27,7 +27,7 @@ fn mark_directory(core: &mut Core, memories: &mut Memories, dbr: Dbr, seg: u16)
     mark(core, &dbr, memories, directory_at(dbr, seg), false);
 }
 
-/// Marks the page table word of a segment for a word, as modified too under a write.
+/// Marks the page table word for a word of a segment as used and, for a write, as modified.
 #[inline(always)]
 #[tactic(auto, unfolding(m36_model::specs::Place::with_marks))]
 fn mark_page(core: &mut Core, memories: &mut Memories, dbr: Dbr, sdw: &Sdw, word: u32, write: bool)

@@ -1,4 +1,4 @@
-//! Where the words of a segment lie.
+//! The places of the words of a segment.
 
 ghost use Rattle.std.specs.Prelude.{ℕ, ◌≡◌, ◌+◌, ◌/◌, ◌%◌, ◌<◌, ◌≤◌, ◌^◌, Ok, Err, IfOk, IfErr, OnOk, length};
 ghost use Rattle.m36_desc.specs.Fields.{DbrFields};
@@ -15,7 +15,7 @@ use m36_core::Core;
 use m36_desc::{Dbr, Sdw};
 use m36_tables::{store_fault, violation, within, word_place, wrapped};
 
-/// How many words of a run lie in core before the first that does not.
+/// The number of words of a run that are in core before the first one that is not.
 #[tactic(auto, using(crate::proofs::Spots::walks_on))]
 fn words_inside(size: u32, place: u32, count: u32) -> u32
     requires { place < 2 ^ 24 }
@@ -38,7 +38,7 @@ fn words_inside(size: u32, place: u32, count: u32) -> u32
     count
 }
 
-/// As `words_inside`, at once where core does not end within the run.
+/// As `words_inside`, without a loop if the whole run is before the end of core.
 #[inline(always)]
 #[tactic(auto, using(crate::proofs::Spots::examined_inside, crate::proofs::Spots::lies_inside))]
 fn run_inside(size: u32, place: u32, count: u32) -> u32
@@ -58,7 +58,7 @@ fn run_inside(size: u32, place: u32, count: u32) -> u32
     words_inside(size, place, count)
 }
 
-/// The run of so many words of a block from a place on, where it lies in core.
+/// The run of `count` words from address `place` on, if it is in core.
 #[inline(always)]
 fn run_in_core(size: u32, place: u32, count: u32) -> Result<u32, Refused>
     requires size { size ≤ 2 ^ 24 }
@@ -79,7 +79,8 @@ fn run_in_core(size: u32, place: u32, count: u32) -> Result<u32, Refused>
     Ok(place)
 }
 
-/// The place of the first of so many words of a block, all of them examined in rising order.
+/// The core address of the first of `count` words of a block; all of them are checked in ascending
+/// order.
 #[inline(always)]
 #[tactic(auto, using(crate::proofs::Spots::by_first))]
 pub(crate) fn places(core: &Core, sdw: &Sdw, word: u32, count: u32) -> Result<u32, Refused>
@@ -106,7 +107,7 @@ pub(crate) fn places(core: &Core, sdw: &Sdw, word: u32, count: u32) -> Result<u3
     }
 }
 
-/// As `places`, where the memories may have the page table word.
+/// As `places`, with the page table word from the memories if they have it.
 #[tactic(auto, using(crate::proofs::Spots::by_first))]
 pub(crate) fn places_kept(
     core: &Core,

@@ -1,8 +1,8 @@
-//! References that pages in front answer, without a look at the tables.
+//! References that pages in front answer, without a lookup in the tables.
 //!
-//! None says that no page in front answers; the reference is then made by another call. Either way core is as it was, since
-//! the marks of a reference that is answered here are set already. An answer is a place, whose word is looked at or
-//! written by a further call.
+//! None means that no page in front answers. The caller then makes the reference by another call.
+//! Core does not change in either case, since the marks of a reference that is answered here are
+//! already set. The answer is a core address; another call reads or writes the word there.
 
 ghost use Rattle.std.specs.Prelude.{ℕ, ◌≡◌, ◌+◌, ◌%◌, ◌<◌, ◌≤◌, ◌^◌, [], ◌∷◌, None, Ok, IfSome, IsTrue, Option, length, slice_index};
 ghost use Rattle.m36_word.specs.Pairs.{pair_words};
@@ -22,7 +22,7 @@ use m36_model::At;
 use m36_word::{Pair, Word};
 
 impl Walk {
-    /// The place of a word that is read in the ring of `at`.
+    /// The core address of a word that is read in the ring of `at`.
     #[inline(always)]
     pub fn quick_read(&mut self, at: At) -> Option<u32>
         ensures serves { IfSome result (λ a. (psr : ℕ) → Reads self.old self.old.core psr at 1 None
@@ -37,7 +37,7 @@ impl Walk {
         Some(place)
     }
 
-    /// The place of a word that is to be written in the ring of `at`.
+    /// The core address of a word that is to be written in the ring of `at`.
     #[inline(always)]
     pub fn quick_write(&mut self, at: At) -> Option<u32>
         ensures serves { IfSome result (λ a. ServesClaim self.old self.old.core at 1 (Ok a)) }
@@ -48,7 +48,7 @@ impl Walk {
         Some(place)
     }
 
-    /// The place of a word that is read in the ring of `at` and then written.
+    /// The core address of a word that is read in the ring of `at` and then written.
     #[inline(always)]
     pub fn quick_change(&mut self, at: At) -> Option<u32>
         ensures reads { IfSome result (λ a. (psr : ℕ) → Reads self.old self.old.core psr at 1 None
@@ -61,8 +61,8 @@ impl Walk {
         Some(place)
     }
 
-    /// The place of the even word of the pair that holds a word, which is read in the ring of `at`; the odd one follows it.
-    /// With it goes the first ring bracket of its segment.
+    /// The core address of the even word of the pair that contains a word, which is read in the
+    /// ring of `at`; the odd word follows it. Also returns R1 of its segment.
     #[inline(always)]
     pub fn quick_read_pair(&mut self, at: At) -> Option<(u32, u8)>
         ensures serves { IfSome result (λ r. (psr : ℕ) → Reads self.old self.old.core psr
@@ -83,7 +83,8 @@ impl Walk {
         Some((place, ring))
     }
 
-    /// The place of the even word of the pair that holds a word, which is to be written in the ring of `at`.
+    /// The core address of the even word of the pair that contains a word, which is to be written
+    /// in the ring of `at`.
     #[inline(always)]
     pub fn quick_write_pair(&mut self, at: At) -> Option<u32>
         ensures serves { IfSome result (λ a. ServesClaim self.old self.old.core (aligned_at 2 at) 2
@@ -95,7 +96,7 @@ impl Walk {
         Some(place)
     }
 
-    /// The place of an indirect word, read in the ring of `at`, and the first ring bracket of its segment.
+    /// The core address of an indirect word, read in the ring of `at`, and R1 of its segment.
     #[inline(always)]
     pub fn quick_indirect(&mut self, at: At) -> Option<(u32, u8)>
         ensures serves { IfSome result (λ r. (psr : ℕ) → ServesWord (λ g. g.ppr.psr ≡ psr) Indirect
@@ -109,7 +110,7 @@ impl Walk {
         Some((place, ring))
     }
 
-    /// The place of the odd word of an indirect pair, read in the ring of `at`.
+    /// The core address of the odd word of an indirect pair, read in the ring of `at`.
     #[inline(always)]
     pub fn quick_odd(&mut self, at: At) -> Option<u32>
         ensures serves { IfSome result (λ a. (psr : ℕ) → ServesWord (λ g. g.ppr.psr ≡ psr) Odd
@@ -121,8 +122,8 @@ impl Walk {
         Some(place)
     }
 
-    /// The place of the instruction at a word, fetched in the ring of `at`, where it lies in the page that was fetched from
-    /// last, in the same ring.
+    /// The core address of the instruction at a word, fetched in the ring of `at`, if it is in the
+    /// page that was fetched from last, in the same ring.
     #[inline(always)]
     pub fn quick_fetch(&mut self, at: At) -> Option<u32>
         ensures serves { IfSome result (λ a. ServesWord (λ g. g.ppr.prr ≡ at.ring) Fetch self.old
@@ -134,7 +135,8 @@ impl Walk {
         Some(place)
     }
 
-    /// As `quick_fetch`, from another page in front, which becomes the one that is fetched from.
+    /// As `quick_fetch`, from another page in front. This page becomes the one that is fetched
+    /// from.
     #[inline(always)]
     pub fn quick_refetch(&mut self, at: At) -> Option<u32>
         ensures serves { IfSome result (λ a. ServesWord (λ g. g.ppr.prr ≡ at.ring) Fetch self.old
@@ -146,7 +148,7 @@ impl Walk {
         Some(place)
     }
 
-    /// Whether a transfer in the ring of `at`, from the same ring, goes to a word.
+    /// Whether a transfer in the ring of `at`, from the same ring, may go to a word.
     #[inline(always)]
     pub fn quick_transfer(&self, at: At) -> bool
         ensures { IsTrue result → ServesAsked (λ g. g.ppr.prr ≡ at.ring) Transfer self.now at
@@ -155,7 +157,7 @@ impl Walk {
         transfer_in_front(&self.core, self.dbr, &self.memories, at)
     }
 
-    /// The word at a place.
+    /// The word at an address.
     #[inline(always)]
     pub fn peek(&self, place: u32) -> Word
         requires { place < length self.now.core }
@@ -164,7 +166,7 @@ impl Walk {
         self.core.peek(place)
     }
 
-    /// The pair from a place on.
+    /// The pair that begins at an address.
     #[inline(always)]
     pub fn peek_pair(&self, place: u32) -> Pair
         requires { place + 1 < length self.now.core }

@@ -25,7 +25,7 @@ pub(crate) fn pair_at(at: At) -> At
     }
 }
 
-/// The first word of a block.
+/// The first word of a block of 16.
 #[inline(always)]
 pub(crate) fn block_at(at: At) -> At
     ensures value { result ≡ aligned_at 16 at }
@@ -38,7 +38,8 @@ pub(crate) fn block_at(at: At) -> At
 }
 
 impl Walk {
-    /// Fetches the instruction at a word, in the ring of `at`. The bit tells whether it may be privileged.
+    /// Fetches the instruction at a word, in the ring of `at`. The Boolean is the right to
+    /// privileged instructions.
     #[tactic(auto, unfolding(crate::specs::Runs::LiesIn))]
     pub fn fetch(&mut self, at: At) -> Result<(Word, bool), Fault>
         ensures serves { ServesWord (λ g. g.ppr.prr ≡ at.ring) Fetch self.old self.new.core at
@@ -52,8 +53,8 @@ impl Walk {
         Ok((word, privileged && at.ring == 0))
     }
 
-    /// Reads an indirect word in the ring of `at`, for an instruction of segment `psr`. With it goes the first ring
-    /// bracket of its segment.
+    /// Reads an indirect word in the ring of `at`, for an instruction in segment `psr`. Also
+    /// returns R1 of its segment.
     #[tactic(auto, unfolding(crate::specs::Runs::LiesIn))]
     pub fn indirect(&mut self, at: At, psr: u16) -> Result<(Word, u8), Fault>
         ensures serves { ServesWord (λ g. g.ppr.psr ≡ psr) Indirect self.old self.new.core at
@@ -78,7 +79,8 @@ impl Walk {
         Ok(self.core.peek(found.place))
     }
 
-    /// Reads an operand word in the ring of `at`, for an instruction of segment `psr`. A pending word is seen as written.
+    /// Reads an operand word in the ring of `at`, for an instruction in segment `psr`. A pending
+    /// word is read as if it were written.
     #[tactic(auto, unfolding(crate::specs::Runs::LiesIn))]
     pub fn operand(&mut self, at: At, psr: u16, pending: &Option<Pending>) -> Result<Word, Fault>
         ensures serves { Reads self.old self.new.core psr at 1 pending.now
@@ -90,7 +92,7 @@ impl Walk {
         Ok(seen(&self.core, pending, found.place))
     }
 
-    /// Reads the operand pair that holds a word, and the first ring bracket of its segment.
+    /// Reads the operand pair that contains a word, and R1 of its segment.
     pub fn operand_pair(
         &mut self,
         at: At,
@@ -115,7 +117,7 @@ impl Walk {
         Ok((seen_pair(&self.core, pending, found.place), found.ring))
     }
 
-    /// Reads the operand block that holds a word, and the first ring bracket of its segment.
+    /// Reads the operand block that contains a word, and R1 of its segment.
     pub fn operand_block(
         &mut self,
         at: At,
@@ -140,7 +142,7 @@ impl Walk {
         Ok((seen_block(&self.core, pending, found.place), found.ring))
     }
 
-    /// Reads a word in the ring of `at`, for an instruction of segment `psr`.
+    /// Reads a word in the ring of `at`, for an instruction in segment `psr`.
     pub fn read(&mut self, at: At, psr: u16) -> Result<Word, Fault>
         ensures serves { Reads self.old self.new.core psr at 1 None (ok_map (λ w. w ∷ []) result) }
         ensures dbr { self.new.dbr ≡ self.old.dbr }
@@ -149,7 +151,7 @@ impl Walk {
         self.operand(at, psr, &None)
     }
 
-    /// Reads the pair that holds a word. The low bit of the word number is not looked at.
+    /// Reads the pair that contains a word. The low bit of the word number is ignored.
     pub fn read_pair(&mut self, at: At, psr: u16) -> Result<Pair, Fault>
         ensures serves { Reads self.old self.new.core psr (aligned_at 2 at) 2 None
             (ok_map pair_words result) }
@@ -162,7 +164,7 @@ impl Walk {
         }
     }
 
-    /// Reads the block that holds a word. The low four bits of the word number are not looked at.
+    /// Reads the block that contains a word. The low four bits of the word number are ignored.
     pub fn read_block(&mut self, at: At, psr: u16) -> Result<[Pair; 8], Fault>
         ensures serves { Reads self.old self.new.core psr (aligned_at 16 at) 16 None
             (ok_map words_of_pairs result) }

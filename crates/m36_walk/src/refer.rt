@@ -14,7 +14,7 @@ use m36_core::Core;
 use m36_desc::Dbr;
 use m36_model::{At, Fault};
 
-/// A reference that reads and is answered: the place in core of its first word, and the first ring bracket of its segment.
+/// An answered reference that reads: the core address of its first word, and R1 of its segment.
 #[derive(Clone, Copy)]
 pub(crate) struct Reach {
     pub(crate) place: u32,
@@ -33,7 +33,7 @@ fn reach_of(found: &Found) -> Reach
     }
 }
 
-/// Reads so many words in the ring of `at`, for an instruction of segment `psr`.
+/// Reads `count` words in the ring of `at`, for an instruction in segment `psr`.
 #[inline(always)]
 pub(crate) fn refer_read(
     core: &mut Core,
@@ -70,7 +70,7 @@ pub(crate) fn refer_read(
     }
 }
 
-/// Examines so many words that are to be written, in the ring of `at`.
+/// Checks `count` words that are to be written, in the ring of `at`.
 #[inline(always)]
 pub(crate) fn refer_write(
     core: &mut Core,
@@ -103,7 +103,8 @@ pub(crate) fn refer_write(
     }
 }
 
-/// The place of an instruction that was found, and whether its segment may execute privileged instructions.
+/// The core address of a fetched instruction, and whether its segment may execute privileged
+/// instructions.
 #[inline(always)]
 fn fetch_of(found: &Found) -> (u32, bool)
     ensures place { result.0 ≡ found.now.place }
@@ -112,7 +113,8 @@ fn fetch_of(found: &Found) -> (u32, bool)
     (found.place, found.sdw.privileged)
 }
 
-/// Fetches an instruction in the ring of `at`: its place, and whether its segment may execute privileged instructions.
+/// Fetches an instruction in the ring of `at`: its core address, and whether its segment may
+/// execute privileged instructions.
 #[inline(always)]
 pub(crate) fn refer_fetch(
     core: &mut Core,

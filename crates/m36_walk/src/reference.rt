@@ -1,4 +1,5 @@
-//! One reference by the tables: descriptor, rights, places, and then its marks. Then its page is put in front.
+//! One reference by the tables: descriptor, rights, places, and then its marks. Then its page is
+//! put in front.
 
 ghost use Rattle.std.specs.Prelude.{ℕ, ◌≡◌, ◌+◌, ◌/◌, ◌%◌, ◌<◌, ◌≤◌, ◌^◌, ◌==◌, Ok, IfOk, OnOk, length, Result, true, false};
 ghost use Rattle.m36_desc.specs.Access.{allowed, first_of, read_rows, write_rows, fetch_rows};
@@ -21,14 +22,15 @@ use m36_desc::{Acv, Dbr, Sdw};
 use m36_model::{At, Fault};
 use m36_tables::{descriptor, violation};
 
-/// A reference that is answered: the descriptor by which its words were found, and the place of the first.
+/// An answered reference: the descriptor through which its words were found, and the core address
+/// of the first.
 #[derive(Clone, Copy)]
 pub(crate) struct Found {
     pub(crate) sdw: Sdw,
     pub(crate) place: u32,
 }
 
-/// The descriptor of the segment of a word.
+/// The descriptor of the segment of a word, or a fault at this word.
 #[inline(always)]
 #[tactic(auto, unfolding(crate::specs::Served::sdw_in))]
 pub(crate) fn described(core: &Core, dbr: Dbr, at: At) -> Result<Sdw, Fault>
@@ -43,7 +45,7 @@ pub(crate) fn described(core: &Core, dbr: Dbr, at: At) -> Result<Sdw, Fault>
     }
 }
 
-/// As `described`, where the memories may have the descriptor.
+/// As `described`, with the descriptor from the memories if they have it.
 fn described_kept(core: &Core, dbr: Dbr, memories: &mut Memories, at: At) -> Result<Sdw, Fault>
     requires { AreRight core.now dbr memories.old }
     ensures value { result ≡ told at (core_sdw core.now dbr at.seg) }
@@ -57,7 +59,7 @@ fn described_kept(core: &Core, dbr: Dbr, memories: &mut Memories, at: At) -> Res
     }
 }
 
-/// What a descriptor says of a right, told at a word.
+/// The result of a check of rights, as a fault at a word.
 #[inline(always)]
 pub(crate) fn permitted(answer: Result<(), Acv>, at: At) -> Result<(), Fault>
     ensures { result ≡ told_acv at answer }
@@ -68,7 +70,8 @@ pub(crate) fn permitted(answer: Result<(), Acv>, at: At) -> Result<(), Fault>
     }
 }
 
-/// So many words of a segment by the tables, with the marks of a reference to them set. Their page is put in front.
+/// Finds `count` words of a segment by the tables, and sets the marks of a reference to them. Puts
+/// their page in front.
 fn marked_run(
     core: &mut Core,
     dbr: Dbr,
@@ -101,7 +104,8 @@ fn marked_run(
     }
 }
 
-/// A reference that reads so many words in the ring of `at`, for an instruction of segment `psr`, by the tables.
+/// A reference by the tables that reads `count` words in the ring of `at`, for an instruction in
+/// segment `psr`.
 #[inline(never)]
 #[tactic(auto, unfolding(crate::specs::Reached::reached))]
 pub(crate) fn read_by_tables(
@@ -129,7 +133,7 @@ pub(crate) fn read_by_tables(
     marked_run(core, dbr, memories, &sdw, at, count, false)
 }
 
-/// A reference that is to write so many words, in the ring of `at`, by the tables.
+/// A reference by the tables that will write `count` words, in the ring of `at`.
 #[inline(never)]
 #[tactic(auto, unfolding(crate::specs::Reached::reached))]
 pub(crate) fn write_by_tables(
@@ -156,7 +160,7 @@ pub(crate) fn write_by_tables(
     marked_run(core, dbr, memories, &sdw, at, count, true)
 }
 
-/// The fetch of an instruction, in the ring of `at`, by the tables.
+/// The fetch of an instruction by the tables, in the ring of `at`.
 #[inline(never)]
 #[tactic(auto, unfolding(crate::specs::Reached::reached))]
 pub(crate) fn fetch_by_tables(

@@ -17,14 +17,14 @@ pub(crate) fn fault(why: Refusal, at: At) -> Fault
     }
 }
 
-/// A refusal of one of the words of a reference, so many words past the first.
+/// A refusal of one word of a reference: the word that is `further` words after the first.
 #[derive(Clone, Copy)]
 pub(crate) struct Refused {
     pub(crate) why: Refusal,
     pub(crate) further: u8,
 }
 
-/// The fault of a refused word of a block, told at it.
+/// The fault of a refused word of a block, at this word.
 #[inline(always)]
 pub(crate) fn fault_further(refused: Refused, at: At) -> Fault
     requires { at.word % 16 + refused.further < 16 }

@@ -1,4 +1,5 @@
-//! References that touch no word: the target of a transfer or of a call, the place of a word, and a ring bracket.
+//! References that touch no word: the target of a transfer or of a call, the place of a word, and
+//! R1.
 
 ghost use Rattle.std.specs.Prelude.{ℕ, ◌≡◌, ◌<◌, ◌^◌, ◌==◌, [], Ok, IfOk, length};
 ghost use Rattle.m36_desc.specs.Access.{allowed, first_of, in_order, ordered_rows, transfer_rows, call_rows, ring_called};
@@ -18,7 +19,7 @@ use m36_desc::{Acv, Dbr, Sdw};
 use m36_model::{At, Fault, Ppr, Refusal};
 use m36_tables::{descriptor, in_order, violation, within};
 
-/// The word of a target is within the bound.
+/// Checks that a target is within the bound.
 #[inline(always)]
 fn bounded(sdw: &Sdw, at: At) -> Result<(), Fault>
     ensures { ok_map (λ u. []) result
@@ -31,7 +32,7 @@ fn bounded(sdw: &Sdw, at: At) -> Result<(), Fault>
     }
 }
 
-/// The target of a transfer in the ring of `at` from ring `prr`.
+/// Checks the target of a transfer, in the ring of `at` from ring `prr`.
 #[inline(always)]
 #[tactic(auto, unfolding(crate::specs::Reached::reached))]
 pub(crate) fn find_transfer(core: &Core, dbr: Dbr, at: At, prr: u8) -> Result<(), Fault>
@@ -44,7 +45,7 @@ pub(crate) fn find_transfer(core: &Core, dbr: Dbr, at: At, prr: u8) -> Result<()
     bounded(&sdw, at)
 }
 
-/// The ring that a call goes on in, told at its target.
+/// The ring in which a call continues, or a fault at its target.
 fn ring_permitted(answer: Result<u8, Acv>, at: At) -> Result<u8, Fault>
     ensures { result ≡ told_acv at answer }
 {
@@ -54,7 +55,8 @@ fn ring_permitted(answer: Result<u8, Acv>, at: At) -> Result<u8, Fault>
     }
 }
 
-/// The target of CALL6 in the ring of `at` from `ppr`, and the ring in which the call goes on.
+/// Checks the target of CALL6, in the ring of `at` from `ppr`. Returns the ring in which execution
+/// continues.
 #[tactic(auto, unfolding(crate::specs::Reached::reached))]
 pub(crate) fn find_call(core: &Core, dbr: Dbr, at: At, ppr: Ppr) -> Result<u8, Fault>
     ensures target { reached (λ d. allowed tt (first_of
@@ -74,7 +76,7 @@ pub(crate) fn find_call(core: &Core, dbr: Dbr, at: At, ppr: Ppr) -> Result<u8, F
     Ok(ring)
 }
 
-/// The brackets of a segment are in order.
+/// Checks that the brackets of a segment are in order.
 fn ordered(sdw: &Sdw) -> Result<(), Refusal>
     ensures { result ≡ when_ordered (in_order sdw.now) (Ok tt) }
 {
@@ -85,7 +87,7 @@ fn ordered(sdw: &Sdw) -> Result<(), Refusal>
     }
 }
 
-/// The place of a word, whoever asks for it.
+/// The core address of a word, without access checks.
 #[tactic(auto, unfolding(crate::specs::Reached::reached))]
 pub(crate) fn find_place(core: &Core, dbr: Dbr, at: At) -> Result<u32, Fault>
     ensures asked { reached (λ d. allowed tt (first_of (ordered_rows d [])))
@@ -103,7 +105,7 @@ pub(crate) fn find_place(core: &Core, dbr: Dbr, at: At) -> Result<u32, Fault>
     }
 }
 
-/// The first ring bracket of a segment.
+/// R1 of a segment.
 #[tactic(auto, unfolding(m36_model::specs::Store::first_ring))]
 pub(crate) fn find_first_ring(core: &Core, dbr: Dbr, seg: u16) -> Result<u8, Refusal>
     requires { seg < 2 ^ 15 }

@@ -1,8 +1,9 @@
-//! Tests of the associative memories behind a walk: what they keep, in which order, and what empties them.
+//! Tests of the associative memories of a walk: what they keep, in which order, and what empties
+//! them.
 //!
-//! What they must keep is worked out here by the rule alone: each memory is a list of 16 keys, and the one that is used goes
-//! to its front. A reference uses the descriptor of its segment, and where nothing refuses it, the page table word of its
-//! page too.
+//! The expected content is computed here by the rule alone. Each memory is a list of 16 keys, and a
+//! key that is used moves to its front. A reference uses the descriptor of its segment and, unless
+//! it is refused, the page table word of its page.
 
 ghost use Rattle.std.specs.Prelude.{◌<◌, ◌≤◌, ◌^◌};
 
@@ -13,7 +14,7 @@ use m36_model::At;
 use m36_word::{NoMemory, Word};
 use std::alloc::Global;
 
-/// The descriptor segment lies in one piece at core word 0, and has descriptors of 64 segments.
+/// The descriptor segment is contiguous, at core word 0, and has descriptors of 64 segments.
 const WHOLE: Dbr = Dbr {
     addr: 0,
     bnd: 7,
@@ -21,7 +22,7 @@ const WHOLE: Dbr = Dbr {
     unpaged: true,
 };
 
-/// The same descriptors, found by the page table word at octal 400.
+/// The same descriptors, found through the page table word at octal 400.
 const PAGED: Dbr = Dbr {
     addr: 0o400,
     bnd: 7,
@@ -35,7 +36,7 @@ const NONE: u32 = u32::MAX;
 /// The page table of segment 62 begins at the descriptor of segment 60.
 const ODD_ONE: u16 = 62;
 
-/// Where the page table of a segment begins.
+/// The core address of the page table of a segment.
 fn table_of(seg: u16) -> u32
     requires { seg < 64 }
     ensures { result < 2 ^ 10 }
@@ -46,7 +47,7 @@ fn table_of(seg: u16) -> u32
     0o200 + 2 * seg as u32
 }
 
-/// A segment of two pages, of ring 4.
+/// A segment of two pages, in ring 4.
 fn descriptor_of(seg: u16) -> Sdw
     requires { seg < 64 }
 {
@@ -69,7 +70,7 @@ fn descriptor_of(seg: u16) -> Sdw
     }
 }
 
-/// A page table word that names a frame.
+/// A page table word for a frame.
 fn frame(number: u32) -> Ptw
     requires { number < 4 }
 {
@@ -108,7 +109,7 @@ fn walk_of(alloc: Global, dbr: Dbr) -> Result<Walk, NoMemory> {
     Ok(Walk::new(core, dbr))
 }
 
-/// The segments whose descriptors are kept, the one that was used last first.
+/// The segments whose descriptors are kept, the most recently used first.
 fn segments_kept(walk: &mut Walk) -> [u32; 16] {
     let mut keys = [NONE; 16];
     for i in 0..16 {
@@ -119,7 +120,7 @@ fn segments_kept(walk: &mut Walk) -> [u32; 16] {
     keys
 }
 
-/// The addresses of the page table words that are kept, the one that was used last first.
+/// The addresses of the page table words that are kept, the most recently used first.
 fn tables_kept(walk: &mut Walk) -> [u32; 16] {
     let mut keys = [NONE; 16];
     for i in 0..16 {
@@ -130,7 +131,7 @@ fn tables_kept(walk: &mut Walk) -> [u32; 16] {
     keys
 }
 
-/// Uses a key: it goes to the front, and of 17 the last one goes.
+/// Uses a key: it moves to the front, and a 17th key is dropped.
 fn used(order: &mut [u32; 16], key: u32) {
     let mut carried = key;
     for kept in order.iter_mut() {
@@ -143,7 +144,7 @@ fn used(order: &mut [u32; 16], key: u32) {
     }
 }
 
-/// What both memories must keep.
+/// What both memories have to keep.
 #[derive(Drop)]
 struct Orders {
     segments: [u32; 16],
@@ -157,7 +158,7 @@ fn nothing() -> Orders {
     }
 }
 
-/// Whether the memories keep just this, in this order.
+/// Whether the memories keep exactly this, in this order.
 fn keeps(walk: &mut Walk, orders: &Orders) -> bool {
     segments_kept(walk) == orders.segments && tables_kept(walk) == orders.tables
 }
@@ -171,7 +172,8 @@ fn at(seg: u16, word: u32, ring: u8) -> At
     At { word, seg, ring }
 }
 
-/// Fetches as a step does: from the page that was fetched from last, from another one in front, or by the tables.
+/// Fetches as a step does: from the page that was fetched from last, from another page in front, or
+/// by the tables.
 fn fetch_quickly(walk: &mut Walk, place: At) {
     if walk.quick_fetch(place).is_some() || walk.quick_refetch(place).is_some() {
         return;
@@ -186,7 +188,7 @@ fn read_quickly(walk: &mut Walk, place: At) {
     }
 }
 
-/// Examines a word to be written as a step does: in a page in front, or by the tables.
+/// Checks a word to be written, as a step does: in a page in front, or by the tables.
 fn hold_quickly(walk: &mut Walk, place: At) {
     if walk.quick_write(place).is_none() {
         drop(walk.hold(place, 1));
@@ -225,13 +227,14 @@ fn refer_by_rule(walk: &mut Walk, orders: &mut Orders, kind: u32, seg: u16, word
     }
 }
 
-/// The next of a row of numbers that look like chance.
+/// The next of a sequence of pseudorandom numbers.
 fn next(number: &mut u32) -> u32 {
     *number = number.wrapping_mul(1_664_525).wrapping_add(1_013_904_223);
     *number / 65_536
 }
 
-/// To how many segments the references by lot go: to so few that all are kept, to some more than are kept, or to far more.
+/// The number of segments that random references go to: so few that all are kept, some more than
+/// are kept, or far more.
 #[derive(Clone, Copy)]
 enum Spread {
     Few,
@@ -250,7 +253,7 @@ fn segments_of(spread: Spread) -> u32
     }
 }
 
-/// So many references by lot.
+/// Makes this many random references.
 fn refer_by_lot(walk: &mut Walk, orders: &mut Orders, lot: &mut u32, count: u32, spread: Spread) {
     let segments = segments_of(spread);
     for _ in 0..count {
@@ -295,7 +298,7 @@ fn keep_what_was_used_last(rt: HostRuntime) -> Result<(), NoMemory> {
     Ok(())
 }
 
-/// The word at a place is written again as it is.
+/// Writes the word at an address again with its own value.
 fn rewrite(walk: &mut Walk, place: u32) {
     if place < walk.core().len() {
         let word = walk.core().peek(place);
@@ -303,7 +306,8 @@ fn rewrite(walk: &mut Walk, place: u32) {
     }
 }
 
-/// The words of segments 4 and 5 are read, and then the word at a place is written again as it is.
+/// Reads words of segments 4 and 5, and then writes the word at an address again with its own
+/// value.
 fn rewritten(alloc: Global, dbr: Dbr, place: u32) -> Result<Walk, NoMemory> {
     let mut walk = walk_of(alloc, dbr)?;
     refer(&mut walk, 2, 5, 1);
@@ -312,7 +316,7 @@ fn rewritten(alloc: Global, dbr: Dbr, place: u32) -> Result<Walk, NoMemory> {
     Ok(walk)
 }
 
-/// What is kept after those two were read.
+/// What is kept after these two reads.
 fn two_kept() -> Orders {
     let mut orders = nothing();
     orders.segments[0] = 4;
@@ -324,12 +328,13 @@ fn two_kept() -> Orders {
 
 #[test]
 fn are_emptied_by_a_write_of_a_table_word(rt: HostRuntime) -> Result<(), NoMemory> {
-    // The words of the two descriptors, the page table words that were read, and the one that was passed.
+    // The words of the two descriptors, the page table words that were read, and the one through
+    // which the descriptors were found.
     for place in [8, 9, 10, 11, 0o210, 0o212, 0o400] {
         let mut walk = rewritten(rt.alloc(), PAGED, place)?;
         assert!(rt; keeps(&mut walk, &nothing()), "at {place}");
     }
-    // A descriptor that was not read, page table words that were not, and words of the pages.
+    // Words of a descriptor and page table words that were not read, and words of the pages.
     for place in [12, 0o211, 0o214, 0o2000, 0o2001, 0o4000] {
         let mut walk = rewritten(rt.alloc(), PAGED, place)?;
         assert!(rt; keeps(&mut walk, &two_kept()), "at {place}");
@@ -348,7 +353,7 @@ fn stay_as_they_are_when_a_word_of_an_entry_that_went_is_written(
     for seg in 4..30 {
         refer_by_rule(&mut walk, &mut orders, 2, seg, 1);
     }
-    // Of segments 14 to 29 the descriptors are kept, and those of 4 to 13 are not.
+    // The descriptors of segments 14 to 29 are kept, and those of 4 to 13 are not.
     for place in [8, 27, 0o210, 0o232] {
         rewrite(&mut walk, place);
         assert!(rt; keeps(&mut walk, &orders), "at {place}");

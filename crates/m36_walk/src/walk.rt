@@ -10,8 +10,9 @@ use m36_word::NoMemory;
 use std::alloc::Global;
 use std::marker::Model;
 
-/// Core memory with the descriptor segment base register by which its segments are found. It is seen as both. The
-/// memories of what was read of the tables are not seen: all that is kept is what the tables say at every moment.
+/// Core memory with the descriptor segment base register (DBR), through which its segments are
+/// found. Contracts see these two. They do not see the memories of what was read of the tables: the
+/// invariant says that everything kept is what the tables say.
 #[derive(Drop)]
 pub struct Walk {
     pub(crate) core: Core,
@@ -55,14 +56,14 @@ impl Walk {
         }
     }
 
-    /// Core as it stands.
+    /// Core as it is now.
     pub fn core(&self) -> &Core
         ensures { result.now ≡ self.now.core }
     {
         &self.core
     }
 
-    /// Core, to be written. Nothing that was read from it before is used again.
+    /// Core, to be written. Everything that was kept of it is dropped.
     pub fn core_mut(&mut self) -> &mut Core
         ensures* lends { sem 𝓛 (LendsCore self.entry result) }
         ensures value { result.now ≡ self.old.core }

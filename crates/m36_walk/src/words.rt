@@ -1,4 +1,4 @@
-//! The words at places that were found: one, a pair, or a block of 16.
+//! The words at places that were found: one word, a pair, or a block of 16.
 
 ghost use Rattle.std.specs.Prelude.{ℕ, ◌≡◌, ◌+◌, ◌<◌, ◌^◌, length, slice_index};
 ghost use Rattle.m36_word.specs.Pairs.{pair_words};
@@ -15,24 +15,25 @@ use m36_desc::Dbr;
 use m36_tables::wrapped;
 use m36_word::{Pair, Word};
 
-/// A word that an instruction is still to write, and that its own references see as written.
+/// A word that an instruction has still to write. References of the same instruction read it as
+/// written.
 #[derive(Clone, Copy, PartialEq, Eq)]
 pub struct Pending {
     pub word: Word,
-    /// The place in core where it will stand.
+    /// The core address to which it will be written.
     pub place: u32,
 }
 
-/// Words in core, one after another modulo 2^24.
+/// Consecutive core words, modulo 2^24.
 #[derive(Clone, Copy, PartialEq, Eq)]
 pub struct Run {
-    /// The place of the first.
+    /// The core address of the first word.
     pub place: u32,
-    /// How many they are.
+    /// The number of words.
     pub count: u32,
 }
 
-/// The word at a place.
+/// The word at an address, or the pending word if it is for this address.
 #[tactic(auto, unfolding(m36_model::specs::Core::core_put))]
 pub(crate) fn seen(core: &Core, pending: &Option<Pending>, a: u32) -> Word
     requires { a < length core.now }
@@ -44,7 +45,7 @@ pub(crate) fn seen(core: &Core, pending: &Option<Pending>, a: u32) -> Word
     }
 }
 
-/// The pair from a place on.
+/// The pair that begins at an address.
 #[tactic(auto, unfolding(crate::specs::Runs::words_from, crate::specs::Runs::LiesIn))]
 pub(crate) fn seen_pair(core: &Core, pending: &Option<Pending>, a: u32) -> Pair
     requires place { a < 2 ^ 24 }
@@ -56,7 +57,7 @@ pub(crate) fn seen_pair(core: &Core, pending: &Option<Pending>, a: u32) -> Pair
     Pair { even, odd }
 }
 
-/// The block of 16 words from a place on.
+/// The block of 16 words that begins at an address.
 pub(crate) fn seen_block(core: &Core, pending: &Option<Pending>, a: u32) -> [Pair; 8]
     requires place { a < 2 ^ 24 }
     requires inside { LiesIn (length core.now) a 16 }
@@ -74,7 +75,7 @@ pub(crate) fn seen_block(core: &Core, pending: &Option<Pending>, a: u32) -> [Pai
     pairs
 }
 
-/// Writes a pair from a place on.
+/// Writes the pair that begins at an address.
 #[tactic(auto, unfolding(m36_model::specs::Core::core_put, crate::specs::Runs::LiesIn))]
 pub(crate) fn put_pair(core: &mut Core, dbr: &Dbr, memories: &mut Memories, a: u32, pair: Pair)
     requires place { a < 2 ^ 24 }
@@ -88,7 +89,7 @@ pub(crate) fn put_pair(core: &mut Core, dbr: &Dbr, memories: &mut Memories, a: u
     store(core, dbr, memories, wrapped(a + 1), pair.odd);
 }
 
-/// Writes a block of 16 words from a place on.
+/// Writes the block of 16 words that begins at an address.
 pub(crate) fn put_block(
     core: &mut Core,
     dbr: &Dbr,

@@ -17,7 +17,7 @@ use m36_associative::store;
 use m36_model::{At, Fault};
 use m36_word::{Pair, Word};
 
-/// The first of so many words that a reference has.
+/// The first word of a reference to 1, 2 or 16 words.
 #[inline(always)]
 pub fn first_at(at: At, count: u8) -> At
     requires { IsCount count }
@@ -35,8 +35,8 @@ pub fn first_at(at: At, count: u8) -> At
 }
 
 impl Walk {
-    /// Examines a Write of 1, 2 or 16 words in the ring of `at`, sets its marks, and writes nothing. The answer is where
-    /// the words stand.
+    /// Checks a Write of 1, 2 or 16 words in the ring of `at`, sets its marks, and writes nothing.
+    /// Returns the core words.
     pub fn claim(&mut self, at: At, count: u8) -> Result<Run, Fault>
         requires { IsCount count }
         ensures serves { ServesClaim self.old self.new.core (aligned_at count at) count
@@ -56,7 +56,7 @@ impl Walk {
         )
     }
 
-    /// As `claim`. The answer is the place of the first word; the others follow it modulo 2^24.
+    /// As `claim`. Returns the core address of the first word; the others follow it modulo 2^24.
     pub fn hold(&mut self, at: At, count: u8) -> Result<u32, Fault>
         requires { IsCount count }
         ensures serves { ServesClaim self.old self.new.core (aligned_at count at) count result }
@@ -81,7 +81,7 @@ impl Walk {
         store(&mut self.core, &self.dbr, &mut self.memories, place, w);
     }
 
-    /// Writes a pair from a place on.
+    /// Writes the pair that begins at an address.
     pub fn store_pair(&mut self, place: u32, pair: Pair)
         requires place { place < 2 ^ 24 }
         requires inside { LiesIn (length self.old.core) place 2 }
@@ -93,7 +93,7 @@ impl Walk {
         put_pair(&mut self.core, &self.dbr, &mut self.memories, place, pair);
     }
 
-    /// Writes a block from a place on.
+    /// Writes the block that begins at an address.
     pub fn store_block(&mut self, place: u32, block: &[Pair; 8])
         requires place { place < 2 ^ 24 }
         requires inside { LiesIn (length self.old.core) place 16 }
@@ -122,7 +122,7 @@ impl Walk {
         }
     }
 
-    /// Writes the pair that holds a word. The low bit of the word number is not looked at.
+    /// Writes the pair that contains a word. The low bit of the word number is ignored.
     pub fn write_pair(&mut self, at: At, p: Pair) -> Result<(), Fault>
         ensures writes { Writes self.old self.new.core (aligned_at 2 at) 2 (pair_words p) result }
         ensures dbr { self.new.dbr ≡ self.old.dbr }
@@ -137,7 +137,7 @@ impl Walk {
         }
     }
 
-    /// Writes the block that holds a word. The low four bits of the word number are not looked at.
+    /// Writes the block that contains a word. The low four bits of the word number are ignored.
     pub fn write_block(&mut self, at: At, b: [Pair; 8]) -> Result<(), Fault>
         ensures writes { Writes self.old self.new.core (aligned_at 16 at) 16 (words_of_pairs b)
             result }

@@ -3,7 +3,7 @@ use Rattle.m36_associative.specs.Watched.{watched}
 use Rattle.m36_associative.specs.declared.kept.KeptPtw.{KeptPtw}
 use Rattle.m36_associative.proofs.resting.watch_table_words.Given as goal
 
--- each page table word before this place is watched
+-- each page table word before this entry is watched
 abbrev pub invariant-loop-kept : goal.invariant-loop-kept
 invariant-loop-kept l = record {
   before : (k : ℕ) (e : KeptPtw) (a : ℕ) → k < l.kept-index → get_or l.ptws k e ≡ e → e.key ≡ a + 1 → watched l.tables a ≡ true;

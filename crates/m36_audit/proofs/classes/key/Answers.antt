@@ -1,4 +1,4 @@
--- There is a key exactly where a descriptor is found and both its words stand in core.
+-- There is a key exactly if a descriptor is found and both its words are in core.
 use Rattle.std.proofs.Common.{◌∙◌, arith}
 use Rattle.m36_audit.proofs.SameDescriptors.{key_refused, key_cut, key_halved, key_there, key_odd}
 use Rattle.m36_audit.proofs.classes.key.Goals as goal

@@ -3,7 +3,7 @@ use Rattle.arrayvec.specs.ArrayVec.{array_vec_len}
 use Rattle.m36_audit.specs.Joints.{AreShares, AreFoundSo}
 use Rattle.m36_audit.proofs.joint_auditor.judged_all.Given as goal
 
--- The findings of the processes before this one are noted.
+-- The findings of the processes before this one are in the list.
 abbrev pub invariant-loop-k : goal.invariant-loop-k
 invariant-loop-k l = record {
   marks_len : length l.marks.tables.items ≡ length l.core;

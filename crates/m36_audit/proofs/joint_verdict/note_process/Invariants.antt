@@ -5,7 +5,7 @@ use Rattle.m36_audit.specs.Findings.{pairs}
 use Rattle.m36_audit.specs.Joints.{all_found}
 use Rattle.m36_audit.proofs.joint_verdict.note_process.Given as goal
 
--- The findings before this one are noted.
+-- The findings before this one are in the list.
 abbrev pub invariant-loop-f : goal.invariant-loop-f
 invariant-loop-f l = record {
   listed : all_found l.findings.items ≡ all_found l.fn.findings.items ++ of_process l.process (pairs (take l.f-index l.list));

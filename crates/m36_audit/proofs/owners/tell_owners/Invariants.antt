@@ -4,7 +4,7 @@ use Rattle.m36_audit.specs.Runs.{run, coverage, AreOpen}
 use Rattle.m36_audit.specs.Shares.{AreOwned}
 use Rattle.m36_audit.proofs.owners.tell_owners.Given as goal
 
--- The words before this one are told.
+-- The words before this one are recorded.
 abbrev pub invariant-loop-a : goal.invariant-loop-a
 invariant-loop-a l = record {
   opened : AreOpen (run l.core l.dbr) (2 ^ 23) l.a l.open_runs;

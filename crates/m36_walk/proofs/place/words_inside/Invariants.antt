@@ -3,7 +3,7 @@ use Rattle.m36_model.specs.declared.outcome.Refusal.{Refusal}
 use Rattle.m36_walk.specs.Runs.{run_from, examined, LiesIn}
 use Rattle.m36_walk.proofs.place.words_inside.Given as goal
 
--- What holds of the words that are left holds of them all.
+-- What holds of the rest of the words holds of all words.
 abbrev pub invariant-loop-left : goal.invariant-loop-left
 invariant-loop-left l = record {
   refused : (word : ℕ) (e : ℕ × Refusal) → examined l.size (word + (l.count - l.left)) l.next l.left ≡ Err e → examined l.size word l.place l.count ≡ Err e;

@@ -6,7 +6,7 @@ use Rattle.m36_walk.specs.Runs.{LiesIn}
 use Rattle.m36_walk.specs.Words.{run_changes}
 use Rattle.m36_walk.proofs.words.put_block.Given as goal
 
--- What is left to write completes what was written.
+-- Writing the rest of the words completes what was written.
 abbrev pub invariant-loop-pair : goal.invariant-loop-pair
 invariant-loop-pair l = record {
   put : core_put l.fn.core (run_changes l.a (words_of_pairs l.block)) ≡ core_put l.core (run_changes l.next (words_of_pairs (drop l.pair-index l.block)));

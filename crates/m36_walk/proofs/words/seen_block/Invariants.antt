@@ -4,7 +4,7 @@ use Rattle.m36_walk.specs.Runs.{LiesIn, words_from}
 use Rattle.m36_walk.specs.Words.{seen}
 use Rattle.m36_walk.proofs.words.seen_block.Given as goal
 
--- The pairs that were read, and the words that are left, are the words of the block.
+-- The pairs that were read, and the rest of the words, are the words of the block.
 abbrev pub invariant-loop-i : goal.invariant-loop-i
 invariant-loop-i l = record {
   words : words_from (seen l.core l.pending) l.a 16 ≡ words_of_pairs (take l.i l.pairs) ++ words_from (seen l.core l.pending) l.next (16 - 2 * l.i);
