@@ -1,5 +1,4 @@
--- The pager that page tables give: every page is in no frame, and the words that are lacking are
--- zero.
+-- The pager that is made from page tables: every page is in no frame, and missing words are zero.
 use Rattle.std.specs.Prelude.{ℕ, ◌+◌, ◌-◌, ◌*◌, Bool, true, ◌&&◌, ◌||◌, nat_le, List, [], ◌∷◌}
 use Rattle.std.specs.Prelude.{◌++◌, length, map, replicate, None}
 use Rattle.std.specs.List.{list_all}
@@ -19,7 +18,7 @@ abbrev pub pager_given : ℕ → ℕ → List PageTable → PagerFields
 pager_given first frames tables =
     record { first = first; holders = replicate frames None; tables = map table_given tables }
 
--- A table ends below a frame, and its segment has no more words than its pages.
+-- A table ends below a frame, and has no more words than its pages.
 abbrev pub fits_below : ℕ → PageTable → Bool
 fits_below first t =
     nat_le (t.at + t.pages) (1024 * first) && nat_le (length t.words) (1024 * t.pages)
