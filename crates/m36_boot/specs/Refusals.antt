@@ -1,5 +1,5 @@
--- Whether a catalog and its files are booted, or the first code that says why not: U1, then U4 and
--- U2 of the gates in the order of the catalog, and then U3 and U4 of the start.
+-- Whether a catalog and its files can be booted, or the first fault, in this order: U1; then U4
+-- and U2 of the gates, in the order of the catalog; then U3 and U4 of the start.
 use Rattle.std.specs.Prelude.{ℕ, zero, suc, ◌≡◌, ◌+◌, ◌-◌, ◌^◌, ◌<◌, Bool, true, false, not, ◌&&◌}
 use Rattle.std.specs.Prelude.{nat_lt, nat_le, if◌then◌else◌, List}
 use Rattle.std.specs.Prelude.{length, slice_get, slice_index, Option, Some, None, Result, Ok, Err}
@@ -17,25 +17,25 @@ use Rattle.m36_link.specs.Snap.{RefusedFields}
 use Rattle.m36_boot.specs.Segments.{file_at, is_gate, entry_bound_of, limit_of}
 use Rattle.m36_boot.specs.Start.{start_answer, start_segment, may_start}
 
--- An instruction refers to 18 pages at most, so with 19 frames one that is tried again finds a
--- frame that it does not refer to; the rest of the 24, below which U1 comes, is room.
+-- An instruction refers to at most 18 pages, so with 19 frames one that is retried finds a frame
+-- that it does not refer to; the rest of the 24, below which U1 applies, is reserve.
 abbrev pub least_frames : ℕ
 least_frames = 24
 
--- how many numbers the call limiter of a descriptor holds, in its 14 bits
+-- the number of values of the call limiter of a descriptor, which has 14 bits
 abbrev pub limit_count : ℕ
 limit_count = 2 ^ 14
 
 abbrev pub IsLimit : ℕ → Type 0
 IsLimit limit = limit < limit_count
 
--- the greatest of them
+-- the maximum of the call limiter
 abbrev pub most_entries : ℕ
 most_entries = limit_count - 1
 
 -- ---- gates
 
--- whether a gate may have so many entries
+-- whether a gate may have this number of entries
 abbrev pub is_entry_count : ℕ → Bool
 is_entry_count bound = nat_lt 0 bound && nat_le bound most_entries
 
@@ -51,19 +51,19 @@ abbrev pub gate_fault_of : ℕ → Option SegmentFields → List ℕ → Option 
 gate_fault_of seg None words = None
 gate_fault_of seg (Some s) words = gate_fault seg s words
 
--- of so many segments from one on, counted from 0
+-- the first fault of n segments from segment i on, counted from 0
 unfoldable pub first_gate_fault : CatalogFields → List (List ℕ) → ℕ → ℕ → Option BootFault
 first_gate_fault catalog files i zero = None
 first_gate_fault catalog files i (suc n) =
     option_or (gate_fault_of (catalog_number i) (slice_get catalog.segments i) (file_at files i))
     (first_gate_fault catalog files (i + 1) n)
 
--- ---- the start: where it is not found, where it is no object, and what else forbids it
+-- ---- the start: its segment is not found, is not an object, or may not be started
 
 abbrev pub Answer : Type 0
 Answer = Result SnapFields BootFault
 
--- an object or a gate, whose file is an object
+-- a segment that is not plain, whose file is an object
 abbrev pub is_object : Option SegmentFields → Option PartsFields → Bool
 is_object (Some s) (Some o) = not (is_plain s.kind)
 is_object _ _ = false
@@ -83,7 +83,7 @@ start_in catalog files (Some seg) =
 unfoldable pub start_of : CatalogFields → List (List ℕ) → Answer
 start_of catalog files = start_in catalog files (start_segment catalog)
 
--- ---- all
+-- ---- all of them
 
 abbrev pub unless : Option BootFault → Answer → Answer
 unless (Some first) answer = Err first
@@ -95,7 +95,7 @@ boot_answer catalog files =
     else unless (first_gate_fault catalog files 0 (length catalog.segments))
     (start_of catalog files)
 
--- ---- what is answered, where want of memory may come at any time
+-- ---- the results of the code, which may also be NoMemory
 
 abbrev pub Told : BootFault → Answer → Type 0
 Told fault.NoMemory answer = Unit {0}
@@ -126,7 +126,7 @@ abbrev pub limit_at : Option SegmentFields → List ℕ → ℕ
 limit_at None words = 0
 limit_at (Some s) words = limit_of s words
 
--- the call limiter of each segment of the catalog
+-- the call limiter of each of the first `count` segments of the catalog
 pub record AreLimits
     (catalog : CatalogFields) (files : List (List ℕ)) (count : ℕ) (limits : List ℕ)
     : Type 0 where

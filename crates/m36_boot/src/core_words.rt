@@ -15,7 +15,7 @@ use m36_dir::Catalog;
 use m36_link::{FIRST_SEGMENT, File};
 use m36_word::{Pair, Word};
 
-// The pair of words of a descriptor; zeros for that of no segment.
+// The two words of a descriptor; zeros if there is no segment.
 fn pair_of(sdw: Option<Sdw>) -> Pair
     ensures even { result.even ≡ descriptor_word 0 sdw }
     ensures odd { result.odd ≡ descriptor_word 1 sdw }
@@ -30,7 +30,7 @@ fn pair_of(sdw: Option<Sdw>) -> Pair
     }
 }
 
-// Writes the pair of words of a segment's descriptor.
+// Writes the two words of a segment's descriptor.
 fn put_pair(core: &mut Core, seg: u16, pair: Pair)
     requires seg { seg < 1024 }
     requires core { descriptor_words ≤ length core.old }

@@ -1,4 +1,4 @@
-//! The call limiters of the segments, and what is wrong with gates.
+//! The call limiters of the segments, and the faults of gates.
 
 ghost use Rattle.std.specs.Prelude.{◌≡◌, ◌+◌, ◌<◌, ◌++◌, ◌∷◌, [], true, length, OnOk, IfOk, IfErr, None};
 ghost use Rattle.m36_boot.specs.Segments.{AreShort};
@@ -11,10 +11,10 @@ use m36_link::{FIRST_SEGMENT, File};
 use m36_word::NoMemory;
 use std::alloc::Global;
 
-// The greatest number that the call limiter of a descriptor holds.
+// The maximum of the call limiter of a descriptor.
 const MOST_ENTRIES: u32 = 16383;
 
-// Whether a gate may have so many entries.
+// Whether a gate may have this number of entries.
 fn is_entry_count(bound: u32) -> bool
     ensures value { result ≡ is_entry_count bound }
     ensures small { result ≡ true → IsLimit bound }
@@ -37,7 +37,7 @@ fn gate_limit(seg: u16, file: &File) -> Result<u16, BootFault>
     Ok(bound as u16)
 }
 
-// The call limiter of a segment.
+// The call limiter of a segment: 0 if it is not a gate.
 #[tactic(auto, unfolding(crate::specs::Refusals::gate_fault, crate::specs::Segments::limit_of))]
 fn limit(seg: u16, segment: &Segment, file: &File) -> Result<u16, BootFault>
     ensures { LimitSays seg segment.now file.now result }
@@ -55,7 +55,8 @@ fn add(limits: &mut Vec<u16>, limit: u16) -> Result<(), NoMemory>
     Ok(())
 }
 
-/// The call limiter of each segment of the catalog. The error is the first fault of a gate, or want of memory.
+/// The call limiter of each segment of the catalog. The error is the first fault of a gate, or
+/// `NoMemory`.
 pub(crate) fn limits_of(
     alloc: Global,
     catalog: &Catalog,

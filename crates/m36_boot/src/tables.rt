@@ -13,7 +13,7 @@ use m36_page::PageTable;
 use m36_word::NoMemory;
 use std::alloc::Global;
 
-// Adds the page table of a segment, if the image has it.
+// Adds the page table of a segment, if the image has the segment.
 fn add_table(
     alloc: Global,
     tables: &mut Vec<PageTable>,
