@@ -1,7 +1,7 @@
--- The booted run: what the next turn may be, and to which state it leads. Page services are silent.
--- Which frame a page service takes, and which used marks it puts off, is free within its rules. A
--- link service may run out of memory, and then changes nothing. All else of a turn, and of the state
--- after it, is a function of the state before.
+-- The booted run: what the next turn may be, and the state after it. Page services are not
+-- reported. Which frame a page service takes, and which used marks it clears, is open within its
+-- rules. A link service may run out of memory, and then changes nothing. Everything else of a
+-- turn, and of the state after it, is a function of the state before.
 use Rattle.std.specs.Prelude.{◌≡◌, ℕ, ◌≤◌, Bool, true, false, List, [], ◌∷◌}
 use Rattle.std.specs.Prelude.{Result, Ok, Err}
 use Rattle.m36_model.specs.Fields.{AtFields}
@@ -40,7 +40,7 @@ pub record Booted : Type 0 where
 
 -- ---- steps
 
--- a step over core as it stands
+-- the record of a step over the current core
 abbrev pub told_of : PagedState → StepRecord
 told_of s = record_of core_store (core_state s)
 
@@ -56,12 +56,12 @@ with_step r s =
       loaded = loaded_after r.loaded (told_of s);
     }
 
--- The turn is the step of a paged state, and leads behind it.
+-- The turn is the step from this paged state, and `after` is the state after it.
 pub record Takes (s : PagedState) (before : Booted) (turn : Turn) (after : Booted) : Type 0 where
   pub told : turn ≡ Stepped (told_of s)
   pub after_is : after ≡ with_step before s
 
--- Pages are served until the step meets none that is absent.
+-- Pages are served until the step meets no absent page.
 pub record IsStep (frames : ℕ) (before : Booted) (turn : Turn) (after : Booted) : Type 0 where
   pub services : ℕ
   pub few : services ≤ pages_of_an_instruction
@@ -70,16 +70,16 @@ pub record IsStep (frames : ℕ) (before : Booted) (turn : Turn) (after : Booted
   pub present : IsPresent (told_of last).outcome
   pub takes : Takes last before turn after
 
--- Before an LDBR has been executed pages are served, and from then on none.
+-- Pages are served until an LDBR has been executed, and none after that.
 abbrev pub IsStepTurn : Bool → ℕ → Booted → Turn → Booted → Type 0
 IsStepTurn false frames before turn after = IsStep frames before turn after
 IsStepTurn true frames before turn after = Takes before.state before turn after
 
 -- ---- services
 
--- Words of segments are written, each where its page is, and nothing else of the memory changes,
--- marks of page table words included. So the core is still that of the image, and the flat memory
--- has the same words written.
+-- Words of segments are written, each where its page is. Nothing else of the memory changes, and
+-- no mark of a page table word. So the core is still that of the image, and the flat memory
+-- changes by the same words.
 pub record IsWritten (frames : ℕ) (old new : Paged) (changes : List Change) : Type 0 where
   pub put : new ≡ paged_put old changes
   -- what follows
@@ -96,7 +96,7 @@ pub record IsLinked
   pub coming : after.coming ≡ Step
   pub loaded : after.loaded ≡ before.loaded
 
--- a link service by its answer; want of memory is free, and changes nothing
+-- a link service, by its answer; NoMemory is always allowed, and changes nothing
 abbrev pub IsLinkTurn :
     Result SnapFields RefusedFields → ℕ → AtFields → Booted → Turn → Booted → Type 0
 IsLinkTurn answer frames at before NoMemory after = after ≡ before
@@ -143,7 +143,7 @@ AreTurns lib r [] last = last ≡ r
 AreTurns lib r (turn ∷ turns) last =
     (mid : Booted) × IsTurn lib r turn mid × AreTurns lib mid turns last
 
--- ---- what is kept in a run until an LDBR is executed
+-- ---- the invariant of a run until an LDBR is executed
 
 pub record IsStanding (frames : ℕ) (s : PagedState) : Type 0 where
   pub dbr : s.regs.dbr ≡ booted_dbr
@@ -153,7 +153,7 @@ abbrev pub Stands : Bool → ℕ → PagedState → Type 0
 Stands false frames s = IsStanding frames s
 Stands true frames s = Unit {0}
 
--- the flat run's state for which a state of the booted run stands
+-- the state of the flat run that a state of the booted run represents
 abbrev pub flat_run_of : Booted → FlatRun
 flat_run_of r =
     record {

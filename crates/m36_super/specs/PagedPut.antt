@@ -1,4 +1,4 @@
--- Words written into the segments of a paged memory, each where its page is.
+-- Words that are written into the segments of a paged memory, each where its page is.
 use Rattle.std.specs.Prelude.{ℕ, ◌==◌, if◌then◌else◌, List, [], ◌∷◌, Result, Ok, Err}
 use Rattle.m36_model.specs.Act.{Part}
 use Rattle.m36_model.specs.Faults.{missing_page}
@@ -9,8 +9,8 @@ use Rattle.m36_model.specs.BootedCore.{booted_dbr}
 use Rattle.m36_model.specs.Residence.{Paged}
 use Rattle.m36_model.specs.declared.outcome.Refusal.{Refusal}
 
--- A word is written into its frame where its page is in one, and otherwise into the words kept. A
--- word that has no place, as one past the bound of its segment, is not written.
+-- A word is written into its frame if its page is in one, and otherwise into the kept words. A
+-- word without a place, such as one past the bound of its segment, is not written.
 abbrev pub put_at : Paged → ℕ → ℕ → Part → ℕ → Result Spot Refusal → Paged
 put_at m seg w part v (Ok spot) = record m { core = put_one m.core spot part v }
 put_at m seg w part v (Err why) =

@@ -14,7 +14,7 @@ use Rattle.m36_isol.specs.PageServices.{IsServed, AreServed, pages_of_an_instruc
 use Rattle.m36_page.specs.Fields.{PagerFields}
 use Rattle.m36_super.specs.SuperFields.{paged_of, IsRunning}
 
--- the word whose page a step lacked, if it lacked one
+-- the step lacked the page of the word at `at`
 pub record IsLacked (outcome : Outcome) (at : AtFields) : Type 0 where
   pub fault : Fault
   pub outcome_is : outcome ≡ Faulted fault
@@ -33,7 +33,7 @@ pub record IsTried
     pub frames : length q.holders ≡ length p.holders
     pub runs : IsRunning (length q.holders) new.regs new.store q
 
--- A step over core as it stands: once an LDBR has been executed no page is served.
+-- A step over the current core, without page services, as after an LDBR.
 pub record IsBareStep
     (old : State (List ℕ)) (p : PagerFields) (new : State (List ℕ)) (q : PagerFields)
     (told : StepRecord) : Type 0 where
@@ -41,7 +41,7 @@ pub record IsBareStep
   pub state : new ≡ state_after core_store old
   pub pager : q ≡ p
 
--- A step lacked none.
+-- A step that lacked no page.
 pub record IsTaken
     (old : State (List ℕ)) (p : PagerFields) (new : State (List ℕ)) (q : PagerFields)
     (told : StepRecord) : Type 0 where
@@ -53,7 +53,7 @@ abbrev pub AttemptSays :
 AttemptSays true old p new q told = IsTried old p new q
 AttemptSays false old p new q told = IsTaken old p new q told
 
--- The pages that a step lacked were served, and then it was taken.
+-- The pages that a step lacked were brought in, and then it was taken.
 pub record IsStepped
     (old : State (List ℕ)) (p : PagerFields) (new : State (List ℕ)) (q : PagerFields)
     (told : StepRecord) : Type 0 where

@@ -1,4 +1,4 @@
--- The turns of a booted system are those of its booted run, and its catalog and files stay.
+-- The turns of a booted system are those of its booted run; its catalog and files do not change.
 use Rattle.std.specs.Prelude.{◌≡◌, ℕ, ◌⊎◌, Bool, true, false, Option, nat_eq, ◌&&◌}
 use Rattle.m36_model.specs.Faults.{master_mode_entry, fault_tag_2}
 use Rattle.m36_model.specs.Core.{core_store}
@@ -30,12 +30,12 @@ abbrev pub SuperTurns : SuperFields → Turn → SuperFields → Type 0
 SuperTurns before turn later =
     IsTurn before.lib (booted_of before) turn (booted_of later) × (later.lib ≡ before.lib)
 
--- A booted system does not go back.
+-- A booted system cannot go back.
 abbrev pub SuperWent : SuperFields → ℕ → BackAnswer → SuperFields → Type 0
 SuperWent before n answer later = IsUnable before answer later
 
--- The content of a word: of the flat memory until an LDBR has been executed, and of core
--- from then on.
+-- The content of a word: of the flat memory until an LDBR has been executed, and of core after
+-- that.
 abbrev pub content_by : Bool → SuperFields → ℕ → ℕ → Option ℕ
 content_by false s seg w =
     content_in flat_store (flat_of (booted_of s).state.memory) s.regs.dbr seg w
@@ -44,14 +44,14 @@ content_by true s seg w = content_in core_store s.core s.regs.dbr seg w
 unfoldable pub super_content : SuperFields → ℕ → ℕ → Option ℕ
 super_content s seg w = content_by s.loaded s seg w
 
--- ---- who has not gone back stays, and a service is not followed by another
+-- ---- going back changes nothing unless it answers Done, and a service is not followed by another
 
 pub super_stays :
     (before : SuperFields) (n : ℕ) (answer : BackAnswer) (after : SuperFields)
     → SuperWent before n answer after → IsDone answer ⊎ (after ≡ before)
 super_stays before n answer after went = inr went.1
 
--- the next turn is no service
+-- the next turn is not a service
 abbrev pub IsQuiet : Coming → Type 0
 IsQuiet Step = Unit {0}
 IsQuiet (Link at) = ⊥
