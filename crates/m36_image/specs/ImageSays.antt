@@ -1,4 +1,4 @@
--- What the reader of bare images answers, where want of memory may come at any time.
+-- The result of the reader of bare images, which may also be NoMemory.
 use Rattle.std.specs.Prelude.{ℕ, ◌≡◌, ⊤, List, Result, Ok, Err}
 use Rattle.m36_model.specs.Store.{State}
 use Rattle.m36_image.specs.declared.refusal.Refusal.{Refusal}

@@ -1,4 +1,4 @@
--- Words that stand in core from an address on.
+-- Words, and the core address of the first of them.
 use Rattle.std.specs.Prelude.{ℕ, List}
 
 pub record PlacedWords : Type 0 where
