@@ -31,7 +31,7 @@ use Rattle.m36_debug.specs.StepLimit.{step_in, steps_taken, most_of, StepsWithin
 use Rattle.m36_debug.proofs.TurnLaws.{WasMade, some_left, within_left, runs_count}
 use Rattle.m36_debug.proofs.TurnLaws.{came_interrupted, came_counts, steps_counted, taken_after}
 
--- ---- where no command runs
+-- ---- if no command runs
 
 none_waited :
     {M : Type 0} (o : Turning M) (m : M) (happened : Happening) (after : M) (rest : List (List ℕ)) (n : ℕ)
@@ -65,7 +65,7 @@ none_starving o s m (e ∷ events) s' m' follow =
 
 -- ---- a turn, and the events after it
 
--- so many steps follow, at most those that are left
+-- the number of steps that follow is at most the number that is left
 abbrev FurtherWithin : {M : Type 0} → Turning M → Further → M → ℕ → Type 0
 FurtherWithin o (Runs run) m n = (run.left ≡ 0 → WasMade o Interrupts m) → n ≤ run.left
 FurtherWithin o Waits m n = n ≡ 0

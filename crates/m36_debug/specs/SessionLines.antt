@@ -1,4 +1,4 @@
--- The lines of a session.
+-- The grammar of the lines of a session.
 --
 --     step, step N      N decimal, 1 to 1,000,000
 --     go
@@ -9,8 +9,8 @@
 --     back, back N
 --     quit
 --
--- Words are parted by single spaces, and N has no leading zero. A line has at most 256 bytes. An
--- empty line is taken, and any other line is unknown.
+-- Words are separated by single spaces, and N has no leading zero. A line has at most 256 bytes.
+-- An empty line is accepted, and any other line is unknown.
 use Rattle.std.specs.Prelude.{ℕ, ◌≢◌, ◌<◌, ◌≤◌, ◌^◌, nat_le, if◌then◌else◌, List, [], ◌∷◌, codes}
 use Rattle.std.specs.Prelude.{length, Option, Some}
 use Rattle.std.specs.Prelude.{None, option_map, unwrap_or}
@@ -33,7 +33,7 @@ one_word word =
     else if is_text (codes "quit") word then Quit
     else Unknown
 
--- a number of steps, at most so many
+-- the maximum number of steps in a line
 abbrev pub most_steps : ℕ
 most_steps = 1000000
 
@@ -51,7 +51,7 @@ placed line (Some seg) (Some word) = line seg word
 placed line (Some seg) None = Unknown
 placed line None word = Unknown
 
--- from a segment and a word
+-- from a segment number and a word number
 abbrev pub placed_in : (ℕ → ℕ → SessionLine) → List ℕ → List ℕ → SessionLine
 placed_in line s w = placed line (segment_number_in s) (word_number_in w)
 
@@ -68,7 +68,7 @@ line_of_words (word ∷ n ∷ []) = two_words word n
 line_of_words (word ∷ s ∷ w ∷ []) = three_words word s w
 line_of_words (word ∷ s ∷ w ∷ more ∷ words) = Unknown
 
--- the longest line that is known
+-- the maximum length of a known line, in bytes
 abbrev pub longest_line : ℕ
 longest_line = 256
 
@@ -80,7 +80,7 @@ session_line line =
 abbrev pub IsNotQuit : List ℕ → Type 0
 IsNotQuit line = session_line line ≢ Quit
 
--- How far the numbers of a line go.
+-- The ranges of the numbers of a line.
 abbrev pub IsBounded : SessionLine → Type 0
 IsBounded (Step n) = (0 < n) × (n ≤ most_steps)
 IsBounded Go = Unit {0}
