@@ -1,5 +1,5 @@
--- What is known once an answer is accepted: a name more, where it was none yet, and the section
--- that was laid.
+-- What is known after an answer is accepted: one more name, if it was not yet initiated, and the
+-- section that was laid.
 use Rattle.std.specs.Prelude.{ℕ, ◌≡◌, ◌+◌, ◌≤◌, if◌then◌else◌, List, [], ◌∷◌, ◌++◌, length}
 use Rattle.std.specs.Prelude.{Option, Some, None, is_some}
 use Rattle.m36_text.specs.Once.{with_unless}
@@ -30,8 +30,8 @@ accepted known s =
       laid = with_laid known.laid s.lay;
     }
 
--- A section may be laid: none of its segment is laid in its ring, it goes where the next one does,
--- and it ends within the linkage segment.
+-- A section may be laid: its segment has no section in its ring yet, it begins where the next one
+-- does, and it ends within the linkage segment.
 pub record IsNext (known : KnownFields) (l : LayFields) : Type 0 where
   pub absent : laid_in known.laid l.ring l.seg ≡ None
   pub base : l.base ≡ base_of known.laid l.ring

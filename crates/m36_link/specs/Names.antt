@@ -1,4 +1,4 @@
--- What holds of the names that are initiated, whatever they are.
+-- The invariant of the names that are initiated.
 use Rattle.std.specs.Prelude.{ℕ, ◌<◌, ◌≤◌, ◌^◌, List, length, All}
 use Rattle.m36_text.specs.Texts.{name_limit}
 use Rattle.m36_link.specs.Fields.{RingNameFields}
