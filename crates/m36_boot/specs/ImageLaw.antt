@@ -28,7 +28,8 @@ use Rattle.m36_boot.specs.Start.{may_start, section_base, start_regs}
 -- start the linkage register points to the section that is laid.
 pub record ImageNumbersLaw : Type 0 where
   pub stacks : (ring : ℕ) → stack_segment ring ≡ ring_stack booted_dbr ring
-  pub descriptors : (seg ring pages : ℕ) → is_stack_of ring (Ok (ring_segment seg ring pages)) ≡ true
+  pub descriptors :
+      (seg ring pages : ℕ) → is_stack_of ring (Ok (ring_segment seg ring pages)) ≡ true
   pub segments : booted_segments ≡ first_segment + most_segments
   pub stack :
       (catalog : CatalogFields) (files : List (List ℕ)) (ring : ℕ) → ring < 8

@@ -46,7 +46,8 @@ pub(crate) fn put_descriptors(core: &mut Core, catalog: &Catalog, files: &[File]
     requires short { AreShort files.now }
     requires limits { AreLimits catalog.now files.now (length catalog.now.segments) limits.now }
     requires core { descriptor_words ≤ length core.old }
-    ensures { AreDescribed catalog.now files.now (first_segment + length catalog.now.segments) core.old core.new }
+    ensures { AreDescribed catalog.now files.now (first_segment + length catalog.now.segments)
+        core.old core.new }
 {
     let count = catalog.count();
     for seg in 0..FIRST_SEGMENT + count as u16 {

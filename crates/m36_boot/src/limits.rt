@@ -64,9 +64,12 @@ pub(crate) fn limits_of(
 ) -> Result<Vec<u16>, BootFault>
     requires files { length files.now ≡ length catalog.now.segments }
     requires short { AreShort files.now }
-    ensures none { IfOk result (λ limits. first_gate_fault catalog.now files.now 0 (length catalog.now.segments) ≡ None) }
-    ensures limits { IfOk result (λ limits. AreLimits catalog.now files.now (length catalog.now.segments) limits.items) }
-    ensures told { IfErr result (λ told. ToldOfGates told (first_gate_fault catalog.now files.now 0 (length catalog.now.segments))) }
+    ensures none { IfOk result
+        (λ limits. first_gate_fault catalog.now files.now 0 (length catalog.now.segments) ≡ None) }
+    ensures limits { IfOk result
+        (λ limits. AreLimits catalog.now files.now (length catalog.now.segments) limits.items) }
+    ensures told { IfErr result (λ told. ToldOfGates told
+        (first_gate_fault catalog.now files.now 0 (length catalog.now.segments))) }
 {
     let count = catalog.count();
     let mut limits = Vec::new(alloc);

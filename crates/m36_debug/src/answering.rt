@@ -96,7 +96,8 @@ fn back<M: Stepper, S: Sink>(
     sitting: &mut Sitting,
     out: &mut S,
 ) -> Ends
-    ensures says { BackSays (turning M.regs M.content M.next M.went) result (has_taken sitting.old n) line.now n
+    ensures says { BackSays (turning M.regs M.content M.next M.went) result
+        (has_taken sitting.old n) line.now n
         sitting.old m.old sitting.new m.new
         (seen (S.written out.old) (S.taken out.old) (S.faults out.old))
         (seen (S.written out.new) (S.taken out.new) (S.faults out.new)) }

@@ -54,7 +54,8 @@ impl File {
     /// The object in the words, or their first fault.
     #[tactic(auto, using(crate::proofs::Sizes::object_fits))]
     pub fn object(&self) -> Result<&Object, ObjectFault>
-        ensures value { MatchResult result (λ o. object_of self.now ≡ Ok o.now) (λ f. object_of self.now ≡ Err f) }
+        ensures value { MatchResult result (λ o. object_of self.now ≡ Ok o.now)
+            (λ f. object_of self.now ≡ Err f) }
         ensures fits { IfOk result (λ o. length (laid_words o.now) ≤ segment_limit) }
     {
         match &self.object {

@@ -75,7 +75,8 @@ fn add_name(
 ) -> Result<(), NoMemory>
     requires names { AreNames names.old.entries }
     requires target { target < 2 ^ 15 }
-    ensures ok { OnOk result (names.new.entries ≡ with_initiated names.old.entries ring link.now target) }
+    ensures ok { OnOk result
+        (names.new.entries ≡ with_initiated names.old.entries ring link.now target) }
     ensures err { OnErr result (names.new.entries ≡ names.old.entries) }
     ensures names { AreNames names.new.entries }
 {

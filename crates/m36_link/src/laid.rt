@@ -34,7 +34,8 @@ impl Model for Laid {
 
     ghost view = { λ l. record { ring = l.ring; seg = l.seg; base = l.base; size = l.size } };
 
-    ghost invariant = { λ l. (l.ring < 8) × (l.seg < 2 ^ 15) × (l.base < 2 ^ 18) × (l.base + l.size ≤ segment_limit) };
+    ghost invariant = { λ l. (l.ring < 8) × (l.seg < 2 ^ 15) × (l.base < 2 ^ 18)
+        × (l.base + l.size ≤ segment_limit) };
 
     ghost inverse = { λ l. record { base = l.base; size = l.size; seg = l.seg; ring = l.ring } };
 }

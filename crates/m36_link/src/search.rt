@@ -43,7 +43,8 @@ fn found_in(catalog: &Catalog, name: &[u8], dir: u16) -> Option<u16>
 
 // The number of the segment in the first of these directories that has the name.
 fn first_in(catalog: &Catalog, name: &[u8], directories: &[u16]) -> Option<u16>
-    ensures value { result ≡ slice_get (filter_map (found_in catalog.now name.now) directories.now) 0 }
+    ensures value { result
+        ≡ slice_get (filter_map (found_in catalog.now name.now) directories.now) 0 }
     ensures bound { IfSome result (λ seg. seg < 2 ^ 15) }
 {
     let mut rest = directories;
@@ -59,7 +60,8 @@ fn first_in(catalog: &Catalog, name: &[u8], directories: &[u16]) -> Option<u16>
 /// The number of the segment with a name: in the directory that refers to it, otherwise in the
 /// working directory, otherwise in the first library that has the name.
 pub(crate) fn searched_in_directories(catalog: &Catalog, name: &[u8], from: u16) -> Option<u16>
-    ensures value { result ≡ slice_get (filter_map (found_in catalog.now name.now) (directories_searched catalog.now from)) 0 }
+    ensures value { result ≡ slice_get (filter_map (found_in catalog.now name.now)
+        (directories_searched catalog.now from)) 0 }
     ensures bound { IfSome result (λ seg. seg < 2 ^ 15) }
 {
     if let Some(seg) = found_in(catalog, name, from) {

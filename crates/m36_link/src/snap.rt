@@ -30,7 +30,8 @@ impl Model for Snap {
 
     ghost Value = { SnapFields };
 
-    ghost view = { λ s. record { pair = s.pair; ring = s.ring; target = s.target; link = s.link; lay = s.lay } };
+    ghost view = { λ s.
+        record { pair = s.pair; ring = s.ring; target = s.target; link = s.link; lay = s.lay } };
 
     ghost invariant = { λ s. (s.target < 2 ^ 15) × (s.ring < 8) };
 }

@@ -28,13 +28,15 @@ impl Model for KeptWords {
 
     ghost view = { λ k. k.written.items ++ replicate (k.count - length k.written.items) 0 };
 
-    ghost invariant = { λ k. (length k.written.items ≤ k.count) × (k.count ≤ vec_capacity k.written) };
+    ghost invariant = { λ k. (length k.written.items ≤ k.count)
+        × (k.count ≤ vec_capacity k.written) };
 }
 
 // Makes the first `count` words written, with zeros for those that were not.
 fn write_up_to(written: &mut Vec<Word>, count: usize)
     requires { count ≤ vec_capacity written.old }
-    ensures items { written.new.items ≡ written.old.items ++ replicate (count - length written.old.items) 0 }
+    ensures items { written.new.items
+        ≡ written.old.items ++ replicate (count - length written.old.items) 0 }
     ensures capacity { vec_capacity written.old ≤ vec_capacity written.new }
 {
     if written.len() < count {

@@ -53,9 +53,12 @@ impl Model for Pager {
 
     ghost Value = { PagerFields };
 
-    ghost view = { λ p. record { first = p.first; holders = p.holders.items; tables = p.tables.items } };
+    ghost view = { λ p.
+        record { first = p.first; holders = p.holders.items; tables = p.tables.items } };
 
-    ghost invariant = { λ p. (IsInside (record { first = p.first; holders = p.holders.items; tables = p.tables.items }) p.spots.items) × (p.hand ≤ length p.holders.items) };
+    ghost invariant = { λ p. (IsInside
+        (record { first = p.first; holders = p.holders.items; tables = p.tables.items })
+        p.spots.items) × (p.hand ≤ length p.holders.items) };
 }
 
 // `frames` frames, none of which holds a page.
@@ -202,12 +205,16 @@ impl Pager {
         requires frames { HasFrames self.old core.old }
         requires reads { Reads self.old core.old }
         requires page { has_page self.old seg page ≡ true }
-        ensures ok { OnOk result (IsBrought self.old core.old self.new core.new seg page pinned.now.items) }
-        ensures err { OnErr result ((self.new ≡ self.old) × (core.new ≡ core.old) × AllPinned self.old pinned.now.items) }
+        ensures ok { OnOk result
+            (IsBrought self.old core.old self.new core.new seg page pinned.now.items) }
+        ensures err { OnErr result
+            ((self.new ≡ self.old) × (core.new ≡ core.old) × AllPinned self.old pinned.now.items) }
         ensures absent { OnErr result (frame_of self.old core.old seg page ≡ None) }
-        ensures same { IsSome (frame_of self.old core.old seg page) → (self.new ≡ self.old) × (core.new ≡ core.old) }
+        ensures same { IsSome (frame_of self.old core.old seg page)
+            → (self.new ≡ self.old) × (core.new ≡ core.old) }
         ensures room { OnErr result (length self.old.holders ≤ length pinned.now.items) }
-        ensures free { OnOk result (IsSome (frame_of self.old core.old seg page) ⊎ (AllPinned self.old pinned.now.items → ⊥)) }
+        ensures free { OnOk result (IsSome (frame_of self.old core.old seg page)
+            ⊎ (AllPinned self.old pinned.now.items → ⊥)) }
         ensures reads { Reads self.new core.new }
         ensures pager { IsPager self.new }
         ensures frames { HasFrames self.new core.new }
@@ -292,7 +299,8 @@ impl Pager {
         requires reads { Reads self.now core.now }
         requires page { has_page self.now seg (word / 1024) ≡ true }
         ensures inside { IfSome result (λ a. a < length core.now) }
-        ensures set { IfSome result (λ a. (v : ℕ) → IsSet self.now core.now self.now (slice_set core.now a v) seg word v) }
+        ensures set { IfSome result
+            (λ a. (v : ℕ) → IsSet self.now core.now self.now (slice_set core.now a v) seg word v) }
         ensures reads { IfSome result (λ a. (v : ℕ) → Reads self.now (slice_set core.now a v)) }
         ensures away { IfNone result (frame_of self.now core.now seg (word / 1024) ≡ None) }
         ensures pager { IsPager self.now }

@@ -75,7 +75,8 @@ impl Super {
     ) -> Super
         requires files { length files.items ≡ length catalog.segments }
         requires frames { length pager.holders ≡ catalog.frames }
-        requires runs { IsRunning (length pager.holders) machine.state.regs machine.state.store pager }
+        requires runs { IsRunning (length pager.holders) machine.state.regs machine.state.store
+            pager }
         requires made { IsMade catalog files.items known }
         ensures { result
             ≡ record {

@@ -76,7 +76,8 @@ fn started(
     requires answer { start_answer catalog files.items ≡ Ok image.snap }
     requires runnable { IsRunnable catalog.frames image }
     requires reads { Reads image.pager image.core }
-    ensures { IfOk result (λ s. s ≡ at_start (record { catalog = catalog; files = files.items }) image) }
+    ensures { IfOk result
+        (λ s. s ≡ at_start (record { catalog = catalog; files = files.items }) image) }
 {
     let known = known_of(alloc, &catalog, files.as_slice(), &image.snap)?;
     let Image {

@@ -14,7 +14,8 @@ all_triples = map (λ v. spaced (octal_text 3 v)) (range_with_len 0 512)
 
 -- a ring and a segment number with a character between them, and the bar before the word number
 abbrev pub front_text : ℕ → ℕ → ℕ → List ℕ
-front_text ring mark seg = octal_text 1 ring ++ (mark ∷ (octal_text segment_digits seg ++ codes "|"))
+front_text ring mark seg =
+    octal_text 1 ring ++ (mark ∷ (octal_text segment_digits seg ++ codes "|"))
 
 -- the same with the word number
 abbrev pub kept_place : ℕ → ℕ → ℕ → ℕ → List ℕ
