@@ -83,6 +83,7 @@ tables_from catalog files lay seg (suc n) =
     table_of_segment seg (booted_sdw catalog files seg) (booted_words files lay seg)
     ++ tables_from catalog files lay (seg + 1) n
 
+-- the page tables of all segments of the image, in the order of their numbers
 unfoldable pub booted_tables : CatalogFields → List (List ℕ) → Option LayFields → List PageTable
 booted_tables catalog files lay =
     tables_from catalog files lay 0 (first_segment + length catalog.segments)
@@ -94,6 +95,7 @@ content_by None words w = None
 content_by (Some d) words w =
     if nat_lt (w / 1024) (page_count d) then Some (slice_index words w) else None
 
+-- the content of a word of a segment of the image; None if it has no place
 unfoldable pub booted_content : CatalogFields → List (List ℕ) → Option LayFields → ℕ → ℕ → Option ℕ
 booted_content catalog files lay seg w =
     content_by (booted_sdw catalog files seg) (booted_words files lay seg) w

@@ -24,6 +24,7 @@ use Rattle.m36_link.specs.Known.{lot_words, lot_word}
 abbrev pub first_stack : ℕ
 first_stack = 8
 
+-- the number of the stack of a ring
 abbrev pub stack_segment : ℕ → ℕ
 stack_segment ring = first_stack + ring
 
@@ -31,6 +32,7 @@ stack_segment ring = first_stack + ring
 abbrev pub behind_rings : ℕ
 behind_rings = linkage_segment 8
 
+-- the number of pages of a stack
 abbrev pub stack_pages : ℕ
 stack_pages = 16
 
@@ -88,11 +90,13 @@ ring_segment seg ring pages =
       writable = true;
     }
 
+-- the segment is a gate
 abbrev pub is_gate : SegKind → Bool
 is_gate kind.Gate = true
 is_gate kind.Object = false
 is_gate kind.Plain = false
 
+-- the entry bound of an object; 0 if there is none
 abbrev pub entry_bound_of : Option PartsFields → ℕ
 entry_bound_of None = 0
 entry_bound_of (Some p) = p.entry_bound
@@ -121,6 +125,7 @@ limited_segment seg s words limit =
       limit = limit;
     }
 
+-- the descriptor of a segment of the catalog, if it exists
 abbrev pub catalog_segment : ℕ → Option SegmentFields → List ℕ → Option SdwFields
 catalog_segment seg None words = None
 catalog_segment seg (Some s) words = Some (limited_segment seg s words (limit_of s words))
@@ -152,6 +157,7 @@ abbrev pub linkage_by : ℕ → Option LayFields → List ℕ
 linkage_by ring None = []
 linkage_by ring (Some l) = if nat_eq ring l.ring then lot_of l ++ l.words else []
 
+-- the words of the linkage segment of a ring
 unfoldable pub linkage_words : Option LayFields → ℕ → List ℕ
 linkage_words lay ring = linkage_by ring lay
 

@@ -39,6 +39,7 @@ abbrev pub by_start : {A : Type 0} → (KnownFields → ℕ → LinkFields → �
 by_start search catalog =
     search nothing_known catalog.start.ring (start_link catalog.start) catalog.work
 
+-- the answer to the link to the start, or its refusal
 unfoldable pub start_answer : CatalogFields → List (List ℕ) → Result SnapFields RefusedFields
 start_answer catalog files = by_start (λ known. outer_snap known catalog files) catalog
 

@@ -20,6 +20,7 @@ use Rattle.m36_debug.specs.declared.commands.Further.TheVariants.{Runs, Waits, S
 abbrev pub go_limit : ℕ
 go_limit = 100000
 
+-- the command, with the number of steps that it may still take
 abbrev pub run_of : Command → ℕ → Run
 run_of command left = record { left = left; command = command }
 
@@ -27,6 +28,7 @@ run_of command left = record { left = left; command = command }
 abbrev pub is_at : PprFields → Break → Bool
 is_at p b = nat_eq b.seg p.psr && nat_eq b.word p.ic
 
+-- the next instruction is at one of these breaks
 abbrev pub is_at_break : PprFields → List Break → Bool
 is_at_break p breaks = list_any (is_at p) breaks
 
@@ -36,6 +38,7 @@ abbrev pub wants : Command → ℕ → Bool → Bool
 wants Step left at_break = nat_lt 0 left
 wants Go left at_break = nat_lt 0 left && (nat_eq left go_limit || not at_break)
 
+-- what a command does if no further turn has to follow
 abbrev pub settled : Command → ℕ → Bool → Further
 settled command left at_break =
     if wants command left at_break then Runs (run_of command left) else Waits
@@ -47,6 +50,7 @@ after_step command left at_break Next = settled command left at_break
 after_step command left at_break (Faulted fault) = Runs (run_of command left)
 after_step command left at_break (Stopped stop) = Runs (run_of command left)
 
+-- what a command does after a link service
 abbrev pub after_link : Command → ℕ → Bool → Result Pair LinkCode → Further
 after_link command left at_break (Ok pair) = settled command left at_break
 after_link command left at_break (Err code) = Runs (run_of command left)

@@ -37,6 +37,7 @@ pub record CutPart {M : Type 0} (o : Turning M) (s : Standing) (m : M) (lines : 
 
 -- ---- a turn
 
+-- what the session is doing after a turn of a command
 abbrev pub doing_came : Came → Doing
 doing_came (comes.Runs run service) = Running run
 doing_came comes.Waits = Waiting
@@ -49,6 +50,7 @@ came_of turn (Runs run) = comes.Runs run (is_service turn)
 came_of turn Waits = comes.Waits
 came_of turn Starves = comes.Starves
 
+-- the result of a turn, given whether what it says could be put
 abbrev pub told_turn : Put → Turn → Further → Came
 told_turn Done turn next = came_of turn next
 told_turn Failed turn next = comes.Cut
@@ -59,6 +61,7 @@ abbrev pub RunsCounts : Bool → ℕ → ℕ → ℕ → ℕ → Type 0
 RunsCounts true next left before after = (next ≡ left) × (after ≡ before)
 RunsCounts false next left before after = (next < left) × (after ≤ before + 1)
 
+-- the counts of steps before and after a turn of a command
 abbrev pub CameCounts : Came → ℕ → ℕ → ℕ → Type 0
 CameCounts (comes.Runs run service) left before after =
     RunsCounts service run.left left before after
@@ -72,6 +75,7 @@ pub record Makes {M : Type 0} (o : Turning M) (Kind : Turn → Type 0) (m m' : M
   pub next : o.next m turn m'
   pub kind : Kind turn
 
+-- A turn with the flag for services is a service.
 abbrev pub CameServed : {M : Type 0} → Turning M → Came → M → M → Type 0
 CameServed o (comes.Runs run service) m m' = service ≡ true → Makes o IsService m m'
 CameServed o comes.Waits m m' = Unit {0}
@@ -99,12 +103,14 @@ CameSays o came s m sitting m' old new =
 
 -- ---- a command, a line, and several lines
 
+-- what the session is doing after a line
 abbrev pub doing_at : Ends → Doing
 doing_at ends.Line = Waiting
 doing_at ends.Quit = Over
 doing_at ends.Starved = Starved
 doing_at ends.Cut = Waiting
 
+-- the contract of a command or of lines, by how they ended
 abbrev pub EndSays :
     {M : Type 0} → Turning M → Ends → Standing → M → List (List ℕ) → SittingFields → M → SinkState
     → SinkState → Type 0
@@ -124,6 +130,7 @@ EndPuts ends.Quit old new lines = ⊥
 EndPuts ends.Starved old new lines = ⊥
 EndPuts ends.Cut old new lines = PutsPieces Failed lines old new
 
+-- A line was answered at once: `lines` were put, and session and machine are unchanged.
 pub record IsTold {M : Type 0} (end : Ends) (lines : List (List ℕ)) (s : SittingFields) (m : M)
     (sitting : SittingFields) (m' : M) (old new : SinkState) : Type 0 where
   pub puts : EndPuts end old new lines

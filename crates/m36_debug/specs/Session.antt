@@ -28,6 +28,7 @@ pub record Turning (M : Type 0) : Type 1 where
   pub next : M → Turn → M → Type 0
   pub went : M → ℕ → BackAnswer → M → Type 0
 
+-- the relations of a machine, as one record
 abbrev pub turning :
     {M : Type 0} → (M → RegsFields) → (M → ℕ → ℕ → Option ℕ) → (M → Turn → M → Type 0)
     → (M → ℕ → BackAnswer → M → Type 0) → Turning M
@@ -44,15 +45,18 @@ pub data Doing : Type 0 where
   Over : Doing  -- `quit` was taken
   Starved : Doing  -- a turn, or going back, ran out of memory
 
+-- the state of a session: what it remembers, and what it is doing
 pub record Standing : Type 0 where
   pub sitting : SittingFields
   pub doing : Doing
 
+-- the state with these parts
 abbrev pub standing : SittingFields → Doing → Standing
 standing s doing = record { sitting = s; doing = doing }
 
 -- ---- events
 
+-- the kinds of events
 pub data Happening : Type 0 where
   Took : List ℕ → Happening  -- a line was taken
   Turned : Turn → Happening  -- the machine made a turn
@@ -79,6 +83,7 @@ abbrev pub run_begun : Option End → Command → ℕ → Doing
 run_begun None command left = Running (run_of command left)
 run_begun (Some end) command left = Waiting
 
+-- what the session is doing after a line was taken
 abbrev pub begun : SittingFields → List ℕ → SessionLine → Doing
 begun s line (session.Step n) = run_begun s.ended commands.Step n
 begun s line session.Go = run_begun s.ended commands.Go go_limit
@@ -91,6 +96,7 @@ begun s line session.Quit = Over
 begun s line session.Empty = Waiting
 begun s line session.Unknown = Waiting
 
+-- what the session remembers after a line was taken
 abbrev pub remembered : SittingFields → SessionLine → SittingFields
 remembered s (session.Step n) = s
 remembered s session.Go = s
@@ -125,6 +131,7 @@ line_says g content s line session.Unknown = unknown_line line ∷ []
 
 -- ---- a command takes a turn
 
+-- what the session is doing after a turn
 abbrev pub doing_by : Further → Doing
 doing_by (Runs run) = Running run
 doing_by Waits = Waiting
@@ -136,6 +143,7 @@ go_says g s (Runs run) = []
 go_says g s Waits = end_or_where s.ended s.taken g.ppr ∷ []
 go_says g s Starves = []
 
+-- the lines that a command writes for a turn
 abbrev pub command_says :
     Command → RegsFields → ℕ → SittingFields → Turn → Further → List (List ℕ)
 command_says commands.Step g taken after turn next = turn_lines taken turn
@@ -145,15 +153,18 @@ command_says commands.Go g taken after turn next = go_says g after next
 abbrev pub next_of : RegsFields → SittingFields → Run → Turn → Further
 next_of g s run turn = after_turn run (is_at_break g.ppr s.breaks) turn
 
+-- the lines that are written for a turn
 abbrev pub turn_says : RegsFields → SittingFields → Run → Turn → List (List ℕ)
 turn_says g s run turn =
     command_says run.command g s.taken (sitting_after s turn) turn (next_of g s run turn)
 
+-- the state of the session after a turn
 abbrev pub turned : RegsFields → SittingFields → Run → Turn → Standing
 turned g s run turn = standing (sitting_after s turn) (doing_by (next_of g s run turn))
 
 -- ---- the machine was asked to go back
 
+-- the state of the session after the machine was asked to go back n steps
 abbrev pub went : SittingFields → ℕ → BackAnswer → Standing
 went s n back.Done = standing (sitting_before s n) Waiting
 went s n (back.Before taken) = standing s Waiting
@@ -178,6 +189,7 @@ onward_by g s (Running run) (Turned turn) = turned g s run turn
 onward_by g s (Backing n line) (Went answer) = went s n answer
 onward_by g s doing happened = standing s doing
 
+-- the state of the session after an event
 unfoldable pub onward : RegsFields → Standing → Happening → Standing
 onward g s happened = onward_by g s.sitting s.doing happened
 
@@ -189,6 +201,7 @@ said_by g content s (Running run) (Turned turn) = turn_says g s run turn
 said_by g content s (Backing n line) (Went answer) = back_says g line answer
 said_by g content s doing happened = []
 
+-- the lines that are written for an event
 unfoldable pub said :
     RegsFields → (ℕ → ℕ → Option ℕ) → Standing → Happening → List (List ℕ)
 said g content s happened = said_by g content s.sitting s.doing happened
@@ -214,6 +227,7 @@ line_in (Took line) = line ∷ []
 line_in (Turned turn) = []
 line_in (Went answer) = []
 
+-- the lines that are taken in events
 unfoldable pub lines_in : {M : Type 0} → List (Event M) → List (List ℕ)
 lines_in [] = []
 lines_in (e ∷ events) = line_in e.happened ++ lines_in events

@@ -22,6 +22,7 @@ use Rattle.m36_debug.specs.declared.session_line.SessionLine.TheVariants.{Step, 
 use Rattle.m36_debug.specs.declared.session_line.SessionLine.TheVariants.{Seg, Where, Back, Quit}
 use Rattle.m36_debug.specs.declared.session_line.SessionLine.TheVariants.{Empty, Unknown}
 
+-- a line of one word
 abbrev pub one_word : List ℕ → SessionLine
 one_word word =
     if is_text [] word then Empty
@@ -37,15 +38,18 @@ one_word word =
 abbrev pub most_steps : ℕ
 most_steps = 1000000
 
+-- a number of steps, 1 to 1,000,000
 abbrev pub steps_in : List ℕ → Option ℕ
 steps_in word = plain_decimal_in 1 most_steps word
 
+-- a line of two words
 abbrev pub two_words : List ℕ → List ℕ → SessionLine
 two_words word n =
     if is_text (codes "step") word then unwrap_or (option_map Step (steps_in n)) Unknown
     else if is_text (codes "back") word then unwrap_or (option_map Back (steps_in n)) Unknown
     else Unknown
 
+-- a line with a segment number and a word number, if both could be read
 abbrev pub placed : (ℕ → ℕ → SessionLine) → Option ℕ → Option ℕ → SessionLine
 placed line (Some seg) (Some word) = line seg word
 placed line (Some seg) None = Unknown
@@ -55,12 +59,14 @@ placed line None word = Unknown
 abbrev pub placed_in : (ℕ → ℕ → SessionLine) → List ℕ → List ℕ → SessionLine
 placed_in line s w = placed line (segment_number_in s) (word_number_in w)
 
+-- a line of three words
 abbrev pub three_words : List ℕ → List ℕ → List ℕ → SessionLine
 three_words word s w =
     if is_text (codes "break") word then placed_in Break s w
     else if is_text (codes "seg") word then placed_in Seg s w
     else Unknown
 
+-- a line, from its words
 abbrev pub line_of_words : List (List ℕ) → SessionLine
 line_of_words [] = Unknown
 line_of_words (word ∷ []) = one_word word
@@ -72,6 +78,7 @@ line_of_words (word ∷ s ∷ w ∷ more ∷ words) = Unknown
 abbrev pub longest_line : ℕ
 longest_line = 256
 
+-- the content of a line
 unfoldable pub session_line : List ℕ → SessionLine
 session_line line =
     if nat_le (length line) longest_line then line_of_words (words_of line) else Unknown

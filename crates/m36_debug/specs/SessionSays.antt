@@ -32,6 +32,7 @@ pub record LinesSeen : Type 0 where
   pub given : List (List ℕ)
   pub faults : ℕ
 
+-- the state of an input with these parts
 abbrev pub input : Option (List ℕ) → List (List ℕ) → ℕ → LinesSeen
 input left given faults = record { left = left; given = given; faults = faults }
 

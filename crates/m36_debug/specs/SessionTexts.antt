@@ -16,9 +16,11 @@ use Rattle.m36_turns.specs.TurnLines.{run_end_line_of, turn_pieces}
 abbrev pub shown_limit : ℕ
 shown_limit = 64
 
+-- the part of an unknown line that is shown
 abbrev pub shown : List ℕ → List ℕ
 shown line = take shown_limit line
 
+-- the answer to an unknown line
 unfoldable pub unknown_line : List ℕ → List ℕ
 unknown_line line = as_line (codes "? " ++ shown line)
 
@@ -27,6 +29,7 @@ unfoldable pub where_line : PprFields → List ℕ
 where_line p =
     as_line (octal_text 1 p.prr ++ codes " " ++ word_of_segment p.psr p.ic)
 
+-- the answer to `break S W`
 unfoldable pub break_line : ℕ → ℕ → List ℕ
 break_line seg word = as_line (codes "break " ++ word_of_segment seg word)
 
@@ -35,21 +38,25 @@ abbrev pub content_text : Option ℕ → List ℕ
 content_text (Some word) = word_text word
 content_text None = codes "absent"
 
+-- the answer to `seg S W`
 unfoldable pub seg_line : ℕ → ℕ → Option ℕ → List ℕ
 seg_line seg word content =
     as_line (word_of_segment seg word ++ codes " " ++ content_text content)
 
 -- ---- the registers
 
+-- A, Q and the indicators
 unfoldable pub a_line : RegsFields → List ℕ
 a_line g =
     as_line
     (codes "a " ++ word_text g.a ++ codes " q " ++ word_text g.q ++ codes " ind "
     ++ indicators_text g.ind)
 
+-- an index register, after a space
 abbrev pub index_text : ℕ → List ℕ
 index_text x = codes " " ++ half_text x
 
+-- the index registers
 unfoldable pub x_line : RegsFields → List ℕ
 x_line g = as_line (codes "x" ++ flat_map index_text g.x)
 
@@ -66,11 +73,13 @@ unfoldable pub pointer_lines : ℕ → List PtrFields → List (List ℕ)
 pointer_lines n [] = []
 pointer_lines n (p ∷ pointers) = pointer_line n p ∷ pointer_lines (n + 1) pointers
 
+-- the answer to `regs`
 unfoldable pub regs_lines : RegsFields → List (List ℕ)
 regs_lines g = a_line g ∷ x_line g ∷ pointer_lines 0 g.pr
 
 -- ---- turns before which `taken` steps were taken
 
+-- how a run has ended, after `taken` steps
 unfoldable pub end_line : End → ℕ → List ℕ
 end_line end taken = as_line (run_end_line_of end taken)
 

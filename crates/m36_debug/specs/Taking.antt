@@ -25,6 +25,7 @@ pub record GotNothing (old new : LinesSeen) : Type 0 where
   pub gave : PieceGives Failed old.given new.given []
   pub cause : PieceHasCause Failed old.faults new.faults
 
+-- the result of taking a piece of at most `most` bytes
 abbrev pub PieceTaken : Piece → ℕ → LinesSeen → LinesSeen → List ℕ → Type 0
 PieceTaken (Got count) most old new buffer = GotPiece count most old new buffer
 PieceTaken End most old new buffer = GotEnd old new

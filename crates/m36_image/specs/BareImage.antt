@@ -40,11 +40,13 @@ frames_read (Ok n) = if nat_le 1 n then Ok n else Err I2
 frames_read (Err (T1 place)) = Err I1
 frames_read (Err T2) = Err I2
 
+-- the number of frames, from the words of line 1
 abbrev pub core_words : List (List ℕ) → Result ℕ ImageCode
 core_words (name ∷ n ∷ []) =
     if is_text (codes "core") name then frames_read (number_read 10 n frames_reached) else Err I1
 core_words _ = Err I1
 
+-- the number of frames, from line 1; I1 if there is no such line
 abbrev pub core_line : Option (List ℕ) → Result ℕ ImageCode
 core_line line = by_words core_words (Err I1) line
 
@@ -57,11 +59,13 @@ dbr_read _ _ = None
 abbrev pub dbr_in : List ℕ → List ℕ → Option Pair
 dbr_in even odd = dbr_read (octal_word_in even) (octal_word_in odd)
 
+-- the words of the descriptor segment base register, from the words of line 2
 abbrev pub dbr_words : List (List ℕ) → Option Pair
 dbr_words (name ∷ even ∷ odd ∷ []) =
     if is_text (codes "dbr") name then dbr_in even odd else None
 dbr_words _ = None
 
+-- the same from line 2
 abbrev pub dbr_line : Option (List ℕ) → Option Pair
 dbr_line line = by_words dbr_words None line
 
@@ -75,11 +79,13 @@ abbrev pub start_in : List ℕ → List ℕ → List ℕ → Option PprFields
 start_in seg ring word =
     start_read (segment_number_in seg) (octal_in 1 ring) (word_number_in word)
 
+-- where the machine starts, from the words of line 3
 abbrev pub start_words : List (List ℕ) → Option PprFields
 start_words (name ∷ seg ∷ ring ∷ word ∷ []) =
     if is_text (codes "start") name then start_in seg ring word else None
 start_words _ = None
 
+-- the same from line 3
 abbrev pub start_line : Option (List ℕ) → Option PprFields
 start_line line = by_words start_words None line
 
@@ -88,15 +94,18 @@ abbrev pub at_read : Option ℕ → Option (List ℕ) → Option PlacedWords
 at_read (Some first) (Some words) = Some (record { first = first; words = words })
 at_read _ _ = None
 
+-- one to eight words, from their texts
 abbrev pub words_given : List (List ℕ) → Option (List ℕ)
 words_given texts = one_to 8 octal_word_in texts
 
+-- the words of an `at` line and their address, from the words of the line
 abbrev pub at_words : List (List ℕ) → Option PlacedWords
 at_words (name ∷ address ∷ texts) =
     if is_text (codes "at") name
     then at_read (core_address_in address) (words_given texts) else None
 at_words _ = None
 
+-- the same from the line
 abbrev pub at_line : Option (List ℕ) → Option PlacedWords
 at_line line = by_words at_words None line
 
@@ -113,10 +122,12 @@ abbrev pub at_code : ℕ → List ℕ → Option PlacedWords → Option ImageCod
 at_code size earlier line =
     result_err (at_by size (λ address. list_all (λ a. nat_lt a address) earlier) line)
 
+-- the addresses of the words of an `at` line
 abbrev pub addresses : Option PlacedWords → List ℕ
 addresses None = []
 addresses (Some p) = range_with_len p.first (length p.words)
 
+-- the code of each `at` line, if any, given the addresses of the earlier ones
 unfoldable pub at_codes : ℕ → List ℕ → List (Option (List ℕ)) → List (Option ImageCode)
 at_codes size earlier [] = []
 at_codes size earlier (line ∷ lines) =
@@ -131,9 +142,11 @@ abbrev pub form_code : {A : Type 0} → Option A → Option ImageCode
 form_code (Some value) = None
 form_code None = Some I1
 
+-- the number of frames of a file; 0 if line 1 has a code
 abbrev pub frames_of : List (Option (List ℕ)) → ℕ
 frames_of lines = result_unwrap_or (core_line (line_at lines 1)) 0
 
+-- the codes of the first three lines
 abbrev pub header_codes : List (Option (List ℕ)) → List (Option ImageCode)
 header_codes lines =
     result_err (core_line (line_at lines 1))
@@ -141,6 +154,7 @@ header_codes lines =
     ∷ form_code (start_line (line_at lines 3))
     ∷ []
 
+-- the codes of all lines
 abbrev pub line_codes : List (Option (List ℕ)) → List (Option ImageCode)
 line_codes lines =
     header_codes lines ++ at_codes (1024 * frames_of lines) [] (drop header_count lines)
@@ -162,9 +176,11 @@ image_in lines =
       placed = filter_map at_line (drop header_count lines);
     }
 
+-- the refusal for a line number and a code
 abbrev pub refusal_of : ℕ × ImageCode → Refusal
 refusal_of told = record { line = told.0; code = told.1 }
 
+-- the image, or the refusal if a line has a code
 abbrev pub image_by : Option (ℕ × ImageCode) → Image → Result Image Refusal
 image_by told image = unless (option_map refusal_of told) image
 

@@ -5,6 +5,7 @@ use Rattle.m36_image.specs.declared.refusal.Refusal.{Refusal}
 use Rattle.m36_image.specs.declared.refusal.ImageFault.{ImageFault}
 use Rattle.m36_image.specs.declared.refusal.ImageFault.TheVariants.{Refused, NoMemory}
 
+-- the code's result for a definition of the state or the refusal
 abbrev pub ImageSays : Result (State (List ℕ)) ImageFault → Result (State (List ℕ)) Refusal → Type 0
 ImageSays (Ok state) definition = definition ≡ Ok state
 ImageSays (Err (Refused refusal)) definition = definition ≡ Err refusal

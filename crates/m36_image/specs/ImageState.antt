@@ -27,6 +27,7 @@ written_all core (p ∷ placed) = written_all (written_at core p.first p.words) 
 abbrev pub core_with : ℕ → List PlacedWords → List ℕ
 core_with size placed = written_all (replicate size 0) placed
 
+-- the core that an image describes
 abbrev pub core_of : Image → List ℕ
 core_of image = core_with (1024 * image.frames) image.placed
 
@@ -44,6 +45,7 @@ regs_of dbr start =
       dbr = dbr_of dbr.even dbr.odd;
     }
 
+-- the state that an image describes
 unfoldable pub state_of : Image → State (List ℕ)
 state_of image = record { regs = regs_of image.dbr image.start; store = core_of image }
 
@@ -51,5 +53,6 @@ state_of image = record { regs = regs_of image.dbr image.start; store = core_of 
 abbrev pub state_by : Result Image Refusal → Result (State (List ℕ)) Refusal
 state_by read = and_then read (λ image. Ok (state_of image))
 
+-- the state that a file describes, or its refusal
 unfoldable pub state_given : List ℕ → Result (State (List ℕ)) Refusal
 state_given text = state_by (image_of text)

@@ -2,6 +2,7 @@
 use Rattle.std.specs.Prelude.{ℕ, nat_lt, List, [], ◌∷◌, length, Option, Some, None}
 use Rattle.std.specs.Prelude.{if◌then◌else◌}
 
+-- a number before others, if all of them could be read
 abbrev pub with_number : Option ℕ → Option (List ℕ) → Option (List ℕ)
 with_number (Some number) (Some numbers) = Some (number ∷ numbers)
 with_number _ _ = None

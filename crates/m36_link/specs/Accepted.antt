@@ -8,13 +8,16 @@ use Rattle.obj36_parts.specs.ObjectSegment.{has_name, segment_limit}
 use Rattle.m36_link.specs.Fields.{RingNameFields, LaidFields, LayFields, KnownFields, SnapFields}
 use Rattle.m36_link.specs.Known.{initiated, laid_in, base_of}
 
+-- the place of a section that has to be laid
 abbrev pub laid_of : LayFields → LaidFields
 laid_of l = record { ring = l.ring; seg = l.seg; base = l.base; size = length l.words }
 
+-- the sections that are laid, with this one added if there is one
 unfoldable pub with_laid : List LaidFields → Option LayFields → List LaidFields
 with_laid laid None = laid
 with_laid laid (Some l) = laid ++ laid_of l ∷ []
 
+-- the names that are initiated, with the name of a link of type 3 or 4 added if it was not
 unfoldable pub with_initiated : List (RingNameFields × ℕ) → ℕ → LinkFields → ℕ
     → List (RingNameFields × ℕ)
 with_initiated names ring link target =
@@ -23,6 +26,7 @@ with_initiated names ring link target =
     (record { ring = ring; name = link.name }, target)
     else names
 
+-- what is known after an answer is accepted
 unfoldable pub accepted : KnownFields → SnapFields → KnownFields
 accepted known s =
     record {
@@ -37,6 +41,7 @@ pub record IsNext (known : KnownFields) (l : LayFields) : Type 0 where
   pub base : l.base ≡ base_of known.laid l.ring
   pub fits : l.base + length l.words ≤ segment_limit
 
+-- an answer may lay this section, if it lays one
 abbrev pub MayBeLaid : KnownFields → Option LayFields → Type 0
 MayBeLaid known None = Unit {0}
 MayBeLaid known (Some l) = IsNext known l

@@ -19,20 +19,25 @@ use Rattle.obj36_parts.specs.ObjectSegment.{evened, linkage_section, outer_stati
 use Rattle.obj36.specs.ObjectOf.{object_of}
 use Rattle.m36_link.specs.Fields.{RingNameFields, LaidFields, LayFields, KnownFields}
 
+-- no names and no sections
 abbrev pub nothing_known : KnownFields
 nothing_known = record { names = []; laid = [] }
 
 -- ---- numbers of segments
 
+-- the number of the first segment of a catalog
 abbrev pub first_segment : ℕ
 first_segment = 64
 
+-- the number of the linkage segment of ring 0
 abbrev pub first_linkage : ℕ
 first_linkage = 16
 
+-- the number of the linkage segment of a ring
 abbrev pub linkage_segment : ℕ → ℕ
 linkage_segment ring = first_linkage + ring
 
+-- the number of words of a linkage offset table
 abbrev pub lot_words : ℕ
 lot_words = 1024
 
@@ -48,9 +53,11 @@ catalog_index seg = seg - first_segment
 unfoldable pub place_of : ℕ → Option ℕ
 place_of seg = if nat_le first_segment seg then Some (catalog_index seg) else None
 
+-- the segment of the catalog with a number, if there is one
 unfoldable pub segment_of : CatalogFields → ℕ → Option SegmentFields
 segment_of catalog seg = option_and_then (slice_get catalog.segments) (place_of seg)
 
+-- the file of the segment with a number, if there is one
 unfoldable pub file_of : List (List ℕ) → ℕ → Option (List ℕ)
 file_of files seg = option_and_then (slice_get files) (place_of seg)
 
@@ -60,6 +67,7 @@ object_in files seg = option_and_then (λ words. result_ok (object_of words)) (f
 
 -- ---- names
 
+-- the same name in the same ring
 abbrev pub is_same_name : RingNameFields → RingNameFields → Bool
 is_same_name a b = are_same a.name b.name && nat_eq a.ring b.ring
 
@@ -74,6 +82,7 @@ initiated names ring name = lookup (is_same_name (record { ring = ring; name = n
 abbrev pub section_ring : ℕ → SegmentFields → ℕ
 section_ring ring s = ring_under s.r2 ring
 
+-- the section is that of the segment in the ring
 abbrev pub is_laid_of : ℕ → ℕ → LaidFields → Bool
 is_laid_of ring seg l = nat_eq l.ring ring && nat_eq l.seg seg
 
@@ -89,10 +98,12 @@ behind l = evened (l.base + l.size)
 abbrev pub base_behind : ℕ → ℕ → LaidFields → ℕ
 base_behind ring at l = if nat_eq l.ring ring then behind l else at
 
+-- the word number of the next section of a ring after these sections, if it was `at` before them
 unfoldable pub next_base : ℕ → ℕ → List LaidFields → ℕ
 next_base ring at [] = at
 next_base ring at (l ∷ laid) = next_base ring (base_behind ring at l) laid
 
+-- the word number at which the next section of a ring is laid
 abbrev pub base_of : List LaidFields → ℕ → ℕ
 base_of laid ring = next_base ring lot_words laid
 

@@ -38,6 +38,7 @@ point_by section None = Err L3
 point_by section (Some d) =
     Ok (record { section = later_section section d.section; value = d.value })
 
+-- the place in its target object that a link names, or L3
 unfoldable pub point_of : LinkFields → PartsFields → Result Point LinkCode
 point_of link o =
     if has_entry link.kind
@@ -63,6 +64,7 @@ pair_from Static value ring l linkage link =
     pair_to (linkage_segment l.ring) ring
     (l.base + linkage + value + link.expr) link
 
+-- the pair to a place of an object whose section is laid
 unfoldable pub pair_of : Point → ℕ → LaidFields → ℕ → LinkFields → Pair
 pair_of point ring l linkage link = pair_from point.section point.value ring l linkage link
 
@@ -78,16 +80,19 @@ new_home ring seg base size =
     })
     else Err (L6 base size)
 
+-- the section that is laid already, or a new one
 abbrev pub home_by : Option LaidFields → List LaidFields → ℕ → ℕ → PartsFields
     → Result Home LinkCode
 home_by (Some l) laid ring seg o = Ok (record { section = l; is_new = false })
 home_by None laid ring seg o = new_home ring seg (base_of laid ring) (length (laid_words o))
 
+-- the section of a segment in a ring, and whether it still has to be laid; or L6
 unfoldable pub home_of : List LaidFields → ℕ → ℕ → PartsFields → Result Home LinkCode
 home_of laid ring seg o = home_by (laid_in laid ring seg) laid ring seg o
 
 -- ---- types 1 and 5: the link's own object, whose section has the link
 
+-- the target of a link to its own object, given the place that it names
 abbrev pub own_by : ℕ → LaidFields → PartsFields → LinkFields → Result Point LinkCode
     → Result LandingFields LinkCode
 own_by ring l o link found =
@@ -99,6 +104,7 @@ own_by ring l o link found =
       lay = None;
     }))
 
+-- the target of a link of type 1 or 5
 unfoldable pub own_landing : ℕ → LaidFields → PartsFields → LinkFields
     → Result LandingFields LinkCode
 own_landing ring l o link = own_by ring l o link (point_of link o)
@@ -109,6 +115,7 @@ own_landing ring l o link = own_by ring l o link (point_of link o)
 abbrev pub may_not_use : ℕ → SegmentFields → Bool
 may_not_use ring s = nat_lt s.r3 ring || (nat_lt s.r2 ring && not s.mode.executable)
 
+-- the segment is plain words, neither an object nor a gate
 abbrev pub is_plain : SegKind → Bool
 is_plain Plain = true
 is_plain Object = false
@@ -132,10 +139,12 @@ plain_landing ring seg link =
     if has_entry link.kind then Err L3
     else Ok (record { pair = pair_to seg ring link.expr link; target = seg; lay = None })
 
+-- a section that still has to be laid
 abbrev pub lay_if : Bool → LaidFields → Option LaidFields
 lay_if true l = Some l
 lay_if false l = None
 
+-- the target of a link to an object, given the place that it names and the object's section
 abbrev pub landing_in : ℕ → ℕ → PartsFields → LinkFields → Point → Result Home LinkCode
     → Result LandingFields LinkCode
 landing_in ring seg o link point found =
@@ -147,6 +156,7 @@ landing_in ring seg o link point found =
       lay = lay_if home.is_new home.section;
     }))
 
+-- the same given only the place
 abbrev pub landing_at : List LaidFields → ℕ → ℕ → ℕ → PartsFields → LinkFields
     → Result Point LinkCode → Result LandingFields LinkCode
 landing_at laid ring section_ring seg o link found =
@@ -164,6 +174,7 @@ abbrev pub landing_by : List LaidFields → ℕ → ℕ → SegmentFields → Li
 landing_by laid ring seg s link (Err fault) = Err (L5 (fault_number fault))
 landing_by laid ring seg s link (Ok o) = object_landing laid ring (section_ring ring s) seg o link
 
+-- the target of a link of type 3 or 4 to the segment that was found
 unfoldable pub target_landing : List LaidFields → ℕ → ℕ → SegmentFields → List ℕ → LinkFields
     → Result LandingFields LinkCode
 target_landing laid ring seg s words link =

@@ -76,6 +76,7 @@ MayBeAccepted =
     (known : KnownFields) (catalog : CatalogFields) (files : List (List ℕ)) (at : AtFields)
     (s : SnapFields) → snap_of known catalog files at ≡ Ok s → MayBeLaid known s.lay
 
+-- the same for a link that is searched from a directory
 abbrev pub MayBeAcceptedFrom : Type 0
 MayBeAcceptedFrom =
     (known : KnownFields) (catalog : CatalogFields) (files : List (List ℕ)) (ring : ℕ)
@@ -89,6 +90,7 @@ KeepsMade =
     (s : SnapFields) → IsMade catalog files known → snap_of known catalog files at ≡ Ok s
     → IsMade catalog files (accepted known s)
 
+-- the same for a link that is searched from a directory
 abbrev pub KeepsMadeFrom : Type 0
 KeepsMadeFrom =
     (known : KnownFields) (catalog : CatalogFields) (files : List (List ℕ)) (ring : ℕ)

@@ -19,6 +19,7 @@ unfoldable pub link_in : List (List ℕ) → ℕ → LaidFields → Option LinkF
 link_in files word l =
     option_and_then (λ o. link_from (l.base + first_link o) word o.links) (object_in files l.seg)
 
+-- the section is in the ring and has a link at the word
 abbrev pub holds_link : List (List ℕ) → ℕ → ℕ → LaidFields → Bool
 holds_link files ring word l = nat_eq l.ring ring && is_some (link_in files word l)
 

@@ -10,6 +10,7 @@ use Rattle.m36_link.specs.Known.{catalog_number, initiated}
 abbrev pub directories_searched : CatalogFields → ℕ → List ℕ
 directories_searched catalog from = from ∷ catalog.work ∷ catalog.libraries
 
+-- the number of the segment with a name in a directory, if there is one
 unfoldable pub found_in : CatalogFields → List ℕ → ℕ → Option ℕ
 found_in catalog name dir = option_map catalog_number (found catalog dir name)
 

@@ -29,6 +29,7 @@ abbrev pub found_landing : List LaidFields → ℕ → ℕ → Option SegmentFie
 found_landing laid ring seg (Some s) (Some words) link = target_landing laid ring seg s words link
 found_landing laid ring seg _ _ link = Err L2
 
+-- the target of a link of type 3 or 4, given the candidate that was found
 abbrev pub candidate_landing : KnownFields → CatalogFields → List (List ℕ) → ℕ → LinkFields
     → Option ℕ → Result LandingFields LinkCode
 candidate_landing known catalog files ring link None = Err L2
@@ -61,6 +62,7 @@ abbrev pub words_laid : Option PartsFields → List ℕ
 words_laid None = []
 words_laid (Some o) = laid_words o
 
+-- the section that has to be laid, with its words
 abbrev pub lay_of : List (List ℕ) → Option LaidFields → Option LayFields
 lay_of files None = None
 lay_of files (Some l) =
@@ -71,6 +73,7 @@ lay_of files (Some l) =
       words = words_laid (object_in files l.seg);
     })
 
+-- the answer, given the target of the link
 abbrev pub snap_by : List (List ℕ) → ℕ → LinkFields → Result LandingFields LinkCode
     → Result SnapFields RefusedFields
 snap_by files ring link (Ok landing) =
@@ -93,12 +96,14 @@ outer_snap known catalog files ring link from =
 abbrev pub no_link : Result SnapFields RefusedFields
 no_link = Err (record { code = L1; link = None })
 
+-- the answer, given the object and the link at the place
 abbrev pub snap_for : KnownFields → CatalogFields → List (List ℕ) → ℕ → LaidFields
     → Option PartsFields → Option LinkFields → Result SnapFields RefusedFields
 snap_for known catalog files ring l (Some o) (Some link) =
     snap_by files ring link (landing_of known catalog files ring l o link)
 snap_for known catalog files ring l _ _ = no_link
 
+-- the answer, given the section at the place
 abbrev pub snap_in : KnownFields → CatalogFields → List (List ℕ) → AtFields → Option LaidFields
     → Result SnapFields RefusedFields
 snap_in known catalog files at None = no_link

@@ -5,6 +5,7 @@ use Rattle.std.specs.List.{list_all}
 use Rattle.m36_page.specs.declared.table.PageTable.{PageTable}
 use Rattle.m36_page.specs.Fields.{TableFields, PagerFields}
 
+-- the table of a page table: missing words are zero
 abbrev pub table_given : PageTable → TableFields
 table_given t =
     record {
@@ -14,6 +15,7 @@ table_given t =
       words = t.words ++ replicate (1024 * t.pages - length t.words) 0;
     }
 
+-- the pager over `frames` frames from frame `first` on, with these page tables
 abbrev pub pager_given : ℕ → ℕ → List PageTable → PagerFields
 pager_given first frames tables =
     record { first = first; holders = replicate frames None; tables = map table_given tables }
@@ -27,6 +29,8 @@ fits_below first t =
 abbrev pub is_apart : PageTable → PageTable → Bool
 is_apart a b = nat_le (a.at + a.pages) b.at || nat_le (b.at + b.pages) a.at
 
+-- Each table ends below frame `first` and has no more words than its pages, and no two share a
+-- core word.
 unfoldable pub are_placed : ℕ → List PageTable → Bool
 are_placed first [] = true
 are_placed first (t ∷ tables) =

@@ -15,12 +15,15 @@ pub use Rattle.m36_model.specs.BootedCore.{absent_ptw, resident_ptw}
 
 -- ---- pages of tables
 
+-- the table belongs to this segment
 abbrev pub is_of : ℕ → TableFields → Bool
 is_of seg t = nat_eq t.seg seg
 
+-- the table of a segment, if it has one
 unfoldable pub table_of : List TableFields → ℕ → Option TableFields
 table_of tables seg = option_and_then (slice_get tables) (position (is_of seg) tables)
 
+-- a segment with this table has this page
 abbrev pub has_page_in : Option TableFields → ℕ → Bool
 has_page_in None page = false
 has_page_in (Some t) page = nat_lt page t.pages
@@ -30,13 +33,16 @@ abbrev pub spot_in : Option TableFields → ℕ → ℕ
 spot_in None page = 0
 spot_in (Some t) page = t.at + page
 
+-- the kept word for a word of a segment with this table
 abbrev pub kept_in : Option TableFields → ℕ → ℕ
 kept_in None w = 0
 kept_in (Some t) w = slice_index t.words w
 
+-- a segment has this page
 unfoldable pub has_page : PagerFields → ℕ → ℕ → Bool
 has_page p seg page = has_page_in (table_of p.tables seg) page
 
+-- the place in core of the page table word of a page
 unfoldable pub spot_of : PagerFields → ℕ → ℕ → ℕ
 spot_of p seg page = spot_in (table_of p.tables seg) page
 
@@ -54,6 +60,7 @@ paged_by core p = record { core = core; kept = kept_word p }
 abbrev pub frame_by : PtwFields → Option ℕ
 frame_by ptw = if ptw.f then Some (frame_named ptw) else None
 
+-- the frame that is encoded in a page table word, if any
 unfoldable pub frame_in : ℕ → Option ℕ
 frame_in w = frame_by (ptw_of w)
 
@@ -63,6 +70,7 @@ frame_of p core seg page = frame_in (slice_index core (spot_of p seg page))
 
 -- ---- content
 
+-- the word of a segment, from its frame or from the kept words
 unfoldable pub page_word : PagerFields → List ℕ → ℕ → ℕ → ℕ
 page_word p core seg w = word_in (frame_of p core seg (w / 1024)) core w (kept_word p seg w)
 

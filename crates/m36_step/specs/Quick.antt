@@ -50,6 +50,7 @@ Operates Has Tells q g w last core core' after =
 abbrev pub counted_address : Counting → Formed
 counted_address c = record { last = c.last; tally = Some c.tally; place = c.place }
 
+-- the same operation, in a step that has claimed the tally word
 abbrev pub OperatesCounted :
     (List Reference → Type 0) → (List Reference → Ended → Type 0) → Quick → RegsFields → ℕ
     → Counting → List ℕ → List ℕ → RegsFields → Type 0

@@ -44,6 +44,7 @@ pub record Booted : Type 0 where
 abbrev pub told_of : PagedState → StepRecord
 told_of s = record_of core_store (core_state s)
 
+-- the state of the run after a step from this paged state
 abbrev pub with_step : Booted → PagedState → Booted
 with_step r s =
     record r {
@@ -86,6 +87,7 @@ pub record IsWritten (frames : ℕ) (old new : Paged) (changes : List Change) : 
   pub laid : IsLaid new.core frames
   pub flat : flat_of new ≡ flat_put (flat_of old) changes
 
+-- A link was snapped: the turn, and the state after it.
 pub record IsLinked
     (frames : ℕ) (at : AtFields) (s : SnapFields) (before : Booted) (turn : Turn) (after : Booted)
     : Type 0 where
@@ -121,6 +123,7 @@ IsConsoleTurn false (Ok text) before turn after =
 
 -- ---- one turn
 
+-- what a turn may be, by what the next turn is
 abbrev pub IsTurnBy : Coming → Library → Booted → Turn → Booted → Type 0
 IsTurnBy Step lib before turn after =
     IsStepTurn before.loaded lib.catalog.frames before turn after
@@ -132,6 +135,7 @@ IsTurnBy Print lib before turn after =
     (console_text before.state.regs (flat_of before.state.memory)) before turn after
 IsTurnBy (Over e) lib before turn after = (turn ≡ Ended e) × (after ≡ before)
 
+-- the turn, and the state after it, are those that the run may have
 unfoldable pub IsTurn : Library → Booted → Turn → Booted → Type 0
 IsTurn lib before turn after = IsTurnBy before.coming lib before turn after
 
@@ -145,10 +149,13 @@ AreTurns lib r (turn ∷ turns) last =
 
 -- ---- the invariant of a run until an LDBR is executed
 
+-- The registers have the descriptor segment of the image, and the core is laid out as that of the
+-- image.
 pub record IsStanding (frames : ℕ) (s : PagedState) : Type 0 where
   pub dbr : s.regs.dbr ≡ booted_dbr
   pub laid : IsLaid s.memory.core frames
 
+-- this holds until an LDBR is executed
 abbrev pub Stands : Bool → ℕ → PagedState → Type 0
 Stands false frames s = IsStanding frames s
 Stands true frames s = Unit {0}

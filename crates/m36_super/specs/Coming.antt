@@ -20,11 +20,13 @@ coming_in true console f = Link f.at
 coming_in false true f = Print
 coming_in false false f = Over (end.Fault f)
 
+-- what follows a fault in a ring; once an LDBR has been executed, the end
 abbrev pub coming_on : Bool → ℕ → Fault → Coming
 coming_on true ring f = Over (end.Fault f)
 coming_on false ring f =
     coming_in (nat_eq f.number fault_tag_2) (nat_eq f.number master_mode_entry && nat_eq ring 0) f
 
+-- what follows a step in a ring
 abbrev pub coming_after : Bool → ℕ → Outcome → Coming
 coming_after loaded ring Next = Step
 coming_after loaded ring (Faulted f) = coming_on loaded ring f
@@ -32,11 +34,13 @@ coming_after loaded ring (Stopped s) = Over (end.Stop s)
 
 -- ---- whether an LDBR has been executed
 
+-- the instruction is LDBR
 abbrev pub is_ldbr : Option (Effect × ℕ) → Bool
 is_ldbr None = false
 is_ldbr (Some (effect.Ldbr, n)) = true
 is_ldbr (Some (e, n)) = false
 
+-- a step with this word and this outcome has executed an LDBR
 abbrev pub loads : Option ℕ → Outcome → Bool
 loads None outcome = false
 loads (Some w) Next = is_ldbr (decode w)

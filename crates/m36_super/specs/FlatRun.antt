@@ -26,6 +26,7 @@ pub record FlatRun : Type 0 where
   pub coming : Coming
   pub loaded : Bool
 
+-- a turn, and the state of the flat run after it
 pub record FlatTurn : Type 0 where
   pub turn : Turn
   pub after : FlatRun
@@ -82,6 +83,7 @@ flat_printed_by false (Ok text) r =
           };
     }
 
+-- a turn of the flat run, by what the next turn is
 abbrev pub flat_turn_by : Coming → Library → FlatRun → FlatTurn
 flat_turn_by Step lib r = flat_stepped r
 flat_turn_by (Link at) lib r = flat_linked_by (snap_of r.known lib.catalog lib.files at) r at

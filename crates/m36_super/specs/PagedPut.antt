@@ -18,6 +18,7 @@ put_at m seg w part v (Err why) =
     then record m { kept = content_with m.kept seg w part v }
     else m
 
+-- one word of a segment written
 abbrev pub paged_put_one : Paged → Spot → Part → ℕ → Paged
 paged_put_one m (Core_word a) part v = m
 paged_put_one m (Segment_word seg w) part v =

@@ -33,13 +33,15 @@ abbrev pub link_text : Option LinkFields → List ℕ
 link_text None = codes "?"
 link_text (Some link) = reference_text link
 
+-- the note of a link service
 abbrev pub note_of : AtFields → Option LinkFields → Result Pair LinkCode → LinkNoteFields
 note_of at link answer = record { name = link_text link; answer = answer; at = at; ring = at.ring }
 
--- the notes of a link that was snapped, and of one that was refused
+-- the note of a link that was snapped
 abbrev pub note_snapped : AtFields → SnapFields → LinkNoteFields
 note_snapped at s = note_of at (Some s.link) (Ok s.pair)
 
+-- the note of a link that was refused
 abbrev pub note_refused : AtFields → RefusedFields → LinkNoteFields
 note_refused at why = note_of at why.link (Err why.code)
 
@@ -53,10 +55,11 @@ console_limit = 256
 abbrev pub asks_too_much : RegsFields → Bool
 asks_too_much g = nat_lt console_limit g.a
 
--- the number of words for `count` characters, and its maximum
+-- the number of words for `count` characters
 abbrev pub console_word_count : ℕ → ℕ
 console_word_count count = quarter_words count
 
+-- the maximum number of words of a text
 abbrev pub console_word_limit : ℕ
 console_word_limit = console_word_count console_limit
 
@@ -74,6 +77,7 @@ abbrev pub console_at : RegsFields → ℕ → AtFields
 console_at g k =
     record { seg = (ptr g 2).seg; word = ((ptr g 2).word + k) % 2 ^ 18; ring = (ptr g 2).ring }
 
+-- the characters of a word before those of the rest of the text, or the first fault
 abbrev pub joined : Result Answer Fault → Result (List ℕ) Fault → Result (List ℕ) Fault
 joined (Err f) rest = Err f
 joined (Ok a) (Err f) = Err f
@@ -85,6 +89,7 @@ console_words g f k zero = Ok []
 console_words g f k (suc n) =
     joined (examined flat_store g f (console_at g k)) (console_words g f (k + 1) n)
 
+-- the first n characters of a text, or the fault of reading it
 abbrev pub cut_to : ℕ → Result (List ℕ) Fault → Result (List ℕ) Fault
 cut_to n (Err f) = Err f
 cut_to n (Ok characters) = Ok (take n characters)

@@ -21,6 +21,7 @@ pub record IsLacked (outcome : Outcome) (at : AtFields) : Type 0 where
   pub number : fault.number ≡ missing_page
   pub at_is : at ≡ fault.at
 
+-- The step lacked the page of this word, or it lacked none.
 abbrev pub LackedSays : Outcome → Option AtFields → Type 0
 LackedSays outcome None = IsPresent outcome
 LackedSays outcome (Some at) = IsLacked outcome at
@@ -48,6 +49,7 @@ pub record IsTaken
   pub step : IsBareStep old p new q told
   pub present : IsPresent told.outcome
 
+-- A try of a step: a page was brought in (true), or the step was taken (false).
 abbrev pub AttemptSays :
     Bool → State (List ℕ) → PagerFields → State (List ℕ) → PagerFields → StepRecord → Type 0
 AttemptSays true old p new q told = IsTried old p new q
@@ -65,6 +67,8 @@ pub record IsStepped
   pub runs : IsRunning (length q.holders) last.regs last.store q
   pub taken : IsTaken last q new q told
 
+-- A step: with page services until an LDBR has been executed (false), and without them after that
+-- (true).
 abbrev pub StepSays :
     Bool → State (List ℕ) → PagerFields → State (List ℕ) → PagerFields → StepRecord → Type 0
 StepSays false old p new q told = IsStepped old p new q told

@@ -42,6 +42,7 @@ abbrev pub run_of : State (List ℕ) → PagerFields → KnownFields → Coming 
 run_of s p known coming loaded =
     record { state = paged_of s p; known = known; coming = coming; loaded = loaded }
 
+-- the state of the booted run of a system
 abbrev pub booted_of : SuperFields → Booted
 booted_of s =
     run_of (record { regs = s.regs; store = s.core }) s.pager s.known s.coming s.loaded
@@ -65,6 +66,7 @@ pub record IsRunning (frames : ℕ) (regs : RegsFields) (core : List ℕ)
   pub dbr : regs.dbr ≡ booted_dbr
   pub managed : IsManaged frames core p
 
+-- this holds until an LDBR is executed
 abbrev pub Manages : Bool → ℕ → RegsFields → List ℕ → PagerFields → Type 0
 Manages false frames regs core p = IsRunning frames regs core p
 Manages true frames regs core p = Unit {0}
@@ -89,6 +91,7 @@ abbrev pub frame_by : Bool → Option ℕ → Option ℕ
 frame_by true frame = frame
 frame_by false frame = None
 
+-- the frame of a page of a pager, if the pager has the page and it is in one
 abbrev pub held_in : PagerFields → List ℕ → ℕ → ℕ → Option ℕ
 held_in p core seg page = frame_by (has_page p seg page) (frame_of p core seg page)
 
@@ -102,6 +105,7 @@ pub record IsPaging
   pub after_is : (seg page : ℕ) → moved.after seg page ≡ held_in q now seg page
   pub manages : IsManaged frames now q
 
+-- A call of the pager that keeps all content moves pages.
 abbrev pub PagingLaw : Type 0
 PagingLaw =
     (frames : ℕ) (core now : List ℕ) (p q : PagerFields)

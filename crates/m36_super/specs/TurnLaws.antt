@@ -44,6 +44,7 @@ pub record IsTurnKept (lib : Library) (before : Booted) (turn : Turn)
   pub locates : LocatesInTurn turn → LocatesInTurn (flat_turn lib (flat_run_of before)).turn
   pub stands : Stands after.loaded lib.catalog.frames after.state
 
+-- Each turn before an LDBR is executed satisfies `IsTurnKept`.
 abbrev pub TurnLaw : Type 0
 TurnLaw =
     (lib : Library) (before : Booted) (turn : Turn) (after : Booted) → before.loaded ≡ false

@@ -26,6 +26,7 @@ abbrev pub kept_operand : ℕ → ℕ → ℕ → Option ℕ → List ℕ
 kept_operand ring seg word (Some operand) = codes "=" ++ word_text operand
 kept_operand ring seg word None = kept_place ring 58 seg word
 
+-- the final address with the kept ring and segment number, or a dash if no address was formed
 abbrev pub kept_final : ℕ → ℕ → Option FinalFields → List ℕ
 kept_final ring seg (Some end) = kept_operand ring seg end.at.word end.direct
 kept_final ring seg None = codes "-"
