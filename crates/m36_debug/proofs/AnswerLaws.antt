@@ -236,7 +236,7 @@ pub back_went :
 back_went o end n text s m sitting m' old new enough says =
     subst (λ (b : Bool). BackSays o end b text n s m sitting m' old new) (sym enough) says
 
--- fewer were
+-- fewer steps were taken
 pub back_not :
     {M : Type 0} (o : Turning M) (put : Put) (end : Ends) (n : ℕ) (text : List ℕ) (s : SittingFields) (m : M) (old new : SinkState)
     → nat_le n s.taken ≡ false → PutsPieces put (unknown_line text ∷ []) old new → end ≡ told put

@@ -1,4 +1,4 @@
--- Laws of how many steps a command takes.
+-- Laws of the number of steps that a command takes.
 use Rattle.std.proofs.Common.{◌≡◌, ◌+◌, ◌<◌, ◌≤◌, ◌++◌, ℕ, Bool, true, false, List, [], ◌∷◌, Option, Some, None, refl, ap, subst, nat_le, arith}
 use Rattle.std.specs.Prelude.{length, if◌then◌else◌, option_map, unwrap_or, codes}
 use Rattle.std.proofs.lemmas.Bool.{leb-true}
@@ -143,7 +143,7 @@ runs_within o run s m (e ∷ events) s' m' interrupted was follow none =
     happened_within o run s m e.happened e.after events s' m' interrupted was follow.0 follow.1 none
     (λ next t made on no. runs_within o next t e.after events s' m' interrupted made on no)
 
--- ---- a line of steps takes at least one
+-- ---- a command that takes steps takes at least one
 
 abbrev TakesSome : SessionLine → Type 0
 TakesSome (session.Step n) = 0 < n

@@ -159,7 +159,7 @@ pub all_whole :
 all_whole text rest lines are unbroken =
     ap whole_lines are.is ∙ whole_lines_on lines rest are.unbroken ∙ ap (λ l. lines ++ l) (whole_last rest unbroken) ∙ append-nil lines
 
--- some of the whole ones
+-- some of the whole lines
 pub some_whole :
     (text rest : List ℕ) (lines : List (List ℕ)) → IsLines text lines rest → IsFirstPart lines (whole_lines text)
 some_whole text rest lines are =

@@ -35,7 +35,7 @@ more_lines o s m text begun end behind rest line sitting m1 old now f begun_unbr
     subst (λ l. IsLines text (f.lines ++ l ∷ []) behind) (sym is)
     (lines_line text begun end behind rest f.lines f.is begun_unbroken end_unbroken cut)
 
--- one more was answered, and the next is waited for
+-- one more line was answered, and the session waits for the next
 pub so_far_line :
     {M : Type 0} (o : Turning M) (s : Standing) (m : M) (text begun end behind rest line : List ℕ) (sitting sitting' : SittingFields) (m1 m2 : M) (old now new : SinkState)
     → SoFar o s m text (begun ++ rest) sitting m1 old now
@@ -48,7 +48,7 @@ so_far_line o s m text begun end behind rest line sitting sitting' m1 m2 old now
   part = part_on o s m f.lines (line ∷ []) (standing sitting Waiting) m1 (standing sitting' Waiting) m2 old now new f.part said;
 }
 
--- it was `quit`
+-- the line was `quit`
 pub so_far_quit :
     {M : Type 0} (o : Turning M) (s : Standing) (m : M) (text begun end behind rest line : List ℕ) (sitting sitting' : SittingFields) (m1 m2 : M) (old now new : SinkState)
     → SoFar o s m text (begun ++ rest) sitting m1 old now
@@ -77,7 +77,7 @@ so_far_starved o s m text begun end behind rest line sitting sitting' m1 m2 old 
   part = part_on o s m f.lines (line ∷ []) (standing sitting Waiting) m1 (standing sitting' Starved) m2 old now new f.part said;
 }
 
--- what it says could not be written
+-- what the line says could not be written
 pub so_far_cut :
     {M : Type 0} (o : Turning M) (s : Standing) (m : M) (text begun end behind rest line : List ℕ) (sitting sitting' : SittingFields) (m1 m2 : M) (old now new : SinkState)
     → SoFar o s m text (begun ++ rest) sitting m1 old now

@@ -31,7 +31,7 @@ puts_on old now new first second one two = record {
   faults = two.faults ∙ one.faults;
 }
 
--- some lines, and then a part of others
+-- some lines, and then some others and a prefix of the next
 pub puts_more :
     (old now new : SinkState) (first second : List (List ℕ))
     → PutsPieces Done first old now → PutsPieces Failed second now new → PutsPieces Failed (first ++ second) old new
@@ -41,7 +41,7 @@ puts_more old now new first second one two = record {
   faults = subst (λ n. Rose n new.faults) one.faults two.faults;
 }
 
--- a part of some lines is a part of more
+-- some lines and a prefix of the next are so of more lines
 pub puts_longer :
     (old new : SinkState) (first second : List (List ℕ))
     → PutsPieces Failed first old new → PutsPieces Failed (first ++ second) old new
@@ -67,7 +67,7 @@ puts_line Failed written written' taken taken' faults faults' line says took cau
   faults = cause;
 }
 
--- what was put is this line
+-- the piece that was put is this line
 pub puts_same :
     (answer : Put) (old new : SinkState) (lines others : List (List ℕ))
     → lines ≡ others → PutsPieces answer lines old new → PutsPieces answer others old new
@@ -173,13 +173,13 @@ pub puts_behind :
     → PutsPieces Done (line ∷ []) old now → PutsPieces answer lines now new → PutsPieces answer (line ∷ lines) old new
 puts_behind answer old now new line lines one two = puts_then answer old now new (line ∷ []) lines one two
 
--- one line, and then a part of others
+-- one line, and then some others and a prefix of the next
 pub puts_behind_cut :
     (old now new : SinkState) (line : List ℕ) (lines : List (List ℕ))
     → PutsPieces Done (line ∷ []) old now → PutsPieces Failed lines now new → PutsPieces Failed (line ∷ lines) old new
 puts_behind_cut old now new line lines one two = puts_more old now new (line ∷ []) lines one two
 
--- a part of the first of several lines
+-- a prefix of the first of several lines
 pub puts_first_cut :
     (old new : SinkState) (line : List ℕ) (lines : List (List ℕ))
     → PutsPieces Failed (line ∷ []) old new → PutsPieces Failed (line ∷ lines) old new

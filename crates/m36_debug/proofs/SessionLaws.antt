@@ -52,7 +52,7 @@ joined_end pieces = joined_last pieces [] ∙ append-nil (joined pieces)
 came_none : (now : LinesSeen) → Came now now []
 came_none now = record { gave = sym (append-nil now.given); left = preceded_none now.left }
 
--- one piece more
+-- one more piece
 came_more :
     (before now after : LinesSeen) (pieces : List (List ℕ)) (piece : List ℕ)
     → Came before now pieces → after.given ≡ now.given ++ piece ∷ [] → now.left ≡ preceded piece after.left
@@ -66,7 +66,7 @@ came_more before now after pieces piece came gave left = record {
       ∙ ap (λ t. preceded t after.left) (sym (joined_last pieces piece));
 }
 
--- the end
+-- the end of the input
 came_end :
     (before now after : LinesSeen) (pieces : List (List ℕ))
     → Came before now pieces → GotEnd now after → Came before after (pieces ++ [] ∷ [])
@@ -100,7 +100,7 @@ stops_going [] old new all = tt
 stops_going ([] ∷ pieces) old new all = absurd all
 stops_going ((byte ∷ piece) ∷ pieces) old new all = stops_going pieces old new all
 
--- it has, by the last piece
+-- the input has ended with the last piece
 stops_ended : (pieces : List (List ℕ)) (old new : ℕ) → AreSome pieces → new ≡ old → StopsAtEnd (pieces ++ [] ∷ []) old new
 stops_ended [] old new all stands = (refl, stands)
 stops_ended ([] ∷ pieces) old new all stands = absurd all
@@ -177,7 +177,7 @@ part_no_quit o m m' lines sitting answer old new part =
 waits_not_over : Waiting ≡ Over → ⊥
 waits_not_over is = cc
 
--- one that is over has taken it last
+-- a part after which the session is over has taken `quit` last
 part_quit :
     {M : Type 0} (o : Turning M) (m m' : M) (lines : List (List ℕ)) (sitting : SittingFields) (answer : Put) (old new : SinkState)
     → Part o (standing new_sitting Waiting) m lines (standing sitting Over) m' answer old new
@@ -212,7 +212,7 @@ going_unread o m m' before now after old new left begun sitting g got =
     (took_whole o m m' (joined g.pieces) begun g.lines sitting Done old new g.is g.unbroken g.part)
     g.part
 
--- one byte more than the most was taken
+-- one byte more than the limit was read
 pub going_too_long :
     {M : Type 0} (o : Turning M) (m m' : M) (before now after : LinesSeen) (old new : SinkState) (count left : ℕ) (begun buffer : List ℕ) (sitting : SittingFields)
     → Going o m m' before now old new left begun sitting → left ≡ 0 → GotPiece count 1 now after buffer

@@ -77,7 +77,7 @@ came_served o turn (Runs run) m m' may = λ is. service_made o turn m m' may is
 came_served o turn Waits m m' may = tt
 came_served o turn Starves m m' may = tt
 
--- a service is one that the machine made
+-- a service is one that the machine performed
 pub turn_served :
     {M : Type 0} (o : Turning M) (put : Put) (turn : Turn) (next : Further) (m m' : M)
     → o.next m turn m' → CameServed o (told_turn put turn next) m m'

@@ -57,7 +57,7 @@ impl Sitting {
         n as u64 <= self.taken
     }
 
-    /// How the run has ended, if it has.
+    /// How the run has ended, if it has ended.
     pub(crate) fn ended(&self) -> Option<End>
         ensures { result ≡ self.now.ended }
     {

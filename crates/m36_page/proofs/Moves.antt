@@ -8,7 +8,7 @@ use Rattle.m36_page.specs.Changes.{IsSameShape, IsSpot, IsPaged, IsKept}
 use Rattle.m36_page.specs.Moved.{IsAway, IsTaken}
 use Rattle.m36_page.proofs.Frames.{frame_absent, frame_resident, absent_unmarked, resident_unmarked, bounded, IsIn, IsOut, whereabouts, content_same, word_stays}
 
--- ---- kept twice
+-- ---- `IsKept` twice
 
 paged_back : (a : PagerFields) (ac : List ℕ) (b : PagerFields) (bc : List ℕ) → IsKept a ac b bc → (x : ℕ) → IsPaged b x → IsPaged a x
 paged_back a ac b bc one x paged =

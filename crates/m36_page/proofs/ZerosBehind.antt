@@ -20,7 +20,7 @@ length-filled words count le =
     let size-zeros = length-zeros (count - length words) in
     omega (arith, all, size-zeros, le)
 
--- a word of them is that of the words, or zero
+-- one of them is one of the words, or zero
 read-zeros : (n i : ℕ) → get_or (zeros n) i 0 ≡ 0
 read-zeros zero i = get_or_past [] i 0 (omega arith)
 read-zeros (suc n) zero = refl
@@ -45,7 +45,7 @@ filled-twice words n count le most =
     append_assoc words (zeros a) (zeros b)
     ∙ ap (λ l. words ++ l) (replicate-append-replicate {A = ℕ} a b 0 ∙ ap (λ k. zeros k) same)
 
--- a word that is set among those that are written
+-- a word that is set among the written words
 pub set-filled : (words more new : List ℕ) (n count i v : ℕ) → length words ≤ count → n ≤ count → more ≡ filled words n → i < n → new ≡ set more i v
     → filled new count ≡ set (filled words count) i v
 set-filled words more new n count i v le most is small written =
@@ -76,7 +76,7 @@ copied-filled core words more new from at n count le most is copied =
           get_or-filled new count a ∙ copied.outside a out ∙ ap (λ l. get_or l a 0) is ∙ get_or-filled words n a ∙ sym (get_or-filled words count a);
     }
 
--- a page that is copied from them
+-- a page that is copied from the written words
 pub given-filled : (words old new : List ℕ) (from at count : ℕ) → IsCopied words from old at new → IsCopied (filled words count) from old at new
 given-filled words old new from at count copied = record {
   size = copied.size;

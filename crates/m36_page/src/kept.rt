@@ -69,7 +69,7 @@ impl KeptWords {
         Ok(KeptWords { written, count })
     }
 
-    /// A word.
+    /// The word with this index.
     pub(crate) fn word(&self, i: usize) -> Word
         ensures { result ≡ slice_index self.now i }
     {

@@ -115,7 +115,7 @@ module _ (l : LayFields) (f : Flat) (base : l.base ≡ 1024) (low : l.seg < 1024
   front_size : length front ≡ l.seg
   front_size = let nought : ℕ = 0 in length-replicate l.seg nought
 
-  -- the table
+  -- the linkage offset table
   table_here : slice_index (lot_of l) l.seg ≡ lot_word l
   table_here =
       let none : l.seg - l.seg ≡ 0 = omega arith in

@@ -17,7 +17,7 @@ use m36_step::Machine;
 use m36_tables::{descriptor, in_order, within};
 use m36_word::Word;
 
-/// A word within the bound of a segment.
+/// A word within the bound of a segment with this descriptor.
 #[tactic(auto, using(crate::proofs::PagedContents::found))]
 pub(crate) fn found_word(core: &Core, pager: &Pager, sdw: &Sdw, seg: u16, word: u32) -> Word
     requires managed { IsManaged (length pager.now.holders) core.now pager.now }
