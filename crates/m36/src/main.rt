@@ -1,12 +1,15 @@
-//! The program `m36`: the simulator over the files of the current directory, the standard input and the standard output.
+//! The program `m36`: the simulator with the files of the current directory, the standard input
+//! and the standard output.
 //!
-//! It takes the words of the command line, calls the simulator, prints one line to standard error unless the call
-//! answered Done, and ends with the number of the status. The line is `m36: ` and the name of the status; behind BadFile
-//! stand the name of the file, the code, the place and the column. Behind Usage stands the help.
+//! It reads the words of the command line and calls the simulator. Unless the call answered Done,
+//! it prints one line to standard error. It exits with the number of the status. The line is `m36:
+//! ` and the name of the status; after BadFile follow the name of the file, the code, the place
+//! and the column. After the line of Usage it prints the help.
 //!
-//! What the call does, the line and the number are said by clauses of `m36`, `report` and `Status::number`, all of
-//! `m36_top`. That these are called, on the words as they are and on the real folder, input and output, is to be read here;
-//! and that where no memory is found for the line, the same is printed in pieces, which need none.
+//! What the call does, the line and the number are stated by the contracts of `m36`, `report` and
+//! `Status::number`, all of `m36_top`. Two things are in no contract, and can be read here: these
+//! are called with the unchanged words and with the real folder, input and output; and if there is
+//! no memory for the line, it is printed in pieces, which need none.
 #![tactic(auto)]
 
 mod words;
@@ -20,7 +23,7 @@ use std::io::{self, Write};
 use std::process::ExitCode;
 use words::read_words;
 
-/// Does what the words after the name of the program ask for.
+/// Performs the command that the words after the program's name ask for.
 fn answer(rt: &HostRuntime) -> Result<Status, NoMemory> {
     let words = read_words(rt, rt.alloc())?;
     let mut folder = DirFolder::new(rt.clone()?);
@@ -35,14 +38,14 @@ fn answer(rt: &HostRuntime) -> Result<Status, NoMemory> {
     ))
 }
 
-/// Prints the help to standard error; nothing where no memory is found for it.
+/// Prints the help to standard error; nothing if memory runs out for it.
 fn print_help(rt: &HostRuntime) {
     if let Ok(text) = help(rt.alloc()) {
         let _ = rt.stderr().write_all(text.bytes());
     }
 }
 
-/// Prints the line of a status, or where no memory is found for it the same in pieces, which take none.
+/// Prints the line of a status; if memory runs out for it, prints it in pieces, which need none.
 fn tell(rt: &HostRuntime, status: &Status) -> io::Result<()> {
     match report(rt.alloc(), status) {
         Ok(line) => rt.stderr().write_all(line.bytes()),

@@ -1,14 +1,14 @@
-//! The words of the command line.
+//! Reads the words of the command line.
 
 use m36_outside::Text;
 use m36_word::NoMemory;
 use std::alloc::Global;
 use std::env::{Env, FillError};
 
-/// How many bytes are tried first for a word.
+/// The length of the first buffer for a word, in bytes.
 const FIRST_LENGTH: usize = 256;
 
-/// Reads the words after the name of the program, each as the bytes that it is.
+/// Reads the words after the program's name, each as its bytes.
 pub fn read_words(env: &impl Env, alloc: Global) -> Result<Vec<Text>, NoMemory> {
     let mut words = Vec::new(alloc);
     for number in 1..usize::MAX {
@@ -20,7 +20,7 @@ pub fn read_words(env: &impl Env, alloc: Global) -> Result<Vec<Text>, NoMemory> 
     Ok(words)
 }
 
-/// Reads the word with this number. None says that there is no such word, or that no buffer could hold it.
+/// Reads the word with this number. None: there is no such word, or no buffer could hold it.
 fn read_word(env: &impl Env, alloc: Global, number: usize) -> Result<Option<Text>, NoMemory> {
     let mut buffer = vec![in alloc; 0u8; FIRST_LENGTH]?;
     for _turn in 0..usize::BITS {

@@ -28,10 +28,12 @@ abbrev pub past_answer : {M : Type 0} → (M → Turn) → (M → M) → History
 past_answer answer after h =
     if h.taken == most_taken then Full else answer (standing_at after h)
 
+-- the history after that turn
 abbrev pub past_after : {M : Type 0} → (M → Turn) → (M → M) → History M → History M
 past_after answer after h =
     record { first = h.first; taken = counted h.taken (past_answer answer after h) }
 
+-- the machine makes this turn, and its history is `later` after it
 abbrev pub PastTurns :
     {M : Type 0} → (M → Turn) → (M → M) → History M → Turn → History M → Type 0
 PastTurns answer after before turn later =

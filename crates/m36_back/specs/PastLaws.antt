@@ -73,6 +73,7 @@ counts_one_if : (Same : Type 0) (full : Bool) (taken : ℕ) (turn : Turn)
 counts_one_if Same true taken turn kept interrupts = absurd interrupts
 counts_one_if Same false taken turn kept interrupts = counts_one Same taken turn kept interrupts
 
+-- the turn after one that interrupts is not a step
 pub past_interrupted :
     {M : Type 0} (answer : M → Turn) (after : M → M)
     (kept : (state : M) → IsStepOrEnd (after state ≡ state) (answer state))

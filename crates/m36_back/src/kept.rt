@@ -48,7 +48,8 @@ pub(crate) fn nearest<M: Replay + Drop>(
 /// Drops the states whose numbers are greater than `target`.
 #[tactic(auto, using(crate::proofs::KeptLaws::keeping))]
 pub(crate) fn drop_later<M: Replay + Drop>(kept: &mut Vec<Kept<M>>, target: u64)
-    ensures { (first : M) → AllKept M.after first kept.old.items → AllKept M.after first kept.new.items }
+    ensures { (first : M) → AllKept M.after first kept.old.items
+        → AllKept M.after first kept.new.items }
 {
     let mut n = kept.len();
     'kept: while n > 0 {
@@ -63,7 +64,8 @@ pub(crate) fn drop_later<M: Replay + Drop>(kept: &mut Vec<Kept<M>>, target: u64)
 /// Drops the states whose numbers have any bit of `mask`.
 #[tactic(auto, using(crate::proofs::KeptLaws::keeping))]
 fn thin<M: Replay + Drop>(kept: &mut Vec<Kept<M>>, mask: u64)
-    ensures { (first : M) → AllKept M.after first kept.old.items → AllKept M.after first kept.new.items }
+    ensures { (first : M) → AllKept M.after first kept.old.items
+        → AllKept M.after first kept.new.items }
 {
     kept.retain(|k| -> bool { k.at & mask == 0 });
 }
@@ -80,7 +82,8 @@ fn keep_due<M: Replay + Drop>(
     taken: u64,
     mask: u64,
 ) -> u64
-    ensures { (first : M) → AllKept M.after first kept.old.items → machine.now ≡ state_at M.after first taken
+    ensures { (first : M) → AllKept M.after first kept.old.items
+        → machine.now ≡ state_at M.after first taken
         → AllKept M.after first kept.new.items }
 {
     let mut mask = mask;
@@ -113,7 +116,8 @@ pub(crate) fn keep<M: Replay + Drop>(
     taken: u64,
     mask: u64,
 ) -> u64
-    ensures { (first : M) → AllKept M.after first kept.old.items → machine.now ≡ state_at M.after first taken
+    ensures { (first : M) → AllKept M.after first kept.old.items
+        → machine.now ≡ state_at M.after first taken
         → AllKept M.after first kept.new.items }
 {
     if taken & mask == 0 {

@@ -43,7 +43,8 @@ impl<M: Replay + Drop> Past<M> {
     /// runs out, the error is the machine `m`.
     #[tactic(auto, using(crate::proofs::KeptLaws::new_history))]
     pub fn new(alloc: Global, m: M) -> Result<Past<M>, M>
-        ensures { MatchResult result (λ past. past ≡ record { first = m; taken = 0 }) (λ back. back ≡ m) }
+        ensures { MatchResult result (λ past. past ≡ record { first = m; taken = 0 })
+            (λ back. back ≡ m) }
     {
         match m.copy(alloc) {
             Err(_) => Err(m),

@@ -1,9 +1,12 @@
 //! The image that is run: one segment with two loops, in ring 0.
 //!
-//! The simple loop has six instructions: it loads a word, adds a number that stands in the address itself, stores the sum, counts
-//! a word that it finds through an indirect word, counts index register 1 and begins anew. The mixed loop has fourteen: it loads,
-//! adds and stores pairs of words, one of them through an ITS pair, takes an exclusive and an inclusive or, shifts one register
-//! and two, loads and stores through a tally word that it puts forward and back, calls, returns, counts a word and begins anew.
+//! The simple loop has six instructions. It loads a word, adds an immediate number, stores the
+//! sum, increments a word through an indirect word, increments index register 1 and starts again.
+//!
+//! The mixed loop has fourteen instructions. It loads, adds and stores pairs of words, one of them
+//! through an ITS pair, takes an exclusive and an inclusive or, shifts one register and both,
+//! loads and stores through a tally word that it moves forward and back, calls, returns,
+//! increments a word and starts again.
 
 ghost use Rattle.std.specs.Prelude.{◌≡◌, ◌<◌, ◌^◌};
 
@@ -14,7 +17,7 @@ use m36_step::Machine;
 use m36_word::{NoMemory, Word};
 use std::alloc::Global;
 
-/// The descriptor segment lies unpaged at core word 0, in one block.
+/// The descriptor segment is unpaged, at core word 0, in one block of 16 words.
 const DBR: Dbr = Dbr {
     addr: 0,
     bnd: 0,
@@ -22,14 +25,14 @@ const DBR: Dbr = Dbr {
     unpaged: true,
 };
 
-/// The descriptor of segment 1 where it is unpaged, and where it is paged: one page of 1,024 words, which ring 0 may read, write
-/// and execute.
+/// The descriptor of segment 1, unpaged and paged: one page of 1,024 words, which ring 0 may read,
+/// write and execute.
 const UNPAGED: [(u32, u64); 2] = [(2, 0o000020000004), (3, 0o000777300000)];
 
 const PAGED: [(u32, u64); 2] = [(2, 0o000001000004), (3, 0o000777100000)];
 
-/// The page table of one page, and of the page the simple loop, the word that is loaded, and the indirect word to the counted
-/// one.
+/// The page table, of one page; and of that page the simple loop, the word that it loads, and the
+/// indirect word to the word that it increments.
 const SIMPLE: [(u32, u64); 9] = [
     (0o100, 0o000020000004),
     (0o2000, 0o000100235000),
@@ -42,9 +45,9 @@ const SIMPLE: [(u32, u64); 9] = [
     (0o2102, 0o000103000000),
 ];
 
-/// Of the page the mixed loop: `ldaq`, `adaq`, `era`, `orq`, `als`, `lrl`, `staq`, `ldaq` through the ITS pair, `lda` and `sta`
-/// through the tally word, `call6`, `aos`, `tra` and `rtcd`; two pairs of numbers, the ITS pair, the pair of the return, and the
-/// tally word.
+/// Of the page the mixed loop: `ldaq`, `adaq`, `era`, `orq`, `als`, `lrl`, `staq`, `ldaq` through
+/// the ITS pair, `lda` and `sta` through the tally word, `call6`, `aos`, `tra` and `rtcd`; two
+/// pairs of numbers, the ITS pair, the return pointer, and the tally word.
 const MIXED: [(u32, u64); 23] = [
     (0o2300, 0o000316237000),
     (0o2301, 0o000320077000),
@@ -78,7 +81,7 @@ pub enum Loop {
     Mixed,
 }
 
-/// The word of segment 1 where a loop begins.
+/// The word number in segment 1 at which a loop begins.
 fn begin(chosen: Loop) -> u32
     ensures { result < 2 ^ 18 }
 {
@@ -88,7 +91,7 @@ fn begin(chosen: Loop) -> u32
     }
 }
 
-/// Where the word that a loop counts lies in core.
+/// The place in core of the word that a loop increments.
 fn counted_place(chosen: Loop) -> u32 {
     match chosen {
         Loop::Simple => 0o2103,
@@ -112,7 +115,7 @@ fn core(alloc: Global, paged: bool) -> Result<Core, NoMemory> {
     Ok(core)
 }
 
-/// Registers that hold nothing, at a word of segment 1 in ring 0.
+/// Registers that are zero, at a word of segment 1 in ring 0.
 fn regs(dbr: Dbr, ic: u32) -> Regs
     requires { ic < 2 ^ 18 }
     ensures { result.dbr ≡ dbr }
@@ -146,7 +149,7 @@ pub fn machine(alloc: Global, paged: bool, chosen: Loop) -> Result<Machine, NoMe
     Ok(Machine::start(core(alloc, paged)?, regs(DBR, begin(chosen))))
 }
 
-/// How often the loop has counted.
+/// The number of times that the loop has run.
 pub fn counted(machine: &Machine, chosen: Loop) -> u64 {
     let core = machine.walk().core();
     let place = counted_place(chosen);

@@ -1,13 +1,13 @@
-//! Trace lines that are made in a block, counted, and not written.
+//! Trace lines that are made in a block and counted, but not written.
 
 use m36_model::{Regs, Shown};
 use m36_outside::{Block, SureSink};
 use m36_trace::{TraceText, add_shown};
 
-/// A block of more bytes may have no room for one line more.
+/// A block with more bytes may have no room for one more line.
 const ALMOST_FULL: usize = 32_000;
 
-/// Lines that are made, and the bytes of all of them.
+/// Trace lines, and the number of their bytes.
 #[derive(Drop)]
 pub struct Lines {
     text: TraceText,
@@ -42,7 +42,7 @@ impl Lines {
         );
     }
 
-    /// How many bytes the lines have without their line feeds.
+    /// The number of bytes of all lines, without their line feeds.
     pub fn bytes(&self) -> u64 {
         let feeds = self.block.len() as u64;
         let bytes = self.block.bytes().len() as u64;

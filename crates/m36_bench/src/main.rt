@@ -1,11 +1,19 @@
 //! The program `m36_bench`: how many steps the machine takes in a second.
 //!
-//! It lays two loops into core, a simple one of six instructions and a mixed one of fourteen, once in an unpaged segment and
-//! once in a paged one. It takes steps of a loop without and with trace lines, which are made in a block and counted but not
-//! written, and quiet ones, of which no record is made, and prints a line for each run. The last word of the command line but
-//! `mixed` and `quiet` is the count of steps, in decimal: then the simple loop is run, or with the word `mixed` the mixed one,
-//! with the word `quiet` by quiet steps alone, and the line has the steps a second. With no word it takes 1,000 steps of each,
-//! and prints the same every time.
+//! It lays two loops into core, a simple one of six instructions and a mixed one of fourteen, each
+//! in an unpaged segment and in a paged one. It takes steps of a loop in three ways: with records
+//! only; with trace lines, which are made in a block and counted but not written; and as quiet
+//! steps, of which no record is made. It prints a line for each run.
+//!
+//! Words of the command line:
+//!
+//! - `mixed`: only the mixed loop;
+//! - `quiet`: only quiet steps;
+//! - any other word: the number of steps, in decimal. The last such word counts.
+//!
+//! With a number it runs one loop, the simple one unless `mixed` is given, with quiet steps only if
+//! `quiet` is given, and each line has the steps per second. Without a number it takes 1,000 steps
+//! in each run and prints no speed, so it prints the same every time.
 #![tactic(auto)]
 
 mod image;
@@ -20,8 +28,8 @@ use std::rt::{Clock, Env};
 use std::time::Instant;
 use std::{env, io};
 
-/// What the words ask for: the steps, None where the last word but `mixed` and `quiet` is no number, the mixed loop, and quiet
-/// steps.
+/// What the words ask for: the number of steps, None if the last word other than `mixed` and
+/// `quiet` is not a number; the mixed loop; and quiet steps.
 #[derive(Clone, Copy)]
 struct Asked {
     steps: Option<u64>,
@@ -61,7 +69,7 @@ fn read_words(rt: &(impl Env + AllocGlobal)) -> io::Result<Asked> {
     Ok(asked)
 }
 
-/// What is made of each step: a record, its line too, or nothing.
+/// What is made of each step: a record, its trace line, or nothing.
 #[derive(Clone, Copy)]
 enum Made {
     Record,
@@ -69,7 +77,8 @@ enum Made {
     Nothing,
 }
 
-/// A run: the steps that are asked for, the loop, the kind of its segment, and what is made of each step.
+/// A run: the number of steps that is asked for, the loop, the kind of its segment, and what is
+/// made of each step.
 #[derive(Clone, Copy)]
 struct Run {
     asked: Option<u64>,
@@ -78,7 +87,7 @@ struct Run {
     made: Made,
 }
 
-/// How a run went.
+/// The result of a run.
 #[derive(Clone, Copy)]
 struct Went {
     taken: Taken,
@@ -95,7 +104,7 @@ fn take_steps(machine: &mut Machine, run: Run) -> Taken {
     }
 }
 
-/// Takes the steps of a run, by the clock.
+/// Takes the steps of a run, and measures the time.
 fn measured(rt: &impl Clock, machine: &mut Machine, run: Run) -> io::Result<Went> {
     let start = Instant::now(rt)?;
     let taken = take_steps(machine, run);
@@ -108,7 +117,7 @@ fn measured(rt: &impl Clock, machine: &mut Machine, run: Run) -> io::Result<Went
     })
 }
 
-/// Prints the loop, the kind of its segment, the steps, and how often the loop has counted.
+/// Prints the loop, the kind of its segment, the number of steps, and how often the loop has run.
 fn print_steps(rt: &(impl Print + AllocGlobal), run: Run, went: Went) -> io::Result<()> {
     let mixed = match run.chosen {
         Loop::Simple => "",
@@ -124,7 +133,7 @@ fn print_steps(rt: &(impl Print + AllocGlobal), run: Run, went: Went) -> io::Res
     print!(rt; "{mixed}{quiet}{name}: {steps} steps, counted {turns}")
 }
 
-/// Prints how long the lines are, where they are made.
+/// Prints the length of the trace lines, if they are made.
 fn print_lines(rt: &(impl Print + AllocGlobal), run: Run, went: Went) -> io::Result<()> {
     match run.made {
         Made::Line => {
@@ -135,13 +144,13 @@ fn print_lines(rt: &(impl Print + AllocGlobal), run: Run, went: Went) -> io::Res
     }
 }
 
-/// The steps a second.
+/// The steps per second.
 fn rate(steps: u64, nanoseconds: u128) -> u64 {
     let whole = steps as u128 * 1_000_000_000 / nanoseconds.max(1);
     u64::try_from(whole).unwrap_or(u64::MAX)
 }
 
-/// Prints the steps a second, where a number of them is asked for, and ends the line.
+/// Prints the steps per second, if a number of steps is asked for, and ends the line.
 fn print_rate(rt: &(impl Print + AllocGlobal), run: Run, went: Went) -> io::Result<()> {
     if run.asked.is_some() {
         let rate = rate(went.taken.steps, went.nanoseconds);
@@ -158,12 +167,12 @@ fn print_run(rt: &(impl Print + AllocGlobal), run: Run, went: Went) -> io::Resul
     print_rate(rt, run, went)
 }
 
-/// Takes the steps of a run, and prints how it went.
+/// Takes the steps of a run, and prints its line.
 fn report<R: Print + Clock + AllocGlobal>(rt: &R, run: Run) -> io::Result<()> {
     match machine(rt.alloc(), run.paged, run.chosen) {
         Ok(mut machine) => {
             let went = measured(rt, &mut machine, run);
-            // Dropped by a call: so the drop is proved once for its type.
+            // Dropped by a call, so the drop is proved once for its type.
             drop(machine);
             print_run(rt, run, went?)
         }
@@ -171,7 +180,7 @@ fn report<R: Print + Clock + AllocGlobal>(rt: &R, run: Run) -> io::Result<()> {
     }
 }
 
-/// Takes steps of a loop in both kinds of segments, without and with lines.
+/// Takes steps of a loop in both kinds of segments, with and without trace lines.
 fn told_reports<R: Print + Clock + AllocGlobal>(
     rt: &R,
     asked: Option<u64>,

@@ -1,17 +1,17 @@
-//! Steps of the machine, without and with their trace lines.
+//! Takes steps of the machine, with and without their trace lines.
 
 use crate::lines::Lines;
 use m36_model::{Outcome, StepRecord};
 use m36_step::Machine;
 
-/// The steps that were taken, and the bytes of their lines.
+/// The number of steps that were taken, and of the bytes of their lines.
 #[derive(Clone, Copy)]
 pub struct Taken {
     pub steps: u64,
     pub bytes: u64,
 }
 
-/// Takes a step, and answers whether another may follow.
+/// Takes a step, and returns whether another may follow.
 fn goes_on(machine: &mut Machine, told: &mut StepRecord) -> bool {
     machine.step_into(told);
     another_follows(told.outcome)
@@ -24,7 +24,7 @@ fn another_follows(outcome: Outcome) -> bool {
     }
 }
 
-/// Takes so many steps, or fewer where one ends the run.
+/// Takes `steps` steps, or fewer if one ends the run.
 pub fn without_lines(machine: &mut Machine, steps: u64) -> Taken {
     let mut told = machine.untold();
     for n in 0..steps {
@@ -35,7 +35,7 @@ pub fn without_lines(machine: &mut Machine, steps: u64) -> Taken {
     Taken { steps, bytes: 0 }
 }
 
-/// Takes so many steps, or fewer where one ends the run, and tells nothing of those that are quick.
+/// Takes `steps` steps, or fewer if one ends the run, and records none of the quick ones.
 pub fn quietly(machine: &mut Machine, steps: u64) -> Taken {
     let mut told = machine.untold();
     let mut left = steps;
@@ -55,7 +55,7 @@ pub fn quietly(machine: &mut Machine, steps: u64) -> Taken {
     Taken { steps, bytes: 0 }
 }
 
-/// Takes so many steps, or fewer where one ends the run, and makes the line of each.
+/// Takes `steps` steps, or fewer if one ends the run, and makes the line of each.
 pub fn with_lines(machine: &mut Machine, steps: u64) -> Taken {
     let mut shown = machine.unshown();
     let mut lines = Lines::new();

@@ -71,7 +71,7 @@ found_seg catalog files lay seg i e =
     let all = subst P number (of.has, at ∙ ap (λ t. Some t) (sym u.2 ∙ ap (λ (t : PageTable). table_given t) of.is)) in
     (of.sdw, all.0, all.1)
 
--- by the place of the table
+-- given the index of the table
 table_by : (catalog : CatalogFields) (files : List (List ℕ)) (lay : Option LayFields) (seg : ℕ) (d : SdwFields) (o : Option ℕ)
     → position (is_of seg) (map table_given (booted_tables catalog files lay)) ≡ o → (o ≡ None → ⊥) → booted_sdw catalog files seg ≡ Some d
     → option_and_then (slice_get (map table_given (booted_tables catalog files lay))) o ≡ Some (table_given (page_table catalog files lay seg d))
@@ -118,7 +118,7 @@ table_dead catalog files lay seg none =
 
 -- ---- content
 
--- words with zeros behind them
+-- words with zeros after them
 pub filled_at : (words : List ℕ) (n w z : ℕ) → get_or (words ++ replicate n z) w z ≡ get_or words w z
 filled_at words n w z =
     elim (cases_lt w (length words)) [
@@ -132,7 +132,7 @@ absent_frame : frame_in absent_ptw ≡ None
 unfolding frame_in
 absent_frame = refl
 
--- the content of a word, by the table of its segment
+-- the content of a word, given the table of its segment
 content_in : (p : PagerFields) (core : List ℕ) (seg w : ℕ) (t : TableFields) → table_of p.tables seg ≡ Some t
     → (w / 1024 < t.pages → get_or core (t.at + w / 1024) 0 ≡ absent_ptw)
     → content_of p core seg w ≡ cond (nat_lt (w / 1024) t.pages) (Some (get_or t.words w 0)) None
@@ -186,7 +186,7 @@ image_made catalog files s core pager regs snap are few made given flat at = rec
   regs = at;
 }
 
--- the pager and the core by the calls that make them
+-- the pager and the core, from the contracts of the calls that make them
 pub given_from_calls : (catalog : CatalogFields) (files : List (List ℕ)) (s : SnapFields) (tables : List PageTable) (frames : ℕ) (pager : PagerFields)
     → tables ≡ booted_tables catalog files s.lay → frames ≡ catalog.frames → pager ≡ pager_given wired_frames frames tables
     → pager ≡ pager_given wired_frames catalog.frames (booted_tables catalog files s.lay)

@@ -1,4 +1,4 @@
--- The section of a start, by the laws of links: it fits the linkage segment behind the LOT.
+-- The linkage section of a start, by the laws of links: it fits the linkage segment after the LOT.
 use Rattle.std.proofs.Common.{ℕ, ◌≡◌, ◌≤◌, List, [], length, All, Option, Some, None, Ok, refl, arith}
 use Rattle.std.proofs.lemmas.List.Elements.{All-nil, All-head}
 use Rattle.m36_dir.specs.Catalog.{CatalogFields}

@@ -1,4 +1,4 @@
--- The flat memory for which the core of an image and the words kept stand.
+-- The flat memory that the core of an image and the kept words represent.
 use Rattle.std.proofs.Common.{ℕ, zero, suc, ◌≡◌, ◌+◌, ◌-◌, ◌*◌, ◌/◌, ◌<◌, ◌≤◌, Bool, true, false, cond, List, [], ◌∷◌, length, get_or, take, Option, Some, None, Result, refl, sym, ap, inl, inr, ◌∙◌, arith}
 use Rattle.std.specs.Prelude.{nat_lt, unwrap_or}
 use Rattle.std.proofs.lemmas.Bool.{lt-ltb, leb-true, leb-false, cases_lt}
@@ -69,7 +69,7 @@ module _ (catalog : CatalogFields) (files : List (List ℕ)) (lay : Option LayFi
       ∙ ap (λ o. kept_in o w) (table_live catalog files lay seg d are has)
       ∙ filled_at (booted_words files lay seg) (1024 * page_count d - length (booted_words files lay seg)) w 0
 
-  -- within the bound the page is put away; past it words are zero
+  -- within the bound the page is in no frame; past it words are zero
   word_by : (seg w : ℕ) (d : SdwFields) (inside : Bool) → booted_sdw catalog files seg ≡ Some d → within d w ≡ inside
       → word_at memory seg w (place_within (within d w) (core_spot core booted_dbr d seg w)) ≡ unwrap_or (content_by (Some d) (booted_words files lay seg) w) 0
   word_by seg w d true has e =

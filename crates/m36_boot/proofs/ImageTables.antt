@@ -1,4 +1,4 @@
--- The page tables of an image: in order, apart, and one for each segment.
+-- The page tables of an image: in order, without common words, and one for each segment.
 use Rattle.std.proofs.Common.{ℕ, zero, suc, ◌≡◌, ◌+◌, ◌-◌, ◌*◌, ◌<◌, ◌≤◌, true, List, ◌++◌, length, Option, Some, None, refl, sym, ap, subst, inl, inr, ◌∙◌, arith, append_assoc}
 use Rattle.std.specs.Prelude.{slice_get, nat_le}
 use Rattle.std.specs.List.{list_all}
@@ -39,7 +39,7 @@ tables_all catalog files lay n seg tables total le so_far =
     let none : n - seg ≡ 0 = omega (arith, le) in
     sym (append-nil tables) ∙ ap (λ m. tables ++ tables_from catalog files lay seg m) (sym none) ∙ so_far
 
--- ---- apart
+-- ---- without common words
 
 apart_by : (t : PageTable) (o : Option SdwFields) (seg : ℕ) (words : List ℕ) (rest : List PageTable) → t.at + t.pages ≤ table_at seg
     → list_all (is_apart t) rest ≡ true → list_all (is_apart t) (table_of_segment seg o words ++ rest) ≡ true
@@ -128,7 +128,7 @@ has_table catalog files lay k d are e =
     let last = (live catalog files k d are e).last in
     has_from catalog files lay 0 (64 + length catalog.segments) k d (omega arith) (omega (arith, last)) e
 
--- a table is that of a segment
+-- a table is the table of a segment
 pub record IsOf (catalog : CatalogFields) (files : List (List ℕ)) (lay : Option LayFields) (t : PageTable) : Type 0 where
   pub seg : ℕ
   pub sdw : SdwFields

@@ -25,7 +25,7 @@ use Rattle.m36_boot.proofs.ImageTables.{page_table, has_table, table_is}
 pub described_none : (catalog : CatalogFields) (files : List (List ℕ)) (core : List ℕ) → AreDescribed catalog files 0 core core
 described_none catalog files core = record { size = refl; written = λ a lt. absurd (omega arith); others = λ a le. refl; whole = λ k d lt has. absurd (omega (arith, lt)) }
 
--- the words after a pair was written
+-- the words after two words were written
 pair_even : (core : List ℕ) (s e o : ℕ) → 2 * s + 1 < length core → get_or (set (set core (2 * s) e) (2 * s + 1) o) (2 * s) 0 ≡ e
 pair_even core s e o lt =
     let n = length-set core (2 * s) e in
@@ -40,7 +40,7 @@ pair_other : (core : List ℕ) (s e o a : ℕ) → a ≢ 2 * s → a ≢ 2 * s +
 pair_other core s e o a first second =
     get_or-set_other (set core (2 * s) e) (2 * s + 1) a o 0 second ∙ get_or-set_other core (2 * s) a e 0 first
 
--- a word of the pair of a segment
+-- a word of a segment's descriptor
 pub even_of : (catalog : CatalogFields) (files : List (List ℕ)) (s : ℕ) → descriptor_word ((2 * s) % 2) (booted_sdw catalog files ((2 * s) / 2)) ≡ descriptor_word 0 (booted_sdw catalog files s)
 even_of catalog files s =
     let half : (2 * s) % 2 ≡ 0 = omega arith in
@@ -104,7 +104,7 @@ zeros_at n a z =
       | inr past ↦ let size = length-replicate n z in get_or_past (replicate n z) a z (omega (arith, past, size))
     ]
 
--- a word of a table, with the segment whose it is
+-- a page table word, with its segment
 record IsWordOf (catalog : CatalogFields) (files : List (List ℕ)) (a : ℕ) : Type 0 where
   seg : ℕ
   sdw : SdwFields
@@ -127,7 +127,7 @@ word_of catalog files lay a w =
     let high = w.4 in
     record { seg = is.seg; sdw = is.sdw; has = is.has; low = omega (arith, at, low); high = omega (arith, at, pages, high) }
 
--- What core is made of: zeros, the descriptors, and absent pages.
+-- The contents of core: zeros, the descriptors, and absent pages.
 pub record IsMade (catalog : CatalogFields) (files : List (List ℕ)) (lay : Option LayFields) (n : ℕ) (core : List ℕ) : Type 0 where
   pub mid : List ℕ
   pub described : AreDescribed catalog files (64 + length catalog.segments) (replicate n 0) mid
@@ -142,7 +142,7 @@ absent_at catalog files lay n k q core d are made e lt =
     slice_get-map table_given (booted_tables catalog files lay) has.0 ∙ ap (λ o. option_map table_given o) has.1 in
     made.absent.absent has.0 (table_given t) q (slice_get_within (map table_given (booted_tables catalog files lay)) has.0 (table_given t) at) at lt
 
--- a word of no table, behind the descriptors
+-- a word after the descriptors that is in no page table
 zero_at : (catalog : CatalogFields) (files : List (List ℕ)) (lay : Option LayFields) (n a : ℕ) (core : List ℕ) → IsMade catalog files lay n core
     → 2 * (64 + length catalog.segments) ≤ a → (IsWordOf catalog files a → ⊥) → get_or core a 0 ≡ 0
 zero_at catalog files lay n a core made past out =

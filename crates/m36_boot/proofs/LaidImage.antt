@@ -1,4 +1,4 @@
--- The core of an image is laid: each descriptor is read back as it was written, and every page is put away.
+-- The core of an image is laid out: each descriptor decodes to what was encoded, and no page is in a frame.
 use Rattle.std.proofs.Common.{ℕ, ◌≡◌, ◌≢◌, ◌+◌, ◌*◌, ◌^◌, ◌<◌, ◌≤◌, Bool, true, false, List, length, get_or, Option, Some, None, Result, Ok, Err, refl, sym, ap, inl, inr, ◌∙◌, arith}
 use Rattle.std.specs.Prelude.{slice_get, nat_lt, ◌&&◌}
 use Rattle.std.proofs.lemmas.Bool.{lt-ltb, le-ltb, cases_lt}
@@ -20,7 +20,7 @@ use Rattle.m36_boot.specs.Image.{descriptor_word, IsWhole}
 use Rattle.m36_boot.proofs.Sizes.{AreFiles, live}
 use Rattle.m36_boot.proofs.LaidCore.{IsMade, absent_at, descriptor_here, even_of, odd_of, size_of}
 
--- ---- a descriptor by its words
+-- ---- a descriptor, from its words
 
 abbrev pub sdw_by : Option SdwFields → Result SdwFields Refusal
 sdw_by None = Err (directed 0)

@@ -1,4 +1,4 @@
--- What laying answers, by the frames, the gates and the start.
+-- The result of `lay`, by the frames, the gates and the start.
 use Rattle.std.proofs.Common.{ℕ, ◌≡◌, ◌<◌, ◌≤◌, Bool, true, false, cond, List, length, Option, Some, None, Result, Ok, Err, sym, ap, subst, ◌∙◌}
 use Rattle.std.proofs.lemmas.Bool.{lt-ltb, le-ltb}
 use Rattle.m36_dir.specs.Catalog.{CatalogFields}
@@ -51,7 +51,7 @@ pub lay_point : (catalog : CatalogFields) (files : List (List ℕ)) (s : SnapFie
     → first_gate_fault catalog files 0 (length catalog.segments) ≡ None → start_of catalog files ≡ Ok s → boot_answer catalog files ≡ Ok s
 lay_point catalog files s many none is = lay_from catalog files many none ∙ is
 
--- ---- what starts is the answer to the link
+-- ---- the start is the answer to the link
 
 answer_by : (may : Bool) (answer : Result SnapFields RefusedFields) (s : SnapFields) → answer_if may answer ≡ Ok s → answer ≡ Ok s
 answer_by true (Ok snap) s e = cc

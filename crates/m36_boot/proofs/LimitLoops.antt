@@ -1,4 +1,4 @@
--- The limits, segment by segment.
+-- The call limiters, segment by segment.
 use Rattle.std.proofs.Common.{ℕ, suc, ◌≡◌, ◌+◌, ◌-◌, ◌^◌, ◌<◌, ◌≤◌, Bool, true, false, cond, List, [], ◌∷◌, ◌++◌, get_or, Option, Some, None, refl, sym, ap, subst, inl, inr, ◌∙◌, arith, length-append}
 use Rattle.std.specs.Option.{option_or}
 use Rattle.std.specs.Prelude.{slice_get}
@@ -62,7 +62,7 @@ limits_done catalog files i n le so_far =
     let none : n - i ≡ 0 = omega (arith, le) in
     sym so_far ∙ ap (λ m. first_gate_fault catalog files i m) none
 
--- ---- a gate by its object
+-- ---- a gate, by its object
 
 pub gate_none : (seg : ℕ) (o : Option PartsFields) (p : PartsFields) → o ≡ Some p
     → is_entry_count p.entry_bound ≡ true → bound_fault seg o ≡ None

@@ -1,4 +1,4 @@
--- The object of a list of words, by what reading it answers.
+-- The object in a list of words, by the result of reading it.
 use Rattle.std.proofs.Common.{ℕ, ◌≡◌, List, Option, Some, None, Ok, Err, refl}
 use Rattle.obj36_parts.specs.PartsFields.{PartsFields}
 use Rattle.obj36.specs.ObjectOf.{value_of, or_fault, object_of}

@@ -1,4 +1,4 @@
--- An image may be run: its core is laid, and its pager has the pages of its segments.
+-- An image can be run: its core is laid out, and its pager has the pages of its segments.
 use Rattle.std.proofs.Common.{ℕ, ◌≡◌, ◌+◌, ◌-◌, ◌*◌, ◌<◌, ◌≤◌, true, false, List, [], ◌∷◌, length, map, replicate, Option, Some, None, refl, sym, ap, subst, ◌∙◌, arith, length-append}
 use Rattle.std.specs.Prelude.{nat_lt, nat_le, ◌&&◌, All}
 use Rattle.std.specs.List.{list_all}

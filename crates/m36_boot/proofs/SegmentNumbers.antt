@@ -1,4 +1,5 @@
--- What an image has under the numbers of its segments: of the stack and the linkage segment of a ring, and of the places of the catalog.
+-- What an image has under the numbers of its segments: the stack and the linkage segment of each ring, and the places
+-- of the catalog.
 use Rattle.std.proofs.Common.{ℕ, ◌≡◌, ◌+◌, ◌-◌, ◌<◌, Bool, true, false, cond, List, Option, Some, None, refl, ap, ◌∙◌, arith}
 use Rattle.std.specs.Prelude.{slice_get, nat_lt}
 use Rattle.std.proofs.lemmas.Bool.{lt-ltb, le-ltb}

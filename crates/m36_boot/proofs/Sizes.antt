@@ -1,4 +1,4 @@
--- Which segments an image has, and how far they reach.
+-- Which segments an image has, and how long they are.
 use Rattle.std.proofs.Common.{ℕ, ◌≡◌, ◌+◌, ◌-◌, ◌*◌, ◌/◌, ◌^◌, ◌<◌, ◌≤◌, ◌⊎◌, Bool, true, false, cond, List, [], ◌∷◌, ◌++◌, length, replicate, Option, Some, None, refl, ap, subst, inl, inr, ◌∙◌, arith, length-append}
 use Rattle.std.specs.Prelude.{slice_get, nat_eq, nat_lt, All}
 use Rattle.std.proofs.lemmas.Bool.{ltb-true, ltb-false, cases_lt}
@@ -15,7 +15,7 @@ use Rattle.m36_link.specs.Fields.{LayFields}
 use Rattle.m36_link.specs.Known.{linkage_segment, lot_words, lot_word}
 use Rattle.m36_boot.specs.Segments.{file_at, ring_segment, catalog_segment, limited_segment, limit_of, last_block, booted_sdw, stack_pages, linkage_pages, stack_words, linkage_words, lot_of, booted_words}
 
--- Files are short, and as many as segments.
+-- No file is longer than a segment, and there are as many files as segments.
 pub record AreFiles (catalog : CatalogFields) (files : List (List ℕ)) : Type 0 where
   pub count : length files ≡ length catalog.segments
   pub short : All (λ w. length w ≤ 2 ^ 18) files
@@ -92,7 +92,7 @@ live catalog files seg d are e =
 
 -- ---- a segment's words fit its pages
 
--- a section fits a linkage segment, behind the LOT
+-- a linkage section fits a linkage segment, after the LOT
 pub record IsFitting (l : LayFields) : Type 0 where
   pub seg : l.seg < 576
   pub words : 1024 + length l.words ≤ 2 ^ 18
@@ -130,7 +130,7 @@ linkage_size ring (Some l) is =
     let section = is.words in
     linkage_if (nat_eq ring l.ring) (lot_of l ++ l.words) (omega (arith, lot, all, section))
 
--- the blocks that a segment's descriptor says, and the words that are given for it
+-- the blocks in a segment's descriptor cover the words that are given for it
 fits_by : (words given : List ℕ) (d x : SdwFields) → words ≡ given → x ≡ d → length given ≤ 16 * (x.bound + 1)
     → length words ≤ 16 * (d.bound + 1)
 fits_by words given d x same is le =

@@ -1,4 +1,4 @@
--- What is laid of a booted image: each word of core, the pages, and the content of each segment.
+-- The parts of a booted image: each word of core, the pages, and the content of each segment.
 use Rattle.std.specs.Prelude.{ℕ, zero, suc, ◌≡◌, ◌+◌, ◌-◌, ◌*◌, ◌/◌, ◌%◌, ◌<◌, ◌≤◌, nat_eq, nat_lt}
 use Rattle.std.specs.Prelude.{if◌then◌else◌, true, List, [], ◌∷◌, ◌++◌, length, slice_index}
 use Rattle.std.specs.Prelude.{Option, Some, None, unwrap_or}
@@ -26,17 +26,17 @@ use Rattle.m36_boot.specs.Refusals.{least_frames, Told, boot_answer}
 
 -- ---- core
 
--- A descriptor is a pair of words; that of no segment is zero.
+-- A descriptor has two words; without a segment they are zero.
 abbrev pub descriptor_word : ℕ → Option SdwFields → ℕ
 descriptor_word half None = 0
 descriptor_word half (Some d) = if nat_eq half 0 then sdw_even d else sdw_odd d
 
--- Each page of a segment is in no frame; a word of no page is zero.
+-- The pages of a segment are in no frame; a page table word without a page is zero.
 abbrev pub page_table_word : ℕ → Option SdwFields → ℕ
 page_table_word page None = 0
 page_table_word page (Some d) = if nat_lt page (page_count d) then absent_ptw else 0
 
--- the word of the descriptor segment at a place: descriptors one behind another, of two words each
+-- the word of the descriptor segment at a place: descriptors one after another, of two words each
 abbrev pub described_word : CatalogFields → List (List ℕ) → ℕ → ℕ
 described_word catalog files a = descriptor_word (a % 2) (booted_sdw catalog files (a / 2))
 
@@ -49,12 +49,13 @@ booted_word catalog files a =
     (booted_sdw catalog files ((a - descriptor_words) / table_words))
     else 0
 
--- The words of a descriptor are read back as it, and its brackets are in order.
+-- The words of a descriptor decode to that descriptor, and its brackets are in order.
 pub record IsWhole (d : SdwFields) : Type 0 where
   pub back : sdw_of (sdw_even d) (sdw_odd d) ≡ d
   pub ordered : in_order d ≡ true
 
--- The descriptors of so many segment numbers are written, and each other word is as it was.
+-- The descriptors of the segment numbers below `count` are written, and every other word is
+-- unchanged.
 pub record AreDescribed
     (catalog : CatalogFields) (files : List (List ℕ)) (count : ℕ) (old new : List ℕ)
     : Type 0 where
@@ -74,7 +75,7 @@ table_of_segment seg None words = []
 table_of_segment seg (Some d) words =
     record { words = words; at = table_at seg; seg = seg; pages = page_count d } ∷ []
 
--- those of so many segment numbers from one on
+-- the page tables of n segment numbers from `seg` on
 unfoldable pub tables_from :
     CatalogFields → List (List ℕ) → Option LayFields → ℕ → ℕ → List PageTable
 tables_from catalog files lay seg zero = []
@@ -82,31 +83,33 @@ tables_from catalog files lay seg (suc n) =
     table_of_segment seg (booted_sdw catalog files seg) (booted_words files lay seg)
     ++ tables_from catalog files lay (seg + 1) n
 
+-- the page tables of all segments of the image, in the order of their numbers
 unfoldable pub booted_tables : CatalogFields → List (List ℕ) → Option LayFields → List PageTable
 booted_tables catalog files lay =
     tables_from catalog files lay 0 (first_segment + length catalog.segments)
 
--- the content of a word of a segment: the word that is given, zero behind those in the segment's
--- last page, and none past its pages
+-- The content of a word of a segment: the word that is given, or zero after those in the segment's
+-- last page; None past its pages.
 abbrev pub content_by : Option SdwFields → List ℕ → ℕ → Option ℕ
 content_by None words w = None
 content_by (Some d) words w =
     if nat_lt (w / 1024) (page_count d) then Some (slice_index words w) else None
 
+-- the content of a word of a segment of the image; None if it has no place
 unfoldable pub booted_content : CatalogFields → List (List ℕ) → Option LayFields → ℕ → ℕ → Option ℕ
 booted_content catalog files lay seg w =
     content_by (booted_sdw catalog files seg) (booted_words files lay seg) w
 
 -- ---- flat memory
 
--- so many words of core from one on
+-- n words of core from `a` on
 unfoldable pub words_from : CatalogFields → List (List ℕ) → ℕ → ℕ → List ℕ
 words_from catalog files a zero = []
 words_from catalog files a (suc n) =
     booted_word catalog files a ∷ words_from catalog files (a + 1) n
 
 -- The flat memory of the image: the descriptor segment, and the content of each word of each
--- segment; a word of no page is zero.
+-- segment; a word without a page is zero.
 unfoldable pub booted_flat : CatalogFields → List (List ℕ) → SnapFields → Flat
 booted_flat catalog files s =
     record {
@@ -114,14 +117,15 @@ booted_flat catalog files s =
       content = λ seg w. unwrap_or (booted_content catalog files s.lay seg w) 0;
     }
 
--- the image, as a paged memory
+-- the image as a paged memory
 abbrev pub paged_of : Image → Paged
 paged_of image = paged_by image.core image.pager
 
 -- ---- the image
 
--- A booted image that starts by an answer. Every page is put away. Size, core, pager and registers
--- define the image; the content of its segments and the flat memory follow from these.
+-- A booted image for the answer `s` to the link to the start. No page is in a frame. Size, core,
+-- pager and registers define the image; the content of its segments and the flat memory follow
+-- from these.
 pub record IsImage
     (catalog : CatalogFields) (files : List (List ℕ)) (s : SnapFields) (image : Image)
     : Type 0 where
@@ -136,8 +140,8 @@ pub record IsImage
       → content_of image.pager image.core seg w ≡ booted_content catalog files s.lay seg w
   pub flat : flat_of (paged_of image) ≡ booted_flat catalog files s
 
--- A core is laid, and its pager has the pages of its segments and no others, each at its word of a
--- page table. It has pageable frames enough for each instruction.
+-- A core is laid out, and its pager has exactly the pages of its segments, each with its page
+-- table word at its place. It has enough pageable frames for each instruction.
 pub record HasPages (frames : ℕ) (core : List ℕ) (p : PagerFields) : Type 0 where
   pub some : least_frames ≤ frames
   pub laid : IsLaid core frames
@@ -157,8 +161,7 @@ pub record IsRunnable (frames : ℕ) (image : Image) : Type 0 where
       → core_sdw image.core booted_dbr (linkage_segment ring)
       ≡ Ok (ring_segment (linkage_segment ring) ring linkage_pages)
 
--- What laying answers: the image of the start, or the first code; want of memory may come
--- at any time.
+-- The result of `lay`: the image of the start, or the first fault; or NoMemory.
 abbrev pub LaySays : CatalogFields → List (List ℕ) → Result Image BootFault → Type 0
 LaySays catalog files (Ok image) =
     (boot_answer catalog files ≡ Ok image.snap) × IsImage catalog files image.snap image

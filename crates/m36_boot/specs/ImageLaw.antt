@@ -1,4 +1,4 @@
--- What holds of the numbers of a booted image, and of the segments that may be started.
+-- What holds for the numbers of a booted image, and for the segments that may be started.
 use Rattle.std.specs.Prelude.{◌≡◌, ℕ, ◌+◌, ◌<◌, ◌≤◌, true, not, List, slice_get, Option, Some}
 use Rattle.std.specs.Prelude.{is_some, Ok}
 use Rattle.m36_desc.specs.Access.{first_of, fetch_rows}
@@ -18,16 +18,18 @@ use Rattle.m36_boot.specs.Segments.{ring_segment, limited_segment, catalog_segme
 use Rattle.m36_boot.specs.Segments.{stack_words, linkage_words, booted_words}
 use Rattle.m36_boot.specs.Start.{may_start, section_base, start_regs}
 
--- The stack of a ring is the segment that the descriptor segment base register of the image gives
--- to the ring, and its descriptor is such as the audit conditions ask of a stack. There are page
--- tables for the numbers below those of the catalog, and for as many as a catalog has segments at
--- most. Under the number of a ring's stack the image has the descriptor and the words of the stack
--- of that ring, and so it is with linkage segments; under the number of a place of the catalog it
--- has the segment and the file of that place. In the registers of the start the one through which
--- links are referred to points to the section that is laid.
+-- `stacks`, `descriptors`: the stack of a ring is the segment that the descriptor segment base
+-- register of the image assigns to the ring, and its descriptor satisfies the audit condition on
+-- stacks. `segments`: there are page tables for the numbers below those of the catalog, and for
+-- the maximum number of segments of a catalog. `stack`, `stack_has`, `linkage`, `linkage_has`:
+-- under the number of a ring's stack the image has the descriptor and the words of the stack of
+-- that ring, and the same for linkage segments. `file`, `file_has`: under the number of a place of
+-- the catalog it has the segment and the file of that place. `register`: in the registers of the
+-- start the linkage register points to the section that is laid.
 pub record ImageNumbersLaw : Type 0 where
   pub stacks : (ring : ℕ) → stack_segment ring ≡ ring_stack booted_dbr ring
-  pub descriptors : (seg ring pages : ℕ) → is_stack_of ring (Ok (ring_segment seg ring pages)) ≡ true
+  pub descriptors :
+      (seg ring pages : ℕ) → is_stack_of ring (Ok (ring_segment seg ring pages)) ≡ true
   pub segments : booted_segments ≡ first_segment + most_segments
   pub stack :
       (catalog : CatalogFields) (files : List (List ℕ)) (ring : ℕ) → ring < 8
@@ -55,8 +57,8 @@ pub record ImageNumbersLaw : Type 0 where
       → ptr (start_regs ring s) linkage_register
       ≡ pointer (linkage_segment ring) ring (section_base s.lay)
 
--- A segment with its ring brackets in order may be started in a ring exactly where its descriptor
--- lets an instruction in that ring be fetched from it.
+-- A segment with its ring brackets in order may be started in a ring exactly if its descriptor
+-- allows the fetch of an instruction in that ring.
 abbrev pub MayStartLaw : Type 0
 MayStartLaw =
     (s : SegmentFields) (ring seg : ℕ) (words : List ℕ) (limit : ℕ) → s.r1 ≤ s.r2 → s.r2 ≤ s.r3

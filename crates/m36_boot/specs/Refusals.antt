@@ -1,5 +1,5 @@
--- Whether a catalog and its files are booted, or the first code that says why not: U1, then U4 and
--- U2 of the gates in the order of the catalog, and then U3 and U4 of the start.
+-- Whether a catalog and its files can be booted, or the first fault, in this order: U1; then U4
+-- and U2 of the gates, in the order of the catalog; then U3 and U4 of the start.
 use Rattle.std.specs.Prelude.{ℕ, zero, suc, ◌≡◌, ◌+◌, ◌-◌, ◌^◌, ◌<◌, Bool, true, false, not, ◌&&◌}
 use Rattle.std.specs.Prelude.{nat_lt, nat_le, if◌then◌else◌, List}
 use Rattle.std.specs.Prelude.{length, slice_get, slice_index, Option, Some, None, Result, Ok, Err}
@@ -17,62 +17,70 @@ use Rattle.m36_link.specs.Snap.{RefusedFields}
 use Rattle.m36_boot.specs.Segments.{file_at, is_gate, entry_bound_of, limit_of}
 use Rattle.m36_boot.specs.Start.{start_answer, start_segment, may_start}
 
--- An instruction refers to 18 pages at most, so with 19 frames one that is tried again finds a
--- frame that it does not refer to; the rest of the 24, below which U1 comes, is room.
+-- An instruction refers to at most 18 pages, so with 19 frames one that is retried finds a frame
+-- that it does not refer to; the rest of the 24, below which U1 applies, is reserve.
 abbrev pub least_frames : ℕ
 least_frames = 24
 
--- how many numbers the call limiter of a descriptor holds, in its 14 bits
+-- the number of values of the call limiter of a descriptor, which has 14 bits
 abbrev pub limit_count : ℕ
 limit_count = 2 ^ 14
 
+-- a value of the call limiter
 abbrev pub IsLimit : ℕ → Type 0
 IsLimit limit = limit < limit_count
 
--- the greatest of them
+-- the maximum of the call limiter
 abbrev pub most_entries : ℕ
 most_entries = limit_count - 1
 
 -- ---- gates
 
--- whether a gate may have so many entries
+-- whether a gate may have this number of entries
 abbrev pub is_entry_count : ℕ → Bool
 is_entry_count bound = nat_lt 0 bound && nat_le bound most_entries
 
+-- the fault of a gate with this object, if any: U4 if there is none, U2 if it has too few or too
+-- many entries
 abbrev pub bound_fault : ℕ → Option PartsFields → Option BootFault
 bound_fault seg None = Some (fault.U4 seg)
 bound_fault seg (Some p) =
     if is_entry_count p.entry_bound then None else Some (fault.U2 seg)
 
+-- the fault of a segment, if any; only gates have one
 unfoldable pub gate_fault : ℕ → SegmentFields → List ℕ → Option BootFault
 gate_fault seg s words = if is_gate s.kind then bound_fault seg (value_of words) else None
 
+-- the same for a segment that may not exist
 abbrev pub gate_fault_of : ℕ → Option SegmentFields → List ℕ → Option BootFault
 gate_fault_of seg None words = None
 gate_fault_of seg (Some s) words = gate_fault seg s words
 
--- of so many segments from one on, counted from 0
+-- the first fault of n segments from segment i on, counted from 0
 unfoldable pub first_gate_fault : CatalogFields → List (List ℕ) → ℕ → ℕ → Option BootFault
 first_gate_fault catalog files i zero = None
 first_gate_fault catalog files i (suc n) =
     option_or (gate_fault_of (catalog_number i) (slice_get catalog.segments i) (file_at files i))
     (first_gate_fault catalog files (i + 1) n)
 
--- ---- the start: where it is not found, where it is no object, and what else forbids it
+-- ---- the start: its segment is not found, is not an object, or may not be started
 
+-- the answer to the link to the start, or the fault
 abbrev pub Answer : Type 0
 Answer = Result SnapFields BootFault
 
--- an object or a gate, whose file is an object
+-- a segment that is not plain, whose file is an object
 abbrev pub is_object : Option SegmentFields → Option PartsFields → Bool
 is_object (Some s) (Some o) = not (is_plain s.kind)
 is_object _ _ = false
 
+-- U3 if the segment may not be executed in the ring of the start, or the link is refused
 abbrev pub answer_if : Bool → Result SnapFields RefusedFields → Answer
 answer_if true (Ok s) = Ok s
 answer_if true (Err why) = Err fault.U3
 answer_if false answer = Err fault.U3
 
+-- U3 if no segment is found, U4 if it is not an object
 abbrev pub start_in : CatalogFields → List (List ℕ) → Option ℕ → Answer
 start_in catalog files None = Err fault.U3
 start_in catalog files (Some seg) =
@@ -80,31 +88,37 @@ start_in catalog files (Some seg) =
     answer_if (may_start catalog.start.ring (segment_of catalog seg)) (start_answer catalog files)
     else Err (fault.U4 seg)
 
+-- the answer for the start of a catalog, or its fault
 unfoldable pub start_of : CatalogFields → List (List ℕ) → Answer
 start_of catalog files = start_in catalog files (start_segment catalog)
 
--- ---- all
+-- ---- all of them
 
+-- the first fault, if there is one, and otherwise the answer
 abbrev pub unless : Option BootFault → Answer → Answer
 unless (Some first) answer = Err first
 unless None answer = answer
 
+-- the answer with which the catalog is booted, or its first fault
 unfoldable pub boot_answer : CatalogFields → List (List ℕ) → Answer
 boot_answer catalog files =
     if nat_lt catalog.frames least_frames then Err fault.U1
     else unless (first_gate_fault catalog files 0 (length catalog.segments))
     (start_of catalog files)
 
--- ---- what is answered, where want of memory may come at any time
+-- ---- the results of the code, which may also be NoMemory
 
+-- The code reports this fault, or has run out of memory.
 abbrev pub Told : BootFault → Answer → Type 0
 Told fault.NoMemory answer = Unit {0}
 Told told answer = answer ≡ Err told
 
+-- The code's result for the start.
 abbrev pub StartSays : Result SnapFields BootFault → Answer → Type 0
 StartSays (Ok s) answer = answer ≡ Ok s
 StartSays (Err told) answer = Told told answer
 
+-- The code reports this fault of a gate, or has run out of memory.
 abbrev pub ToldOfGates : BootFault → Option BootFault → Type 0
 ToldOfGates fault.NoMemory first = Unit {0}
 ToldOfGates told first = first ≡ Some told
@@ -122,11 +136,12 @@ LimitSays seg s words (Ok limit) =
     (gate_fault seg s words ≡ None) × (limit ≡ limit_of s words) × IsLimit limit
 LimitSays seg s words (Err told) = ToldOfGates told (gate_fault seg s words)
 
+-- the call limiter of a segment that may not exist
 abbrev pub limit_at : Option SegmentFields → List ℕ → ℕ
 limit_at None words = 0
 limit_at (Some s) words = limit_of s words
 
--- the call limiter of each segment of the catalog
+-- the call limiter of each of the first `count` segments of the catalog
 pub record AreLimits
     (catalog : CatalogFields) (files : List (List ℕ)) (count : ℕ) (limits : List ℕ)
     : Type 0 where

@@ -20,39 +20,41 @@ use Rattle.m36_link.specs.Fields.{LayFields}
 use Rattle.m36_link.specs.Known.{first_segment, first_linkage, linkage_segment, catalog_index}
 use Rattle.m36_link.specs.Known.{lot_words, lot_word}
 
--- Stacks are segments 8 to 15, linkage segments 16 to 23, and those of the catalog 64 and on.
+-- Stacks are segments 8 to 15, linkage segments 16 to 23, and those of the catalog 64 and above.
 abbrev pub first_stack : ℕ
 first_stack = 8
 
+-- the number of the stack of a ring
 abbrev pub stack_segment : ℕ → ℕ
 stack_segment ring = first_stack + ring
 
--- the number behind those of the rings
+-- the first number after those of the rings
 abbrev pub behind_rings : ℕ
 behind_rings = linkage_segment 8
 
+-- the number of pages of a stack
 abbrev pub stack_pages : ℕ
 stack_pages = 16
 
--- all the pages of a segment
+-- a linkage segment has all pages that a page table can have
 abbrev pub linkage_pages : ℕ
 linkage_pages = table_words
 
--- a file has no more words than a segment
+-- a file has no more words than a segment can have
 abbrev pub is_short : List ℕ → Bool
 is_short words = nat_le (length words) segment_limit
 
--- the same of each of several files
+-- the same for each of several files
 abbrev pub AreShort : List (List ℕ) → Type 0
 AreShort files = All (λ w. length w ≤ segment_limit) files
 
--- the file of a segment of the catalog, both counted from 0
+-- the file of the catalog's segment i; both are counted from 0
 unfoldable pub file_at : List (List ℕ) → ℕ → List ℕ
 file_at files i = slice_index_or files i []
 
 -- ---- descriptors
 
--- a segment with a page table, up to a block of 16 words
+-- a segment with a page table, whose last block of 16 words is `last`
 abbrev pub paged_segment : ℕ → ℕ → SdwFields
 paged_segment seg last =
     record {
@@ -73,11 +75,11 @@ paged_segment seg last =
       limit = 0;
     }
 
--- the last block of so many pages
+-- the last block of a segment with this number of pages
 abbrev pub bound_of_pages : ℕ → ℕ
 bound_of_pages pages = 64 * pages - 1
 
--- a stack or a linkage segment: read and written in the rings from 0 to its own
+-- a stack or a linkage segment: it can be read and written in the rings from 0 to its own
 abbrev pub ring_segment : ℕ → ℕ → ℕ → SdwFields
 ring_segment seg ring pages =
     record (paged_segment seg (bound_of_pages pages)) {
@@ -88,24 +90,27 @@ ring_segment seg ring pages =
       writable = true;
     }
 
+-- the segment is a gate
 abbrev pub is_gate : SegKind → Bool
 is_gate kind.Gate = true
 is_gate kind.Object = false
 is_gate kind.Plain = false
 
+-- the entry bound of an object; 0 if there is none
 abbrev pub entry_bound_of : Option PartsFields → ℕ
 entry_bound_of None = 0
 entry_bound_of (Some p) = p.entry_bound
 
--- how many words of a segment are entries for callers from outside: those of a gate's object
+-- the number of words of a segment that are entries for callers from outside: those of a gate's
+-- object
 unfoldable pub limit_of : SegmentFields → List ℕ → ℕ
 limit_of s words = if is_gate s.kind then entry_bound_of (value_of words) else 0
 
--- the last block with a word of the file, and block 0 of an empty one
+-- the last block with a word of the file; block 0 for an empty file
 abbrev pub last_block : List ℕ → ℕ
 last_block words = (length words - 1) / 16
 
--- a segment of the catalog, with this limit
+-- the descriptor of a segment of the catalog, with this call limiter
 abbrev pub limited_segment : ℕ → SegmentFields → List ℕ → ℕ → SdwFields
 limited_segment seg s words limit =
     record (paged_segment seg (last_block words)) {
@@ -120,11 +125,12 @@ limited_segment seg s words limit =
       limit = limit;
     }
 
+-- the descriptor of a segment of the catalog, if it exists
 abbrev pub catalog_segment : ℕ → Option SegmentFields → List ℕ → Option SdwFields
 catalog_segment seg None words = None
 catalog_segment seg (Some s) words = Some (limited_segment seg s words (limit_of s words))
 
--- the descriptor of a segment; None where the image has no such segment
+-- the descriptor of a segment; None if the image has no such segment
 unfoldable pub booted_sdw : CatalogFields → List (List ℕ) → ℕ → Option SdwFields
 booted_sdw catalog files seg =
     if nat_lt seg first_stack then None
@@ -134,27 +140,28 @@ booted_sdw catalog files seg =
     else catalog_segment seg (slice_get catalog.segments (catalog_index seg))
     (file_at files (catalog_index seg))
 
--- ---- words; those that are lacking up to the end of the last page are zero
+-- ---- words; missing words up to the end of the last page are zero
 
 -- Words 22 and 23 of a stack are an ITS pair to word 0 of the linkage segment of its ring.
 unfoldable pub stack_words : ℕ → List ℕ
 stack_words ring =
     replicate 22 0 ++ pair_before (pointer (linkage_segment ring) ring 0) []
 
--- the LOT in which one section is laid
+-- the LOT in which one linkage section is laid
 abbrev pub lot_of : LayFields → List ℕ
 lot_of l = replicate l.seg 0 ++ lot_word l ∷ replicate (lot_words - 1 - l.seg) 0
 
--- The words of the linkage segment of a ring: in that of the start the section of its segment is
--- laid, behind the LOT.
+-- The words of the linkage segment of a ring: in that of the start, the LOT and after it the
+-- linkage section of the start's segment.
 abbrev pub linkage_by : ℕ → Option LayFields → List ℕ
 linkage_by ring None = []
 linkage_by ring (Some l) = if nat_eq ring l.ring then lot_of l ++ l.words else []
 
+-- the words of the linkage segment of a ring
 unfoldable pub linkage_words : Option LayFields → ℕ → List ℕ
 linkage_words lay ring = linkage_by ring lay
 
--- The words of a segment by its number: none where the image has no such segment.
+-- The words of a segment; none if the image has no such segment.
 unfoldable pub booted_words : List (List ℕ) → Option LayFields → ℕ → List ℕ
 booted_words files lay seg =
     if nat_lt seg first_stack then []

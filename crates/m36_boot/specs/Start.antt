@@ -19,7 +19,7 @@ use Rattle.m36_link.specs.Search.{searched}
 use Rattle.m36_link.specs.Snap.{RefusedFields, outer_snap}
 use Rattle.m36_boot.specs.Segments.{stack_segment}
 
--- ---- the start is linked to
+-- ---- the link to the start
 
 -- The start is a link to a name and an entry.
 abbrev pub start_link : StartFields → LinkFields
@@ -33,12 +33,13 @@ start_link s =
       modifier = 0;
     }
 
--- It is searched in its ring from the working directory, where nothing is known yet. This is what
--- such a search gives.
+-- The result of a search for the start in its ring, from the working directory, where no ring
+-- knows any name yet.
 abbrev pub by_start : {A : Type 0} → (KnownFields → ℕ → LinkFields → ℕ → A) → CatalogFields → A
 by_start search catalog =
     search nothing_known catalog.start.ring (start_link catalog.start) catalog.work
 
+-- the answer to the link to the start, or its refusal
 unfoldable pub start_answer : CatalogFields → List (List ℕ) → Result SnapFields RefusedFields
 start_answer catalog files = by_start (λ known. outer_snap known catalog files) catalog
 
@@ -54,18 +55,18 @@ may_start ring (Some s) = s.mode.executable && nat_le s.r1 ring && nat_le ring s
 
 -- ---- registers
 
--- where the linkage section of the start is laid
+-- the place in its linkage segment of the linkage section of the start; 0 if there is none
 abbrev pub section_base : Option LayFields → ℕ
 section_base None = 0
 section_base (Some l) = l.base
 
--- the place to which the pair of the start leads
+-- the address of the entry of the start
 abbrev pub entry_of : SnapFields → ItsFields
 entry_of s = its_of s.pair.even s.pair.odd
 
--- PR4 points to the laid section, PR6 to word 64 and PR7 to word 0 of the stack, and every pointer
--- has the ring of the start; the instruction is at the entry, the descriptor segment base register
--- is that of every booted image, and all else is zero.
+-- PR4 points to the linkage section, PR6 to word 64 and PR7 to word 0 of the stack. Every pointer
+-- register has the ring of the start. The instruction is at the entry. The descriptor segment base
+-- register is that of every booted image, and everything else is zero.
 unfoldable pub start_regs : ℕ → SnapFields → RegsFields
 start_regs ring s =
     record {

@@ -15,7 +15,7 @@ use m36_dir::Catalog;
 use m36_link::{FIRST_SEGMENT, File};
 use m36_word::{Pair, Word};
 
-// The pair of words of a descriptor; zeros for that of no segment.
+// The two words of a descriptor; zeros if there is no segment.
 fn pair_of(sdw: Option<Sdw>) -> Pair
     ensures even { result.even ≡ descriptor_word 0 sdw }
     ensures odd { result.odd ≡ descriptor_word 1 sdw }
@@ -30,7 +30,7 @@ fn pair_of(sdw: Option<Sdw>) -> Pair
     }
 }
 
-// Writes the pair of words of a segment's descriptor.
+// Writes the two words of a segment's descriptor.
 fn put_pair(core: &mut Core, seg: u16, pair: Pair)
     requires seg { seg < 1024 }
     requires core { descriptor_words ≤ length core.old }
@@ -46,7 +46,8 @@ pub(crate) fn put_descriptors(core: &mut Core, catalog: &Catalog, files: &[File]
     requires short { AreShort files.now }
     requires limits { AreLimits catalog.now files.now (length catalog.now.segments) limits.now }
     requires core { descriptor_words ≤ length core.old }
-    ensures { AreDescribed catalog.now files.now (first_segment + length catalog.now.segments) core.old core.new }
+    ensures { AreDescribed catalog.now files.now (first_segment + length catalog.now.segments)
+        core.old core.new }
 {
     let count = catalog.count();
     for seg in 0..FIRST_SEGMENT + count as u16 {

@@ -20,24 +20,24 @@ use m36_page::Pager;
 use m36_word::NoMemory;
 use std::alloc::Global;
 
-// An instruction that is tried again finds a frame to which it does not refer.
+// With so many frames, an instruction that is retried finds a frame that it does not refer to.
 const LEAST_FRAMES: u32 = 24;
 
-// The frames of the descriptor segment and of the page tables.
+// The number of frames of the descriptor segment and the page tables, which are never paged.
 const WIRED_FRAMES: u32 = 146;
 
 /// A booted image: core, the pages, and the registers at the start.
 #[derive(Drop)]
 pub struct Image {
     pub core: Core,
-    /// The pages of all segments; each of them is put away.
+    /// The pages of all segments. None of them is in a frame yet.
     pub pager: Pager,
     pub regs: Regs,
-    /// The answer to the link that the start is, with the section that was laid.
+    /// The answer to the link to the start, with the linkage section that was laid.
     pub snap: Snap,
 }
 
-// The image of a start by an answer.
+// The image for this answer to the link to the start.
 fn image_at(
     alloc: Global,
     catalog: &Catalog,
@@ -72,7 +72,7 @@ fn image_at(
     })
 }
 
-// The image of a catalog of which no gate has a fault.
+// The image of a catalog whose gates have no fault.
 fn started(
     alloc: Global,
     catalog: &Catalog,
@@ -96,8 +96,8 @@ fn started(
     }
 }
 
-/// Lays the booted image of a catalog, with the files of its segments in the order of the catalog. The error is the first
-/// of the codes U1 to U4 that stands, or want of memory.
+/// Lays the booted image of a catalog, with the files of its segments in the order of the catalog.
+/// The error is the first of the faults U1 to U4 that applies, or `NoMemory`.
 #[tactic(auto, using(crate::proofs::LayAnswers::answers))]
 pub fn lay(alloc: Global, catalog: &Catalog, files: &[File]) -> Result<Image, BootFault>
     requires files { length files.now ≡ length catalog.now.segments }

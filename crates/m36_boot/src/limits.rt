@@ -1,4 +1,4 @@
-//! The call limiters of the segments, and what is wrong with gates.
+//! The call limiters of the segments, and the faults of gates.
 
 ghost use Rattle.std.specs.Prelude.{◌≡◌, ◌+◌, ◌<◌, ◌++◌, ◌∷◌, [], true, length, OnOk, IfOk, IfErr, None};
 ghost use Rattle.m36_boot.specs.Segments.{AreShort};
@@ -11,10 +11,10 @@ use m36_link::{FIRST_SEGMENT, File};
 use m36_word::NoMemory;
 use std::alloc::Global;
 
-// The greatest number that the call limiter of a descriptor holds.
+// The maximum of the call limiter of a descriptor.
 const MOST_ENTRIES: u32 = 16383;
 
-// Whether a gate may have so many entries.
+// Whether a gate may have this number of entries.
 fn is_entry_count(bound: u32) -> bool
     ensures value { result ≡ is_entry_count bound }
     ensures small { result ≡ true → IsLimit bound }
@@ -37,7 +37,7 @@ fn gate_limit(seg: u16, file: &File) -> Result<u16, BootFault>
     Ok(bound as u16)
 }
 
-// The call limiter of a segment.
+// The call limiter of a segment: 0 if it is not a gate.
 #[tactic(auto, unfolding(crate::specs::Refusals::gate_fault, crate::specs::Segments::limit_of))]
 fn limit(seg: u16, segment: &Segment, file: &File) -> Result<u16, BootFault>
     ensures { LimitSays seg segment.now file.now result }
@@ -55,7 +55,8 @@ fn add(limits: &mut Vec<u16>, limit: u16) -> Result<(), NoMemory>
     Ok(())
 }
 
-/// The call limiter of each segment of the catalog. The error is the first fault of a gate, or want of memory.
+/// The call limiter of each segment of the catalog. The error is the first fault of a gate, or
+/// `NoMemory`.
 pub(crate) fn limits_of(
     alloc: Global,
     catalog: &Catalog,
@@ -63,9 +64,12 @@ pub(crate) fn limits_of(
 ) -> Result<Vec<u16>, BootFault>
     requires files { length files.now ≡ length catalog.now.segments }
     requires short { AreShort files.now }
-    ensures none { IfOk result (λ limits. first_gate_fault catalog.now files.now 0 (length catalog.now.segments) ≡ None) }
-    ensures limits { IfOk result (λ limits. AreLimits catalog.now files.now (length catalog.now.segments) limits.items) }
-    ensures told { IfErr result (λ told. ToldOfGates told (first_gate_fault catalog.now files.now 0 (length catalog.now.segments))) }
+    ensures none { IfOk result
+        (λ limits. first_gate_fault catalog.now files.now 0 (length catalog.now.segments) ≡ None) }
+    ensures limits { IfOk result
+        (λ limits. AreLimits catalog.now files.now (length catalog.now.segments) limits.items) }
+    ensures told { IfErr result (λ told. ToldOfGates told
+        (first_gate_fault catalog.now files.now 0 (length catalog.now.segments))) }
 {
     let count = catalog.count();
     let mut limits = Vec::new(alloc);

@@ -1,4 +1,4 @@
-//! The files of segments, and the objects that they are.
+//! The files of segments, and the objects that they contain.
 
 ghost use Rattle.std.specs.Prelude.{◌≡◌, ◌<◌, ◌≤◌, length, option_copied};
 ghost use Rattle.obj36_parts.specs.ObjectSegment.{segment_limit};
@@ -8,7 +8,7 @@ ghost use Rattle.m36_boot.specs.Segments.{AreShort, file_at};
 use m36_link::File;
 use obj36::Object;
 
-/// The file of a segment of the catalog, both counted from 0.
+/// The file of the catalog's segment i; both are counted from 0.
 #[tactic(auto, using(crate::proofs::Files::file_is), unfolding(crate::specs::Segments::file_at))]
 pub(crate) fn file(files: &[File], i: usize) -> &File
     requires inside { i < length files.now }
@@ -19,7 +19,7 @@ pub(crate) fn file(files: &[File], i: usize) -> &File
     &files[i]
 }
 
-/// The object that a file is, if it is one.
+/// The object in a file, if the file is an object.
 #[tactic(auto, using(crate::proofs::ReadObjects::objects))]
 pub(crate) fn object_of(file: &File) -> Option<&Object>
     ensures { option_copied result ≡ value_of file.now }

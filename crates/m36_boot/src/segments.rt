@@ -19,10 +19,10 @@ use std::alloc::Global;
 /// The number of the stack of ring 0.
 pub(crate) const FIRST_STACK: u16 = 8;
 
-// Behind the linkage segments.
+// The first number after those of the linkage segments.
 const BEHIND_RINGS: u16 = 24;
 
-// The place of the page table of a segment.
+// The place in core of the page table of a segment.
 pub(crate) fn table_at(seg: u16) -> u32
     requires { seg < booted_segments }
     ensures { result ≡ table_at seg }
@@ -32,7 +32,7 @@ pub(crate) fn table_at(seg: u16) -> u32
 
 // ---- descriptors
 
-// A segment with a page table, up to a block.
+// A segment with a page table, whose last block of 16 words is `last`.
 fn paged_segment(seg: u16, last: u16) -> Sdw
     requires seg { seg < booted_segments }
     requires last { last < 2 ^ 14 }
@@ -57,7 +57,7 @@ fn paged_segment(seg: u16, last: u16) -> Sdw
     }
 }
 
-// A stack or a linkage segment.
+// The descriptor of a stack or a linkage segment.
 #[tactic(auto, using(crate::proofs::Orders::in_order_by))]
 fn ring_segment(seg: u16, ring: u8, pages: u16) -> Sdw
     requires seg { seg < booted_segments }
@@ -76,7 +76,7 @@ fn ring_segment(seg: u16, ring: u8, pages: u16) -> Sdw
     sdw
 }
 
-// A segment of the catalog.
+// The descriptor of a segment of the catalog.
 #[tactic(auto, using(crate::proofs::Orders::in_order_by))]
 fn limited_segment(seg: u16, segment: &Segment, words: &[Word], limit: u16) -> Sdw
     requires seg { seg < booted_segments }
@@ -100,7 +100,7 @@ fn limited_segment(seg: u16, segment: &Segment, words: &[Word], limit: u16) -> S
     sdw
 }
 
-/// The descriptor of a segment; None where the image has no such segment.
+/// The descriptor of a segment; None if the image has no such segment.
 #[tactic(auto, unfolding(crate::specs::Segments::booted_sdw))]
 pub(crate) fn descriptor(catalog: &Catalog, files: &[File], limits: &[u16], seg: u16) -> Option<Sdw>
     requires files { length files.now ≡ length catalog.now.segments }
@@ -128,7 +128,7 @@ pub(crate) fn descriptor(catalog: &Catalog, files: &[File], limits: &[u16], seg:
 
 // ---- words
 
-// A word of two halves.
+// The word with these two halves.
 fn joined(left: u32, right: u32) -> Word
     requires left { left < 2 ^ 18 }
     requires right { right < 2 ^ 18 }
@@ -153,7 +153,7 @@ fn stack_words(alloc: Global, ring: u8) -> Result<Words, NoMemory>
     Ok(words)
 }
 
-// The LOT of a ring in which one section is laid.
+// The LOT of a ring in which one linkage section is laid.
 fn lot_of(alloc: Global, lay: &Lay) -> Result<Words, NoMemory>
     ensures { IfOk result (λ words. words ≡ lot_of lay.now) }
 {
@@ -182,7 +182,7 @@ fn linkage_words(alloc: Global, lay: &Option<Lay>, ring: u8) -> Result<Words, No
     }
 }
 
-/// The words of a segment of the image, in which a section is laid.
+/// The words of a segment of the image, in which this linkage section is laid.
 #[tactic(auto, unfolding(crate::specs::Segments::booted_words))]
 pub(crate) fn words_of(
     alloc: Global,

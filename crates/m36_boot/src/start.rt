@@ -18,7 +18,7 @@ use std::alloc::Global;
 
 // ---- the link
 
-// The link that a start is.
+// The link to the start.
 fn start_link(start: &Start) -> Link
     ensures { result ≡ start_link start.now }
 {
@@ -32,7 +32,7 @@ fn start_link(start: &Start) -> Link
     }
 }
 
-// Whether a segment is an object or a gate, with a file that is an object.
+// Whether a segment is an object segment or a gate, and its file is an object.
 fn is_object(segment: Option<&Segment>, object: Option<&Object>) -> bool
     ensures { result ≡ is_object (option_copied segment.entry) (option_copied object.entry) }
 {
@@ -52,7 +52,7 @@ fn may_start(ring: u8, segment: Option<&Segment>) -> bool
     }
 }
 
-// The answer to the link that the start is, over nothing known.
+// The answer to the link to the start, if it may be executed, where no ring knows any name yet.
 #[tactic(auto, unfolding(crate::specs::Start::start_answer))]
 fn answer_if(
     alloc: Global,
@@ -76,7 +76,7 @@ fn answer_if(
     }
 }
 
-/// The answer to the start. The error is the first code of the start, or want of memory.
+/// The answer to the link to the start. The error is the first fault of the start, or `NoMemory`.
 #[tactic(auto, unfolding(crate::specs::Refusals::start_of, crate::specs::Start::start_segment))]
 pub(crate) fn start_of(alloc: Global, catalog: &Catalog, files: &[File]) -> Result<Snap, BootFault>
     ensures { StartSays result (start_of catalog.now files.now) }
@@ -115,7 +115,7 @@ fn pointer(seg: u16, ring: u8, word: u32) -> Ptr
     }
 }
 
-// Where a section is laid.
+// The place in its linkage segment of a section that is laid; 0 if there is none.
 fn section_base(lay: &Option<Lay>) -> u32
     ensures value { result ≡ section_base lay.now }
     ensures bound { result < 2 ^ 18 }

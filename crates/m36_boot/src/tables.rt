@@ -13,7 +13,7 @@ use m36_page::PageTable;
 use m36_word::NoMemory;
 use std::alloc::Global;
 
-// Adds the page table of a segment, if the image has it.
+// Adds the page table of a segment, if the image has the segment.
 fn add_table(
     alloc: Global,
     tables: &mut Vec<PageTable>,
@@ -27,7 +27,9 @@ fn add_table(
     requires short { AreShort files.now }
     requires limits { AreLimits catalog.now files.now (length catalog.now.segments) limits.now }
     requires seg { seg < first_segment + length catalog.now.segments }
-    ensures { OnOk result (tables.new.items ≡ tables.old.items ++ table_of_segment seg (booted_sdw catalog.now files.now seg) (booted_words files.now lay.now seg)) }
+    ensures { OnOk result (tables.new.items ≡ tables.old.items
+        ++ table_of_segment seg (booted_sdw catalog.now files.now seg)
+        (booted_words files.now lay.now seg)) }
 {
     let _ = catalog.count();
     match descriptor(catalog, files, limits, seg) {

@@ -21,7 +21,7 @@ use Rattle.m36_debug.specs.Sitting.{SittingFields}
 use Rattle.m36_debug.proofs.PutLaws.{puts_nothing}
 use Rattle.m36_debug.proofs.PartLaws.{event_part, event_cut, part_on, part_cut}
 
--- a part, and then what an answer says
+-- a part of a session, and then one that an answer describes
 pub then_ends :
     {M : Type 0} (o : Turning M) (end : Ends) (s : Standing) (m : M) (lines others : List (List ℕ)) (s1 : Standing) (m1 : M) (sitting : SittingFields) (m2 : M) (old now new : SinkState)
     → Part o s m lines s1 m1 Done old now → EndSays o end s1 m1 others sitting m2 now new
@@ -56,7 +56,7 @@ took_cut o s m text kind old new is puts =
     event_cut o (standing s Waiting) m m (Took text) old new refl
     (subst (λ k. PutsPieces Failed (line_says (o.regs m) (o.content m) s text k) old new) (sym is) puts)
 
--- it was told at once
+-- it was answered at once
 pub took_told :
     {M : Type 0} (o : Turning M) (put : Put) (s : SittingFields) (m : M) (text : List ℕ) (kind : SessionLine) (sitting : SittingFields) (old new : SinkState)
     → session_line text ≡ kind → begun s text kind ≡ Waiting → sitting ≡ remembered s kind
@@ -67,7 +67,7 @@ took_told o Done s m text kind sitting old new is waits remembers puts =
     (subst (λ d. Part o (standing s Waiting) m (text ∷ []) (standing (remembered s kind) d) m Done old new) waits (took_part o s m text kind old new is puts))
 took_told o Failed s m text kind sitting old new is waits remembers puts = took_cut o s m text kind old new is puts
 
--- the same by how it ended
+-- the same, by how it ended
 took_end :
     {M : Type 0} (o : Turning M) (end : Ends) (s : SittingFields) (m : M) (text : List ℕ) (kind : SessionLine) (old new : SinkState)
     → session_line text ≡ kind → begun s text kind ≡ Waiting → remembered s kind ≡ s
@@ -80,7 +80,7 @@ took_end o ends.Starved s m text kind old new is waits remembers puts = absurd p
 took_end o ends.Cut s m text kind old new is waits remembers puts =
     took_told o Failed s m text kind s old new is waits (sym remembers) puts
 
--- and where nothing was changed
+-- and if nothing was changed
 took_is_told :
     {M : Type 0} (o : Turning M) (end : Ends) (s : SittingFields) (m : M) (text : List ℕ) (kind : SessionLine) (lines : List (List ℕ)) (sitting : SittingFields) (m' : M) (old new : SinkState)
     → session_line text ≡ kind → begun s text kind ≡ Waiting → remembered s kind ≡ s
@@ -92,7 +92,7 @@ took_is_told o end s m text kind lines sitting m' old new is waits remembers say
     (subst (λ n. EndSays o end (standing s Waiting) m (text ∷ []) s n old new) (sym told.machine_stays)
     (took_end o end s m text kind old new is waits remembers (subst (EndPuts end old new) (sym says) told.puts)))
 
--- a line that says nothing
+-- a line for which nothing is written
 pub took_quit :
     {M : Type 0} (o : Turning M) (s : SittingFields) (m : M) (text : List ℕ) (now : SinkState)
     → session_line text ≡ session.Quit → EndSays o ends.Quit (standing s Waiting) m (text ∷ []) s m now now
@@ -140,7 +140,7 @@ pub took_command :
 took_command o end run s m text kind sitting m' old new is begins remembers says command =
     command_by o end s.ended run s m text kind sitting m' old new is begins remembers says command
 
--- `back`, by whether so many steps were taken
+-- `back`, by whether that many steps were taken
 back_by :
     {M : Type 0} (o : Turning M) (end : Ends) (some : Bool) (n : ℕ) (s : SittingFields) (m : M) (text : List ℕ) (sitting : SittingFields) (m' : M) (old new : SinkState)
     → session_line text ≡ session.Back n → nat_le n s.taken ≡ some
@@ -163,7 +163,7 @@ pub took_back :
 took_back o end n s m text sitting m' old new is back =
     back_by o end (nat_le n s.taken) n s m text sitting m' old new is refl back
 
--- the machine was to go back
+-- the machine was asked to go back
 pub went_part :
     {M : Type 0} (o : Turning M) (answer : BackAnswer) (n : ℕ) (text : List ℕ) (s : SittingFields) (m m' : M) (old new : SinkState)
     → o.went m n answer m' → PutsPieces Done (back_says (o.regs m') text answer) old new
@@ -180,16 +180,16 @@ unfolding said
 went_cut o answer n text s m m' old new may puts =
     event_cut o (standing s (Backing n text)) m m' (Went answer) old new may puts
 
--- ---- by the equations that the code has
+-- ---- in the form of the equations that the code has
 
--- what is told at once, by how it ended
+-- what is written at once, by how it ended
 pub told_puts :
     (put : Put) (old new : SinkState) (lines : List (List ℕ))
     → PutsPieces put lines old new → EndPuts (told put) old new lines
 told_puts Done old new lines puts = puts
 told_puts Failed old new lines puts = puts
 
--- the end was told again
+-- the end line was written again
 pub command_told :
     {M : Type 0} (o : Turning M) (put : Put) (answer : Ends) (end : End) (run : Run) (s : SittingFields) (taken : ℕ) (m : M) (old new : SinkState)
     → Some end ≡ s.ended → taken ≡ s.taken → PutsPieces put (end_line end taken ∷ []) old new → answer ≡ told put
@@ -210,7 +210,7 @@ pub command_ran :
 command_ran o answer run s m sitting m' old new is says =
     subst (λ (e : Option End). CommandSays o answer e run s m sitting m' old new) is says
 
--- the machine was to go back, and it was told at once how
+-- the machine was asked to go back, and the answer was written at once
 pub went_told :
     {M : Type 0} (o : Turning M) (put : Put) (end : Ends) (answer : BackAnswer) (n : ℕ) (text : List ℕ) (s sitting : SittingFields) (m m' : M) (old new : SinkState)
     → o.went m n answer m' → went s n answer ≡ standing sitting Waiting
@@ -228,7 +228,7 @@ pub went_starved :
     → o.went m n back.NoMemory m' → EndSays o ends.Starved (standing s (Backing n text)) m [] s m' now now
 went_starved o n text s m m' now may = went_part o back.NoMemory n text s m m' now now may (puts_nothing now)
 
--- so many steps were taken
+-- that many steps were taken
 pub back_went :
     {M : Type 0} (o : Turning M) (end : Ends) (n : ℕ) (text : List ℕ) (s : SittingFields) (m : M) (sitting : SittingFields) (m' : M) (old new : SinkState)
     → nat_le n s.taken ≡ true → EndSays o end (standing s (Backing n text)) m [] sitting m' old new
@@ -236,7 +236,7 @@ pub back_went :
 back_went o end n text s m sitting m' old new enough says =
     subst (λ (b : Bool). BackSays o end b text n s m sitting m' old new) (sym enough) says
 
--- fewer were
+-- fewer steps were taken
 pub back_not :
     {M : Type 0} (o : Turning M) (put : Put) (end : Ends) (n : ℕ) (text : List ℕ) (s : SittingFields) (m : M) (old new : SinkState)
     → nat_le n s.taken ≡ false → PutsPieces put (unknown_line text ∷ []) old new → end ≡ told put
@@ -247,7 +247,7 @@ back_not o put end n text s m old new few puts ends =
     subst (λ (b : Bool). BackSays o end b text n s m s m old new) (sym few)
     (subst (λ (a : Ends). IsTold a (unknown_line text ∷ []) s m s m old new) (sym ends) there)
 
--- a line of this kind was told at once
+-- a line of this kind was answered at once
 pub took_at_once :
     {M : Type 0} (o : Turning M) (put : Put) (end : Ends) (s : SittingFields) (m : M) (text : List ℕ) (kind : SessionLine) (sitting : SittingFields) (old new : SinkState)
     → kind ≡ session_line text → begun s text kind ≡ Waiting → sitting ≡ remembered s kind

@@ -1,4 +1,4 @@
--- Laws of how many steps a command takes.
+-- Laws of the number of steps that a command takes.
 use Rattle.std.proofs.Common.{◌≡◌, ◌+◌, ◌<◌, ◌≤◌, ◌++◌, ℕ, Bool, true, false, List, [], ◌∷◌, Option, Some, None, refl, ap, subst, nat_le, arith}
 use Rattle.std.specs.Prelude.{length, if◌then◌else◌, option_map, unwrap_or, codes}
 use Rattle.std.proofs.lemmas.Bool.{leb-true}
@@ -31,7 +31,7 @@ use Rattle.m36_debug.specs.StepLimit.{step_in, steps_taken, most_of, StepsWithin
 use Rattle.m36_debug.proofs.TurnLaws.{WasMade, some_left, within_left, runs_count}
 use Rattle.m36_debug.proofs.TurnLaws.{came_interrupted, came_counts, steps_counted, taken_after}
 
--- ---- where no command runs
+-- ---- if no command runs
 
 none_waited :
     {M : Type 0} (o : Turning M) (m : M) (happened : Happening) (after : M) (rest : List (List ℕ)) (n : ℕ)
@@ -65,7 +65,7 @@ none_starving o s m (e ∷ events) s' m' follow =
 
 -- ---- a turn, and the events after it
 
--- so many steps follow, at most those that are left
+-- the number of steps that follow is at most the number that is left
 abbrev FurtherWithin : {M : Type 0} → Turning M → Further → M → ℕ → Type 0
 FurtherWithin o (Runs run) m n = (run.left ≡ 0 → WasMade o Interrupts m) → n ≤ run.left
 FurtherWithin o Waits m n = n ≡ 0
@@ -143,7 +143,7 @@ runs_within o run s m (e ∷ events) s' m' interrupted was follow none =
     happened_within o run s m e.happened e.after events s' m' interrupted was follow.0 follow.1 none
     (λ next t made on no. runs_within o next t e.after events s' m' interrupted made on no)
 
--- ---- a line of steps takes at least one
+-- ---- a command that takes steps takes at least one
 
 abbrev TakesSome : SessionLine → Type 0
 TakesSome (session.Step n) = 0 < n

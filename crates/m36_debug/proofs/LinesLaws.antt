@@ -1,4 +1,4 @@
--- Laws of lines that are cut from bytes.
+-- Laws of lines that are split off from bytes.
 use Rattle.std.proofs.Common.{◌≡◌, ◌+◌, ◌-◌, ◌<◌, ◌≤◌, ◌==◌, ℕ, Bool, false, List, [], ◌∷◌, ◌++◌, length, take, drop, map, Option, Some, None, All, refl, sym, ap, subst, ◌∙◌, arith, length-take}
 use Rattle.std.specs.List.{slice_split, position, position_or_len, before_first, after_first}
 use Rattle.std.proofs.lemmas.Bool.{ltb-true, ltb-false, eqb-true}
@@ -35,7 +35,7 @@ unbroken_front text i before =
     All-from_get_or (λ b. (b == 10) ≡ false) (take i text) 0
     (λ k below. subst (λ b. (b == 10) ≡ false) (sym (get_or-take i text k 0 (omega (arith, below, length-take i text)))) (fails_before_first (λ b. b == 10) text k 0 (omega (arith, below, before, length-take i text))))
 
--- where one stands, the text is a line and what stands behind it
+-- if there is one, the text is a line and the bytes after it
 pub cut_there :
     (text : List ℕ) (i : ℕ)
     → position (λ b. b == 10) text ≡ Some i
@@ -48,7 +48,7 @@ cut_there text i found =
       unbroken_front text i (omega (arith, at.1)),
     )
 
--- where none stands, the text is unbroken
+-- if there is none, the text is unbroken
 pub cut_nowhere : (text : List ℕ) → position (λ b. b == 10) text ≡ None → IsUnbroken text
 cut_nowhere text none =
     All-from_get_or (λ b. (b == 10) ≡ false) text 0
@@ -58,7 +58,7 @@ pub ruleset cutting = (cut_there, cut_nowhere)
 
 -- ---- lines one after another
 
--- a first text is these lines and what stands behind them, and that goes on as those
+-- a text is these lines and some bytes, and these bytes with more text are further lines
 pub lines_on :
     (text front more rest : List ℕ) (lines others : List (List ℕ))
     → IsLines text lines front → IsLines (front ++ more) others rest → IsLines (text ++ more) (lines ++ others) rest
@@ -73,11 +73,11 @@ lines_on text front more rest lines others one two = record {
   unbroken = All-append IsUnbroken lines others one.unbroken two.unbroken;
 }
 
--- no line was cut yet
+-- no line was split off yet
 pub lines_none : (text : List ℕ) → IsLines text [] text
 lines_none text = record { is = refl; unbroken = All-nil IsUnbroken }
 
--- one line, and what stands behind it
+-- one line, and the bytes after it
 pub lines_one :
     (text line rest : List ℕ) → text ≡ as_line line ++ rest → IsUnbroken line → IsLines text (line ∷ []) rest
 lines_one text line rest is unbroken = record {
@@ -85,7 +85,7 @@ lines_one text line rest is unbroken = record {
   unbroken = All-cons IsUnbroken line [] unbroken (All-nil IsUnbroken);
 }
 
--- A line that has begun is ended.
+-- A line that has begun is complete.
 pub lines_line :
     (text begun end behind rest : List ℕ) (lines : List (List ℕ))
     → IsLines text lines (begun ++ rest) → IsUnbroken begun → IsUnbroken end → rest ≡ as_line end ++ behind
@@ -146,7 +146,7 @@ whole_last : (rest : List ℕ) → IsUnbroken rest → whole_lines rest ≡ []
 unfolding lines_of
 whole_last rest unbroken = ap (λ l. those_read (ended l)) (slice_split_none (λ b. b == 10) rest unbroken) ∙ no_whole rest
 
--- All lines of a text, of which the last is not whole.
+-- All lines of a text whose last line is not whole.
 pub all_open :
     (text rest : List ℕ) (lines : List (List ℕ))
     → IsLines text lines rest → IsUnbroken rest → open_lines_of text ≡ lines ++ open_rest rest
@@ -159,7 +159,7 @@ pub all_whole :
 all_whole text rest lines are unbroken =
     ap whole_lines are.is ∙ whole_lines_on lines rest are.unbroken ∙ ap (λ l. lines ++ l) (whole_last rest unbroken) ∙ append-nil lines
 
--- some of the whole ones
+-- some of the whole lines
 pub some_whole :
     (text rest : List ℕ) (lines : List (List ℕ)) → IsLines text lines rest → IsFirstPart lines (whole_lines text)
 some_whole text rest lines are =

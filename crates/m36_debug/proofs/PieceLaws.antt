@@ -13,7 +13,7 @@ use Rattle.m36_debug.specs.Sitting.{SittingFields}
 use Rattle.m36_debug.proofs.LinesLaws.{lines_none, lines_line}
 use Rattle.m36_debug.proofs.PartLaws.{part_none, part_on, part_cut}
 
--- The first lines of a text were answered, and so much of it is left.
+-- The first lines of a text were answered, and `left` is left of it.
 pub record SoFar {M : Type 0} (o : Turning M) (s : Standing) (m : M) (text left : List ℕ) (sitting : SittingFields) (m' : M) (old new : SinkState) : Type 0 where
   pub lines : List (List ℕ)
   pub is : IsLines text lines left
@@ -35,7 +35,7 @@ more_lines o s m text begun end behind rest line sitting m1 old now f begun_unbr
     subst (λ l. IsLines text (f.lines ++ l ∷ []) behind) (sym is)
     (lines_line text begun end behind rest f.lines f.is begun_unbroken end_unbroken cut)
 
--- one more was answered, and the next is waited for
+-- one more line was answered, and the session waits for the next
 pub so_far_line :
     {M : Type 0} (o : Turning M) (s : Standing) (m : M) (text begun end behind rest line : List ℕ) (sitting sitting' : SittingFields) (m1 m2 : M) (old now new : SinkState)
     → SoFar o s m text (begun ++ rest) sitting m1 old now
@@ -48,7 +48,7 @@ so_far_line o s m text begun end behind rest line sitting sitting' m1 m2 old now
   part = part_on o s m f.lines (line ∷ []) (standing sitting Waiting) m1 (standing sitting' Waiting) m2 old now new f.part said;
 }
 
--- it was `quit`
+-- the line was `quit`
 pub so_far_quit :
     {M : Type 0} (o : Turning M) (s : Standing) (m : M) (text begun end behind rest line : List ℕ) (sitting sitting' : SittingFields) (m1 m2 : M) (old now new : SinkState)
     → SoFar o s m text (begun ++ rest) sitting m1 old now
@@ -62,7 +62,7 @@ so_far_quit o s m text begun end behind rest line sitting sitting' m1 m2 old now
   part = part_on o s m f.lines (line ∷ []) (standing sitting Waiting) m1 (standing sitting' Over) m2 old now new f.part said;
 }
 
--- it found no memory
+-- it ran out of memory
 pub so_far_starved :
     {M : Type 0} (o : Turning M) (s : Standing) (m : M) (text begun end behind rest line : List ℕ) (sitting sitting' : SittingFields) (m1 m2 : M) (old now new : SinkState)
     → SoFar o s m text (begun ++ rest) sitting m1 old now
@@ -77,7 +77,7 @@ so_far_starved o s m text begun end behind rest line sitting sitting' m1 m2 old 
   part = part_on o s m f.lines (line ∷ []) (standing sitting Waiting) m1 (standing sitting' Starved) m2 old now new f.part said;
 }
 
--- what it says could not be written
+-- what the line says could not be written
 pub so_far_cut :
     {M : Type 0} (o : Turning M) (s : Standing) (m : M) (text begun end behind rest line : List ℕ) (sitting sitting' : SittingFields) (m1 m2 : M) (old now new : SinkState)
     → SoFar o s m text (begun ++ rest) sitting m1 old now
@@ -91,7 +91,7 @@ so_far_cut o s m text begun end behind rest line sitting sitting' m1 m2 old now 
   part = part_cut o s m f.lines (line ∷ []) (standing sitting Waiting) m1 m2 old now new f.part said;
 }
 
--- no memory was found for a line that has begun
+-- memory ran out for a line that has begun
 pub so_far_unkept :
     {M : Type 0} (o : Turning M) (s : Standing) (m : M) (text left : List ℕ) (sitting : SittingFields) (m1 : M) (old now : SinkState)
     → SoFar o s m text left sitting m1 old now → AnsweredSome o s m text m1 old now
@@ -124,7 +124,7 @@ pub last_none :
 last_none o s m [] now none = part_none o (standing s Waiting) m now
 last_none o s m (b ∷ text) now none = absurd (omega (arith, none))
 
--- one has begun, and is a line though it lacks its line feed
+-- one has begun, and is a line although it lacks its line feed
 pub last_some :
     {M : Type 0} (o : Turning M) (end : Ends) (s : SittingFields) (m : M) (text : List ℕ) (sitting : SittingFields) (m' : M) (old new : SinkState)
     → 0 < length text → EndSays o end (standing s Waiting) m (text ∷ []) sitting m' old new

@@ -16,7 +16,7 @@ use Rattle.m36_outside.specs.Putting.{PutsPieces}
 use Rattle.m36_debug.specs.Putting.{seen}
 use Rattle.m36_debug.specs.SessionTexts.{pointer_line, pointer_lines}
 
--- nothing is to be put
+-- nothing has to be put
 pub puts_nothing : (now : SinkState) → PutsPieces Done [] now now
 puts_nothing now =
     record { text = grew_by_nothing now.written; pieces = takes_no_lines now.taken; faults = refl }
@@ -31,7 +31,7 @@ puts_on old now new first second one two = record {
   faults = two.faults ∙ one.faults;
 }
 
--- some lines, and then a part of others
+-- some lines, and then some others and a prefix of the next
 pub puts_more :
     (old now new : SinkState) (first second : List (List ℕ))
     → PutsPieces Done first old now → PutsPieces Failed second now new → PutsPieces Failed (first ++ second) old new
@@ -41,7 +41,7 @@ puts_more old now new first second one two = record {
   faults = subst (λ n. Rose n new.faults) one.faults two.faults;
 }
 
--- a part of some lines is a part of more
+-- some lines and a prefix of the next are so of more lines
 pub puts_longer :
     (old new : SinkState) (first second : List (List ℕ))
     → PutsPieces Failed first old new → PutsPieces Failed (first ++ second) old new
@@ -67,25 +67,25 @@ puts_line Failed written written' taken taken' faults faults' line says took cau
   faults = cause;
 }
 
--- what was put is this line
+-- the piece that was put is this line
 pub puts_same :
     (answer : Put) (old new : SinkState) (lines others : List (List ℕ))
     → lines ≡ others → PutsPieces answer lines old new → PutsPieces answer others old new
 puts_same answer old new lines others is puts = subst (λ l. PutsPieces answer l old new) is puts
 
--- some lines, and then what an answer says of others
+-- some lines, and then others, as an answer says
 pub puts_then :
     (answer : Put) (old now new : SinkState) (first second : List (List ℕ))
     → PutsPieces Done first old now → PutsPieces answer second now new → PutsPieces answer (first ++ second) old new
 puts_then Done old now new first second one two = puts_on old now new first second one two
 puts_then Failed old now new first second one two = puts_more old now new first second one two
 
--- Of the lines `all`, put from `start` on, `left` are left to put behind `now`.
+-- Of the lines `all`, put from `start` on, `left` are still to be put after `now`.
 pub record Putting (now start : SinkState) (left all : List (List ℕ)) : Type 0 where
   pub whole : (new : SinkState) → PutsPieces Done left now new → PutsPieces Done all start new
   pub cut : (new : SinkState) → PutsPieces Failed left now new → PutsPieces Failed all start new
 
--- at the beginning all are left
+-- at the start all are left
 pub putting_all : (start : SinkState) (all : List (List ℕ)) → Putting start start all all
 putting_all start all = record { whole = λ new puts. puts; cut = λ new puts. puts }
 
@@ -98,7 +98,7 @@ putting_next now next start line left all before puts = record {
   cut = λ new rest. before.cut new (puts_more now next new (line ∷ []) left puts rest);
 }
 
--- it was not put whole
+-- it was not put as a whole
 pub putting_cut :
     (now new start : SinkState) (line : List ℕ) (left all : List (List ℕ))
     → Putting now start (line ∷ left) all → PutsPieces Failed (line ∷ []) now new → PutsPieces Failed all start new
@@ -143,7 +143,7 @@ pointer_put now next start n pointers i p all inside is before puts =
     putting_next now next start (pointer_line n p) (pointer_lines (n + 1) (drop (i + 1) pointers)) all
     (subst (λ l. Putting now start l all) (pointers_at n pointers i p inside is) before) puts
 
--- it was not put whole
+-- it was not put as a whole
 pub pointer_cut :
     (now new start : SinkState) (n : ℕ) (pointers : List PtrFields) (i : ℕ) (p : PtrFields) (all : List (List ℕ))
     → i < length pointers → p ≡ get_or pointers i p
@@ -163,23 +163,23 @@ pointers_end now start n pointers i all past before =
 -- what a function that puts them in a loop takes by `using`
 pub ruleset pointers = (pointers_start, pointer_put, pointer_cut, pointers_end)
 
--- a short line is shown whole
+-- a short line is shown as a whole
 pub shown_whole : (line : List ℕ) → length line ≤ 64 → line ≡ take 64 line
 shown_whole line within = sym (take_all 64 line within)
 
--- one line, and then what an answer says of others
+-- one line, and then others, as an answer says
 pub puts_behind :
     (answer : Put) (old now new : SinkState) (line : List ℕ) (lines : List (List ℕ))
     → PutsPieces Done (line ∷ []) old now → PutsPieces answer lines now new → PutsPieces answer (line ∷ lines) old new
 puts_behind answer old now new line lines one two = puts_then answer old now new (line ∷ []) lines one two
 
--- one line, and then a part of others
+-- one line, and then some others and a prefix of the next
 pub puts_behind_cut :
     (old now new : SinkState) (line : List ℕ) (lines : List (List ℕ))
     → PutsPieces Done (line ∷ []) old now → PutsPieces Failed lines now new → PutsPieces Failed (line ∷ lines) old new
 puts_behind_cut old now new line lines one two = puts_more old now new (line ∷ []) lines one two
 
--- a part of the first of several lines
+-- a prefix of the first of several lines
 pub puts_first_cut :
     (old new : SinkState) (line : List ℕ) (lines : List (List ℕ))
     → PutsPieces Failed (line ∷ []) old new → PutsPieces Failed (line ∷ lines) old new

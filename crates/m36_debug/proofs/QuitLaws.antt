@@ -1,4 +1,4 @@
--- Laws of the line `quit`: a session that goes on has not taken it.
+-- Laws of the line `quit`: a session that continues has not taken it.
 use Rattle.std.proofs.Common.{◌≡◌, ℕ, Bool, true, false, List, [], ◌∷◌, ◌++◌, Option, Some, None, All, ◌⊎◌, inl, inr, refl, sym, ap, subst, ◌∙◌}
 use Rattle.std.proofs.lemmas.List.Elements.{All-nil, All-cons, All-append}
 use Rattle.std.specs.Prelude.{nat_le, if◌then◌else◌}
@@ -23,7 +23,7 @@ none_over o m (Took line) m' may = may
 none_over o m (Turned turn) m' may = may
 none_over o m (Went answer) m' may = may
 
--- nothing happens once it is over
+-- nothing happens once the session is over
 over_stays :
     {M : Type 0} (o : Turning M) (sitting : SittingFields) (doing : Doing) (m : M) (events : List (Event M)) (s' : Standing) (m' : M)
     → doing ≡ Over → Follow o (standing sitting doing) m events s' m' → s'.doing ≡ Over
@@ -39,7 +39,7 @@ quit_over : (g : RegsFields) (sitting : SittingFields) (line : List ℕ) → ses
 unfolding onward
 quit_over g sitting line is = ap (begun sitting line) is
 
--- a line that was taken, after which the session goes on
+-- a line that was taken, after which the session continues
 taken_no_quit :
     {M : Type 0} (o : Turning M) (g : RegsFields) (sitting : SittingFields) (doing : Doing) (m m' m2 : M) (h : Happening) (events : List (Event M)) (s2 : Standing)
     → May o doing m h m' → Follow o (onward g (standing sitting doing) h) m' events s2 m2 → s2.doing ≡ Waiting
@@ -100,7 +100,7 @@ went_not_over s n (back.Before taken) is = cc
 went_not_over s n back.Unable is = cc
 went_not_over s n back.NoMemory is = cc
 
--- what happened last was that `quit` was taken
+-- the last event was that `quit` was taken
 happened_quit :
     {M : Type 0} (o : Turning M) (g : RegsFields) (sitting : SittingFields) (doing : Doing) (m m' : M) (h : Happening)
     → May o doing m h m' → (onward g (standing sitting doing) h).doing ≡ Over → EndInQuit (line_in h)
@@ -122,7 +122,7 @@ happened_quit o g sitting (Backing n text) m m' (Went answer) may over = absurd 
 happened_quit o g sitting Over m m' (Went answer) may over = absurd may
 happened_quit o g sitting Starved m m' (Went answer) may over = absurd may
 
--- nothing happens once it is over, and so no line is taken
+-- nothing happens once the session is over, and so no line is taken
 over_takes_none :
     {M : Type 0} (o : Turning M) (sitting : SittingFields) (doing : Doing) (m : M) (events : List (Event M)) (s' : Standing) (m' : M)
     → doing ≡ Over → Follow o (standing sitting doing) m events s' m' → lines_in events ≡ []

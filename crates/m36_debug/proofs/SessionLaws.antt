@@ -1,4 +1,4 @@
--- Laws of a session that goes on piece by piece.
+-- Laws of a session that continues piece by piece.
 use Rattle.std.proofs.Common.{◌≡◌, ◌+◌, ◌-◌, ◌≤◌, ℕ, List, [], ◌∷◌, ◌++◌, length, take, All, Option, Some, None, inl, inr, refl, sym, ap, subst, ◌∙◌, arith, length-append, length-take}
 use Rattle.std.specs.Prelude.{Result, Ok, Err}
 use Rattle.std.specs.Io.KnownBytes.{IsAtEnd}
@@ -30,7 +30,7 @@ use Rattle.m36_debug.proofs.QuitLaws.{no_quit, quit_last}
 
 -- ---- pieces of input
 
--- These pieces came between.
+-- These pieces were read in between.
 pub record Came (before after : LinesSeen) (pieces : List (List ℕ)) : Type 0 where
   pub gave : after.given ≡ before.given ++ pieces
   pub left : before.left ≡ preceded (joined pieces) after.left
@@ -52,7 +52,7 @@ joined_end pieces = joined_last pieces [] ∙ append-nil (joined pieces)
 came_none : (now : LinesSeen) → Came now now []
 came_none now = record { gave = sym (append-nil now.given); left = preceded_none now.left }
 
--- one piece more
+-- one more piece
 came_more :
     (before now after : LinesSeen) (pieces : List (List ℕ)) (piece : List ℕ)
     → Came before now pieces → after.given ≡ now.given ++ piece ∷ [] → now.left ≡ preceded piece after.left
@@ -66,14 +66,14 @@ came_more before now after pieces piece came gave left = record {
       ∙ ap (λ t. preceded t after.left) (sym (joined_last pieces piece));
 }
 
--- the end
+-- the end of the input
 came_end :
     (before now after : LinesSeen) (pieces : List (List ℕ))
     → Came before now pieces → GotEnd now after → Came before after (pieces ++ [] ∷ [])
 came_end before now after pieces came end =
     came_more before now after pieces [] came end.gave (sym end.left.1 ∙ preceded_none after.left)
 
--- nothing
+-- no piece
 came_still :
     (before now after : LinesSeen) (pieces : List (List ℕ))
     → Came before now pieces → after.given ≡ now.given → after.left ≡ now.left → Came before after pieces
@@ -100,16 +100,16 @@ stops_going [] old new all = tt
 stops_going ([] ∷ pieces) old new all = absurd all
 stops_going ((byte ∷ piece) ∷ pieces) old new all = stops_going pieces old new all
 
--- it has, by the last piece
+-- the input has ended with the last piece
 stops_ended : (pieces : List (List ℕ)) (old new : ℕ) → AreSome pieces → new ≡ old → StopsAtEnd (pieces ++ [] ∷ []) old new
 stops_ended [] old new all stands = (refl, stands)
 stops_ended ([] ∷ pieces) old new all stands = absurd all
 stops_ended ((byte ∷ piece) ∷ pieces) old new all stands = stops_ended pieces old new all stands
 
--- ---- a session that goes on
+-- ---- a session that continues
 
--- All whole lines so far were answered, what stands behind them has begun the next one, and so many
--- more bytes may come.
+-- All whole lines so far were answered, the bytes after them are the beginning of the next line, and at most `left`
+-- more bytes may be read.
 pub record Going {M : Type 0} (o : Turning M) (m m' : M) (before after : LinesSeen) (old new : SinkState) (left : ℕ) (begun : List ℕ) (sitting : SittingFields) : Type 0 where
   pub pieces : List (List ℕ)
   pub came : Came before after pieces
@@ -121,7 +121,7 @@ pub record Going {M : Type 0} (o : Turning M) (m m' : M) (before after : LinesSe
   pub unbroken : IsUnbroken begun
   pub part : Part o (standing new_sitting Waiting) m lines (standing sitting Waiting) m' Done old new
 
--- at the beginning
+-- at the start
 pub going_start :
     {M : Type 0} (o : Turning M) (m : M) (before : LinesSeen) (old : SinkState) (begun : List ℕ) (sitting : SittingFields)
     → begun ≡ [] → sitting ≡ new_sitting → IsUnbroken [] → Going o m m before before old old bytes_limit begun sitting
@@ -139,7 +139,7 @@ going_start o m before old begun sitting empty is unbroken = record {
       (part_none o (standing new_sitting Waiting) m old);
 }
 
--- what a session says of a part of itself
+-- the contract of a session, for a part of it
 says :
     {M : Type 0} (o : Turning M) (result : Result (Unit {0}) SessionFault) (m m' : M) (before after : LinesSeen) (old new : SinkState) (pieces lines : List (List ℕ)) (stands : Standing)
     → Came before after pieces → CountBy result (length (joined pieces)) → ReadHasCause result before.faults after.faults
@@ -177,7 +177,7 @@ part_no_quit o m m' lines sitting answer old new part =
 waits_not_over : Waiting ≡ Over → ⊥
 waits_not_over is = cc
 
--- one that is over has taken it last
+-- a part after which the session is over has taken `quit` last
 part_quit :
     {M : Type 0} (o : Turning M) (m m' : M) (lines : List (List ℕ)) (sitting : SittingFields) (answer : Put) (old new : SinkState)
     → Part o (standing new_sitting Waiting) m lines (standing sitting Over) m' answer old new
@@ -212,7 +212,7 @@ going_unread o m m' before now after old new left begun sitting g got =
     (took_whole o m m' (joined g.pieces) begun g.lines sitting Done old new g.is g.unbroken g.part)
     g.part
 
--- one byte more than the most was taken
+-- one byte more than the limit was read
 pub going_too_long :
     {M : Type 0} (o : Turning M) (m m' : M) (before now after : LinesSeen) (old new : SinkState) (count left : ℕ) (begun buffer : List ℕ) (sitting : SittingFields)
     → Going o m m' before now old new left begun sitting → left ≡ 0 → GotPiece count 1 now after buffer
@@ -237,13 +237,13 @@ going_too_long o m m' before now after old new count left begun buffer sitting g
     (subst (λ t. TookWhole t g.lines Waiting) (sym first) (took_whole o m m' bytes begun g.lines sitting Done old new g.is g.unbroken g.part))
     g.part
 
--- the input has told its end
+-- the input has reported its end
 told_end :
     (now after : LinesSeen) (pieces : List (List ℕ)) → GotEnd now after → HasEnded (pieces ++ [] ∷ []) after
 told_end now after pieces got =
     record { before = pieces; last = refl; none = subst IsAtEnd (sym got.left.1) got.left.0 }
 
--- all its lines are a first part of all
+-- the lines that were taken are a prefix of all lines
 took_open :
     (now after : LinesSeen) (pieces lines : List (List ℕ)) (begun : List ℕ)
     → GotEnd now after → IsLines (joined pieces) lines begun → IsUnbroken begun
@@ -308,7 +308,7 @@ going_end o ends.Cut m m1 m2 before now after old mid new left begun sitting sit
 
 -- ---- a piece was taken
 
--- what stands behind the whole lines, and the piece
+-- the bytes after the whole lines, and the piece
 got_lines :
     (pieces lines others : List (List ℕ)) (begun piece rest : List ℕ)
     → IsLines (joined pieces) lines begun → IsLines (begun ++ piece) others rest
@@ -369,7 +369,7 @@ going_quit o m m1 m2 before now after old mid new count left begun buffer sittin
     })
     part
 
--- no memory was found
+-- memory ran out
 pub going_starved :
     {M : Type 0} (o : Turning M) (m m1 m2 : M) (before now after : LinesSeen) (old mid new : SinkState) (count left : ℕ) (begun buffer : List ℕ) (sitting : SittingFields)
     → Going o m m1 before now old mid left begun sitting → GotPiece count left now after buffer

@@ -30,7 +30,7 @@ use Rattle.m36_debug.specs.Session.{Turning, Standing, standing, Running, Turned
 use Rattle.m36_debug.specs.Sitting.{SittingFields, sitting_after}
 use Rattle.m36_debug.proofs.PartLaws.{event_part, event_cut}
 
--- a part that goes on as the command does
+-- a part that continues as the command does
 came_says :
     {M : Type 0} (o : Turning M) (turn : Turn) (next : Further) (s : Standing) (m : M) (sitting : SittingFields) (m' : M) (old new : SinkState)
     → Part o s m [] (standing sitting (doing_by next)) m' Done old new
@@ -77,14 +77,14 @@ came_served o turn (Runs run) m m' may = λ is. service_made o turn m m' may is
 came_served o turn Waits m m' may = tt
 came_served o turn Starves m m' may = tt
 
--- a service is one that the machine made
+-- a service is one that the machine performed
 pub turn_served :
     {M : Type 0} (o : Turning M) (put : Put) (turn : Turn) (next : Further) (m m' : M)
     → o.next m turn m' → CameServed o (told_turn put turn next) m m'
 turn_served o Done turn next m m' may = came_served o turn next m m' may
 turn_served o Failed turn next m m' may = tt
 
--- ---- a turn with no step left
+-- ---- a turn with no steps left
 
 wants_none : (command : Command) (b : Bool) → wants command 0 b ≡ false
 wants_none commands.Step b = refl
@@ -216,14 +216,14 @@ taken_after (turns.Ended end) s = omega arith
 taken_after turns.Full s = omega arith
 taken_after turns.NoMemory s = omega arith
 
--- a step is one that was left to the command, and a service is none
+-- a step is one of those that were left, and a service counts 0
 pub turn_counts :
     (put : Put) (turn : Turn) (run : Run) (b : Bool) (s : SittingFields)
     → CameCounts (told_turn put turn (after_turn run b turn)) run.left s.taken (sitting_after s turn).taken
 turn_counts Done turn run b s = came_counts turn run b s
 turn_counts Failed turn run b s = taken_after turn s
 
--- breaks stay
+-- a turn keeps the breaks
 pub breaks_stay : (turn : Turn) (s : SittingFields) → (sitting_after s turn).breaks ≡ s.breaks
 unfolding sitting_after
 breaks_stay (turns.Stepped told) s = refl
@@ -233,7 +233,7 @@ breaks_stay (turns.Ended end) s = refl
 breaks_stay turns.Full s = refl
 breaks_stay turns.NoMemory s = refl
 
--- ---- a turn by its equations, as the code has them
+-- ---- a turn, in the form of the equations that the code has
 
 further_same :
     {M : Type 0} (o : Turning M) (turn : Turn) (run : Run) (next : Further) (g : RegsFields) (s s' : SittingFields) (m' : M)
@@ -302,7 +302,7 @@ none_served o m is = absurd (false≢true is)
 pub some_left : {M : Type 0} (o : Turning M) (m : M) (left : ℕ) → 0 < left → left ≡ 0 → WasMade o Interrupts m
 some_left o m left some none = absurd (omega (arith, some, none))
 
--- with no step left, none is taken
+-- with no steps left, none is taken
 pub within_left :
     {M : Type 0} (o : Turning M) (m m' : M) (left before after most : ℕ)
     → ((first second third : M) (one two : Turn) → o.next first one second → o.next second two third → Interrupts one → IsStep two → ⊥)
@@ -321,7 +321,7 @@ pub runs_count :
 runs_count true next left before after most counts within = omega (arith, counts.0, counts.1)
 runs_count false next left before after most counts within = omega (arith, counts.0, counts.1)
 
--- A step counts twice, and a service once: it is not followed by another.
+-- The measure counts a step twice and a service once, since a service is not followed by another.
 pub runs_shorter :
     {M : Type 0} (o : Turning M) (was service : Bool) (m m' : M) (next left before after : ℕ)
     → ((first second third : M) (one two : Turn) → o.next first one second → o.next second two third → IsService one → IsService two → ⊥)

@@ -1,4 +1,4 @@
--- The commands that take turns, and whether another turn follows one.
+-- The commands that take turns, and whether they take another one after a turn.
 use Rattle.std.specs.Prelude.{ℕ, ◌-◌, Bool, not, ◌&&◌, ◌||◌, nat_lt, nat_eq, List}
 use Rattle.std.specs.Prelude.{if◌then◌else◌, Result, Ok, Err}
 use Rattle.std.specs.List.{list_any}
@@ -16,37 +16,41 @@ use Rattle.m36_debug.specs.declared.commands.Run.{Run}
 use Rattle.m36_debug.specs.declared.commands.Further.{Further}
 use Rattle.m36_debug.specs.declared.commands.Further.TheVariants.{Runs, Waits, Starves}
 
--- `go` takes at most so many steps
+-- the maximum number of steps of `go`
 abbrev pub go_limit : ℕ
 go_limit = 100000
 
+-- the command, with the number of steps that it may still take
 abbrev pub run_of : Command → ℕ → Run
 run_of command left = record { left = left; command = command }
 
--- the next instruction stands at a break
+-- the next instruction is at a break
 abbrev pub is_at : PprFields → Break → Bool
 is_at p b = nat_eq b.seg p.psr && nat_eq b.word p.ic
 
+-- the next instruction is at one of these breaks
 abbrev pub is_at_break : PprFields → List Break → Bool
 is_at_break p breaks = list_any (is_at p) breaks
 
--- Whether a command takes another step, of which so many are left to it. `go` stops at a break, but
--- takes one step at least.
+-- Whether a command that may take `left` more steps takes another one. `go` stops at a break, but
+-- takes at least one step.
 abbrev pub wants : Command → ℕ → Bool → Bool
 wants Step left at_break = nat_lt 0 left
 wants Go left at_break = nat_lt 0 left && (nat_eq left go_limit || not at_break)
 
+-- what a command does if no further turn has to follow
 abbrev pub settled : Command → ℕ → Bool → Further
 settled command left at_break =
     if wants command left at_break then Runs (run_of command left) else Waits
 
--- A step whose outcome is not Next is followed at once by its service or by the end of the run, and
--- so is a link that was refused: by one turn more, though no step may be left.
+-- A step whose outcome is not Next is followed at once by its service or by the end of the run,
+-- and a refused link by the end of the run: by one more turn, even if no steps are left.
 abbrev pub after_step : Command → ℕ → Bool → Outcome → Further
 after_step command left at_break Next = settled command left at_break
 after_step command left at_break (Faulted fault) = Runs (run_of command left)
 after_step command left at_break (Stopped stop) = Runs (run_of command left)
 
+-- what a command does after a link service
 abbrev pub after_link : Command → ℕ → Bool → Result Pair LinkCode → Further
 after_link command left at_break (Ok pair) = settled command left at_break
 after_link command left at_break (Err code) = Runs (run_of command left)

@@ -1,4 +1,4 @@
--- How the lines of a session come from the bytes that are taken.
+-- The lines of a session, from the bytes that were read.
 use Rattle.std.specs.Prelude.{ℕ, ◌≡◌, ◌==◌, ◌++◌, false, List, map, All}
 use Rattle.m36_outside.specs.Passing.{joined}
 use Rattle.m36_text.specs.Lines.{as_line, lines_of, those_read}
@@ -7,7 +7,7 @@ use Rattle.m36_text.specs.Lines.{as_line, lines_of, those_read}
 abbrev pub whole_lines : List ℕ → List (List ℕ)
 whole_lines text = those_read (lines_of text)
 
--- a first part of some lines
+-- a prefix of some lines
 pub record IsFirstPart (lines all : List (List ℕ)) : Type 0 where
   pub rest : List (List ℕ)
   pub is : all ≡ lines ++ rest
@@ -16,7 +16,7 @@ pub record IsFirstPart (lines all : List (List ℕ)) : Type 0 where
 abbrev pub IsUnbroken : List ℕ → Type 0
 IsUnbroken text = All (λ b. (b == 10) ≡ false) text
 
--- A text is these whole lines, and what stands behind them.
+-- The text is these whole lines, and then the bytes `rest`.
 pub record IsLines (text : List ℕ) (lines : List (List ℕ)) (rest : List ℕ) : Type 0 where
   pub is : text ≡ joined (map as_line lines) ++ rest
   pub unbroken : All IsUnbroken lines

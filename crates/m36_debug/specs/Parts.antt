@@ -1,4 +1,4 @@
--- What the parts of a session say: those of a turn, a command, a line and several lines.
+-- The contracts of the parts of a session: a turn, a command, a line and several lines.
 use Rattle.std.specs.Prelude.{ℕ, ◌≡◌, ◌+◌, ◌<◌, ◌≤◌, ◌⊎◌, Bool, true, false, List, [], ◌∷◌}
 use Rattle.std.specs.Prelude.{Option, Some, None}
 use Rattle.m36_step.specs.Answers.{IsService, IsStep, Interrupts, is_service}
@@ -20,8 +20,8 @@ use Rattle.m36_debug.specs.Session.{Standing, Event, standing, Follow, lines_sai
 use Rattle.m36_debug.specs.SessionTexts.{unknown_line, end_line}
 use Rattle.m36_debug.specs.Sitting.{SittingFields}
 
--- A part of a session: these lines were taken in it, and what is said of it was put, whole or cut
--- as the answer tells.
+-- A part of a session: these lines were taken in it, and what its events say was put, or a prefix
+-- of it if the answer is Failed.
 pub record Part {M : Type 0} (o : Turning M) (s : Standing) (m : M) (lines : List (List ℕ))
     (s' : Standing) (m' : M) (answer : Put) (old new : SinkState) : Type 0 where
   pub events : List (Event M)
@@ -29,7 +29,7 @@ pub record Part {M : Type 0} (o : Turning M) (s : Standing) (m : M) (lines : Lis
   pub took : lines_in events ≡ lines
   pub wrote : PutsPieces answer (lines_said o s events) old new
 
--- One whose output was cut: the session stood somewhere.
+-- A part in which the output failed. The session is in some state.
 pub record CutPart {M : Type 0} (o : Turning M) (s : Standing) (m : M) (lines : List (List ℕ))
     (m' : M) (old new : SinkState) : Type 0 where
   pub stands : Standing
@@ -37,28 +37,31 @@ pub record CutPart {M : Type 0} (o : Turning M) (s : Standing) (m : M) (lines : 
 
 -- ---- a turn
 
+-- what the session is doing after a turn of a command
 abbrev pub doing_came : Came → Doing
 doing_came (comes.Runs run service) = Running run
 doing_came comes.Waits = Waiting
 doing_came comes.Starves = Starved
 doing_came comes.Cut = Waiting
 
--- by the turn and by what the command does after it
+-- from the turn and from what the command does after it
 abbrev pub came_of : Turn → Further → Came
 came_of turn (Runs run) = comes.Runs run (is_service turn)
 came_of turn Waits = comes.Waits
 came_of turn Starves = comes.Starves
 
+-- the result of a turn, given whether what it says could be put
 abbrev pub told_turn : Put → Turn → Further → Came
 told_turn Done turn next = came_of turn next
 told_turn Failed turn next = comes.Cut
 
--- How many more steps a command may take, and how many the session has taken: a step is one that
--- was left to it, and a service is none.
+-- The steps that a command may still take, and the steps that the session has taken: a step is one
+-- of those that were left, and a service counts 0.
 abbrev pub RunsCounts : Bool → ℕ → ℕ → ℕ → ℕ → Type 0
 RunsCounts true next left before after = (next ≡ left) × (after ≡ before)
 RunsCounts false next left before after = (next < left) × (after ≤ before + 1)
 
+-- the counts of steps before and after a turn of a command
 abbrev pub CameCounts : Came → ℕ → ℕ → ℕ → Type 0
 CameCounts (comes.Runs run service) left before after =
     RunsCounts service run.left left before after
@@ -72,24 +75,25 @@ pub record Makes {M : Type 0} (o : Turning M) (Kind : Turn → Type 0) (m m' : M
   pub next : o.next m turn m'
   pub kind : Kind turn
 
+-- A turn with the flag for services is a service.
 abbrev pub CameServed : {M : Type 0} → Turning M → Came → M → M → Type 0
 CameServed o (comes.Runs run service) m m' = service ≡ true → Makes o IsService m m'
 CameServed o comes.Waits m m' = Unit {0}
 CameServed o comes.Starves m m' = Unit {0}
 CameServed o comes.Cut m m' = Unit {0}
 
--- With no step left, a command takes another turn only where that turn cannot be a step.
+-- With no steps left, a command takes another turn only if that turn cannot be a step.
 abbrev pub CameInterrupted : {M : Type 0} → Turning M → Came → M → M → Type 0
 CameInterrupted o (comes.Runs run service) m m' = run.left ≡ 0 → Makes o Interrupts m m'
 CameInterrupted o comes.Waits m m' = Unit {0}
 CameInterrupted o comes.Starves m m' = Unit {0}
 CameInterrupted o comes.Cut m m' = Unit {0}
 
--- The count of the steps changes only by a step.
+-- The count of steps changes only by a step.
 abbrev pub CountsSteps : {M : Type 0} → Turning M → ℕ → ℕ → M → M → Type 0
 CountsSteps o before after m m' = (after ≡ before) ⊎ Makes o IsStep m m'
 
--- what a turn that a command takes came to
+-- the result of a turn of a command
 abbrev pub CameSays :
     {M : Type 0} → Turning M → Came → Standing → M → SittingFields → M → SinkState → SinkState
     → Type 0
@@ -99,12 +103,14 @@ CameSays o came s m sitting m' old new =
 
 -- ---- a command, a line, and several lines
 
+-- what the session is doing after a line
 abbrev pub doing_at : Ends → Doing
 doing_at ends.Line = Waiting
 doing_at ends.Quit = Over
 doing_at ends.Starved = Starved
 doing_at ends.Cut = Waiting
 
+-- the contract of a command or of lines, by how they ended
 abbrev pub EndSays :
     {M : Type 0} → Turning M → Ends → Standing → M → List (List ℕ) → SittingFields → M → SinkState
     → SinkState → Type 0
@@ -112,25 +118,26 @@ EndSays o ends.Cut s m lines sitting m' old new = CutPart o s m lines m' old new
 EndSays o end s m lines sitting m' old new =
     Part o s m lines (standing sitting (doing_at end)) m' Done old new
 
--- how a line ends that is told at once
+-- the end of a line whose answer is written at once
 abbrev pub told : Put → Ends
 told Done = ends.Line
 told Failed = ends.Cut
 
--- A line was told at once: nothing has changed but for what was put.
+-- A line was answered at once: nothing has changed except for what was put.
 abbrev pub EndPuts : Ends → SinkState → SinkState → List (List ℕ) → Type 0
 EndPuts ends.Line old new lines = PutsPieces Done lines old new
 EndPuts ends.Quit old new lines = ⊥
 EndPuts ends.Starved old new lines = ⊥
 EndPuts ends.Cut old new lines = PutsPieces Failed lines old new
 
+-- A line was answered at once: `lines` were put, and session and machine are unchanged.
 pub record IsTold {M : Type 0} (end : Ends) (lines : List (List ℕ)) (s : SittingFields) (m : M)
     (sitting : SittingFields) (m' : M) (old new : SinkState) : Type 0 where
   pub puts : EndPuts end old new lines
   pub sitting_stays : sitting ≡ s
   pub machine_stays : m' ≡ m
 
--- A command whose run has ended tells the end again, and any other takes its turns.
+-- If the run has ended, a command writes the end line again; otherwise it takes its turns.
 abbrev pub CommandSays :
     {M : Type 0} → Turning M → Ends → Option End → Run → SittingFields → M → SittingFields → M
     → SinkState → SinkState → Type 0
@@ -139,7 +146,7 @@ CommandSays o answer (Some end) run s m sitting m' old new =
 CommandSays o answer None run s m sitting m' old new =
     EndSays o answer (standing s (Running run)) m [] sitting m' old new
 
--- The machine goes back where so many steps were taken, and else the line is not known.
+-- The machine goes back if n steps were taken; otherwise the line is unknown.
 abbrev pub BackSays :
     {M : Type 0} → Turning M → Ends → Bool → List ℕ → ℕ → SittingFields → M → SittingFields → M
     → SinkState → SinkState → Type 0

@@ -1,4 +1,4 @@
--- What the answers to a piece of input say.
+-- What the answer to a piece of input implies.
 use Rattle.std.specs.Prelude.{ℕ, List}
 use Rattle.m36_outside.specs.declared.sink.Put.TheVariants.{Done}
 use Rattle.m36_outside.specs.SinkState.{SinkState}
@@ -9,7 +9,7 @@ use Rattle.m36_debug.specs.Parts.{Part, CutPart}
 use Rattle.m36_debug.specs.Session.{Turning, Waiting, Over, Standing, standing}
 use Rattle.m36_debug.specs.Sitting.{SittingFields}
 
--- All whole lines of a text were answered, and what stands behind them is kept.
+-- All whole lines of a text were answered, and the bytes after them are kept.
 pub record AnsweredAll {M : Type 0} (o : Turning M) (s : Standing) (m : M) (text kept : List ℕ)
     (sitting : SittingFields) (m' : M) (old new : SinkState) : Type 0 where
   pub lines : List (List ℕ)
@@ -17,7 +17,7 @@ pub record AnsweredAll {M : Type 0} (o : Turning M) (s : Standing) (m : M) (text
   pub unbroken : IsUnbroken kept
   pub part : Part o s m lines (standing sitting Waiting) m' Done old new
 
--- The first lines of a text were answered, the last of which is `quit`.
+-- The first lines of a text were answered; the last of these is `quit`.
 pub record AnsweredQuit {M : Type 0} (o : Turning M) (s : Standing) (m : M) (text : List ℕ)
     (sitting : SittingFields) (m' : M) (old new : SinkState) : Type 0 where
   pub lines : List (List ℕ)
@@ -25,7 +25,7 @@ pub record AnsweredQuit {M : Type 0} (o : Turning M) (s : Standing) (m : M) (tex
   pub is : IsLines text lines rest
   pub part : Part o s m lines (standing sitting Over) m' Done old new
 
--- Some were, and then no memory was found.
+-- The first lines of a text were answered, and then memory ran out.
 pub record AnsweredSome {M : Type 0} (o : Turning M) (s : Standing) (m : M) (text : List ℕ)
     (m' : M) (old new : SinkState) : Type 0 where
   pub lines : List (List ℕ)
@@ -34,7 +34,7 @@ pub record AnsweredSome {M : Type 0} (o : Turning M) (s : Standing) (m : M) (tex
   pub stands : Standing
   pub part : Part o s m lines stands m' Done old new
 
--- Some were, and then the output could not be written.
+-- The first lines of a text were answered, and then the output could not be written.
 pub record AnsweredCut {M : Type 0} (o : Turning M) (s : Standing) (m : M) (text : List ℕ)
     (m' : M) (old new : SinkState) : Type 0 where
   pub lines : List (List ℕ)

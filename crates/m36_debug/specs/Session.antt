@@ -1,5 +1,4 @@
--- A session over a machine: what happens in it, one thing after another, and what is written of
--- each.
+-- A session over a machine: its events, one after another, and what is written for each.
 use Rattle.std.specs.Prelude.{ℕ, ◌≡◌, if◌then◌else◌, List, [], ◌∷◌, ◌++◌}
 use Rattle.std.specs.Prelude.{Option, Some, None}
 use Rattle.m36_model.specs.Registers.{RegsFields}
@@ -21,7 +20,7 @@ use Rattle.m36_debug.specs.SessionTexts.{end_lines, end_or_where, turn_lines}
 use Rattle.m36_debug.specs.Sitting.{SittingFields, sitting_after, sitting_before, sitting_with}
 use Rattle.m36_debug.specs.Sitting.{has_taken, has_room}
 
--- what a session knows of a machine: its registers and words, which turns it may answer, and how it
+-- what a session uses of a machine: its registers and words, which turns it may answer, and how it
 -- may go back
 pub record Turning (M : Type 0) : Type 1 where
   pub regs : M → RegsFields
@@ -29,44 +28,48 @@ pub record Turning (M : Type 0) : Type 1 where
   pub next : M → Turn → M → Type 0
   pub went : M → ℕ → BackAnswer → M → Type 0
 
+-- the relations of a machine, as one record
 abbrev pub turning :
     {M : Type 0} → (M → RegsFields) → (M → ℕ → ℕ → Option ℕ) → (M → Turn → M → Type 0)
     → (M → ℕ → BackAnswer → M → Type 0) → Turning M
 turning regs content next went =
     record { regs = regs; content = content; next = next; went = went }
 
--- ---- where a session stands
+-- ---- the state of a session
 
--- what is under way
+-- what the session is doing
 pub data Doing : Type 0 where
-  Waiting : Doing  -- the next line is waited for
+  Waiting : Doing  -- the session waits for the next line
   Running : Run → Doing  -- a command takes turns
-  Backing : ℕ → List ℕ → Doing  -- the machine is to go back so many steps, by this line
+  Backing : ℕ → List ℕ → Doing  -- the machine has to go back n steps, as this line requires
   Over : Doing  -- `quit` was taken
-  Starved : Doing  -- a turn, or going back, found no memory
+  Starved : Doing  -- a turn, or going back, ran out of memory
 
+-- the state of a session: what it remembers, and what it is doing
 pub record Standing : Type 0 where
   pub sitting : SittingFields
   pub doing : Doing
 
+-- the state with these parts
 abbrev pub standing : SittingFields → Doing → Standing
 standing s doing = record { sitting = s; doing = doing }
 
--- ---- what happens
+-- ---- events
 
+-- the kinds of events
 pub data Happening : Type 0 where
   Took : List ℕ → Happening  -- a line was taken
   Turned : Turn → Happening  -- the machine made a turn
-  Went : BackAnswer → Happening  -- the machine was to go back
+  Went : BackAnswer → Happening  -- the machine was asked to go back
 
--- and the machine after it
+-- an event, and the machine after it
 pub record Event (M : Type 0) : Type 0 where
   pub happened : Happening
   pub after : M
 
--- Each thing happens where it is due: a line is taken where one is waited for, a turn is made where
--- a command runs, and the machine goes back where it is to. A turn is one that the machine may
--- answer, and so is going back.
+-- What may happen when: a line is taken if the session waits for one, a turn is made if a command
+-- runs, and the machine goes back if it has to. The turn, or going back, is one that the machine
+-- may answer.
 abbrev pub May : {M : Type 0} → Turning M → Doing → M → Happening → M → Type 0
 May o Waiting m (Took line) m' = m' ≡ m
 May o (Running run) m (Turned turn) m' = o.next m turn m'
@@ -75,11 +78,12 @@ May o doing m happened m' = ⊥
 
 -- ---- a line is taken
 
--- a command begins, where the run has not ended
+-- a command begins, if the run has not ended
 abbrev pub run_begun : Option End → Command → ℕ → Doing
 run_begun None command left = Running (run_of command left)
 run_begun (Some end) command left = Waiting
 
+-- what the session is doing after a line was taken
 abbrev pub begun : SittingFields → List ℕ → SessionLine → Doing
 begun s line (session.Step n) = run_begun s.ended commands.Step n
 begun s line session.Go = run_begun s.ended commands.Go go_limit
@@ -92,6 +96,7 @@ begun s line session.Quit = Over
 begun s line session.Empty = Waiting
 begun s line session.Unknown = Waiting
 
+-- what the session remembers after a line was taken
 abbrev pub remembered : SittingFields → SessionLine → SittingFields
 remembered s (session.Step n) = s
 remembered s session.Go = s
@@ -104,12 +109,12 @@ remembered s session.Quit = s
 remembered s session.Empty = s
 remembered s session.Unknown = s
 
--- a break is told where there is room for it; else its line is told as an unknown one
+-- a break is written if there is room for it; otherwise its line is answered as an unknown one
 abbrev pub break_says : SittingFields → List ℕ → ℕ → ℕ → List (List ℕ)
 break_says s line seg word =
     (if has_room s then break_line seg word else unknown_line line) ∷ []
 
--- what is written then: a command whose run has ended tells the end again
+-- what is written for a line; a command writes the end line again if the run has ended
 abbrev pub line_says :
     RegsFields → (ℕ → ℕ → Option ℕ) → SittingFields → List ℕ → SessionLine → List (List ℕ)
 line_says g content s line (session.Step n) = end_lines s.ended s.taken
@@ -126,17 +131,19 @@ line_says g content s line session.Unknown = unknown_line line ∷ []
 
 -- ---- a command takes a turn
 
+-- what the session is doing after a turn
 abbrev pub doing_by : Further → Doing
 doing_by (Runs run) = Running run
 doing_by Waits = Waiting
 doing_by Starves = Starved
 
--- `go` tells nothing before it is through
+-- `go` writes nothing before it is complete
 abbrev pub go_says : RegsFields → SittingFields → Further → List (List ℕ)
 go_says g s (Runs run) = []
 go_says g s Waits = end_or_where s.ended s.taken g.ppr ∷ []
 go_says g s Starves = []
 
+-- the lines that a command writes for a turn
 abbrev pub command_says :
     Command → RegsFields → ℕ → SittingFields → Turn → Further → List (List ℕ)
 command_says commands.Step g taken after turn next = turn_lines taken turn
@@ -146,22 +153,26 @@ command_says commands.Go g taken after turn next = go_says g after next
 abbrev pub next_of : RegsFields → SittingFields → Run → Turn → Further
 next_of g s run turn = after_turn run (is_at_break g.ppr s.breaks) turn
 
+-- the lines that are written for a turn
 abbrev pub turn_says : RegsFields → SittingFields → Run → Turn → List (List ℕ)
 turn_says g s run turn =
     command_says run.command g s.taken (sitting_after s turn) turn (next_of g s run turn)
 
+-- the state of the session after a turn
 abbrev pub turned : RegsFields → SittingFields → Run → Turn → Standing
 turned g s run turn = standing (sitting_after s turn) (doing_by (next_of g s run turn))
 
--- ---- the machine was to go back
+-- ---- the machine was asked to go back
 
+-- the state of the session after the machine was asked to go back n steps
 abbrev pub went : SittingFields → ℕ → BackAnswer → Standing
 went s n back.Done = standing (sitting_before s n) Waiting
 went s n (back.Before taken) = standing s Waiting
 went s n back.Unable = standing s Waiting
 went s n back.NoMemory = standing s Starved
 
--- A session that has not gone back tells so as of an unknown line, and for want of memory nothing.
+-- If the machine did not go back, the line is answered as an unknown one; if memory ran out,
+-- nothing is written.
 abbrev pub back_says : RegsFields → List ℕ → BackAnswer → List (List ℕ)
 back_says g line back.Done = where_line g.ppr ∷ []
 back_says g line (back.Before taken) = unknown_line line ∷ []
@@ -170,7 +181,7 @@ back_says g line back.NoMemory = []
 
 -- ---- a session
 
--- where it stands after what happened, by the registers that the machine then has
+-- the state after an event, given the registers that the machine then has
 abbrev pub onward_by : RegsFields → SittingFields → Doing → Happening → Standing
 onward_by g s Waiting (Took line) =
     standing (remembered s (session_line line)) (begun s line (session_line line))
@@ -178,10 +189,11 @@ onward_by g s (Running run) (Turned turn) = turned g s run turn
 onward_by g s (Backing n line) (Went answer) = went s n answer
 onward_by g s doing happened = standing s doing
 
+-- the state of the session after an event
 unfoldable pub onward : RegsFields → Standing → Happening → Standing
 onward g s happened = onward_by g s.sitting s.doing happened
 
--- what is written of it, in lines
+-- the lines that are written for an event
 abbrev pub said_by :
     RegsFields → (ℕ → ℕ → Option ℕ) → SittingFields → Doing → Happening → List (List ℕ)
 said_by g content s Waiting (Took line) = line_says g content s line (session_line line)
@@ -189,11 +201,12 @@ said_by g content s (Running run) (Turned turn) = turn_says g s run turn
 said_by g content s (Backing n line) (Went answer) = back_says g line answer
 said_by g content s doing happened = []
 
+-- the lines that are written for an event
 unfoldable pub said :
     RegsFields → (ℕ → ℕ → Option ℕ) → Standing → Happening → List (List ℕ)
 said g content s happened = said_by g content s.sitting s.doing happened
 
--- Events follow one another from a standing and a machine on, and lead to others.
+-- Events follow one another, from a state of the session and a machine to others.
 unfoldable pub Follow :
     {M : Type 0} → Turning M → Standing → M → List (Event M) → Standing → M → Type 0
 Follow o s m [] s' m' = (s' ≡ s) × (m' ≡ m)
@@ -201,19 +214,20 @@ Follow o s m (e ∷ events) s' m' =
     May o s.doing m e.happened e.after
     × Follow o (onward (o.regs e.after) s e.happened) e.after events s' m'
 
--- the lines that are written of them
+-- the lines that are written for events
 unfoldable pub lines_said : {M : Type 0} → Turning M → Standing → List (Event M) → List (List ℕ)
 lines_said o s [] = []
 lines_said o s (e ∷ events) =
     said (o.regs e.after) (o.content e.after) s e.happened
     ++ lines_said o (onward (o.regs e.after) s e.happened) events
 
--- the lines that are taken in them
+-- the lines that are taken in events
 abbrev pub line_in : Happening → List (List ℕ)
 line_in (Took line) = line ∷ []
 line_in (Turned turn) = []
 line_in (Went answer) = []
 
+-- the lines that are taken in events
 unfoldable pub lines_in : {M : Type 0} → List (Event M) → List (List ℕ)
 lines_in [] = []
 lines_in (e ∷ events) = line_in e.happened ++ lines_in events

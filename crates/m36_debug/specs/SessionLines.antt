@@ -1,4 +1,4 @@
--- The lines of a session.
+-- The grammar of the lines of a session.
 --
 --     step, step N      N decimal, 1 to 1,000,000
 --     go
@@ -9,8 +9,8 @@
 --     back, back N
 --     quit
 --
--- Words are parted by single spaces, and N has no leading zero. A line has at most 256 bytes. An
--- empty line is taken, and any other line is unknown.
+-- Words are separated by single spaces, and N has no leading zero. A line has at most 256 bytes.
+-- An empty line is accepted, and any other line is unknown.
 use Rattle.std.specs.Prelude.{ℕ, ◌≢◌, ◌<◌, ◌≤◌, ◌^◌, nat_le, if◌then◌else◌, List, [], ◌∷◌, codes}
 use Rattle.std.specs.Prelude.{length, Option, Some}
 use Rattle.std.specs.Prelude.{None, option_map, unwrap_or}
@@ -22,6 +22,7 @@ use Rattle.m36_debug.specs.declared.session_line.SessionLine.TheVariants.{Step, 
 use Rattle.m36_debug.specs.declared.session_line.SessionLine.TheVariants.{Seg, Where, Back, Quit}
 use Rattle.m36_debug.specs.declared.session_line.SessionLine.TheVariants.{Empty, Unknown}
 
+-- a line of one word
 abbrev pub one_word : List ℕ → SessionLine
 one_word word =
     if is_text [] word then Empty
@@ -33,34 +34,39 @@ one_word word =
     else if is_text (codes "quit") word then Quit
     else Unknown
 
--- a number of steps, at most so many
+-- the maximum number of steps in a line
 abbrev pub most_steps : ℕ
 most_steps = 1000000
 
+-- a number of steps, 1 to 1,000,000
 abbrev pub steps_in : List ℕ → Option ℕ
 steps_in word = plain_decimal_in 1 most_steps word
 
+-- a line of two words
 abbrev pub two_words : List ℕ → List ℕ → SessionLine
 two_words word n =
     if is_text (codes "step") word then unwrap_or (option_map Step (steps_in n)) Unknown
     else if is_text (codes "back") word then unwrap_or (option_map Back (steps_in n)) Unknown
     else Unknown
 
+-- a line with a segment number and a word number, if both could be read
 abbrev pub placed : (ℕ → ℕ → SessionLine) → Option ℕ → Option ℕ → SessionLine
 placed line (Some seg) (Some word) = line seg word
 placed line (Some seg) None = Unknown
 placed line None word = Unknown
 
--- from a segment and a word
+-- from a segment number and a word number
 abbrev pub placed_in : (ℕ → ℕ → SessionLine) → List ℕ → List ℕ → SessionLine
 placed_in line s w = placed line (segment_number_in s) (word_number_in w)
 
+-- a line of three words
 abbrev pub three_words : List ℕ → List ℕ → List ℕ → SessionLine
 three_words word s w =
     if is_text (codes "break") word then placed_in Break s w
     else if is_text (codes "seg") word then placed_in Seg s w
     else Unknown
 
+-- a line, from its words
 abbrev pub line_of_words : List (List ℕ) → SessionLine
 line_of_words [] = Unknown
 line_of_words (word ∷ []) = one_word word
@@ -68,10 +74,11 @@ line_of_words (word ∷ n ∷ []) = two_words word n
 line_of_words (word ∷ s ∷ w ∷ []) = three_words word s w
 line_of_words (word ∷ s ∷ w ∷ more ∷ words) = Unknown
 
--- the longest line that is known
+-- the maximum length of a known line, in bytes
 abbrev pub longest_line : ℕ
 longest_line = 256
 
+-- the content of a line
 unfoldable pub session_line : List ℕ → SessionLine
 session_line line =
     if nat_le (length line) longest_line then line_of_words (words_of line) else Unknown
@@ -80,7 +87,7 @@ session_line line =
 abbrev pub IsNotQuit : List ℕ → Type 0
 IsNotQuit line = session_line line ≢ Quit
 
--- How far the numbers of a line go.
+-- The ranges of the numbers of a line.
 abbrev pub IsBounded : SessionLine → Type 0
 IsBounded (Step n) = (0 < n) × (n ≤ most_steps)
 IsBounded Go = Unit {0}

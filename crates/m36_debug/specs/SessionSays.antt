@@ -1,4 +1,4 @@
--- What a session says by its answer.
+-- What the answer of a session implies.
 use Rattle.std.specs.Prelude.{ℕ, ◌≡◌, ◌+◌, ◌≤◌, ◌<◌, ◌⊎◌, List, [], ◌∷◌, ◌++◌, All, length}
 use Rattle.std.specs.Prelude.{take, Option}
 use Rattle.std.specs.Prelude.{Result, Ok, Err}
@@ -22,45 +22,46 @@ use Rattle.m36_debug.specs.Session.{Follow, lines_said, lines_in}
 use Rattle.m36_debug.specs.SessionLines.{session_line, IsNotQuit}
 use Rattle.m36_debug.specs.Sitting.{new_sitting}
 
--- the most bytes of a session
+-- the maximum number of bytes of a session
 abbrev pub bytes_limit : ℕ
 bytes_limit = 1048576
 
--- what is left of the input, where it is told, the pieces that it gave, and the count of its faults
+-- what is left of the input, if it is known, the pieces that it gave, and the count of its faults
 pub record LinesSeen : Type 0 where
   pub left : Option (List ℕ)
   pub given : List (List ℕ)
   pub faults : ℕ
 
+-- the state of an input with these parts
 abbrev pub input : Option (List ℕ) → List (List ℕ) → ℕ → LinesSeen
 input left given faults = record { left = left; given = given; faults = faults }
 
--- The input has told its end: an empty piece was given last, and nothing is left.
+-- The input has ended: an empty piece was given last, and nothing is left.
 pub record HasEnded (pieces : List (List ℕ)) (new : LinesSeen) : Type 0 where
   pub before : List (List ℕ)
   pub last : pieces ≡ before ++ [] ∷ []
   pub none : IsAtEnd new.left
 
--- Nothing is asked of the input behind its end, which an empty piece tells: no piece follows that
--- one, and the count of faults stands.
+-- The input is not read again after its end, which an empty piece reports: no piece follows that
+-- one, and the count of faults does not change.
 abbrev pub StopsAtEnd : List (List ℕ) → ℕ → ℕ → Type 0
 StopsAtEnd [] old new = Unit {0}
 StopsAtEnd ([] ∷ pieces) old new = (pieces ≡ []) × (new ≡ old)
 StopsAtEnd ((byte ∷ piece) ∷ pieces) old new = StopsAtEnd pieces old new
 
--- all lines were taken, the last of which may lack its line feed, since the input has ended
+-- all lines were taken; the last may lack its line feed, since the input has ended
 pub record TookAll (pieces lines : List (List ℕ)) (doing : Doing) (new : LinesSeen) : Type 0 where
   pub waits : doing ≡ Waiting
   pub all : lines ≡ open_lines_of (joined pieces)
   pub ended : HasEnded pieces new
 
--- the first lines of an input that has ended: of all its lines the last may lack its line feed
+-- the first lines of an input that has ended; the last of all its lines may lack its line feed
 pub record TookOpen (pieces lines : List (List ℕ)) (new : LinesSeen) : Type 0 where
   pub some : IsFirstPart lines (open_lines_of (joined pieces))
   pub ended : HasEnded pieces new
 
--- The first lines were taken. While more may come they are whole ones: what stands behind the last
--- line feed is a line only once the input has ended, and else the beginning of one.
+-- The first lines were taken. While more input may follow, only whole lines are taken: the bytes
+-- after the last line feed are a line only once the input has ended.
 abbrev pub TookSome : List (List ℕ) → List (List ℕ) → LinesSeen → Type 0
 TookSome pieces lines new =
     IsFirstPart lines (whole_lines (joined pieces)) ⊎ TookOpen pieces lines new
@@ -72,7 +73,7 @@ pub record EndInQuit (lines : List (List ℕ)) : Type 0 where
   pub are : lines ≡ before ++ last ∷ []
   pub quits : session_line last ≡ Quit
 
--- some were, the last of which is `quit`
+-- the first lines were taken, the last of which is `quit`
 pub record TookQuit (pieces lines : List (List ℕ)) (doing : Doing) (new : LinesSeen) : Type 0 where
   pub over : doing ≡ Over
   pub some : TookSome pieces lines new
@@ -84,7 +85,7 @@ pub record TookWhole (bytes : List ℕ) (lines : List (List ℕ)) (doing : Doing
   pub whole : lines ≡ whole_lines bytes
   pub none : All IsNotQuit lines
 
--- which lines were taken, by the answer, of the bytes in these pieces
+-- which lines of the bytes in these pieces were taken, by the answer
 abbrev pub TookBy :
     Result (Unit {0}) SessionFault → List (List ℕ) → List (List ℕ) → Doing → LinesSeen → Type 0
 TookBy (Ok done) pieces lines doing new =
@@ -95,7 +96,7 @@ TookBy (Err fault.TooLong) pieces lines doing new =
 TookBy (Err fault.WriteFault) pieces lines doing new = TookSome pieces lines new
 TookBy (Err fault.NoMemory) pieces lines doing new = TookSome pieces lines new
 
--- how many bytes were taken: one more than the most tells that there are too many
+-- the number of bytes that were read; one more than the limit shows that there are too many
 abbrev pub CountBy : Result (Unit {0}) SessionFault → ℕ → Type 0
 CountBy (Ok done) count = count ≤ bytes_limit
 CountBy (Err fault.ReadFault) count = count ≤ bytes_limit
@@ -103,7 +104,7 @@ CountBy (Err fault.TooLong) count = (bytes_limit < count) × (count ≤ bytes_li
 CountBy (Err fault.WriteFault) count = count ≤ bytes_limit
 CountBy (Err fault.NoMemory) count = count ≤ bytes_limit
 
--- what the last put of it answered
+-- the result of the last put
 abbrev pub put_by : Result (Unit {0}) SessionFault → Put
 put_by (Ok done) = Done
 put_by (Err fault.ReadFault) = Done
@@ -111,19 +112,19 @@ put_by (Err fault.TooLong) = Done
 put_by (Err fault.WriteFault) = Failed
 put_by (Err fault.NoMemory) = Done
 
--- what was written of it
+-- what was written
 abbrev pub WroteBy :
     Result (Unit {0}) SessionFault → SinkState → SinkState → List (List ℕ) → Type 0
 WroteBy result old new lines = PutsPieces (put_by result) lines old new
 
--- how a session ends with its input
+-- the result of a session whose input has ended
 abbrev pub answer_of : Ends → Result (Unit {0}) SessionFault
 answer_of ends.Line = Ok tt
 answer_of ends.Quit = Ok tt
 answer_of ends.Starved = Err fault.NoMemory
 answer_of ends.Cut = Err fault.WriteFault
 
--- the count of faults of the input rose with ReadFault alone
+-- the count of faults of the input rose only with ReadFault
 abbrev pub ReadHasCause : Result (Unit {0}) SessionFault → ℕ → ℕ → Type 0
 ReadHasCause (Ok done) old new = new ≡ old
 ReadHasCause (Err fault.ReadFault) old new = Rose old new
@@ -131,9 +132,9 @@ ReadHasCause (Err fault.TooLong) old new = new ≡ old
 ReadHasCause (Err fault.WriteFault) old new = new ≡ old
 ReadHasCause (Err fault.NoMemory) old new = new ≡ old
 
--- A session by its events: each is one that may follow, from the machine as it was to the machine
--- as it is. The lines that they take are those of the bytes that were taken, and these lines are
--- what is said of them.
+-- A session, by its events: each may follow the one before, from the machine before the call to
+-- the machine after it. The lines that they take are those of the bytes that were read, and
+-- `lines` is what they say.
 pub record IsSession {M : Type 0} (o : Turning M) (result : Result (Unit {0}) SessionFault)
     (m m' : M) (before after : LinesSeen) (lines : List (List ℕ)) : Type 0 where
   pub pieces : List (List ℕ)
@@ -148,7 +149,7 @@ pub record IsSession {M : Type 0} (o : Turning M) (result : Result (Unit {0}) Se
   pub took : TookBy result pieces (lines_in events) stands.doing after
   pub said : lines ≡ lines_said o (standing new_sitting Waiting) events
 
--- A session was held, and what is said of it was written, or some of it.
+-- A session was held, and what its events say was written, or a prefix of it.
 pub record SessionSays {M : Type 0} (o : Turning M) (result : Result (Unit {0}) SessionFault)
     (m m' : M) (before after : LinesSeen) (old new : SinkState) : Type 0 where
   pub lines : List (List ℕ)

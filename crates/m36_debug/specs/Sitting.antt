@@ -1,4 +1,4 @@
--- What a session remembers.
+-- What a session remembers between its lines.
 use Rattle.std.specs.Prelude.{ℕ, ◌-◌, Bool, nat_le, nat_lt, if◌then◌else◌, List, [], ◌∷◌, ◌++◌}
 use Rattle.std.specs.Prelude.{length}
 use Rattle.std.specs.Prelude.{Option, Some, None}
@@ -9,13 +9,14 @@ use Rattle.m36_step.specs.declared.turns.Turn.TheVariants.{Stepped, Linked, Cons
 use Rattle.m36_step.specs.declared.turns.Turn.TheVariants.{NoMemory}
 use Rattle.m36_debug.specs.declared.commands.Break.{Break}
 
--- how many steps were taken and not taken back, how the run has ended, if it has, and the breaks
+-- the count of steps that were taken and not taken back, how the run has ended, if it has, and the
+-- breaks
 pub record SittingFields : Type 0 where
   pub taken : ℕ
   pub ended : Option End
   pub breaks : List Break
 
--- at the beginning
+-- at the start of a session
 abbrev pub new_sitting : SittingFields
 new_sitting = record { taken = 0; ended = None; breaks = [] }
 
@@ -30,23 +31,23 @@ sitting_after s (Ended end) =
 sitting_after s Full = s
 sitting_after s NoMemory = s
 
--- So many steps were taken back: a run that had ended is running again, and breaks stay.
+-- n steps were taken back: the run has not ended any more, and the breaks are kept
 abbrev pub sitting_before : SittingFields → ℕ → SittingFields
 sitting_before s n = record { taken = s.taken - n; ended = None; breaks = s.breaks }
 
--- whether so many steps were taken
+-- whether at least n steps were taken
 abbrev pub has_taken : SittingFields → ℕ → Bool
 has_taken s n = nat_le n s.taken
 
--- the most breaks
+-- the maximum number of breaks
 abbrev pub most_breaks : ℕ
 most_breaks = 16
 
--- whether there is room for one break more
+-- whether there is room for one more break
 abbrev pub has_room : SittingFields → Bool
 has_room s = nat_lt (length s.breaks) most_breaks
 
--- one break more, where there is room for it
+-- with one more break, if there is room for it
 abbrev pub sitting_with : SittingFields → ℕ → ℕ → SittingFields
 sitting_with s seg word =
     if has_room s

@@ -1,4 +1,4 @@
--- How many steps a command takes.
+-- The maximum number of steps of a command.
 use Rattle.std.specs.Prelude.{ℕ, ◌≡◌, ◌+◌, ◌<◌, ◌≤◌, List, [], ◌∷◌}
 use Rattle.m36_step.specs.Counting.{counted}
 use Rattle.m36_debug.specs.declared.commands.Run.{Run}
@@ -10,18 +10,18 @@ use Rattle.m36_debug.specs.Session.{Took, Turned, Went, Follow, lines_in}
 use Rattle.m36_debug.specs.SessionLines.{session_line}
 use Rattle.m36_debug.specs.Sitting.{SittingFields}
 
--- 1 for a step, and 0 for all else
+-- 1 for a step, and 0 for everything else
 abbrev pub step_in : Happening → ℕ
 step_in (Took line) = 0
 step_in (Turned turn) = counted 0 turn
 step_in (Went answer) = 0
 
--- the number of steps
+-- the number of steps among events
 unfoldable pub steps_taken : {M : Type 0} → List (Event M) → ℕ
 steps_taken [] = 0
 steps_taken (e ∷ events) = step_in e.happened + steps_taken events
 
--- the most steps that a line takes
+-- the maximum number of steps of a line
 abbrev pub most_of : SessionLine → ℕ
 most_of (session.Step n) = n
 most_of session.Go = go_limit
@@ -34,9 +34,9 @@ most_of session.Quit = 0
 most_of session.Empty = 0
 most_of session.Unknown = 0
 
--- Until another line is taken, a line takes at most its steps: `step N` at most N, `go` at most
--- 100,000, and any other line none. A command under way takes at most the steps that are left to
--- it.
+-- Before another line is taken, a line takes at most its number of steps: `step N` at most N, `go`
+-- at most 100,000, and any other line none. A running command takes at most the steps that are
+-- left to it.
 pub record StepsWithin {M : Type 0} (o : Turning M) : Type 0 where
   pub line :
       (text : List ℕ) (s : SittingFields) (m after : M) (events : List (Event M)) (s' : Standing)

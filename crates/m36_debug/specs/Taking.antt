@@ -1,4 +1,4 @@
--- What is said of a piece of input that is taken.
+-- The contract of taking a piece of input.
 use Rattle.std.specs.Prelude.{ℕ, ◌≤◌, List, []}
 use Rattle.m36_outside.specs.Passing.{PieceGives}
 use Rattle.m36_outside.specs.Piece.{PieceSays, PieceHasCause}
@@ -6,7 +6,7 @@ use Rattle.m36_outside.specs.declared.lines.Piece.{Piece}
 use Rattle.m36_outside.specs.declared.lines.Piece.TheVariants.{Got, End, Failed}
 use Rattle.m36_debug.specs.SessionSays.{LinesSeen}
 
--- So many bytes were taken, of so many at most: they stand at the beginning of the buffer.
+-- `count` bytes were read, at most `most`; they are at the beginning of the buffer.
 pub record GotPiece (count most : ℕ) (old new : LinesSeen) (buffer : List ℕ) : Type 0 where
   pub within : count ≤ most
   pub moved : PieceSays (Got count) old.left new.left buffer
@@ -25,6 +25,7 @@ pub record GotNothing (old new : LinesSeen) : Type 0 where
   pub gave : PieceGives Failed old.given new.given []
   pub cause : PieceHasCause Failed old.faults new.faults
 
+-- the result of taking a piece of at most `most` bytes
 abbrev pub PieceTaken : Piece → ℕ → LinesSeen → LinesSeen → List ℕ → Type 0
 PieceTaken (Got count) most old new buffer = GotPiece count most old new buffer
 PieceTaken End most old new buffer = GotEnd old new

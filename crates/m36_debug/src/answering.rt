@@ -1,4 +1,4 @@
-//! Lines that are answered.
+//! Answers the lines of a session.
 
 ghost use Rattle.std.specs.Prelude.{ℕ, ◌≡◌, ◌≤◌, ◌<◌, ◌+◌, ◌-◌, ◌^◌, [], ◌∷◌};
 ghost use Rattle.m36_debug.specs.Parts.{EndSays, CommandSays, BackSays, told};
@@ -18,7 +18,7 @@ use crate::turning::{Ends, run_command};
 use m36_outside::{Put, Sink};
 use m36_step::{BackAnswer, Stepper};
 
-// How a line ends that is told at once.
+// The end of a line whose answer is written at once.
 fn told(put: Put) -> Ends
     ensures { result ≡ told put }
 {
@@ -28,7 +28,7 @@ fn told(put: Put) -> Ends
     }
 }
 
-// Takes the turns of a command; where the run has ended, tells its end again.
+// Takes the turns of a command. If the run has ended, writes its end line again instead.
 fn command<M: Stepper, S: Sink>(m: &mut M, run: Run, sitting: &mut Sitting, out: &mut S) -> Ends
     requires some { 0 < run.left }
     requires room { sitting.old.taken + run.left < most_taken }
@@ -44,7 +44,7 @@ fn command<M: Stepper, S: Sink>(m: &mut M, run: Run, sitting: &mut Sitting, out:
     }
 }
 
-// Adds a break, where there is room for it.
+// Adds a break if there is room for it. Otherwise the line is unknown.
 fn add_break<S: Sink>(line: &[u8], seg: u16, word: u32, sitting: &mut Sitting, out: &mut S) -> Put
     requires seg { seg < 2 ^ 15 }
     requires word { word < 2 ^ 18 }
@@ -62,7 +62,7 @@ fn add_break<S: Sink>(line: &[u8], seg: u16, word: u32, sitting: &mut Sitting, o
     }
 }
 
-// Goes back.
+// Goes back n steps.
 fn go_back<M: Stepper, S: Sink>(
     line: &[u8],
     n: u32,
@@ -88,7 +88,7 @@ fn go_back<M: Stepper, S: Sink>(
     }
 }
 
-// Goes back, where so many steps were taken.
+// Goes back n steps, if that many were taken. Otherwise the line is unknown.
 fn back<M: Stepper, S: Sink>(
     line: &[u8],
     n: u32,
@@ -96,7 +96,8 @@ fn back<M: Stepper, S: Sink>(
     sitting: &mut Sitting,
     out: &mut S,
 ) -> Ends
-    ensures says { BackSays (turning M.regs M.content M.next M.went) result (has_taken sitting.old n) line.now n
+    ensures says { BackSays (turning M.regs M.content M.next M.went) result
+        (has_taken sitting.old n) line.now n
         sitting.old m.old sitting.new m.new
         (seen (S.written out.old) (S.taken out.old) (S.faults out.old))
         (seen (S.written out.new) (S.taken out.new) (S.faults out.new)) }

@@ -1,4 +1,4 @@
-//! The commands that take turns, and whether another turn follows one.
+//! The commands that take turns, and whether they take another one after a turn.
 
 ghost use Rattle.std.specs.Prelude.{ℕ, ◌≡◌, ◌<◌};
 ghost use Rattle.std.specs.List.{list_any};
@@ -8,7 +8,7 @@ use m36_model::{LinkCode, Outcome, Ppr};
 use m36_step::Turn;
 use m36_word::Pair;
 
-/// The most steps of `go`.
+/// The maximum number of steps of `go`.
 pub const GO_LIMIT: u32 = 100_000;
 
 /// A place where `go` stops.
@@ -21,16 +21,16 @@ pub struct Break {
 /// A command that takes turns.
 #[derive(Clone, Copy, PartialEq, Eq)]
 pub enum Command {
-    /// `step`: tells each turn.
+    /// `step`: writes each turn.
     Step,
-    /// `go`: tells where it has come to.
+    /// `go`: writes where it has stopped.
     Go,
 }
 
-/// A command under way.
+/// A command that is running.
 #[derive(Clone, Copy, PartialEq, Eq)]
 pub struct Run {
-    /// How many more steps it may take.
+    /// The number of steps that it may still take.
     pub left: u32,
     pub command: Command,
 }
@@ -40,13 +40,13 @@ pub struct Run {
 pub enum Further {
     /// It takes another turn.
     Runs(Run),
-    /// It is through: the next line is waited for.
+    /// It is complete, and the session waits for the next line.
     Waits,
-    /// The turn found no memory.
+    /// The turn ran out of memory.
     Starves,
 }
 
-/// Whether the next instruction stands at one of these breaks.
+/// Whether the next instruction is at one of these breaks.
 #[inline]
 pub(crate) fn is_at_break(place: Ppr, breaks: &[Break]) -> bool
     ensures { result ≡ is_at_break place breaks.now }
@@ -56,7 +56,7 @@ pub(crate) fn is_at_break(place: Ppr, breaks: &[Break]) -> bool
         .any(|b| b.seg == place.psr && b.word == place.ic)
 }
 
-// Whether a command takes another step, of which so many are left to it.
+// Whether a command that may take `left` more steps takes another one.
 fn wants(command: Command, left: u32, at_break: bool) -> bool
     ensures { result ≡ wants command left at_break }
 {
@@ -66,7 +66,7 @@ fn wants(command: Command, left: u32, at_break: bool) -> bool
     }
 }
 
-// Where nothing is owed to a command.
+// What a command does if no further turn has to follow.
 fn settled(command: Command, left: u32, at_break: bool) -> Further
     ensures { result ≡ settled command left at_break }
 {
@@ -100,7 +100,7 @@ fn after_link(
     }
 }
 
-/// What a command does after a turn, which left the machine at a break or not.
+/// What a command does after a turn. `at_break` says whether the turn left the machine at a break.
 #[inline(always)]
 #[tactic(auto, unfolding(crate::specs::Commands::after_turn))]
 pub(crate) fn after_turn(run: Run, at_break: bool, turn: &Turn) -> Further

@@ -11,10 +11,11 @@ pub enum SessionFault {
     /// The output could not be written.
     #[error("the output could not be written")]
     WriteFault,
-    /// There are more than 1,048,576 bytes, and none of the whole lines in so many is `quit`.
+    /// The input has more than 1,048,576 bytes, and none of the whole lines in the first 1,048,576
+    /// is `quit`.
     #[error("the input is too long")]
     TooLong,
-    /// No memory was found: by a turn of the machine, in going back, or for a line of the input.
+    /// Out of memory: in a turn of the machine, in going back, or for a line of the input.
     #[error("no memory")]
     NoMemory,
 }

@@ -1,4 +1,4 @@
-//! Pieces of input, and the lines that they cut.
+//! Splits pieces of input into lines.
 
 ghost use Rattle.std.specs.Prelude.{ℕ, ◌≡◌, ◌≤◌, ◌<◌, ◌++◌, MatchOption, IfSome, length};
 ghost use Rattle.m36_text.specs.Lines.{as_line};
@@ -6,7 +6,7 @@ ghost use Rattle.m36_debug.specs.LinesTaken.{IsUnbroken};
 
 use m36_text::place_of;
 
-/// A text up to its first line feed, and what stands behind that; none where there is no line feed.
+/// A text up to its first line feed, and the text after it; None if there is no line feed.
 #[tactic(auto, using(crate::proofs::LinesLaws::cutting))]
 pub(crate) fn cut_line(text: &[u8]) -> Option<(&[u8], &[u8])>
     ensures parts { MatchOption result (IsUnbroken text.now)

@@ -1,4 +1,4 @@
-//! Lines put to the output, each with its line feed in one piece.
+//! Puts lines to the output, each with its line feed in one piece.
 
 ghost use Rattle.std.specs.Prelude.{ℕ, ◌≡◌, ◌<◌, [], ◌∷◌, length};
 ghost use Rattle.m36_text.specs.Lines.{as_line};
@@ -18,7 +18,7 @@ pub(crate) fn put_whole<S: Sink>(out: &mut S, line: &[u8]) -> Put
     out.put(line)
 }
 
-/// Puts a text as a line.
+/// Puts a text and a line feed.
 pub(crate) fn put_text<S: Sink, const N: usize>(out: &mut S, mut text: ArrayString<N>) -> Put
     requires { length text.bytes < N }
     ensures { PutsPieces result (as_line text.entry.bytes ∷ [])
@@ -29,7 +29,7 @@ pub(crate) fn put_text<S: Sink, const N: usize>(out: &mut S, mut text: ArrayStri
     put_whole(out, text.as_str().as_bytes())
 }
 
-/// Puts characters as a line.
+/// Puts characters and a line feed.
 pub(crate) fn put_characters<S: Sink, const N: usize>(out: &mut S, mut text: ArrayVec<u8, N>) -> Put
     requires { length text.items < N }
     ensures { PutsPieces result (as_line text.entry.items ∷ [])

@@ -1,4 +1,4 @@
-//! Pieces of input that are answered: their whole lines are, and what stands behind them is kept.
+//! Answers pieces of input: their whole lines are answered, and the rest of the bytes is kept.
 
 ghost use Rattle.std.specs.Prelude.{ℕ, ◌≡◌, ◌≤◌, ◌<◌, ◌+◌, ◌*◌, ◌^◌, [], ◌∷◌, ◌++◌, length};
 ghost use Rattle.m36_text.specs.Lines.{open_rest};
@@ -17,8 +17,8 @@ use m36_outside::{Sink, Text};
 use m36_step::Stepper;
 use std::alloc::Global;
 
-/// Answers the whole lines of a piece. The first of them has begun already, if there was a part of it before. What stands
-/// behind them has begun the next one.
+/// Answers the whole lines of a piece. `begun` has the beginning of the first of them, and then
+/// that of the line that the piece ends in.
 pub(crate) fn answer_piece<M: Stepper, S: Sink>(
     alloc: Global,
     piece: &[u8],
@@ -57,7 +57,7 @@ pub(crate) fn answer_piece<M: Stepper, S: Sink>(
     }
 }
 
-/// Answers the line that has begun when the input ends, if there is a part of it.
+/// Answers the line that has begun when the input ends, if it is not empty.
 #[tactic(auto, using(crate::proofs::PieceLaws::last))]
 pub(crate) fn answer_last<M: Stepper, S: Sink>(
     begun: &Text,

@@ -1,4 +1,4 @@
-//! The lines of the registers.
+//! Writes the lines of the registers.
 
 ghost use Rattle.std.specs.Prelude.{ℕ, ◌≡◌, ◌≤◌, ◌<◌, ◌+◌, ◌*◌, ◌^◌, ◌++◌, [], ◌∷◌, length, slice_index};
 ghost use Rattle.std.specs.List.{flat_map};
@@ -14,7 +14,7 @@ use m36_outside::{Put, Sink};
 use m36_text::octal;
 use m36_trace::{put_address, put_indicators};
 
-// Tells A, Q and the indicators.
+// Writes A, Q and the indicators.
 #[tactic(auto, unfolding(crate::specs::SessionTexts::a_line))]
 fn put_a<S: Sink>(out: &mut S, regs: &Regs) -> Put
     ensures { PutsPieces result (a_line regs.now ∷ [])
@@ -31,7 +31,7 @@ fn put_a<S: Sink>(out: &mut S, regs: &Regs) -> Put
     put_text(out, text)
 }
 
-// Adds the index registers, each behind a space.
+// Appends the index registers, each after a space.
 fn push_indexes(text: &mut ArrayString<80>, indexes: &[u32])
     requires width { (k : ℕ) → slice_index indexes.now k < 2 ^ 18 }
     requires room { length text.old.bytes + 7 * length indexes.now ≤ 80 }
@@ -44,7 +44,7 @@ fn push_indexes(text: &mut ArrayString<80>, indexes: &[u32])
     }
 }
 
-// Tells the index registers.
+// Writes the index registers.
 #[tactic(auto, unfolding(crate::specs::SessionTexts::x_line))]
 fn put_x<S: Sink>(out: &mut S, regs: &Regs) -> Put
     ensures { PutsPieces result (x_line regs.now ∷ [])
@@ -57,7 +57,7 @@ fn put_x<S: Sink>(out: &mut S, regs: &Regs) -> Put
     put_text(out, text)
 }
 
-// Tells a pointer register, by its number.
+// Writes a pointer register, with its number.
 #[tactic(auto, unfolding(crate::specs::SessionTexts::pointer_line))]
 fn put_pointer<S: Sink>(out: &mut S, n: u32, pointer: &Ptr) -> Put
     requires { n < 8 }
@@ -82,7 +82,7 @@ fn put_pointer<S: Sink>(out: &mut S, n: u32, pointer: &Ptr) -> Put
     put_text(out, text)
 }
 
-// Tells pointer registers, numbered from 0 on.
+// Writes pointer registers, numbered from 0.
 #[tactic(auto, using(crate::proofs::PutLaws::pointers))]
 fn put_pointers<S: Sink>(out: &mut S, pointers: &[Ptr]) -> Put
     requires { length pointers.now ≤ 8 }
@@ -101,7 +101,7 @@ fn put_pointers<S: Sink>(out: &mut S, pointers: &[Ptr]) -> Put
     Put::Done
 }
 
-// Tells the pointer registers.
+// Writes the pointer registers.
 fn put_pr<S: Sink>(out: &mut S, regs: &Regs) -> Put
     ensures { PutsPieces result (pointer_lines 0 regs.now.pr)
         (seen (S.written out.old) (S.taken out.old) (S.faults out.old))
@@ -110,7 +110,7 @@ fn put_pr<S: Sink>(out: &mut S, regs: &Regs) -> Put
     put_pointers(out, &regs.pr)
 }
 
-/// Tells the registers.
+/// Writes the registers.
 pub(crate) fn put_regs<S: Sink>(out: &mut S, regs: &Regs) -> Put
     ensures { PutsPieces result (regs_lines regs.now)
         (seen (S.written out.old) (S.taken out.old) (S.faults out.old))

@@ -16,13 +16,13 @@ use m36_outside::{Lines, Piece, Sink, Text};
 use m36_step::Stepper;
 use std::alloc::Global;
 
-/// The most bytes of a session.
+/// The maximum number of bytes of a session.
 const BYTES_LIMIT: usize = 1_048_576;
 
-/// The most bytes of a piece.
+/// The maximum number of bytes of a piece.
 const PIECE: usize = 4096;
 
-// How a session ends with its input.
+// The result of a session whose input has ended.
 fn answer_of(ends: Ends) -> Result<(), SessionFault>
     ensures { result ≡ answer_of ends }
 {
@@ -33,7 +33,7 @@ fn answer_of(ends: Ends) -> Result<(), SessionFault>
     }
 }
 
-// Takes the next piece, of so many bytes at most, into the beginning of the buffer.
+// Takes the next piece, of at most `most` bytes, into the beginning of the buffer.
 fn take_piece<L: Lines>(lines: &mut L, most: usize, buffer: &mut [u8]) -> Piece
     requires some { 1 ≤ most }
     requires room { 1 ≤ length buffer.old }
@@ -49,8 +49,9 @@ fn take_piece<L: Lines>(lines: &mut L, most: usize, buffer: &mut [u8]) -> Piece
     }
 }
 
-/// A session: does what the lines say, up to `quit` or their end. The last line may lack its line
-/// feed. `step N` takes at most N steps, and `go` at most 100,000, whatever the machine is.
+/// Holds a session: answers the lines of the input, until `quit` or the end of the input. The last
+/// line may lack its line feed. `step N` takes at most N steps, and `go` at most 100,000, for
+/// every machine.
 pub fn debug<M: Stepper, L: Lines, S: Sink>(
     alloc: Global,
     m: &mut M,

@@ -1,4 +1,4 @@
-//! The lines of a session, each read by its form. A line is given without its line feed.
+//! Parses the lines of a session, by their forms. A line is given without its line feed.
 
 ghost use Rattle.std.specs.Prelude.{ℕ, ◌≡◌, ◌<◌, ◌≤◌, ◌^◌, IfSome};
 ghost use Rattle.m36_text.specs.Lines.{words_of};
@@ -6,28 +6,28 @@ ghost use Rattle.m36_debug.specs.SessionLines.{one_word, two_words, three_words,
 
 use m36_text::{first_word, is_text, octal_in, only_word, plain_decimal_in};
 
-/// The most bytes of a line that is known.
+/// The maximum length of a known line, in bytes.
 const LONGEST_LINE: usize = 256;
 
-/// The most steps of a line.
+/// The maximum number of steps in a line.
 const MOST_STEPS: u64 = 1_000_000;
 
-/// What a line says.
+/// The content of a line.
 #[derive(Clone, Copy, PartialEq, Eq)]
 pub enum SessionLine {
-    /// `step`, `step N`: takes so many steps.
+    /// `step`, `step N`: takes N steps.
     Step(u32),
     /// `go`: runs up to a break.
     Go,
-    /// `break S W`: a segment, and a word of it.
+    /// `break S W`: a segment number and a word number.
     Break(u16, u32),
-    /// `regs`: tells the registers.
+    /// `regs`: writes the registers.
     Regs,
-    /// `seg S W`: tells a word of a segment.
+    /// `seg S W`: writes a word of a segment.
     Seg(u16, u32),
-    /// `where`: tells where the machine stands.
+    /// `where`: writes the address of the next instruction.
     Where,
-    /// `back`, `back N`: goes back so many steps.
+    /// `back`, `back N`: goes back N steps.
     Back(u32),
     /// `quit`: ends the session.
     Quit,
@@ -60,7 +60,7 @@ fn one_word(word: &[u8]) -> SessionLine
     }
 }
 
-// A number of steps.
+// A number of steps, 1 to 1,000,000.
 fn steps_in(word: &[u8]) -> Option<u64>
     ensures value { result ≡ steps_in word.now }
     ensures some { IfSome result (λ n. 0 < n) }
@@ -117,7 +117,7 @@ fn line_of_words(line: &[u8]) -> SessionLine
     }
 }
 
-/// What a line says.
+/// The content of a line.
 #[tactic(auto, unfolding(crate::specs::SessionLines::session_line))]
 pub fn session_line(line: &[u8]) -> SessionLine
     ensures value { result ≡ session_line line.now }

@@ -1,4 +1,4 @@
-//! What a session remembers.
+//! What a session remembers between its lines.
 
 ghost use Rattle.std.specs.Prelude.{ℕ, ◌≡◌, ◌≤◌, ◌<◌, ◌-◌, ◌^◌};
 ghost use Rattle.m36_step.specs.Counting.{most_taken};
@@ -11,7 +11,8 @@ use m36_model::{End, Regs};
 use m36_step::Turn;
 use std::marker::Model;
 
-/// How many steps were taken and not taken back, how the run has ended, if it has, and where `go` stops.
+/// The count of steps that were taken and not taken back, how the run has ended, if it has, and
+/// the breaks of `go`.
 #[derive(Drop)]
 pub(crate) struct Sitting {
     taken: u64,
@@ -31,7 +32,7 @@ impl Model for Sitting {
 }
 
 impl Sitting {
-    /// Nothing was taken yet.
+    /// The state at the start of a session.
     pub(crate) fn new() -> Sitting
         ensures { result ≡ new_sitting }
     {
@@ -42,21 +43,21 @@ impl Sitting {
         }
     }
 
-    /// How many steps were taken and not taken back.
+    /// The count of steps that were taken and not taken back.
     pub(crate) fn taken(&self) -> u64
         ensures { result ≡ self.now.taken }
     {
         self.taken
     }
 
-    /// Whether so many steps were taken.
+    /// Whether at least n steps were taken.
     pub(crate) fn has_taken(&self, n: u32) -> bool
         ensures { result ≡ has_taken self.now n }
     {
         n as u64 <= self.taken
     }
 
-    /// How the run has ended, if it has.
+    /// How the run has ended, if it has ended.
     pub(crate) fn ended(&self) -> Option<End>
         ensures { result ≡ self.now.ended }
     {
@@ -71,7 +72,7 @@ impl Sitting {
         after_turn(run, is_at_break(regs.ppr, self.breaks.as_slice()), turn)
     }
 
-    /// Notes a turn.
+    /// Records a turn.
     #[tactic(auto, unfolding(crate::specs::Sitting::sitting_after))]
     pub(crate) fn note(&mut self, turn: &Turn)
         requires { self.old.taken < most_taken }
@@ -84,7 +85,7 @@ impl Sitting {
         }
     }
 
-    /// Notes that so many steps were taken back.
+    /// Records that n steps were taken back.
     pub(crate) fn note_back(&mut self, n: u32)
         requires { n ≤ self.old.taken }
         ensures { self.new ≡ sitting_before self.old n }
@@ -100,7 +101,7 @@ impl Sitting {
         self.breaks.len() < 16
     }
 
-    /// Adds a break, where there is room for it.
+    /// Adds a break if there is room for it.
     pub(crate) fn add(&mut self, seg: u16, word: u32)
         ensures sitting { self.new ≡ sitting_with self.old seg word }
         ensures taken { self.new.taken ≡ self.old.taken }

@@ -1,4 +1,4 @@
-//! Lines that tell one thing, each put to the output.
+//! Writes the lines of single answers.
 
 ghost use Rattle.std.specs.Prelude.{ℕ, ◌≡◌, ◌≤◌, ◌<◌, ◌-◌, ◌^◌, [], ◌∷◌, length};
 ghost use Rattle.m36_step.specs.Counting.{most_taken};
@@ -17,10 +17,10 @@ use m36_turns::put::put;
 use m36_turns::{console_line, link_line, run_end_line};
 use m36_word::Word;
 
-/// How many bytes of an unknown line are shown.
+/// The maximum number of bytes of an unknown line that are shown.
 const SHOWN: usize = 64;
 
-/// Tells where a machine stands.
+/// Writes the address of the next instruction.
 #[tactic(auto, unfolding(crate::specs::SessionTexts::where_line))]
 pub(crate) fn put_where<S: Sink>(out: &mut S, regs: &Regs) -> Put
     ensures { PutsPieces result (where_line regs.now.ppr ∷ [])
@@ -35,7 +35,7 @@ pub(crate) fn put_where<S: Sink>(out: &mut S, regs: &Regs) -> Put
     put_text(out, text)
 }
 
-/// Tells a break.
+/// Writes a break.
 #[tactic(auto, unfolding(crate::specs::SessionTexts::break_line))]
 pub(crate) fn put_break<S: Sink>(out: &mut S, seg: u16, word: u32) -> Put
     requires seg { seg < 2 ^ 15 }
@@ -50,7 +50,7 @@ pub(crate) fn put_break<S: Sink>(out: &mut S, seg: u16, word: u32) -> Put
     put_text(out, text)
 }
 
-/// Tells a word of a segment, where it has a place.
+/// Writes a word of a segment, or `absent` if it has no place.
 #[tactic(auto, unfolding(crate::specs::SessionTexts::seg_line))]
 pub(crate) fn put_seg<S: Sink>(out: &mut S, seg: u16, word: u32, content: Option<Word>) -> Put
     requires seg { seg < 2 ^ 15 }
@@ -69,7 +69,7 @@ pub(crate) fn put_seg<S: Sink>(out: &mut S, seg: u16, word: u32, content: Option
     put_text(out, text)
 }
 
-/// Tells how a run has ended, after so many steps.
+/// Writes how a run has ended, after `taken` steps.
 #[tactic(auto, unfolding(crate::specs::SessionTexts::end_line))]
 pub(crate) fn put_end<S: Sink>(out: &mut S, end: End, taken: u64) -> Put
     ensures { PutsPieces result (end_line end taken ∷ [])
@@ -79,7 +79,7 @@ pub(crate) fn put_end<S: Sink>(out: &mut S, end: End, taken: u64) -> Put
     put_text(out, run_end_line(end, taken))
 }
 
-// What is shown of an unknown line.
+// The part of an unknown line that is shown.
 #[tactic(auto, using(crate::proofs::PutLaws::shown_whole))]
 fn shown(line: &[u8]) -> &[u8]
     ensures value { result.now ≡ shown line.now }
@@ -92,7 +92,7 @@ fn shown(line: &[u8]) -> &[u8]
     }
 }
 
-/// Shows a line that is not known, up to its 64th byte.
+/// Writes `?` and the first 64 bytes of an unknown line.
 #[tactic(auto, unfolding(crate::specs::SessionTexts::unknown_line))]
 pub(crate) fn put_unknown<S: Sink>(out: &mut S, line: &[u8]) -> Put
     ensures { PutsPieces result (unknown_line line.now ∷ [])
@@ -105,7 +105,7 @@ pub(crate) fn put_unknown<S: Sink>(out: &mut S, line: &[u8]) -> Put
     put_characters(out, text)
 }
 
-/// Tells a turn, where so many steps were taken before it.
+/// Writes a turn before which `taken` steps were taken.
 #[inline(never)]
 #[tactic(auto, unfolding(crate::specs::SessionTexts::turn_lines), using(crate::proofs::PutLaws::puts_nothing))]
 pub(crate) fn put_turn<S: Sink>(out: &mut S, taken: u64, turn: &Turn) -> Put

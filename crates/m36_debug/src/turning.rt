@@ -1,4 +1,4 @@
-//! Turns that a command takes.
+//! Takes the turns of a command.
 
 ghost use Rattle.std.specs.Prelude.{ℕ, ◌≡◌, ◌≤◌, ◌<◌, ◌+◌, ◌-◌, ◌^◌, [], ◌∷◌};
 ghost use Rattle.m36_debug.specs.Parts.{CameSays, CameServed, CameCounts, CameInterrupted};
@@ -16,33 +16,33 @@ use m36_model::Regs;
 use m36_outside::{Put, Sink};
 use m36_step::{Stepper, Turn};
 
-/// What a turn that a command takes came to. What it says is written but for the last case.
+/// The result of a turn of a command. What the turn says is written, except for `Cut`.
 #[derive(Clone, Copy, PartialEq, Eq)]
 pub enum Came {
-    /// The command takes another turn; the flag says that this one was a service.
+    /// The command takes another turn; the flag says that this turn was a service.
     Runs(Run, bool),
-    /// The command is through.
+    /// The command is complete.
     Waits,
-    /// The turn found no memory.
+    /// The turn ran out of memory.
     Starves,
     /// What the turn says could not be written.
     Cut,
 }
 
-/// How a command, a line or several lines ended. What they say is written but for the last case.
+/// How a command, a line or several lines ended. What they say is written, except for `Cut`.
 #[derive(Clone, Copy, PartialEq, Eq)]
 pub enum Ends {
-    /// The next line is waited for.
+    /// The session waits for the next line.
     Line,
     /// The session is over.
     Quit,
-    /// No memory was found.
+    /// Out of memory.
     Starved,
     /// What they say could not be written.
     Cut,
 }
 
-// Tells where `go` has come to, once it is through.
+// Writes where `go` has stopped, once it is complete.
 #[inline]
 #[tactic(auto, using(crate::proofs::PutLaws::puts_nothing))]
 fn put_go<S: Sink>(out: &mut S, regs: &Regs, sitting: &Sitting, next: Further) -> Put
@@ -59,7 +59,7 @@ fn put_go<S: Sink>(out: &mut S, regs: &Regs, sitting: &Sitting, next: Further) -
     }
 }
 
-// Tells what a turn of a command says.
+// Writes what a turn of a command says.
 #[inline(always)]
 fn put_command<S: Sink>(
     out: &mut S,
@@ -109,7 +109,7 @@ fn told_turn(put: Put, turn: &Turn, next: Further) -> Came
     }
 }
 
-/// Takes a turn of a command, and writes what it says. It is told in a `Turn` that an earlier one may have filled.
+/// Takes a turn of a command, and writes what it says. The turn overwrites `turn`.
 pub(crate) fn take_turn<M: Stepper, S: Sink>(
     m: &mut M,
     run: Run,

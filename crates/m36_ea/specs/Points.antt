@@ -97,6 +97,7 @@ abbrev pub counted_end :
 counted_end core refs (Ok f) = ended core refs (Ok f)
 counted_end core refs (Err f) = ended core refs (Err (halt.Fault f))
 
+-- A chain that reads its tally word here ends with this result.
 abbrev pub CountsTally :
     RegsFields → Point → List ℕ → List Reference → List ℕ → List Reference → Result Formed Fault
     → Type 0

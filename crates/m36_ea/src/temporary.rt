@@ -39,7 +39,8 @@ impl Model for Tpr {
 
     ghost view = { λ t. record { seg = t.seg; ring = t.ring; y = t.y; bit = t.bit; tag = t.tag; held = t.held; carrier = t.carrier } };
 
-    ghost invariant = { λ t. (t.y < 2 ^ 18) × (t.seg < 2 ^ 15) × (t.ring < 2 ^ 3) × (t.bit < 2 ^ 6) × (t.tag < 2 ^ 6) × IfSome t.held (λ h. h < 2 ^ 18) };
+    ghost invariant = { λ t. (t.y < 2 ^ 18) × (t.seg < 2 ^ 15) × (t.ring < 2 ^ 3)
+        × (t.bit < 2 ^ 6) × (t.tag < 2 ^ 6) × IfSome t.held (λ h. h < 2 ^ 18) };
 
     ghost inverse = { λ t. record { carrier = t.carrier; held = t.held; y = t.y; seg = t.seg; ring = t.ring; bit = t.bit; tag = t.tag } };
 }

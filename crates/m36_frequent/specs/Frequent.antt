@@ -8,10 +8,11 @@ use Rattle.m36_model.specs.Fields.{FinalFields}
 use Rattle.m36_model.specs.Registers.{RegsFields}
 use Rattle.m36_model.specs.Results.{OperandFields, EffectFields, words_only, words_in_ring}
 
--- the operand with a word that was read, or with a pair and the first ring bracket of its segment
+-- the operand with a word that was read
 abbrev pub word_read : ℕ → OperandFields
 word_read w = words_only (w ∷ [])
 
+-- the operand with a pair that was read, and the first ring bracket of its segment
 abbrev pub pair_read : Pair → ℕ → OperandFields
 pair_read p ring = words_in_ring (pair_words p) ring
 

@@ -6,7 +6,7 @@ ghost use Rattle.m36_model.specs.Results.{aq_pair};
 use m36_model::Regs;
 use m36_word::{Pair, Word};
 
-/// The accumulator.
+/// The accumulator, A.
 #[inline(always)]
 pub fn accumulator(regs: &Regs) -> Word
     ensures { result ≡ regs.now.a }
@@ -14,7 +14,7 @@ pub fn accumulator(regs: &Regs) -> Word
     regs.a
 }
 
-/// The quotient register.
+/// The quotient register, Q.
 #[inline(always)]
 pub fn quotient(regs: &Regs) -> Word
     ensures { result ≡ regs.now.q }

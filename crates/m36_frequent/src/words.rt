@@ -61,7 +61,8 @@ fn test_index(v: u32, regs: &mut Regs)
 #[tactic(auto, unfolding(m36_model::specs::Loads::load, m36_model::specs::Results::with_value, m36_model::specs::Results::moved_on))]
 pub(crate) fn load_a(w: Word, regs: &mut Regs)
     ensures dbr { regs.new.dbr ≡ regs.old.dbr }
-    ensures value { Ok (record { regs = regs.new; put = []; overflow = false }) ≡ load A w regs.old }
+    ensures value { Ok (record { regs = regs.new; put = []; overflow = false })
+        ≡ load A w regs.old }
 {
     regs.a = w;
     test(w, regs);
@@ -73,7 +74,8 @@ pub(crate) fn load_a(w: Word, regs: &mut Regs)
 #[tactic(auto, unfolding(m36_model::specs::Loads::load, m36_model::specs::Results::with_value, m36_model::specs::Results::moved_on))]
 pub(crate) fn load_q(w: Word, regs: &mut Regs)
     ensures dbr { regs.new.dbr ≡ regs.old.dbr }
-    ensures value { Ok (record { regs = regs.new; put = []; overflow = false }) ≡ load Q w regs.old }
+    ensures value { Ok (record { regs = regs.new; put = []; overflow = false })
+        ≡ load Q w regs.old }
 {
     regs.q = w;
     test(w, regs);
@@ -87,7 +89,8 @@ fn load_index(n: u8, v: u32, regs: &mut Regs)
     requires register { n < 8 }
     requires number { v < 2 ^ 18 }
     ensures dbr { regs.new.dbr ≡ regs.old.dbr }
-    ensures value { Ok (record { regs = regs.new; put = []; overflow = false }) ≡ load (X n) v regs.old }
+    ensures value { Ok (record { regs = regs.new; put = []; overflow = false })
+        ≡ load (X n) v regs.old }
 {
     regs.x[n as usize] = v;
     test_index(v, regs);

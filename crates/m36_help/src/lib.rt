@@ -1,9 +1,10 @@
 //! The help of the program: its commands, its options, how a call ends, and examples.
 //!
-//! [`help`] gives the text that `clap` renders of a description of the command line, [`COMMANDS`] with a line for each
-//! command. The words themselves are read by `m36_top`, by its own table: nothing is read here, and a request for help is no
-//! command either. The program prints this text behind the line of Usage. No contract speaks of it; a test holds the
-//! commands that it names against those that are read.
+//! [`help`] returns the text that `clap` renders from a description of the command line, with a
+//! line of [`COMMANDS`] for each command. Nothing is parsed here: `m36_top` parses the words with
+//! its own table, and a request for help is not a command. The program prints this text after the
+//! line of Usage. No contract mentions it; a test compares the commands that it names with those
+//! that are parsed.
 #![tactic(auto)]
 
 use clap::{Arg, ArgAction, Command};
@@ -53,10 +54,10 @@ pub const COMMANDS: [(&str, &str); 11] = [
     ),
 ];
 
-/// The words that stand behind a command.
+/// The form of the command line.
 const USAGE: &str = "m36 COMMAND [FILE | NAME | USER | SEED] [OPTIONS]";
 
-/// How a call ends, and examples.
+/// The text after the options: how a call ends, and examples.
 const BEHIND: &str = "Statuses:
   0  Done         written whole; a run came to DIS, an audit alone passes
   1  Usage        the words are no command
@@ -89,7 +90,7 @@ fn with_options(alloc: Global, program: Command<'static>) -> Result<Command<'sta
     program.arg(steps)?.arg(unaudited)?.arg(user)
 }
 
-// The program as its command line is described.
+// The description of the command line.
 fn described(alloc: Global) -> Result<Command<'static>, AllocError> {
     let mut program = Command::new(alloc, "m36")
         .about("Simulate the Honeywell 6180 of Multics, in the current folder")
@@ -103,7 +104,7 @@ fn described(alloc: Global) -> Result<Command<'static>, AllocError> {
     with_options(alloc, program)
 }
 
-/// The text of the help, with a line feed at its end. The error is want of memory alone.
+/// The text of the help, with a line feed at its end. Fails only with `NoMemory`.
 pub fn help(alloc: Global) -> Result<Text, NoMemory> {
     let mut program = described(alloc)?;
     let text = program.render_help()?;

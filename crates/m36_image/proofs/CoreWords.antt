@@ -1,4 +1,4 @@
--- Words written into core one after the other.
+-- Words that are written into core one after the other.
 use Rattle.std.proofs.Common.{◌≡◌, ℕ, suc, ◌+◌, ◌<◌, List, length, ◌≤◌, drop, get_or, set, ap, ◌∙◌, arith, add-one}
 use Rattle.std.specs.Prelude.{slice_index, slice_set}
 use Rattle.std.proofs.Math.Seq.{drop-cons}

@@ -25,7 +25,7 @@ pub first_code :
 unfolding first_told
 first_code lines more line code e c = rw (e, c)
 
--- the second line is missing, or not of its form
+-- the second line is missing, or does not have its form
 pub missing_second :
     (lines more : List (Option (List ℕ))) (line text : List ℕ) (frames : ℕ)
     → lines ≡ Some line ∷ more → core_words (words_of line) ≡ Ok frames → more ≡ cut_line text
@@ -41,7 +41,7 @@ pub second_form :
 unfolding first_told
 second_form lines more rest line second frames e c f d = rw (e, c, f, d)
 
--- the third line is missing, or not of its form
+-- the third line is missing, or does not have its form
 pub missing_third :
     (lines more rest : List (Option (List ℕ))) (line second text : List ℕ) (frames : ℕ) (dbr : Pair)
     → lines ≡ Some line ∷ more → core_words (words_of line) ≡ Ok frames
@@ -60,7 +60,7 @@ pub third_form :
 unfolding first_told
 third_form lines more rest last line second third frames dbr e c f d g s = rw (e, c, f, d, g, s)
 
--- all three are of their form
+-- all three have their forms
 pub header_read :
     (lines more rest : List (Option (List ℕ))) (line second third text : List ℕ) (frames : ℕ) (dbr : Pair) (start : PprFields)
     → lines ≡ Some line ∷ more → core_words (words_of line) ≡ Ok frames

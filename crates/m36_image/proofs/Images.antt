@@ -1,4 +1,4 @@
--- The image that a file writes out, by its header and its `at` lines.
+-- The image that a file describes, from its header and its `at` lines.
 use Rattle.std.proofs.Common.{◌≡◌, ℕ, ◌+◌, ◌*◌, List, [], ◌∷◌, ◌++◌, length, drop, replicate, Option, Some, None, Result, Ok, Err, sym, ap, ◌∙◌}
 use Rattle.std.specs.Prelude.{unwrap_or}
 use Rattle.std.specs.List.{filter_map}
@@ -24,7 +24,7 @@ unfolding state_given image_of
 header_refused text refusal e =
     ap (λ f. state_by (image_by f (image_in (lines_of text)))) (told_earlier 1 (header_codes (lines_of text)) (at_codes (1024 * frames_of (lines_of text)) [] (drop 3 (lines_of text))) (refusal.line, refusal.code) e)
 
--- where the first three lines have no fault, the first is among the others
+-- if the first three lines have no code, the first line with a code is one of the others
 header_fine :
     (core : Result ℕ ImageCode) (dbr : Option Pair) (start : Option PprFields) (more : List (Option ImageCode)) (n : ℕ) (d : Pair) (s : PprFields)
     → core ≡ Ok n → dbr ≡ Some d → start ≡ Some s
@@ -57,7 +57,7 @@ unfolding state_given image_of
 lines_refused text rest start header refusal is zero e =
     ap (λ f. state_by (image_by f (image_in (lines_of text)))) (lines_fault text rest start header is zero ∙ e)
 
--- the state by its parts
+-- the state, from its parts
 abbrev pub state_from : Pair → PprFields → List ℕ → List PlacedWords → Result (State (List ℕ)) Refusal
 state_from dbr start core placed = Ok (record { regs = regs_of dbr start; store = written_all core placed })
 

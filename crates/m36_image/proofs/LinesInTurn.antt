@@ -16,7 +16,7 @@ use Rattle.m36_image.specs.BareImage.{at_read, at_words, at_line, at_code, at_co
 use Rattle.m36_image.specs.Several.{with_number, numbers_by, one_to}
 use Rattle.m36_image.specs.InTurn.{at_end}
 
--- The reading of `at` lines that remembers the address behind the last word alone.
+-- Reading `at` lines while remembering only the address after the last word.
 abbrev pub end_or : ℕ → Result ℕ ImageCode → ℕ
 end_or next (Ok end) = end
 end_or next (Err code) = next
@@ -30,7 +30,7 @@ fault_in_turn size n next [] = None
 fault_in_turn size n next (line ∷ lines) =
     fault_or n (at_end size next (at_line line)) (fault_in_turn size (n + 1) (end_or next (at_end size next (at_line line))) lines)
 
--- A line of its form has a word at least.
+-- A line that has its form has at least one word.
 abbrev pub HasWord : Option (List ℕ) → Type 0
 HasWord o = IfSome o (λ words. 0 < length words)
 
@@ -71,7 +71,7 @@ at_line_some : (line : Option (List ℕ)) → HasPlace (at_line line)
 at_line_some None = tt
 at_line_some (Some line) = at_words_some (words_of line)
 
--- the addresses of so many words are below x exactly where their end is
+-- the addresses of n words are below x exactly if their end is at most x
 one_below : (first x : ℕ) → nat_lt first x && true ≡ nat_le (first + 1) x
 one_below first x = grind (arith, nat_tests)
 
@@ -86,7 +86,7 @@ some_below : (first count x : ℕ) → 0 < count → list_all (λ a. nat_lt a x)
 some_below first zero x some = absurd (omega arith)
 some_below first (suc count) x some = all_below first count x
 
--- What is known of the earlier addresses is the address behind the last.
+-- Of the earlier addresses only the address after the last is needed.
 abbrev pub EndsAt : List ℕ → ℕ → Type 0
 EndsAt earlier next = (x : ℕ) → list_all (λ a. nat_lt a x) earlier ≡ nat_le next x
 
@@ -97,11 +97,11 @@ ends_on : (earlier : List ℕ) (next first count : ℕ) → 0 < count → next �
 ends_on earlier next first count some above ends x =
     list_all-append (λ a. nat_lt a x) earlier (range_with_len first count) ∙ ap (λ b. b && list_all (λ a. nat_lt a x) (range_with_len first count)) (ends x) ∙ ap (λ b. nat_le next x && b) (some_below first count x some) ∙ both_below next first count x above
 
--- at the beginning there are none
+-- at the start there are none
 pub ends_nowhere : EndsAt [] 0
 ends_nowhere x = sym (le-leb 0 x (omega arith))
 
--- Reading in turn comes to the first line with a fault: one line, where the later ones do.
+-- Reading line by line finds the first line with a code: one more line, if the later ones do.
 abbrev pub Agrees : ℕ → ℕ → List (Option (List ℕ)) → Type 0
 Agrees size n lines =
     (next : ℕ) (earlier : List ℕ) → EndsAt earlier next → fault_in_turn size n next lines ≡ first_told n (at_codes size earlier lines)

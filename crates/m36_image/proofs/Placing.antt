@@ -10,13 +10,13 @@ use Rattle.m36_image.specs.ImageState.{written_all}
 use Rattle.m36_image.specs.InTurn.{at_end, with_placed}
 use Rattle.m36_image.proofs.LinesInTurn.{fault_in_turn, fault_or, end_or, turn_is_fault, ends_nowhere}
 
--- `left` is left of the lines `all`, of which the next is line n, where core was `start` and is `core`.
+-- `left` is what is left of the lines `all`; the next is line n. Core was `start` and is `core`.
 pub record Placing (start : List ℕ) (all : List (Option (List ℕ))) (core : List ℕ) (n next : ℕ) (left : List (Option (List ℕ))) : Type 0 where
   pub fault : fault_in_turn (length start) n next left ≡ first_told 4 (at_codes (length start) [] all)
   pub words : written_all core (filter_map at_line left) ≡ written_all start (filter_map at_line all)
   pub len : length core ≡ length start
 
--- at the beginning
+-- at the start
 pub placing_starts : (start : List ℕ) (all : List (Option (List ℕ))) → Placing start all start 4 0 all
 placing_starts start all = record { fault = turn_is_fault (length start) 4 all 0 [] ends_nowhere; words = refl; len = refl }
 

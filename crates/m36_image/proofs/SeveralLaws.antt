@@ -6,7 +6,7 @@ use Rattle.std.proofs.lemmas.List.{append-nil}
 use Rattle.std.proofs.lemmas.Bool.{lt-ltb, le-ltb}
 use Rattle.m36_image.specs.Several.{with_number, numbers_by, one_to}
 
--- numbers that were read, before those that are
+-- numbers that were read, before those that are still read
 abbrev pub behind : List ℕ → Option (List ℕ) → Option (List ℕ)
 behind front None = None
 behind front (Some numbers) = Some (front ++ numbers)
@@ -21,7 +21,7 @@ none_chosen : {A : Type 0} (b : Bool) (o : Option A) → o ≡ None → cond b o
 none_chosen true o e = e
 none_chosen false o e = refl
 
--- how far the reading of the texts of a line has come
+-- the state of reading the texts of a line
 pub record Reading (form : List ℕ → Option ℕ) (front : List ℕ) (left all : List (List ℕ)) : Type 0 where
   pub count : length all ≡ length front + length left
   pub numbers : behind front (numbers_by form left) ≡ numbers_by form all
@@ -30,7 +30,7 @@ behind_nil : (numbers : Option (List ℕ)) → behind [] numbers ≡ numbers
 behind_nil None = refl
 behind_nil (Some numbers) = refl
 
--- at the beginning
+-- at the start
 pub reading_starts : (form : List ℕ → Option ℕ) (all : List (List ℕ)) → Reading form [] all all
 reading_starts form all = record { count = omega arith; numbers = behind_nil (numbers_by form all) }
 
@@ -43,7 +43,7 @@ reading_more form front left all text texts n so_far begins read = record {
   numbers = sym (behind_more front n (numbers_by form texts)) ∙ ap (λ o. behind front (with_number o (numbers_by form texts))) (sym read) ∙ ap (λ t. behind front (numbers_by form t)) (sym begins) ∙ so_far.numbers;
 }
 
--- what is not of the form is not of the count either
+-- texts that do not all have the form are not one to `most` texts of the form
 none_of : (most : ℕ) (form : List ℕ → Option ℕ) (all : List (List ℕ)) → numbers_by form all ≡ None → one_to most form all ≡ None
 unfolding one_to
 none_of most form [] e = refl
@@ -53,7 +53,7 @@ none_behind : (front : List ℕ) (numbers : Option (List ℕ)) → behind front 
 none_behind front None = refl
 none_behind front (Some numbers) = refl
 
--- a text is not of the form
+-- a text does not have the form
 pub reading_fails :
     (most : ℕ) (form : List ℕ → Option ℕ) (front : List ℕ) (left all : List (List ℕ)) (text : List ℕ) (texts : List (List ℕ))
     → Reading form front left all → left ≡ text ∷ texts → form text ≡ None → one_to most form all ≡ None
@@ -79,13 +79,13 @@ pub reading_ends :
 reading_ends most form front all so_far some few =
     ap (λ t. Some t) (sym (append-nil front)) ∙ so_far.numbers ∙ few_of most form all (omega (arith, so_far.count)) (omega (arith, so_far.count))
 
--- as many were read as there may be, and there is one more
+-- the maximum number was read, and there is one more
 pub reading_many :
     (most : ℕ) (form : List ℕ → Option ℕ) (front : List ℕ) (left all : List (List ℕ))
     → Reading form front left all → most ≤ length front → 0 < length left → one_to most form all ≡ None
 reading_many most form front left all so_far many more = many_of most form all (omega (arith, so_far.count))
 
--- ---- by the first of the texts that are left, and what is behind it
+-- ---- given the first of the texts that are left, and the rest
 
 pub others_of :
     {X : Type 0} (more : Option X) (others : X → List (List ℕ)) (left : List (List ℕ)) (text : List ℕ)

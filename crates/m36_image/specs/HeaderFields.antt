@@ -6,7 +6,7 @@ use Rattle.m36_image.specs.declared.header.Header.{Header}
 use Rattle.m36_text.specs.Lines.{lines_of, line_at, first_told}
 use Rattle.m36_image.specs.BareImage.{core_line, dbr_line, start_line, header_count, header_codes}
 
--- what a header and the text behind it tell of the lines of their file
+-- The header and the text after it are those of a file with these lines.
 pub record IsHeader (header : Header) (rest : List ℕ)
     (lines : List (Option (List ℕ))) : Type 0 where
   pub frames : core_line (line_at lines 1) ≡ Ok header.frames
@@ -14,7 +14,7 @@ pub record IsHeader (header : Header) (rest : List ℕ)
   pub start : start_line (line_at lines 3) ≡ Some header.start
   pub others : drop header_count lines ≡ lines_of rest
 
--- What reading the header answers: what the lines say, or the first of them with a fault.
+-- The result of reading the header: its content, or the first of its lines with a code.
 abbrev pub HeaderSays : Result (Header × Bor (List ℕ)) Refusal → List (Option (List ℕ)) → Type 0
 HeaderSays (Ok read) lines = IsHeader read.0 read.1.now lines
 HeaderSays (Err refusal) lines =

@@ -1,4 +1,5 @@
--- A bare image as it is read, line after line. That this comes to what the image is, is proved.
+-- A bare image as the code reads it, line by line. It is proved that this gives the image of the
+-- grammar.
 use Rattle.std.specs.Prelude.{ℕ, ◌≡◌, ◌+◌, nat_le, List, [], length, Option, Some, None}
 use Rattle.std.specs.Prelude.{Result, Ok, Err}
 use Rattle.std.specs.List.{filter_map}
@@ -9,18 +10,18 @@ use Rattle.m36_image.specs.PlacedWords.{PlacedWords}
 use Rattle.m36_image.specs.BareImage.{at_line, at_by, at_codes, header_count}
 use Rattle.m36_image.specs.ImageState.{written_at, written_all}
 
--- An `at` line, where no address below `next` may be written again: its code, or the address behind
--- its last word.
+-- An `at` line that must not write an address below `next`: its code, or the address after its
+-- last word.
 abbrev pub at_end : ℕ → ℕ → Option PlacedWords → Result ℕ ImageCode
 at_end size next line = at_by size (nat_le next) line
 
--- core with the words of a line
+-- core with the words of a line written
 abbrev pub with_placed : List ℕ → Option PlacedWords → List ℕ
 with_placed core None = core
 with_placed core (Some p) = written_at core p.first p.words
 
--- What the `at` lines of a file did to a core: they were all written, or the first one with a fault
--- is told.
+-- What the `at` lines of a file did to a core: all of them were written, or the first one with a
+-- code is reported.
 abbrev pub AtLinesSay : Result (Unit {0}) Refusal → List ℕ → List ℕ → List (Option (List ℕ))
     → Type 0
 AtLinesSay (Ok done) old new lines =

@@ -1,5 +1,5 @@
--- A reader of this crate begins with `BareImage`, the grammar, and `ImageState`, the state that an
--- image writes out. The others say how the code reads it.
+-- Read `BareImage` first, which has the grammar, and `ImageState`, which has the state that an
+-- image describes. The other modules say how the code reads it.
 pub mod PlacedWords
 pub mod Several
 pub mod BareImage

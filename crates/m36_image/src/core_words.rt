@@ -1,4 +1,4 @@
-//! The words of a bare image, written into core.
+//! Writes the words of a bare image into core.
 
 ghost use Rattle.std.specs.Prelude.{ℕ, ◌≡◌, ◌+◌, ◌<◌, ◌≤◌, ◌^◌, length, OnOk, OnErr};
 ghost use Rattle.m36_text.specs.Lines.{lines_of, words_of};
@@ -12,7 +12,7 @@ use m36_core::Core;
 use m36_text::first_line;
 use m36_word::Word;
 
-// Writes words into core, from an address on.
+// Writes words into core, from address `first` on.
 #[tactic(auto, using(crate::proofs::CoreWords::writing))]
 fn put_words(core: &mut Core, first: u32, words: &[Word])
     requires inside { first + length words.now ≤ length core.old }
@@ -25,8 +25,8 @@ fn put_words(core: &mut Core, first: u32, words: &[Word])
     }
 }
 
-/// Writes the words of an `at` line into core, unless the line has a code: then core stays as it was. The first address
-/// of the line may not be below `next`. Answers the address behind its last word.
+/// Writes the words of an `at` line into core. If the line has a code, core is unchanged. The
+/// first address of the line must be at least `next`. Returns the address after its last word.
 pub fn put_line_into_core(core: &mut Core, next: u32, line: &[u8]) -> Result<u32, ImageCode>
     ensures end { result ≡ at_end (length core.old) next (at_words (words_of line.now)) }
     ensures core { OnOk result (core.new ≡ with_placed core.old (at_words (words_of line.now))) }
@@ -44,7 +44,8 @@ pub fn put_line_into_core(core: &mut Core, next: u32, line: &[u8]) -> Result<u32
     Ok(end)
 }
 
-/// Writes the words of all `at` lines into core. The first of them is line 4.
+/// Writes the words of all `at` lines into core. The first of them is line 4. The error is the
+/// first line with a code.
 #[tactic(auto, using(crate::proofs::Placing::placing, m36_text::proofs::Splitting::lining))]
 pub fn put_lines(core: &mut Core, text: &[u8]) -> Result<(), Refusal>
     requires { length text.now ≤ 2 ^ 31 }

@@ -1,4 +1,4 @@
-//! The lines of a bare image, each read by its form. A line is given without its line feed.
+//! Parses the lines of a bare image, by their forms. A line is given without its line feed.
 
 ghost use Rattle.std.specs.Prelude.{ℕ, ◌≡◌, ◌≤◌, IfOk};
 ghost use Rattle.m36_text.specs.Lines.{words_of};
@@ -11,10 +11,10 @@ use m36_model::Ppr;
 use m36_text::{NumberFault, first_word, is_text, octal_in, only_word, read_decimal};
 use m36_word::{Pair, Word};
 
-/// The most frames of core.
+/// The maximum number of frames of core.
 const MOST_FRAMES: u64 = 16384;
 
-/// Twelve octal digits as a word.
+/// The word with these twelve octal digits.
 pub fn word_of(text: &[u8]) -> Option<Word>
     ensures { result ≡ octal_word_in text.now }
 {
@@ -22,7 +22,7 @@ pub fn word_of(text: &[u8]) -> Option<Word>
     Some(Word::low(value))
 }
 
-// The number of frames that a number of the line `core N` gives.
+// The number of frames in the line `core N`, given the result of reading the number.
 fn frames_of(read: Result<u64, NumberFault>) -> Result<u32, ImageCode>
     requires { IfOk read (λ n. n ≤ frames_reached) }
     ensures frames { result ≡ frames_read read }
@@ -36,7 +36,7 @@ fn frames_of(read: Result<u64, NumberFault>) -> Result<u32, ImageCode>
     }
 }
 
-/// The line `core N`: how many frames of core, 1 to 16,384.
+/// Parses the line `core N`: the number of frames of core, 1 to 16,384.
 pub fn core_line(line: &[u8]) -> Result<u32, ImageCode>
     ensures frames { result ≡ core_words (words_of line.now) }
     ensures some { IfOk result (λ n. 1 ≤ n) }
@@ -55,7 +55,7 @@ pub fn core_line(line: &[u8]) -> Result<u32, ImageCode>
     frames_of(read_decimal(frames, MOST_FRAMES))
 }
 
-// The words of the descriptor segment base register, from two texts.
+// The words of the descriptor segment base register, given their texts.
 fn dbr_of(even: &[u8], odd: &[u8]) -> Option<Pair>
     ensures { result ≡ dbr_in even.now odd.now }
 {
@@ -64,7 +64,8 @@ fn dbr_of(even: &[u8], odd: &[u8]) -> Option<Pair>
     Some(Pair { even, odd })
 }
 
-/// The line `dbr E O`: the words of the descriptor segment base register; none where it is not of its form.
+/// Parses the line `dbr E O`: the words of the descriptor segment base register. None if it does
+/// not have this form.
 pub fn dbr_line(line: &[u8]) -> Option<Pair>
     ensures { result ≡ dbr_words (words_of line.now) }
 {
@@ -78,7 +79,7 @@ pub fn dbr_line(line: &[u8]) -> Option<Pair>
     }
 }
 
-// Where the machine starts, from a segment, a ring and a word.
+// The start of the machine, given the texts of a segment, a ring and a word number.
 fn start_of(seg: &[u8], ring: &[u8], word: &[u8]) -> Option<Ppr>
     ensures { result ≡ start_in seg.now ring.now word.now }
 {
@@ -92,7 +93,7 @@ fn start_of(seg: &[u8], ring: &[u8], word: &[u8]) -> Option<Ppr>
     })
 }
 
-/// The line `start S R I`: where the machine starts; none where it is not of its form.
+/// Parses the line `start S R I`: where the machine starts. None if it does not have this form.
 pub fn start_line(line: &[u8]) -> Option<Ppr>
     ensures { result ≡ start_words (words_of line.now) }
 {

@@ -1,4 +1,4 @@
-//! The first three lines of a bare image.
+//! Parses the first three lines of a bare image.
 
 ghost use Rattle.std.specs.Prelude.{ℕ, ◌≡◌, ◌≤◌, IfOk, length};
 ghost use Rattle.m36_text.specs.Lines.{lines_of};
@@ -11,18 +11,18 @@ use m36_model::Ppr;
 use m36_text::first_line;
 use m36_word::Pair;
 
-/// What the first three lines say.
+/// The content of the first three lines.
 #[derive(Clone, Copy)]
 pub struct Header {
     /// The words of the descriptor segment base register.
     pub dbr: Pair,
     /// Where the machine starts.
     pub start: Ppr,
-    /// Frames of core.
+    /// The number of frames of core.
     pub frames: u32,
 }
 
-// A line that is missing or not of its form.
+// The refusal of a line that is missing or does not have its form.
 fn wrong(line: u32) -> Refusal
     ensures { result ≡ record { line = line; code = ImageCode.I1 } }
 {
@@ -32,7 +32,7 @@ fn wrong(line: u32) -> Refusal
     }
 }
 
-/// Reads the first three lines. Answers what they say, and the text behind them.
+/// Parses the first three lines. Returns their content and the text after them.
 pub fn read_header(text: &[u8]) -> Result<(Header, &[u8]), Refusal>
     ensures says { HeaderSays result (lines_of text.now) }
     ensures some { IfOk result (λ h. 1 ≤ h.0.frames) }

@@ -1,4 +1,4 @@
-//! Bare images: the state of a machine, read from a text.
+//! Bare images: the state of a machine, parsed from a text.
 
 ghost use Rattle.std.specs.Prelude.{ℕ, ◌≡◌, ◌≤◌, ◌^◌, length};
 ghost use Rattle.m36_image.specs.ImageState.{regs_of, state_given};
@@ -14,7 +14,7 @@ use m36_word::{Pair, Word};
 use std::alloc::Global;
 use std::marker::Model;
 
-/// Core and registers, as a bare image writes them out.
+/// Core and registers, as a bare image describes them.
 #[derive(Drop)]
 pub struct Image {
     pub core: Core,
@@ -30,7 +30,8 @@ impl Model for Image {
     ghost view = { λ i. record { regs = i.regs; store = i.core } };
 }
 
-/// All registers zero, but for the descriptor segment base register and the first instruction.
+/// Registers that are zero, except for the descriptor segment base register and the address of the
+/// first instruction.
 pub fn registers(dbr: Pair, start: Ppr) -> Regs
     ensures { result ≡ regs_of dbr start }
 {
@@ -58,7 +59,7 @@ pub fn registers(dbr: Pair, start: Ppr) -> Regs
     }
 }
 
-/// Reads a bare image. It is refused exactly where a line has a fault, with the first one.
+/// Parses a bare image. It is refused exactly if a line has a code, with the first such line.
 #[tactic(auto, using(crate::proofs::Images::images))]
 pub fn read_image(alloc: Global, text: &[u8]) -> Result<Image, ImageFault>
     requires { length text.now ≤ 2 ^ 31 }

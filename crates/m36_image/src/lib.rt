@@ -1,12 +1,16 @@
-//! Bare images: a text that writes out the core of a machine, its descriptor segment base register and where it starts.
+//! Bare images: a text that describes the core of a machine, its descriptor segment base register
+//! and where it starts.
 //!
-//! [`read_image`] reads one: it answers exactly the state that the text writes out, or else the first line with a fault
-//! and the least code of that line, or want of memory. The forms of single lines, [`core_line`], [`at_line`] and
-//! [`put_line_into_core`], and the [`registers`] of a start serve other files that have them.
+//! [`read_image`] parses one. It returns exactly the state that the text describes; or the first
+//! line with a code, and the least code of that line; or `NoMemory`. The parsers of single lines,
+//! [`core_line`], [`at_line`] and [`put_line_into_core`], and the [`registers`] of a start are
+//! used for other files with such lines.
 //!
-//! `specs/BareImage.antt` has the grammar, and `specs/ImageState.antt` the state that an image writes out.
+//! `specs/BareImage.antt` has the grammar, and `specs/ImageState.antt` the state that an image
+//! describes.
 //!
-//! The form of the text is this simulator's own; registers and core are those of the Multics Processor Manual AL39.
+//! The form of the text is this simulator's own; registers and core are those of the Multics
+//! Processor Manual AL39.
 #![tactic(auto)]
 
 pub mod core_words;

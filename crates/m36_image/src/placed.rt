@@ -1,4 +1,4 @@
-//! The line `at A W ..` of a bare image: words, and where they stand in core.
+//! Parses the line `at A W ..` of a bare image: words, and their place in core.
 
 ghost use Rattle.std.specs.Prelude.{ℕ, ◌≡◌, ◌<◌, ◌≤◌, ◌^◌};
 ghost use Rattle.std.specs.Option.{option_map};
@@ -16,7 +16,7 @@ use std::marker::Model;
 #[derive(Drop)]
 pub struct Placed {
     pub words: ArrayVec<Word, 8>,
-    /// 24 bits.
+    /// The core address of the first word; 24 bits.
     pub first: u32,
 }
 
@@ -31,7 +31,7 @@ impl Model for Placed {
     ghost invariant = { λ p. p.first < 2 ^ 24 };
 }
 
-// One to eight words; none where there are more, or one is not of twelve digits.
+// Parses one to eight words; None if there are more, or one is not twelve octal digits.
 #[tactic(auto, using(crate::proofs::SeveralLaws::reading_several))]
 fn eight_words(line: &[u8]) -> Option<ArrayVec<Word, 8>>
     ensures { option_map (λ v. v.items) result ≡ words_given (words_of line.now) }
@@ -49,7 +49,7 @@ fn eight_words(line: &[u8]) -> Option<ArrayVec<Word, 8>>
     None
 }
 
-// Words that stand from an address on, by the texts of the address and of the words.
+// Parses an address and the words from there on.
 fn placed_of(address: &[u8], texts: &[u8]) -> Option<Placed>
     ensures { result ≡ at_read (core_address_in address.now) (words_given (words_of texts.now)) }
 {
@@ -61,7 +61,7 @@ fn placed_of(address: &[u8], texts: &[u8]) -> Option<Placed>
     })
 }
 
-/// The line `at A W ..`; none where it is not of its form.
+/// Parses the line `at A W ..`. None if it does not have this form.
 #[tactic(auto, unfolding(crate::specs::Several::one_to))]
 pub fn at_line(line: &[u8]) -> Option<Placed>
     ensures { result ≡ at_words (words_of line.now) }

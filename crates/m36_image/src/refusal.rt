@@ -5,30 +5,30 @@ ghost use Rattle.m36_image.specs.declared.refusal.ImageFault.TheVariants as faul
 
 use m36_word::NoMemory;
 
-/// What is wrong with a line.
+/// The codes of faulty lines.
 #[derive(Clone, Copy, PartialEq, Eq, Debug)]
 pub enum ImageCode {
-    /// The line is not of its form, is missing, or has no line feed.
+    /// The line does not have its form, is missing, or has no line feed.
     I1,
-    /// A number of frames out of range.
+    /// The number of frames is out of range.
     I2,
-    /// Words at a place that is not above every earlier one, or outside core.
+    /// The words are not above every earlier address, or not within core.
     I3,
 }
 
-/// The first line with a fault, and the least code that it has.
+/// The first line with a code, and its least code.
 #[derive(Clone, Copy, PartialEq, Eq)]
 pub struct Refusal {
-    /// The line, counted from 1. A missing line has the number that it would have.
+    /// The number of the line, from 1. A missing line has the number that it would have.
     pub line: u32,
     pub code: ImageCode,
 }
 
-/// Why an image is not read.
+/// Why an image could not be read.
 #[derive(Clone, Copy, PartialEq, Eq)]
 pub enum ImageFault {
     Refused(Refusal),
-    /// No memory was found for the core.
+    /// Out of memory for the core.
     NoMemory,
 }
 

@@ -9,7 +9,7 @@ use Rattle.m36_link.specs.Known.{is_laid_of, laid_in}
 use Rattle.m36_link.specs.Accepted.{laid_of, with_laid, MayBeLaid}
 use Rattle.m36_link.specs.Apart.{AreApart}
 
--- the section at a place is that of its segment in its ring
+-- the section at an index is that of its segment in its ring
 pub found_there : (laid : List LaidFields) (i ring seg : ℕ) (l : LaidFields) → AreApart laid → slice_get laid i ≡ Some l → l.ring ≡ ring → l.seg ≡ seg
     → laid_in laid ring seg ≡ Some l
 found_there laid i ring seg l apart at of same =
@@ -52,7 +52,7 @@ apart_more laid n apart none = record { found = found }
     found : (i : ℕ) (l : LaidFields) → slice_get (laid ++ n ∷ []) i ≡ Some l → laid_in (laid ++ n ∷ []) l.ring l.seg ≡ Some l
     found i l at = by l i (at_either laid n l i at)
 
--- a section that may be laid is apart from the others
+-- a section that may be laid is not of the same segment and ring as another
 pub apart_laid : (known : KnownFields) (before laid : List LaidFields) (lay : Option LayFields) → known.laid ≡ before → laid ≡ with_laid before lay
     → AreApart before → MayBeLaid known lay → AreApart laid
 unfolding with_laid

@@ -1,4 +1,4 @@
--- What look-ups of names that are initiated give.
+-- The results of look-ups of initiated names.
 use Rattle.std.proofs.Common.{ℕ, ◌≡◌, ◌<◌, ◌≤◌, ◌^◌, Bool, false, cond, ◌&&◌, eqb, List, [], ◌∷◌, ◌++◌, length, Option, Some, None, IfSome, refl, sym, ap, ◌∙◌, subst, arith}
 use Rattle.std.specs.Map.{lookup}
 use Rattle.std.proofs.Math.Nat.{lt_of_not-le}
@@ -35,13 +35,13 @@ found_below r test names e all =
     let P : Option ℕ → Type 0 = λ o. IfSome o (λ seg. seg < 2 ^ 15) in
     subst P (sym e) (All-lookup (λ seg. seg < 2 ^ 15) test names (λ k d h. (all k d h).seg))
 
--- a name that is not found goes last
+-- a name that is not found is added at the end
 pub goes_last : (m : IndexMap RingNameFields ℕ HashSeed) (name : RingNameFields) (target : ℕ) → None ≡ initiated m.entries name.ring name.name
     → insert_entry is_same_name m.entries name target ≡ m.entries ++ (name, target) ∷ []
 unfolding initiated
 goes_last m name target none = insert_entry-new is_same_name m name target (sym none)
 
--- they are names with one more
+-- the invariant holds with one more name
 pub names_more : (old new : List (RingNameFields × ℕ)) (k : RingNameFields) (v : ℕ) → new ≡ old ++ (k, v) ∷ [] → AreNames old → length k.name ≤ 32 → v < 2 ^ 15
     → AreNames new
 names_more old new k v e all n s = All-same IsInitiated new (old ++ (k, v) ∷ []) e (All-push IsInitiated old (k, v) all (record { name = n; seg = s }))

@@ -1,4 +1,4 @@
--- An answer may be accepted, and what services make they keep.
+-- An answer may be accepted, and accepting it keeps `IsMade`.
 use Rattle.std.proofs.Common.{ℕ, ◌≡◌, ◌<◌, ◌≤◌, ◌+◌, ◌-◌, ◌%◌, ◌^◌, Bool, true, false, cond, eqb, leb, List, [], ◌∷◌, ◌++◌, length, slice_get, option_and_then, is_some, All, Option, Some, None, Result, Ok, Err, refl, sym, ap, ◌∙◌, subst, arith}
 use Rattle.std.specs.Result.{result_ok}
 use Rattle.std.proofs.lemmas.Bool.{cond-true, le-leb, leb-true}
@@ -24,7 +24,7 @@ use Rattle.m36_link.specs.Accepted.{with_laid, with_initiated, accepted, MayBeLa
 use Rattle.m36_link.specs.Laws.{NumbersStand, IsOfCatalog, IsWhole, IsMade, MayBeAccepted, MayBeAcceptedFrom, KeepsMade, KeepsMadeFrom}
 use Rattle.m36_link.specs.declared.points.Point.{Point}
 
--- A section that has to be laid: none is yet, it goes behind the others, and it is whole.
+-- A section that has to be laid: its segment has none yet, it begins after the others, and it is whole.
 record IsFresh (laid : List LaidFields) (files : List (List ℕ)) (seg : ℕ) (l : LaidFields) : Type 0 where
   absent : laid_in laid l.ring l.seg ≡ None
   base : l.base ≡ base_of laid l.ring
@@ -42,7 +42,7 @@ abbrev Sound : List LaidFields → List (List ℕ) → ℕ → Result LandingFie
 Sound laid files seg (Err code) = Unit {0}
 Sound laid files seg (Ok landing) = (landing.target ≡ seg) × Fresh laid files seg landing.lay
 
--- ---- where a link leads
+-- ---- the target of a link
 
 own_sound : (laid : List LaidFields) (files : List (List ℕ)) (ring : ℕ) (l : LaidFields) (o : PartsFields) (link : LinkFields) (p : Result Point LinkCode)
     → Sound laid files l.seg (own_by ring l o link p)
@@ -104,13 +104,13 @@ found_sound known files ring seg (Some s) (Some words) link file = target_sound 
 found_sound known files ring seg (Some s) None link file = tt
 found_sound known files ring seg None words link file = tt
 
--- ---- of which segments
+-- ---- segments of the catalog
 
 abbrev FreshIn : List LaidFields → CatalogFields → List (List ℕ) → Option LaidFields → Type 0
 FreshIn laid catalog files None = Unit {0}
 FreshIn laid catalog files (Some l) = IsFresh laid files l.seg l × IsOfCatalog catalog l.seg
 
--- what is answered to a link that has the name of a segment or has none
+-- the properties of the target of a link that has the name of a segment or has none
 abbrev Good : List LaidFields → CatalogFields → List (List ℕ) → Bool → Result LandingFields LinkCode → Type 0
 Good laid catalog files outer (Err code) = Unit {0}
 Good laid catalog files outer (Ok landing) =
@@ -185,7 +185,7 @@ landing_good known catalog files ring l o link = by (has_name link.kind)
 
 -- ---- the answer
 
--- what an answer is that was given
+-- the properties of an answer
 record IsGiven (known : KnownFields) (catalog : CatalogFields) (files : List (List ℕ)) (s : SnapFields) : Type 0 where
   lay : Option LaidFields
   laid : s.lay ≡ lay_of files lay
@@ -218,7 +218,7 @@ given : (known : KnownFields) (catalog : CatalogFields) (files : List (List ℕ)
 unfolding snap_of
 given known catalog files at s e = given_in known catalog files at (section_at known.laid files at) s e
 
--- the flag of a good answer may be that of another link
+-- the properties hold whether or not the link has a name
 with_name : (laid : List LaidFields) (catalog : CatalogFields) (files : List (List ℕ)) (outer : Bool) (r : Result LandingFields LinkCode) → Good laid catalog files true r
     → Good laid catalog files outer r
 with_name laid catalog files outer (Err code) good = tt
@@ -232,7 +232,7 @@ given_from known catalog files ring link from s e =
     given_by known catalog files ring link r s
     (with_name known.laid catalog files (has_name link.kind) r (candidate_good known catalog files ring link (searched known catalog ring link.name from))) e
 
--- ---- what it is accepted into
+-- ---- what is known after it is accepted
 
 words_are : (files : List (List ℕ)) (seg : ℕ) (o : PartsFields) → object_in files seg ≡ Some o → words_laid (object_in files seg) ≡ laid_words o
 words_are files seg o e = ap (λ (p : Option PartsFields). words_laid p) e
@@ -250,7 +250,7 @@ accepted_by known catalog files s g =
     let P : Option LayFields → Type 0 = λ lay. MayBeLaid known lay in
     subst P (sym g.laid) (may_be known catalog files g.lay g.fresh)
 
--- a section begins at an even word, as the first of a ring does
+-- a section begins at an even word, as the first one of a ring does
 even_evened : (n : ℕ) → evened n % 2 ≡ 0
 even_evened n = omega arith
 

@@ -1,4 +1,4 @@
--- The pair that takes the place of a link is read as a pair: it stands at an even word, and its first word has the tag.
+-- The pair that replaces a link is read as a pair: it is at an even word, and its first word has the tag.
 use Rattle.std.proofs.Common.{ℕ, ◌≡◌, ◌+◌, ◌-◌, ◌/◌, ◌%◌, ◌^◌, ◌≤◌, Bool, true, false, cond, ◌&&◌, ◌||◌, leb, eqb, List, [], length, find, slice_get, All, Option, Some, None, Result, Ok, Err, refl, sym, ap, ◌∙◌, subst, arith}
 use Rattle.std.specs.List.{position_or_len}
 use Rattle.std.proofs.lemmas.Bool.{leb-true, eqb-true, eq-eqb}
@@ -118,7 +118,7 @@ snap_tag files ring link (Ok landing) s tag e =
     let P : SnapFields → Type 0 = λ x. tag_of x.pair.even ≡ its_tag in
     subst P is tag
 
--- ---- the word at which it stands
+-- ---- the word number of the link
 
 statics_even : (b : Bool) (statics : List ℕ) → (b || eqb (length statics % 2) 0) ≡ true → length (cond b [] statics) % 2 ≡ 0
 statics_even true statics e = refl
@@ -151,7 +151,7 @@ place_even files word l o link even read is =
     link_even (l.base + first_link o) word o.links link (both_even l.base (first_link o) even (links_even o (formed_in files l.seg o read)))
     (sym (object_links files word l o read) ∙ is)
 
--- ---- what holds of each section holds of the one that has the link
+-- ---- what holds for each section holds for the one that has the link
 
 holds_of : (test : LaidFields → Bool) (P : LaidFields → Type 0) (laid : List LaidFields) (l : LaidFields) → find test laid ≡ Some l → All P laid → P l
 holds_of test P laid l e all =

@@ -1,4 +1,4 @@
--- What contracts see of what link services have made, and of what one answers: the fields.
+-- The models of what link services have made known, and of their answers.
 use Rattle.std.specs.Prelude.{ℕ, List, Option}
 use Rattle.m36_word.specs.declared.pair.Pair.{Pair}
 use Rattle.obj36_parts.specs.Fields.{LinkFields}
@@ -8,35 +8,35 @@ pub record RingNameFields : Type 0 where
   pub ring : ℕ
   pub name : List ℕ
 
--- A section in its place: the segment whose it is, the ring in whose linkage segment it lies, its
--- first word there, and how many words it has.
+-- A section in its place: the ring in whose linkage segment it is, the segment that it belongs to,
+-- the word number of its first word there, and the number of its words.
 pub record LaidFields : Type 0 where
   pub ring : ℕ
   pub seg : ℕ
   pub base : ℕ
   pub size : ℕ
 
--- The names that are initiated, each with its segment number, and the sections that are laid: both
+-- The names that are initiated, each with its segment number, and the sections that are laid, each
 -- in the order of the services.
 pub record KnownFields : Type 0 where
   pub names : List (RingNameFields × ℕ)
   pub laid : List LaidFields
 
--- where a link leads: the pair, the number of the segment, and the section that has to be laid
+-- the target of a link: the pair, the number of the segment, and the section that has to be laid
 pub record LandingFields : Type 0 where
   pub pair : Pair
   pub target : ℕ
   pub lay : Option LaidFields
 
--- a section that is to be laid: where, and its words
+-- a section that has to be laid: its place, and its words
 pub record LayFields : Type 0 where
   pub ring : ℕ
   pub seg : ℕ
   pub base : ℕ
   pub words : List ℕ
 
--- The answer to a link: the pair that takes its place, the ring of the link, the number of the
--- segment that it leads to, the link itself, and the section that is laid for it.
+-- The answer to a link: the pair that replaces it, the ring of the link, the number of the target
+-- segment, the link itself, and the section that is laid for it.
 pub record SnapFields : Type 0 where
   pub pair : Pair
   pub ring : ℕ

@@ -1,9 +1,9 @@
--- What link services have made: the names that are initiated in each ring, and the sections that
--- are laid in it.
+-- What link services have made known: the names that are initiated in each ring, and the sections
+-- that are laid in it.
 --
--- Catalog segment i has segment number 64 + i, and the linkage segment of ring r has 16 + r. Its
--- words 0 to 1023 are the linkage offset table of the ring; sections are laid from word 1024 on,
--- one after another, each at an even word.
+-- Catalog segment i has segment number 64 + i, and the linkage segment of ring r has 16 + r. Words
+-- 0 to 1023 of a linkage segment are the linkage offset table of the ring. Sections are laid from
+-- word 1024 on, one after another, each at an even word.
 use Rattle.std.specs.Prelude.{ℕ, ◌+◌, ◌-◌, Bool, ◌&&◌, nat_eq, nat_le, if◌then◌else◌}
 use Rattle.std.specs.Prelude.{List, [], ◌∷◌, ◌++◌, find, slice_get, Option, Some, None}
 use Rattle.std.specs.Prelude.{option_and_then}
@@ -19,47 +19,55 @@ use Rattle.obj36_parts.specs.ObjectSegment.{evened, linkage_section, outer_stati
 use Rattle.obj36.specs.ObjectOf.{object_of}
 use Rattle.m36_link.specs.Fields.{RingNameFields, LaidFields, LayFields, KnownFields}
 
+-- no names and no sections
 abbrev pub nothing_known : KnownFields
 nothing_known = record { names = []; laid = [] }
 
 -- ---- numbers of segments
 
+-- the number of the first segment of a catalog
 abbrev pub first_segment : ℕ
 first_segment = 64
 
+-- the number of the linkage segment of ring 0
 abbrev pub first_linkage : ℕ
 first_linkage = 16
 
+-- the number of the linkage segment of a ring
 abbrev pub linkage_segment : ℕ → ℕ
 linkage_segment ring = first_linkage + ring
 
+-- the number of words of a linkage offset table
 abbrev pub lot_words : ℕ
 lot_words = 1024
 
--- the number of a segment of the catalog, by its place there, counted from 0
+-- the number of segment i of the catalog, counted from 0
 abbrev pub catalog_number : ℕ → ℕ
 catalog_number i = first_segment + i
 
--- the place in the catalog that goes with a number from 64 on
+-- the index in the catalog of a number from 64 on
 abbrev pub catalog_index : ℕ → ℕ
 catalog_index seg = seg - first_segment
 
--- which segment of the catalog has a number
+-- the index in the catalog of the segment with a number
 unfoldable pub place_of : ℕ → Option ℕ
 place_of seg = if nat_le first_segment seg then Some (catalog_index seg) else None
 
+-- the segment of the catalog with a number, if there is one
 unfoldable pub segment_of : CatalogFields → ℕ → Option SegmentFields
 segment_of catalog seg = option_and_then (slice_get catalog.segments) (place_of seg)
 
+-- the file of the segment with a number, if there is one
 unfoldable pub file_of : List (List ℕ) → ℕ → Option (List ℕ)
 file_of files seg = option_and_then (slice_get files) (place_of seg)
 
--- the object that the file of a segment is
+-- the object in the file of a segment
 unfoldable pub object_in : List (List ℕ) → ℕ → Option PartsFields
 object_in files seg = option_and_then (λ words. result_ok (object_of words)) (file_of files seg)
 
 -- ---- names
 
+-- the same name in the same ring
 abbrev pub is_same_name : RingNameFields → RingNameFields → Bool
 is_same_name a b = are_same a.name b.name && nat_eq a.ring b.ring
 
@@ -69,11 +77,12 @@ initiated names ring name = lookup (is_same_name (record { ring = ring; name = n
 
 -- ---- sections
 
--- The ring in whose linkage segment a section goes: that in which its segment runs for a caller of
--- the ring of the link.
+-- The ring in whose linkage segment a section is laid: the ring in which its segment runs for a
+-- caller in the ring of the link.
 abbrev pub section_ring : ℕ → SegmentFields → ℕ
 section_ring ring s = ring_under s.r2 ring
 
+-- the section is that of the segment in the ring
 abbrev pub is_laid_of : ℕ → ℕ → LaidFields → Bool
 is_laid_of ring seg l = nat_eq l.ring ring && nat_eq l.seg seg
 
@@ -81,22 +90,24 @@ is_laid_of ring seg l = nat_eq l.ring ring && nat_eq l.seg seg
 unfoldable pub laid_in : List LaidFields → ℕ → ℕ → Option LaidFields
 laid_in laid ring seg = find (is_laid_of ring seg) laid
 
--- the even word behind a section
+-- the even word after a section
 unfoldable pub behind : LaidFields → ℕ
 behind l = evened (l.base + l.size)
 
--- where the next section of a ring goes, where it would go to a word if no further one were laid
+-- the word number of the next section of a ring after section `l`, if it was `at` before
 abbrev pub base_behind : ℕ → ℕ → LaidFields → ℕ
 base_behind ring at l = if nat_eq l.ring ring then behind l else at
 
+-- the word number of the next section of a ring after these sections, if it was `at` before them
 unfoldable pub next_base : ℕ → ℕ → List LaidFields → ℕ
 next_base ring at [] = at
 next_base ring at (l ∷ laid) = next_base ring (base_behind ring at l) laid
 
+-- the word number at which the next section of a ring is laid
 abbrev pub base_of : List LaidFields → ℕ → ℕ
 base_of laid ring = next_base ring lot_words laid
 
--- the words that are laid: the linkage section, and behind it the static section where there is one
+-- the words that are laid: the linkage section, and after it the static section, if there is one
 unfoldable pub laid_words : PartsFields → List ℕ
 laid_words o = linkage_section o ++ outer_statics o
 

@@ -1,4 +1,4 @@
--- Where a link leads, or the code with which it is refused.
+-- The target of a link, or the code with which it is refused.
 use Rattle.std.specs.Prelude.{ℕ, ◌+◌, ◌%◌, ◌^◌, Bool, true, false, not, ◌&&◌, ◌||◌, nat_le}
 use Rattle.std.specs.Prelude.{nat_lt, if◌then◌else◌, List, length, Option, Some, None, Result, Ok}
 use Rattle.std.specs.Prelude.{Err}
@@ -28,16 +28,17 @@ use Rattle.m36_link.specs.declared.sections.Home.{Home}
 
 -- ---- the place in an object that a link names
 
--- the section in which a link's value counts where its entry does not say
+-- the section that a link's value refers to if its entry does not say
 abbrev pub section_of : LinkFields → Section
 section_of link = if has_name link.kind then Text else link.section
 
--- L3: the entry has no definition
+-- L3: the entry is not defined
 abbrev pub point_by : Section → Option DefFields → Result Point LinkCode
 point_by section None = Err L3
 point_by section (Some d) =
     Ok (record { section = later_section section d.section; value = d.value })
 
+-- the place in its target object that a link names, or L3
 unfoldable pub point_of : LinkFields → PartsFields → Result Point LinkCode
 point_of link o =
     if has_entry link.kind
@@ -51,9 +52,9 @@ unfoldable pub pair_to : ℕ → ℕ → ℕ → LinkFields → Pair
 pair_to seg ring word link =
     its_pair (record { seg = seg; ring = ring; word = word % 2 ^ 18; bit = 0; tag = link.modifier })
 
--- A value counts from word 0 of the segment, or from where its section is laid: in the linkage
--- section from the first word, in the static section from the word behind the linkage section,
--- which has so many words.
+-- A value is relative to word 0 of the segment or, in a laid section, to its place: in the linkage
+-- section to its first word, and in the static section to the word after the linkage section,
+-- which has `linkage` words.
 abbrev pub pair_from : Section → ℕ → ℕ → LaidFields → ℕ → LinkFields → Pair
 pair_from Text value ring l linkage link = pair_to l.seg ring (value + link.expr) link
 pair_from Symbol value ring l linkage link = pair_to l.seg ring (value + link.expr) link
@@ -63,10 +64,11 @@ pair_from Static value ring l linkage link =
     pair_to (linkage_segment l.ring) ring
     (l.base + linkage + value + link.expr) link
 
+-- the pair to a place of an object whose section is laid
 unfoldable pub pair_of : Point → ℕ → LaidFields → ℕ → LinkFields → Pair
 pair_of point ring l linkage link = pair_from point.section point.value ring l linkage link
 
--- ---- the section of a segment in a ring: laid already, or to be laid behind the others
+-- ---- the section of a segment in a ring: laid already, or to be laid after the others
 
 -- L6: the section would end past the linkage segment
 abbrev pub new_home : ℕ → ℕ → ℕ → ℕ → Result Home LinkCode
@@ -78,16 +80,19 @@ new_home ring seg base size =
     })
     else Err (L6 base size)
 
+-- the section that is laid already, or a new one
 abbrev pub home_by : Option LaidFields → List LaidFields → ℕ → ℕ → PartsFields
     → Result Home LinkCode
 home_by (Some l) laid ring seg o = Ok (record { section = l; is_new = false })
 home_by None laid ring seg o = new_home ring seg (base_of laid ring) (length (laid_words o))
 
+-- the section of a segment in a ring, and whether it still has to be laid; or L6
 unfoldable pub home_of : List LaidFields → ℕ → ℕ → PartsFields → Result Home LinkCode
 home_of laid ring seg o = home_by (laid_in laid ring seg) laid ring seg o
 
--- ---- types 1 and 5: the own object, whose section is the one that holds the link
+-- ---- types 1 and 5: the link's own object, whose section has the link
 
+-- the target of a link to its own object, given the place that it names
 abbrev pub own_by : ℕ → LaidFields → PartsFields → LinkFields → Result Point LinkCode
     → Result LandingFields LinkCode
 own_by ring l o link found =
@@ -99,6 +104,7 @@ own_by ring l o link found =
       lay = None;
     }))
 
+-- the target of a link of type 1 or 5
 unfoldable pub own_landing : ℕ → LaidFields → PartsFields → LinkFields
     → Result LandingFields LinkCode
 own_landing ring l o link = own_by ring l o link (point_of link o)
@@ -109,12 +115,13 @@ own_landing ring l o link = own_by ring l o link (point_of link o)
 abbrev pub may_not_use : ℕ → SegmentFields → Bool
 may_not_use ring s = nat_lt s.r3 ring || (nat_lt s.r2 ring && not s.mode.executable)
 
+-- the segment is plain words, neither an object nor a gate
 abbrev pub is_plain : SegKind → Bool
 is_plain Plain = true
 is_plain Object = false
 is_plain Gate = false
 
--- the number of a code of objects
+-- the number in a code of objects
 abbrev pub fault_number : ObjectFault → ℕ
 fault_number (O1 at) = 1
 fault_number (O2 at) = 2
@@ -126,16 +133,18 @@ fault_number (O7 at) = 7
 fault_number (O8 at) = 8
 fault_number NoMemory = 0
 
--- plain words have no entries, and nothing is laid for them
+-- plain words define no entries, and no section is laid for them
 unfoldable pub plain_landing : ℕ → ℕ → LinkFields → Result LandingFields LinkCode
 plain_landing ring seg link =
     if has_entry link.kind then Err L3
     else Ok (record { pair = pair_to seg ring link.expr link; target = seg; lay = None })
 
+-- a section that still has to be laid
 abbrev pub lay_if : Bool → LaidFields → Option LaidFields
 lay_if true l = Some l
 lay_if false l = None
 
+-- the target of a link to an object, given the place that it names and the object's section
 abbrev pub landing_in : ℕ → ℕ → PartsFields → LinkFields → Point → Result Home LinkCode
     → Result LandingFields LinkCode
 landing_in ring seg o link point found =
@@ -147,23 +156,25 @@ landing_in ring seg o link point found =
       lay = lay_if home.is_new home.section;
     }))
 
+-- the same given only the place
 abbrev pub landing_at : List LaidFields → ℕ → ℕ → ℕ → PartsFields → LinkFields
     → Result Point LinkCode → Result LandingFields LinkCode
 landing_at laid ring section_ring seg o link found =
     and_then found (λ point. landing_in ring seg o link point (home_of laid section_ring seg o))
 
--- an object, whose section is in a ring, which may be another than that of the link
+-- an object whose section is in the ring `section_ring`, which may differ from that of the link
 unfoldable pub object_landing : List LaidFields → ℕ → ℕ → ℕ → PartsFields → LinkFields
     → Result LandingFields LinkCode
 object_landing laid ring section_ring seg o link =
     landing_at laid ring section_ring seg o link (point_of link o)
 
--- L5: the file is no object
+-- L5: the file is not an object
 abbrev pub landing_by : List LaidFields → ℕ → ℕ → SegmentFields → LinkFields
     → Result PartsFields ObjectFault → Result LandingFields LinkCode
 landing_by laid ring seg s link (Err fault) = Err (L5 (fault_number fault))
 landing_by laid ring seg s link (Ok o) = object_landing laid ring (section_ring ring s) seg o link
 
+-- the target of a link of type 3 or 4 to the segment that was found
 unfoldable pub target_landing : List LaidFields → ℕ → ℕ → SegmentFields → List ℕ → LinkFields
     → Result LandingFields LinkCode
 target_landing laid ring seg s words link =

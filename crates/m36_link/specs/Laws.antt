@@ -1,4 +1,4 @@
--- Laws of links, of search and of laying.
+-- Laws of links, of the search and of laying.
 use Rattle.std.specs.Prelude.{ℕ, ◌≡◌, ◌<◌, ◌≤◌, ◌+◌, ◌%◌, List, length, slice_get, slice_index}
 use Rattle.std.specs.Prelude.{All, Some, Ok}
 use Rattle.m36_model.specs.Fields.{AtFields}
@@ -17,15 +17,15 @@ use Rattle.m36_link.specs.Links.{link_in}
 use Rattle.m36_link.specs.Snap.{snap_of, outer_snap}
 use Rattle.m36_link.specs.Accepted.{accepted, MayBeLaid}
 
--- The tag in the first word of a link that is not snapped is that of fault tag 2, the fault by which
--- links are served: an address that reaches it ends there with this fault.
+-- The first word of a link that is not snapped has fault tag 2, whose fault calls for link
+-- services: an address that reaches it ends there with this fault.
 abbrev pub LinksFault : Type 0
 LinksFault =
     (g : RegsFields) (p : Point) (at : ℕ) → p.tag ≡ indirect_tag (link_head at)
     → move_of_point g p ≡ Fails (fault_at fault_tag_2 p.carrier)
 
--- At the word at which an object has a link a service finds this link, wherever the section of the
--- object is laid; and there stands, until it is snapped, the first word of a link.
+-- At the word where an object has a link, a service finds this link, wherever the section of the
+-- object is laid. Until it is snapped, that word is the first word of a link.
 pub record LinksFound : Type 0 where
   pub link :
       (files : List (List ℕ)) (l : LaidFields) (o : PartsFields) (i : ℕ)
@@ -36,17 +36,17 @@ pub record LinksFound : Type 0 where
       → slice_index (linkage_section o) (word_of_link (first_link o) i)
       ≡ link_head (word_of_link (first_link o) i)
 
--- The place that goes with the number of a place in the catalog is that place.
+-- The number of a segment of the catalog leads back to its index.
 abbrev pub NumbersStand : Type 0
 NumbersStand = (i : ℕ) → place_of (catalog_number i) ≡ Some i
 
--- a number of a catalog segment
+-- the number of a catalog segment
 pub record IsOfCatalog (catalog : CatalogFields) (seg : ℕ) : Type 0 where
   pub from : first_segment ≤ seg
   pub below : seg < first_segment + length catalog.segments
 
--- A laid section is that of an object of the catalog, whole, from an even word on, within the
--- linkage segment.
+-- A laid section is the whole section of an object of the catalog, begins at an even word, and is
+-- within the linkage segment.
 pub record IsWhole (catalog : CatalogFields) (files : List (List ℕ)) (l : LaidFields) : Type 0 where
   pub segment : IsOfCatalog catalog l.seg
   pub object : PartsFields
@@ -55,39 +55,42 @@ pub record IsWhole (catalog : CatalogFields) (files : List (List ℕ)) (l : Laid
   pub size : l.size ≡ length (laid_words object)
   pub end : l.base + l.size ≤ segment_limit
 
--- what services make
+-- the invariant of what link services make known
 pub record IsMade (catalog : CatalogFields) (files : List (List ℕ))
     (known : KnownFields) : Type 0 where
   pub names : All (λ e. IsOfCatalog catalog e.1) known.names
   pub laid : All (IsWhole catalog files) known.laid
 
--- The pair that takes the place of a link stands at an even word and has the tag of its kind: an
--- address that comes to it reads it as an ITS pair.
+-- The pair that replaces a link is at an even word and has the tag of its kind: an address that
+-- reaches it reads it as an ITS pair.
 abbrev pub PairsStand : Type 0
 PairsStand =
     (known : KnownFields) (catalog : CatalogFields) (files : List (List ℕ)) (at : AtFields)
     (s : SnapFields) → IsMade catalog files known → snap_of known catalog files at ≡ Ok s
     → found at.word s.pair.even ≡ Its
 
--- An answer may be accepted: to a place, and to a link that is searched from a directory.
+-- An answer may be accepted: to the link at a place, and to a link that is searched from a
+-- directory.
 abbrev pub MayBeAccepted : Type 0
 MayBeAccepted =
     (known : KnownFields) (catalog : CatalogFields) (files : List (List ℕ)) (at : AtFields)
     (s : SnapFields) → snap_of known catalog files at ≡ Ok s → MayBeLaid known s.lay
 
+-- the same for a link that is searched from a directory
 abbrev pub MayBeAcceptedFrom : Type 0
 MayBeAcceptedFrom =
     (known : KnownFields) (catalog : CatalogFields) (files : List (List ℕ)) (ring : ℕ)
     (link : LinkFields) (from : ℕ) (s : SnapFields)
     → outer_snap known catalog files ring link from ≡ Ok s → MayBeLaid known s.lay
 
--- What services make they keep.
+-- Accepting an answer keeps `IsMade`.
 abbrev pub KeepsMade : Type 0
 KeepsMade =
     (known : KnownFields) (catalog : CatalogFields) (files : List (List ℕ)) (at : AtFields)
     (s : SnapFields) → IsMade catalog files known → snap_of known catalog files at ≡ Ok s
     → IsMade catalog files (accepted known s)
 
+-- the same for a link that is searched from a directory
 abbrev pub KeepsMadeFrom : Type 0
 KeepsMadeFrom =
     (known : KnownFields) (catalog : CatalogFields) (files : List (List ℕ)) (ring : ℕ)

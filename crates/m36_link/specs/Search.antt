@@ -5,21 +5,22 @@ use Rattle.m36_dir.specs.Catalog.{CatalogFields, found}
 use Rattle.m36_link.specs.Fields.{KnownFields}
 use Rattle.m36_link.specs.Known.{catalog_number, initiated}
 
--- The directories that are looked at, in order: that of the segment that refers, the working
--- directory, and the libraries.
+-- The directories that are searched, in order: that of the segment that refers to the name, the
+-- working directory, and the libraries.
 abbrev pub directories_searched : CatalogFields → ℕ → List ℕ
 directories_searched catalog from = from ∷ catalog.work ∷ catalog.libraries
 
+-- the number of the segment with a name in a directory, if there is one
 unfoldable pub found_in : CatalogFields → List ℕ → ℕ → Option ℕ
 found_in catalog name dir = option_map catalog_number (found catalog dir name)
 
--- The candidates in their order: what the name is initiated as in the ring, and the segment of that
--- name in each directory.
+-- The candidates in their order: the segment that is initiated under the name in the ring, and the
+-- segment of that name in each directory.
 unfoldable pub candidates : KnownFields → CatalogFields → ℕ → List ℕ → ℕ → List ℕ
 candidates known catalog ring name from =
     option_to_list (initiated known.names ring name)
     ++ filter_map (found_in catalog name) (directories_searched catalog from)
 
--- The first is taken, and the search never goes past it.
+-- The first candidate is taken, and never a later one.
 unfoldable pub searched : KnownFields → CatalogFields → ℕ → List ℕ → ℕ → Option ℕ
 searched known catalog ring name from = slice_get (candidates known catalog ring name from) 0

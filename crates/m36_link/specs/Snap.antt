@@ -1,4 +1,4 @@
--- The answer of a link service: the snapped pair, or why there is none.
+-- The answer of a link service: the snapped pair, or the reason why there is none.
 use Rattle.std.specs.Prelude.{ℕ, ◌≡◌, if◌then◌else◌, List, [], Option, Some, None, Result, Ok, Err}
 use Rattle.m36_model.specs.Fields.{AtFields}
 use Rattle.m36_model.specs.declared.endings.LinkCode.{LinkCode}
@@ -16,12 +16,12 @@ use Rattle.m36_link.specs.Landing.{own_landing, target_landing}
 use Rattle.m36_link.specs.declared.snap.LinkFault.{LinkFault}
 use Rattle.m36_link.specs.declared.snap.LinkFault.TheVariants.{Refused, NoMemory}
 
--- a code, with the link of every code but L1
+-- a code; with the link, except for L1
 pub record RefusedFields : Type 0 where
   pub code : LinkCode
   pub link : Option LinkFields
 
--- ---- where a link of a ring leads
+-- ---- the target of a link of a ring
 
 -- L2: there is no candidate
 abbrev pub found_landing : List LaidFields → ℕ → ℕ → Option SegmentFields → Option (List ℕ)
@@ -29,6 +29,7 @@ abbrev pub found_landing : List LaidFields → ℕ → ℕ → Option SegmentFie
 found_landing laid ring seg (Some s) (Some words) link = target_landing laid ring seg s words link
 found_landing laid ring seg _ _ link = Err L2
 
+-- the target of a link of type 3 or 4, given the candidate that was found
 abbrev pub candidate_landing : KnownFields → CatalogFields → List (List ℕ) → ℕ → LinkFields
     → Option ℕ → Result LandingFields LinkCode
 candidate_landing known catalog files ring link None = Err L2
@@ -41,12 +42,12 @@ unfoldable pub outer_landing : KnownFields → CatalogFields → List (List ℕ)
 outer_landing known catalog files ring link from =
     candidate_landing known catalog files ring link (searched known catalog ring link.name from)
 
--- the directory of the segment that refers
+-- the directory of the segment that refers to the name
 abbrev pub directory_of : Option SegmentFields → ℕ
 directory_of None = 0
 directory_of (Some s) = s.dir
 
--- a link of an object, whose section is laid
+-- a link of an object whose section is laid
 unfoldable pub landing_of : KnownFields → CatalogFields → List (List ℕ) → ℕ → LaidFields
     → PartsFields → LinkFields → Result LandingFields LinkCode
 landing_of known catalog files ring l o link =
@@ -61,6 +62,7 @@ abbrev pub words_laid : Option PartsFields → List ℕ
 words_laid None = []
 words_laid (Some o) = laid_words o
 
+-- the section that has to be laid, with its words
 abbrev pub lay_of : List (List ℕ) → Option LaidFields → Option LayFields
 lay_of files None = None
 lay_of files (Some l) =
@@ -71,6 +73,7 @@ lay_of files (Some l) =
       words = words_laid (object_in files l.seg);
     })
 
+-- the answer, given the target of the link
 abbrev pub snap_by : List (List ℕ) → ℕ → LinkFields → Result LandingFields LinkCode
     → Result SnapFields RefusedFields
 snap_by files ring link (Ok landing) =
@@ -83,34 +86,37 @@ snap_by files ring link (Ok landing) =
     })
 snap_by files ring link (Err code) = Err (record { code = code; link = Some link })
 
--- what a link of type 3 or 4 comes to in a ring, searched from a directory
+-- the answer to a link of type 3 or 4 in a ring, searched from a directory
 unfoldable pub outer_snap : KnownFields → CatalogFields → List (List ℕ) → ℕ → LinkFields → ℕ
     → Result SnapFields RefusedFields
 outer_snap known catalog files ring link from =
     snap_by files ring link (outer_landing known catalog files ring link from)
 
--- L1: the place is no link
+-- L1: there is no link at the place
 abbrev pub no_link : Result SnapFields RefusedFields
 no_link = Err (record { code = L1; link = None })
 
+-- the answer, given the object and the link at the place
 abbrev pub snap_for : KnownFields → CatalogFields → List (List ℕ) → ℕ → LaidFields
     → Option PartsFields → Option LinkFields → Result SnapFields RefusedFields
 snap_for known catalog files ring l (Some o) (Some link) =
     snap_by files ring link (landing_of known catalog files ring l o link)
 snap_for known catalog files ring l _ _ = no_link
 
+-- the answer, given the section at the place
 abbrev pub snap_in : KnownFields → CatalogFields → List (List ℕ) → AtFields → Option LaidFields
     → Result SnapFields RefusedFields
 snap_in known catalog files at None = no_link
 snap_in known catalog files at (Some l) =
     snap_for known catalog files at.ring l (object_in files l.seg) (link_in files at.word l)
 
--- The answer to the fault of a link word at a place, whose ring is the ring of the link.
+-- The answer to the fault of a link word at a place. The ring of the place is the ring of the
+-- link.
 unfoldable pub snap_of : KnownFields → CatalogFields → List (List ℕ) → AtFields
     → Result SnapFields RefusedFields
 snap_of known catalog files at = snap_in known catalog files at (section_at known.laid files at)
 
--- What is answered is this, where want of memory may come at any time.
+-- The result of the code: this answer, or NoMemory.
 abbrev pub SnapSays : Result SnapFields LinkFault → Result SnapFields RefusedFields → Type 0
 SnapSays (Ok snap) definition = definition ≡ Ok snap
 SnapSays (Err (Refused code link)) definition =

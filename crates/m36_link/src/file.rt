@@ -1,4 +1,4 @@
-//! The files of the segments of a catalog, each read once.
+//! The files of the segments of a catalog, each read as an object once.
 
 ghost use Rattle.std.specs.Prelude.{ℕ, List, ◌≡◌, ◌-◌, ◌<◌, ◌≤◌, ◌^◌, Option, Some, None, Ok, Err, MatchResult, length, option_copied, IfOk, IfSome};
 ghost use Rattle.obj36.specs.ObjectOf.{object_of};
@@ -13,7 +13,8 @@ use std::marker::Model;
 /// The number of the first segment of a catalog.
 pub const FIRST_SEGMENT: u16 = 64;
 
-/// The words of a segment's file, with the object that they are, or why they are none. It is seen as its words.
+/// The words of a segment's file, with the object in them, or the reason why they are not an
+/// object. The model is the words.
 #[derive(Drop)]
 pub struct File {
     words: Words,
@@ -32,7 +33,7 @@ impl Model for File {
 }
 
 impl File {
-    /// Reads a file of fewer than 2^32 words, whatever it is. The error is want of memory alone.
+    /// Reads a file of fewer than 2^32 words, with any content. Fails only with `NoMemory`.
     pub fn read(alloc: Global, words: Words) -> Result<File, NoMemory>
         requires { length words < 2 ^ 32 }
         ensures { IfOk result (λ file. file ≡ words) }
@@ -50,10 +51,11 @@ impl File {
         self.words.slice()
     }
 
-    /// The object that the words are, or their first fault.
+    /// The object in the words, or their first fault.
     #[tactic(auto, using(crate::proofs::Sizes::object_fits))]
     pub fn object(&self) -> Result<&Object, ObjectFault>
-        ensures value { MatchResult result (λ o. object_of self.now ≡ Ok o.now) (λ f. object_of self.now ≡ Err f) }
+        ensures value { MatchResult result (λ o. object_of self.now ≡ Ok o.now)
+            (λ f. object_of self.now ≡ Err f) }
         ensures fits { IfOk result (λ o. length (laid_words o.now) ≤ segment_limit) }
     {
         match &self.object {
@@ -63,7 +65,7 @@ impl File {
     }
 }
 
-/// Which segment of the catalog has a number.
+/// The index in the catalog of the segment with a number; None below the first number.
 #[tactic(auto, unfolding(crate::specs::Known::place_of))]
 pub(crate) fn place_of(seg: u16) -> Option<usize>
     ensures { result ≡ place_of seg }
@@ -86,7 +88,8 @@ pub(crate) fn file_of(files: &[File], seg: u16) -> Option<&File>
     }
 }
 
-/// The object that the file of a segment is; None where the number is that of no file, or the file is no object.
+/// The object in the file of a segment; None if no file has this number, or the file is not an
+/// object.
 #[tactic(auto, unfolding(crate::specs::Known::object_in))]
 pub fn object_in(files: &[File], seg: u16) -> Option<&Object>
     ensures value { option_copied result ≡ object_in files.now seg }

@@ -1,4 +1,4 @@
-//! What link services have made.
+//! The results of link services.
 
 ghost use Rattle.std.specs.Prelude.{[], ◌∷◌, ◌++◌, ◌≡◌, ◌<◌, ◌≤◌, ◌^◌, ◌+◌, Option, Some, None, IfOk, IfSome, OnOk, OnErr, length};
 ghost use Rattle.std.specs.Vec.{vec_len, vec_capacity};
@@ -23,13 +23,13 @@ use obj36_parts::names::has_its_name;
 use std::alloc::Global;
 use std::marker::Model;
 
-/// The names that are initiated in each ring, and the sections that are laid in it, both in the order in which they came.
-/// It is seen as these two lists.
+/// The names that are initiated in each ring, and the linkage sections that are laid in it, each
+/// in the order in which they came. The model is these two lists.
 #[derive(Drop)]
 pub struct Known {
     names: IndexMap<RingName, u16, HashSeed>,
     laid: Vec<Laid>,
-    // Where each of these stands.
+    // The index of each section in `laid`.
     places: Vec<u16>,
 }
 
@@ -46,7 +46,7 @@ impl Model for Known {
     ghost invariant = { λ k. (AreNames k.names.entries) × (AreApart k.laid.items) };
 }
 
-// Adds a name that is none yet. Where no memory is found, nothing changes.
+// Adds a name that is not yet initiated. If memory runs out, nothing changes.
 fn insert_name(
     names: &mut IndexMap<RingName, u16, HashSeed>,
     name: RingName,
@@ -64,7 +64,8 @@ fn insert_name(
     Ok(())
 }
 
-// Adds the name of a link of type 3 or 4 where it is none yet. Where no memory is found, nothing changes.
+// Adds the name of a link of type 3 or 4, if it is not yet initiated. If memory runs out, nothing
+// changes.
 #[tactic(auto, unfolding(crate::specs::Accepted::with_initiated))]
 fn add_name(
     names: &mut IndexMap<RingName, u16, HashSeed>,
@@ -74,7 +75,8 @@ fn add_name(
 ) -> Result<(), NoMemory>
     requires names { AreNames names.old.entries }
     requires target { target < 2 ^ 15 }
-    ensures ok { OnOk result (names.new.entries ≡ with_initiated names.old.entries ring link.now target) }
+    ensures ok { OnOk result
+        (names.new.entries ≡ with_initiated names.old.entries ring link.now target) }
     ensures err { OnErr result (names.new.entries ≡ names.old.entries) }
     ensures names { AreNames names.new.entries }
 {
@@ -94,7 +96,7 @@ fn add_name(
     }
 }
 
-// Adds a section where there is room for it.
+// Adds a section; there is room for it.
 #[tactic(auto, unfolding(crate::specs::Accepted::with_laid))]
 fn add_section(laid: &mut Vec<Laid>, places: &mut Vec<u16>, lay: &Option<Lay>)
     requires room { vec_len laid.old < vec_capacity laid.old }
@@ -117,8 +119,8 @@ fn add_section(laid: &mut Vec<Laid>, places: &mut Vec<u16>, lay: &Option<Lay>)
 }
 
 impl Known {
-    /// Nothing is known at first. Names are hashed by the seed of the catalog. The error is want of
-    /// memory alone.
+    /// Nothing is known yet. Names are hashed with the seed of the catalog. Fails only with
+    /// `NoMemory`.
     pub fn new(alloc: Global, catalog: &Catalog) -> Result<Known, NoMemory>
         ensures { IfOk result (λ known. known ≡ nothing_known) }
     {
@@ -129,14 +131,14 @@ impl Known {
         })
     }
 
-    /// The sections that are laid, in the order in which they were.
+    /// The sections that are laid, in the order in which they were laid.
     pub fn laid(&self) -> &[Laid]
         ensures { result.now ≡ self.now.laid }
     {
         self.laid.as_slice()
     }
 
-    // The sections that are laid, with where they stand.
+    // The sections that are laid, with the table of their indexes.
     pub(crate) fn sections(&self) -> Sections<'_>
         ensures { result ≡ self.now.laid }
     {
@@ -146,9 +148,10 @@ impl Known {
         }
     }
 
-    /// The number of the segment that a reference name means in a ring, where a segment of a directory refers by it: what
-    /// the name is initiated as in the ring, else the segment of that name in the directory, in the working directory, or
-    /// in the first library that has it. None exactly where there is no such segment.
+    /// The number of the segment that a reference name means in a ring, if a segment of the
+    /// directory `from` refers to it. It is the segment that is initiated under the name in the
+    /// ring; otherwise the segment of that name in the directory, in the working directory, or in
+    /// the first library that has it. None exactly if there is no such segment.
     #[tactic(auto, unfolding(crate::specs::Search::searched, crate::specs::Search::candidates))]
     pub fn search(&self, catalog: &Catalog, ring: u8, name: &[u8], from: u16) -> Option<u16>
         ensures value { result ≡ searched self.now catalog.now ring name.now from }
@@ -160,8 +163,8 @@ impl Known {
         }
     }
 
-    /// Adds what an answer makes: the name of a link of type 3 or 4, where the ring does not have it, and the section that
-    /// was laid. Where no memory is found, nothing changes.
+    /// Adds the results of an answer: the name of a link of type 3 or 4, if the ring does not have
+    /// it yet, and the section that is laid. If memory runs out, nothing changes.
     #[tactic(auto, unfolding(crate::specs::Accepted::accepted))]
     pub fn accept(&mut self, s: &Snap) -> Result<(), NoMemory>
         requires { MayBeLaid self.old s.now.lay }

@@ -1,4 +1,4 @@
-//! Sections in linkage segments.
+//! Linkage sections in linkage segments.
 
 ghost use Rattle.std.specs.Prelude.{◌≡◌};
 ghost use Rattle.m36_link.specs.Known.{lot_word};
@@ -9,17 +9,17 @@ use std::marker::Model;
 /// The number of the linkage segment of ring 0.
 pub const FIRST_LINKAGE: u16 = 16;
 
-/// How many words a linkage offset table has.
+/// The number of words of a linkage offset table.
 pub const LOT_WORDS: u32 = 1024;
 
-/// A section that is laid in the linkage segment of a ring. It is seen as its fields.
+/// A linkage section that is laid in the linkage segment of a ring. The model is its fields.
 #[derive(Clone, Copy, PartialEq, Eq)]
 pub struct Laid {
-    /// Its first word, 18 bits.
+    /// The word number of its first word; 18 bits.
     pub base: u32,
-    /// How many words it has; it ends at 2^18 at most.
+    /// The number of its words; it ends at most at 2^18.
     pub size: u32,
-    /// The segment whose section it is; 15 bits.
+    /// The segment that the section belongs to; 15 bits.
     pub seg: u16,
     /// The ring of the linkage segment; 3 bits.
     pub ring: u8,
@@ -34,21 +34,22 @@ impl Model for Laid {
 
     ghost view = { λ l. record { ring = l.ring; seg = l.seg; base = l.base; size = l.size } };
 
-    ghost invariant = { λ l. (l.ring < 8) × (l.seg < 2 ^ 15) × (l.base < 2 ^ 18) × (l.base + l.size ≤ segment_limit) };
+    ghost invariant = { λ l. (l.ring < 8) × (l.seg < 2 ^ 15) × (l.base < 2 ^ 18)
+        × (l.base + l.size ≤ segment_limit) };
 
     ghost inverse = { λ l. record { base = l.base; size = l.size; seg = l.seg; ring = l.ring } };
 }
 
-/// A section that is to be laid, with its words. It is seen as its fields.
+/// A linkage section that has to be laid, with its words. The model is its fields.
 #[derive(Drop)]
 pub struct Lay {
-    /// The words of the linkage section, and behind them those of the static section.
+    /// The words of the linkage section, and after them those of the static section.
     pub words: Words,
-    /// Where the first of them goes, 18 bits; an even word.
+    /// The word number of the first word; 18 bits, even.
     pub base: u32,
-    /// The segment whose section it is; 15 bits.
+    /// The segment that the section belongs to; 15 bits.
     pub seg: u16,
-    /// The ring in whose linkage segment it goes; 3 bits.
+    /// The ring in whose linkage segment it is laid; 3 bits.
     pub ring: u8,
 }
 
@@ -64,7 +65,8 @@ impl Model for Lay {
 }
 
 impl Lay {
-    /// The word of the ring's linkage offset table for the segment: a packed pointer to the section.
+    /// The word of the ring's linkage offset table for the segment: a packed pointer to the
+    /// section.
     #[tactic(auto, unfolding(crate::specs::Known::lot_word))]
     pub fn lot_word(&self) -> Word
         ensures { result ≡ lot_word self.now }

@@ -1,4 +1,4 @@
-//! Where a link leads.
+//! The target of a link.
 
 ghost use Rattle.std.specs.Prelude.{◌≡◌, ◌<◌, ◌≤◌, ◌^◌, length};
 ghost use Rattle.m36_link.specs.Known.{section_ring, laid_words};
@@ -17,12 +17,13 @@ use obj36::{Link, Object, ObjectFault};
 use obj36_parts::names::has_its_entry;
 use std::marker::Model;
 
-/// Where a link leads: the pair, the number of the segment, and the section that has to be laid, if one has.
+/// The target of a link: the pair, the number of the segment, and the section that has to be laid,
+/// if any.
 #[derive(Clone, Copy)]
 pub(crate) struct Landing {
     pub(crate) pair: Pair,
     pub(crate) lay: Option<Laid>,
-    /// 15 bits.
+    /// The number of the segment; 15 bits.
     pub(crate) target: u16,
 }
 
@@ -39,7 +40,7 @@ impl Model for Landing {
     ghost inverse = { λ l. record { pair = l.pair; lay = l.lay; target = l.target } };
 }
 
-/// A link of the own object, whose section is laid: type 1 or 5.
+/// The target of a link of type 1 or 5, to its own object, whose section is laid.
 #[tactic(auto, unfolding(crate::specs::Landing::own_landing))]
 pub(crate) fn own_landing(
     ring: u8,
@@ -135,7 +136,7 @@ fn object_landing(
     })
 }
 
-/// A link to a segment that was found: type 3 or 4.
+/// The target of a link of type 3 or 4, to a segment that was found.
 #[tactic(auto, unfolding(crate::specs::Landing::target_landing))]
 pub(crate) fn target_landing(
     laid: &Sections<'_>,

@@ -1,14 +1,19 @@
-//! The dynamic linker: the search for a segment by a reference name, the pair that takes the place of a link, and where
-//! the linkage sections of objects are laid.
+//! The dynamic linker. It searches for a segment by a reference name, finds the pair that replaces
+//! a link, and decides where the linkage sections of objects are laid.
 //!
-//! What is promised: `Known::search` gives the first candidate of a name in the order of the search rules, and never one
-//! behind it. `Known::resolve` gives exactly the snapped pair of the link that a place names, with the section that has
-//! to be laid for it, or the first reason why there is none; it changes nothing. What it looks at are the objects as they
-//! were booted, never words of memory, and the link at a word is the one that the object has there; the pair that takes
-//! its place is met there as an ITS pair. `Known::accept` adds the name and the section of an answer, and nothing else.
+//! The contract:
 //!
-//! Source: dynamic linking is that of the Multics Programmers' Manual AG91 and of Organick, "The Multics System" (1972),
-//! chapter 2; the pair is that of the Multics Processor Manual AL39, "Indirect to segment".
+//! - `Known::search` returns the first candidate for a name in the order of the search rules, and
+//!   never a later one.
+//! - `Known::resolve` returns exactly the snapped pair of the link at a place, with the section
+//!   that has to be laid for it, or the first reason why there is none. It changes nothing. It
+//!   uses the objects as they were booted, never words of memory. The link at a word is the one
+//!   that the object has there, and an address reads the pair that replaces it as an ITS pair.
+//! - `Known::accept` adds the name and the section of an answer, and nothing else.
+//!
+//! Source: dynamic linking is that of the Multics Programmers' Manual AG91 and of Organick, "The
+//! Multics System" (1972), chapter 2; the pair is that of the Multics Processor Manual AL39,
+//! "Indirect to segment".
 #![tactic(auto)]
 
 pub mod file;

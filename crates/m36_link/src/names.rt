@@ -3,11 +3,11 @@
 use m36_text::Name;
 use std::marker::Model;
 
-/// A reference name in a ring. It is seen as its fields.
+/// A reference name in a ring. The model is its fields.
 #[derive(PartialEq, Eq, Hash, Drop)]
 pub(crate) struct RingName {
     pub(crate) name: Name,
-    /// 3 bits.
+    /// The ring; 3 bits.
     pub(crate) ring: u8,
 }
 

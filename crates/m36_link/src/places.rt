@@ -1,4 +1,4 @@
-//! Where in the list of sections that of a segment in a ring stands.
+//! A table that finds the section of a segment in a ring in the list of sections.
 
 ghost use Rattle.std.specs.Prelude.{◌<◌};
 
@@ -7,17 +7,18 @@ use m36_word::NoMemory;
 use std::alloc::Global;
 use std::marker::Model;
 
-// How many segments of a ring have a slot each: as many as a catalog has.
+// The number of segments with a slot for each ring: the maximum of a catalog.
 const SEGMENTS: usize = 512;
 
 const RINGS: usize = 8;
 
-/// The sections that are laid, no two of them of one segment in one ring, with a table of where in the list they stand. It is
-/// seen as the list.
+/// The sections that are laid, at most one for each segment and ring, with a table of their
+/// indexes in the list. The model is the list.
 #[derive(Drop)]
 pub(crate) struct Sections<'a> {
     pub(crate) items: &'a [Laid],
-    /// By ring and segment; what a slot holds is looked up in the list before it counts.
+    /// An index for each ring and segment. It may be wrong, so the section at that index is
+    /// compared before it is used.
     pub(crate) places: &'a [u16],
 }
 
@@ -38,14 +39,14 @@ fn slot(ring: u8, seg: u16) -> usize {
     ring as usize % RINGS * SEGMENTS + seg as usize % SEGMENTS
 }
 
-/// A table of no sections.
+/// The table for an empty list.
 pub(crate) fn no_places(alloc: Global) -> Result<Vec<u16>, NoMemory> {
     let mut places = Vec::with_capacity(alloc, RINGS * SEGMENTS)?;
     places.resize(RINGS * SEGMENTS, 0)?;
     Ok(places)
 }
 
-/// Where the section of a segment in a ring stands, if it is laid.
+/// The index in the slot of a segment in a ring; arbitrary if its section is not laid.
 pub(crate) fn place_noted(places: &[u16], ring: u8, seg: u16) -> usize {
     match places.get(slot(ring, seg)) {
         Some(place) => *place as usize,
@@ -53,7 +54,7 @@ pub(crate) fn place_noted(places: &[u16], ring: u8, seg: u16) -> usize {
     }
 }
 
-/// Notes where the section of a segment in a ring stands.
+/// Stores the index of the section of a segment in a ring.
 pub(crate) fn note_place(places: &mut Vec<u16>, ring: u8, seg: u16, place: usize) {
     let i = slot(ring, seg);
     if i < places.len() {

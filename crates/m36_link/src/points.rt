@@ -12,7 +12,7 @@ use obj36::{Link, Object, Section};
 use obj36_parts::names::{has_its_entry, has_its_name};
 use obj36_parts::sections::later_section;
 
-/// A place of an object: a word that counts in a section.
+/// A place of an object: a word number in a section.
 #[derive(Clone, Copy)]
 pub(crate) struct Point {
     pub(crate) value: u32,
@@ -29,7 +29,7 @@ fn section_of(link: &Link) -> Section
     }
 }
 
-/// The place that a link names in the object that it leads to; L3 where the object does not define its entry.
+/// The place that a link names in its target object; L3 if the object does not define its entry.
 #[tactic(auto, unfolding(crate::specs::Landing::point_of))]
 pub(crate) fn point_of(link: &Link, object: &Object) -> Result<Point, LinkCode>
     ensures value { result ≡ point_of link.now object.now }
@@ -48,7 +48,7 @@ pub(crate) fn point_of(link: &Link, object: &Object) -> Result<Point, LinkCode>
     }
 }
 
-/// The pair to a word of a segment, taken modulo 2^18.
+/// The pair to a word of a segment; the word number is taken modulo 2^18.
 #[tactic(auto, unfolding(crate::specs::Landing::pair_to))]
 pub(crate) fn pair_to(seg: u16, ring: u8, word: u32, link: &Link) -> Pair
     requires seg { seg < 2 ^ 15 }

@@ -1,4 +1,4 @@
-//! The answer to a link.
+//! Resolves links.
 
 ghost use Rattle.std.specs.Prelude.{◌≡◌, ◌<◌, ◌≤◌, find, length, option_copied, IfOk};
 ghost use Rattle.m36_link.specs.Known.{segment_of, object_in, laid_words};
@@ -19,9 +19,9 @@ use obj36_parts::names::has_its_name;
 use obj36_parts::sections::push_all;
 use std::alloc::Global;
 
-// ---- the link that a place names
+// ---- the link at a place
 
-// The link whose even word a word is, where the first link stands at another.
+// The link whose even word is at `word`, if the first link is at `first`.
 #[tactic(auto, unfolding(crate::specs::Links::link_from))]
 fn link_from(first: u64, word: u64, links: &[Link]) -> Option<&Link>
     ensures { option_copied result ≡ link_from first word links.now }
@@ -33,7 +33,7 @@ fn link_from(first: u64, word: u64, links: &[Link]) -> Option<&Link>
     }
 }
 
-// The link whose even word in a laid section a word of the linkage segment is.
+// The link of a laid section whose even word is word `word` of the linkage segment.
 #[tactic(auto, unfolding(crate::specs::Links::link_in))]
 fn link_in(files: &[File], word: u32, section: Laid) -> Option<&Link>
     ensures { option_copied result ≡ link_in files.now word section }
@@ -54,7 +54,7 @@ fn holds_link(files: &[File], ring: u8, word: u32, section: Laid) -> bool
     section.ring == ring && link_in(files, word, section).is_some()
 }
 
-// The section of a ring that holds a link at a word.
+// The section of a ring that has a link at a word.
 fn section_with(laid: &[Laid], files: &[File], ring: u8, word: u32) -> Option<Laid>
     ensures { result ≡ find (holds_link files.now ring word) laid.now }
 {
@@ -63,7 +63,7 @@ fn section_with(laid: &[Laid], files: &[File], ring: u8, word: u32) -> Option<La
         .find(|section| holds_link(files, ring, word, *section))
 }
 
-// The section that holds the link of a place.
+// The section that has the link at a place.
 #[tactic(auto, unfolding(crate::specs::Links::section_at))]
 fn section_at(laid: &[Laid], files: &[File], at: At) -> Option<Laid>
     ensures { result ≡ section_at laid.now files.now at }
@@ -75,9 +75,9 @@ fn section_at(laid: &[Laid], files: &[File], at: At) -> Option<Laid>
     }
 }
 
-// ---- where it leads
+// ---- its target
 
-/// The segment of a number; None where the catalog has none.
+/// The segment with a number; None if the catalog has none.
 #[tactic(auto, unfolding(crate::specs::Known::segment_of))]
 pub fn segment_of(catalog: &Catalog, seg: u16) -> Option<&Segment>
     ensures { option_copied result ≡ segment_of catalog.now seg }
@@ -98,7 +98,7 @@ fn directory_of(catalog: &Catalog, seg: u16) -> u16
     }
 }
 
-// A link of type 3 or 4, searched from a directory.
+// The target of a link of type 3 or 4, which is searched from a directory.
 #[tactic(auto, unfolding(crate::specs::Snap::outer_landing))]
 fn outer_landing(
     known: &Known,
@@ -123,7 +123,7 @@ fn outer_landing(
     target_landing(&known.sections(), ring, seg, segment, file, link)
 }
 
-// A link of an object whose section is laid.
+// The target of a link of an object whose section is laid.
 #[tactic(auto, unfolding(crate::specs::Snap::landing_of))]
 fn landing_of(
     known: &Known,
@@ -187,7 +187,7 @@ fn lay_of(alloc: Global, files: &[File], lay: Option<Laid>) -> Result<Option<Lay
     }
 }
 
-// The answer, from where the link leads.
+// The answer, given the target of the link.
 fn snap_by(
     alloc: Global,
     files: &[File],
@@ -211,7 +211,8 @@ fn snap_by(
 }
 
 impl Known {
-    /// What a link of type 3 or 4 comes to in a ring, searched from a directory. Nothing changes.
+    /// Resolves a link of type 3 or 4 in a ring; its name is searched from a directory. Nothing
+    /// changes.
     #[tactic(auto, unfolding(crate::specs::Snap::outer_snap))]
     pub fn resolve_from(
         &self,
@@ -229,11 +230,15 @@ impl Known {
         snap_by(alloc, files, ring, link, landing)
     }
 
-    /// The answer to the link that a place names, where the ring of the place is that of the link. The first of these that
-    /// holds is told, and else the pair, with the section that has to be laid: L1, the place is not the even word of a
-    /// link in a section that is laid in the ring; L2, no segment is found; L4, the ring may not use it; L5, it is an
-    /// object or a gate by its kind, and its file is none; L3, it does not define the entry, as plain words never do; L6,
-    /// its section finds no room. Nothing changes.
+    /// Resolves the link at a place, for the ring of the place. The result is the first of these
+    /// codes that applies, or the pair, with the section that has to be laid. Nothing changes.
+    ///
+    /// - L1: the place is not the even word of a link in a section that is laid in the ring.
+    /// - L2: no segment is found.
+    /// - L4: the ring may not use the segment.
+    /// - L5: it is an object or a gate by its kind, and its file is not an object.
+    /// - L3: it does not define the entry; plain words define none.
+    /// - L6: there is no room for its section.
     #[tactic(auto, unfolding(crate::specs::Snap::snap_of))]
     pub fn resolve(
         &self,

@@ -1,4 +1,4 @@
-//! The search for a segment by a reference name.
+//! Searches for a segment by a reference name.
 
 ghost use Rattle.std.specs.Prelude.{◌≡◌, ◌<◌, ◌^◌, filter_map, slice_get, IfSome};
 ghost use Rattle.m36_link.specs.Names.{AreNames};
@@ -28,7 +28,7 @@ pub(crate) fn initiated(
     }
 }
 
-// The number of the segment of a directory that has a name.
+// The number of the segment with a name in a directory.
 #[tactic(auto, unfolding(crate::specs::Search::found_in))]
 fn found_in(catalog: &Catalog, name: &[u8], dir: u16) -> Option<u16>
     ensures value { result ≡ found_in catalog.now name.now dir }
@@ -41,9 +41,10 @@ fn found_in(catalog: &Catalog, name: &[u8], dir: u16) -> Option<u16>
     }
 }
 
-// The first of the directories that has the name.
+// The number of the segment in the first of these directories that has the name.
 fn first_in(catalog: &Catalog, name: &[u8], directories: &[u16]) -> Option<u16>
-    ensures value { result ≡ slice_get (filter_map (found_in catalog.now name.now) directories.now) 0 }
+    ensures value { result
+        ≡ slice_get (filter_map (found_in catalog.now name.now) directories.now) 0 }
     ensures bound { IfSome result (λ seg. seg < 2 ^ 15) }
 {
     let mut rest = directories;
@@ -56,10 +57,11 @@ fn first_in(catalog: &Catalog, name: &[u8], directories: &[u16]) -> Option<u16>
     None
 }
 
-/// The number of the segment of a name: of the directory that refers, else of the working directory, else of the first
-/// library that has the name.
+/// The number of the segment with a name: in the directory that refers to it, otherwise in the
+/// working directory, otherwise in the first library that has the name.
 pub(crate) fn searched_in_directories(catalog: &Catalog, name: &[u8], from: u16) -> Option<u16>
-    ensures value { result ≡ slice_get (filter_map (found_in catalog.now name.now) (directories_searched catalog.now from)) 0 }
+    ensures value { result ≡ slice_get (filter_map (found_in catalog.now name.now)
+        (directories_searched catalog.now from)) 0 }
     ensures bound { IfSome result (λ seg. seg < 2 ^ 15) }
 {
     if let Some(seg) = found_in(catalog, name, from) {

@@ -1,4 +1,4 @@
-//! Where sections are laid.
+//! Decides where linkage sections are laid.
 
 ghost use Rattle.std.specs.Prelude.{◌≡◌, ◌+◌, ◌<◌, ◌≤◌, ◌^◌, ◌&&◌, find, length, Some, IfSome};
 ghost use Rattle.obj36_parts.specs.ObjectSegment.{linkage_section, segment_limit, head_words};
@@ -12,14 +12,14 @@ use m36_model::LinkCode;
 use obj36::{Object, Section};
 use obj36_parts::sections::SEGMENT_LIMIT;
 
-/// The section of a segment in a ring, and whether it has to be laid.
+/// The section of a segment in a ring, and whether it still has to be laid.
 #[derive(Clone, Copy)]
 pub(crate) struct Home {
     pub(crate) section: Laid,
     pub(crate) is_new: bool,
 }
 
-/// How many words the linkage section of an object has.
+/// The number of words of the linkage section of an object.
 #[tactic(auto, unfolding(crate::specs::Known::laid_words))]
 pub(crate) fn linkage_size(object: &Object) -> u32
     requires { length (laid_words object.now) ≤ segment_limit }
@@ -29,7 +29,7 @@ pub(crate) fn linkage_size(object: &Object) -> u32
     object.section(Section::Linkage).len() as u32
 }
 
-// How many words are laid for an object.
+// The number of words that are laid for an object.
 #[tactic(auto, unfolding(crate::specs::Known::laid_words))]
 fn laid_size(object: &Object) -> u32
     requires { length (laid_words object.now) ≤ segment_limit }
@@ -40,7 +40,7 @@ fn laid_size(object: &Object) -> u32
     linkage_size(object) + object.section(Section::Static).len() as u32
 }
 
-// The section at a place of the list, where it is that of a segment in a ring.
+// The section at an index of the list, if it is that of the segment in the ring.
 #[tactic(auto, using(crate::proofs::Apart::found_there))]
 fn section_noted(laid: &[Laid], place: usize, ring: u8, seg: u16) -> Option<Laid>
     requires { AreApart laid.now }
@@ -52,7 +52,7 @@ fn section_noted(laid: &[Laid], place: usize, ring: u8, seg: u16) -> Option<Laid
     }
 }
 
-// The section of a segment that is laid in a ring, wherever in the list it stands.
+// The section of a segment that is laid in a ring, found by a search of the list.
 #[tactic(auto, unfolding(crate::specs::Known::laid_in))]
 fn section_sought(laid: &[Laid], ring: u8, seg: u16) -> Option<Laid>
     ensures { result ≡ laid_in laid.now ring seg }
@@ -62,7 +62,8 @@ fn section_sought(laid: &[Laid], ring: u8, seg: u16) -> Option<Laid>
         .find(|l| l.ring == ring && l.seg == seg)
 }
 
-// The section of a segment that is laid in a ring. It stands where the table says, or it is sought.
+// The section of a segment that is laid in a ring: at the index in the table, or found by a
+// search.
 pub(crate) fn laid_in(laid: &Sections<'_>, ring: u8, seg: u16) -> Option<Laid>
     ensures { result ≡ laid_in laid.now ring seg }
 {
@@ -72,7 +73,7 @@ pub(crate) fn laid_in(laid: &Sections<'_>, ring: u8, seg: u16) -> Option<Laid>
     }
 }
 
-// The even word behind a section.
+// The even word after a section.
 #[tactic(auto, unfolding(crate::specs::Known::behind))]
 fn behind(section: &Laid) -> u32
     ensures value { result ≡ behind section.now }
@@ -82,7 +83,7 @@ fn behind(section: &Laid) -> u32
     end + end % 2
 }
 
-// Where the next section of a ring goes behind one more, where it would go to a word without it.
+// The word number of the next section of a ring after `section`, if it was `base` before.
 fn base_behind(ring: u8, base: u32, section: &Laid) -> u32
     requires { base ≤ segment_limit }
     ensures value { result ≡ base_behind ring base section.now }
@@ -95,7 +96,7 @@ fn base_behind(ring: u8, base: u32, section: &Laid) -> u32
     }
 }
 
-// Where the next section of a ring goes.
+// The word number at which the next section of a ring is laid.
 #[tactic(auto, unfolding(crate::specs::Known::next_base))]
 fn base_of(laid: &[Laid], ring: u8) -> u32
     ensures value { result ≡ base_of laid.now ring }
@@ -110,7 +111,8 @@ fn base_of(laid: &[Laid], ring: u8) -> u32
     base
 }
 
-/// The section of an object in a ring: as it is laid, or as it has to be; L6 where it would end past the segment.
+/// The section of an object in a ring, laid already or to be laid; L6 if it would end past the
+/// segment.
 #[tactic(auto, unfolding(crate::specs::Landing::home_of))]
 pub(crate) fn home_of(
     laid: &Sections<'_>,

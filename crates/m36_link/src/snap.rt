@@ -8,16 +8,17 @@ use m36_word::{NoMemory, Pair};
 use obj36::Link;
 use std::marker::Model;
 
-/// What takes the place of a link, and what has to be done beside. It is seen as its fields.
+/// The answer to a link: the pair that replaces it, and what else has to be done. The model is its
+/// fields.
 #[derive(Drop)]
 pub struct Snap {
-    /// The section that has to be laid, if one has.
+    /// The section that has to be laid, if any.
     pub lay: Option<Lay>,
     /// The link, as its object has it.
     pub link: Link,
-    /// The pair that is written where the link was.
+    /// The pair that replaces the link.
     pub pair: Pair,
-    /// The number of the segment that the link leads to; 15 bits.
+    /// The number of the link's target segment; 15 bits.
     pub target: u16,
     /// The ring of the link; 3 bits.
     pub ring: u8,
@@ -29,7 +30,8 @@ impl Model for Snap {
 
     ghost Value = { SnapFields };
 
-    ghost view = { λ s. record { pair = s.pair; ring = s.ring; target = s.target; link = s.link; lay = s.lay } };
+    ghost view = { λ s.
+        record { pair = s.pair; ring = s.ring; target = s.target; link = s.link; lay = s.lay } };
 
     ghost invariant = { λ s. (s.target < 2 ^ 15) × (s.ring < 8) };
 }
@@ -37,9 +39,9 @@ impl Model for Snap {
 /// Why a link is not snapped.
 #[derive(Debug, Drop)]
 pub enum LinkFault {
-    /// The code, with the link of every code but L1.
+    /// The code; with the link, except for L1.
     Refused(LinkCode, Option<Link>),
-    /// No memory was found.
+    /// Out of memory.
     NoMemory,
 }
 

@@ -1,4 +1,4 @@
--- Laws of a writer whose bytes are known: what it holds grew by what was written, from the beginning on.
+-- Laws of a writer whose bytes are known: its bytes grew by what was written.
 use Rattle.std.proofs.Common.{◌≡◌, ℕ, ◌+◌, ◌≤◌, List, [], ◌++◌, length, take, drop, Option, Some, None, IfSome, refl, sym, ap, ◌∙◌, take-add}
 use Rattle.std.proofs.lemmas.List.{append-nil, append_assoc, take-append-drop, take_all}
 use Rattle.std.specs.Io.KnownBytes.{Appends, Keeps}
@@ -38,7 +38,7 @@ appends_behind (Some held) None next bytes same more = absurd same
 appends_behind (Some held) (Some part) None bytes same more = absurd more
 appends_behind (Some held) (Some part) (Some whole) bytes same more = more ∙ ap (λ l. l ++ bytes) same
 
--- nothing was written, and what was held is kept
+-- nothing was written, and the bytes are unchanged
 pub keeps_nothing : (now next : Option (List ℕ)) → Appends now next [] → Keeps now next
 keeps_nothing None next more = tt
 keeps_nothing (Some held) None more = absurd more

@@ -1,5 +1,5 @@
--- Laws of blocks of pieces: how a block grows and where its pieces lie, what putting them in turn has put, and what a
--- system took of one that it could not take whole.
+-- Laws of blocks of pieces: how a block grows and where its pieces are, what putting them one by one puts, and what a
+-- system took of a block that it could not take as a whole.
 use Rattle.std.proofs.Common.{◌≡◌, ℕ, zero, suc, ◌+◌, ◌-◌, ◌<◌, ◌≤◌, List, [], ◌∷◌, ◌++◌, length, get_or, take, drop, nat_le, nat_lt, slice_range, Option, Some, None, inl, inr, refl, sym, ap, subst, ◌∙◌, arith, length-append, true}
 use Rattle.std.proofs.lemmas.List.{append_assoc, take_at, drop_at, take_all, take-append-drop, take-append-le, drop-append-le, take_more, drop_more}
 use Rattle.std.proofs.lemmas.Bool.{cases_Bool, leb-true, leb-false, ltb-true, and_parts, and_from, le-leb}
@@ -14,7 +14,7 @@ use Rattle.m36_outside.proofs.Grown.{grew_on, grew_more, grew_longer}
 use Rattle.m36_outside.proofs.LinesTaken.{takes_lines_on, takes_lines_more, takes_some_of_lines, takes_line_more}
 use Rattle.m36_outside.proofs.Takes.{joined_more, taken_is}
 
--- ---- the places where pieces begin
+-- ---- the offsets of pieces
 
 marks_length : (from : ℕ) (pieces : List (List ℕ)) → length (marks_of from pieces) ≡ length pieces + 1
 marks_length from [] = refl
@@ -48,7 +48,7 @@ block_none bytes marks pieces begins none = subst (λ (l : List (List ℕ)). Lie
   marks_are = begins;
 }
 
--- one piece more
+-- one more piece
 pub block_more :
     (bytes marks bytes' marks' : List ℕ) (len count len' count' : ℕ) (pieces pieces' : List (List ℕ)) (piece : List ℕ)
     → Lie bytes marks len count pieces
@@ -86,7 +86,7 @@ pub block_room :
 block_room bytes marks len count pieces piece lie =
     ap (λ n. is_room len n (length piece)) lie.count_is ∙ ap (λ n. is_room n (length pieces) (length piece)) lie.len_is
 
--- where there is room for more than a piece, there is for the piece
+-- if there is room for more than a piece, there is room for the piece
 pub room_less :
     (len count wanted most : ℕ) → is_room len count most ≡ true → wanted ≤ most → is_room len count wanted ≡ true
 room_less len count wanted most room less =
@@ -94,7 +94,7 @@ room_less len count wanted most room less =
     let fits : len + most ≤ 32768 = leb-true (len + most) 32768 parts.1 in
     and_from (nat_lt count 2048) (nat_le (len + wanted) 32768) parts.0 (le-leb (len + wanted) 32768 (omega arith))
 
--- ---- a piece at its place
+-- ---- the piece with an index
 
 -- the bytes from one mark to the next
 record Lies (bytes piece : List ℕ) (from until : ℕ) : Type 0 where
@@ -134,7 +134,7 @@ lies_at from before (piece ∷ pieces) (suc place) d e start inside =
     subst (λ l. Lies l (get_or pieces place []) from' until) (append_assoc before piece (joined pieces))
     (lies_at (from + length piece) (before ++ piece) pieces place d e next (omega arith))
 
--- the piece at a place lies between its mark and the next
+-- the piece with an index is between its mark and the next
 lies :
     (pieces : List (List ℕ)) (bytes marks : List ℕ) (place : ℕ)
     → bytes ≡ joined pieces → marks ≡ marks_of 0 pieces → place < length pieces
@@ -166,7 +166,7 @@ piece_is pieces bytes marks place all is inside = (lies pieces bytes marks place
 
 pub ruleset blocks = (block_none, block_length, block_more, block_room, room_less, piece_order, piece_within, piece_is)
 
--- ---- pieces put in turn
+-- ---- pieces put one after another
 
 joined_next :
     (pieces : List (List ℕ)) (place : ℕ) (piece : List ℕ)
@@ -265,7 +265,7 @@ parts_all (piece ∷ pieces) =
     ∙ ap (λ l. piece ∷ parts l pieces) (drop_at piece (joined pieces) (length piece) refl)
     ∙ ap (λ l. piece ∷ l) (parts_all pieces)
 
--- of two texts that begin alike, the shorter begins the longer
+-- if two texts begin with the same bytes, the shorter is a prefix of the longer
 begins_short :
     (long others short rest : List ℕ)
     → long ++ others ≡ short ++ rest → length short ≤ length long → take (length short) long ≡ short
@@ -282,7 +282,7 @@ begins_left piece others taken rest alike all =
     ∙ ap (drop (length piece)) alike
     ∙ drop-append-le (length piece) taken rest all
 
--- a first part of one piece
+-- a prefix of one piece
 front :
     (old : List (List ℕ)) (count : ℕ) (piece : List ℕ)
     → TakesPart None None old (old ++ take count piece ∷ []) piece
@@ -373,7 +373,7 @@ pub block_all_written :
 block_all_written old new pieces before taken grown none took =
     block_written old new pieces (block_taken old new pieces before taken grown none took)
 
--- it took a first part of them
+-- it took a prefix of them
 pub begun_taken :
     (old new pieces : List (List ℕ)) (before taken : List ℕ)
     → GrewWithin (Some before) (Some taken) (joined pieces) → before ≡ [] → 0 < length pieces

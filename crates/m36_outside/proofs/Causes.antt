@@ -4,7 +4,7 @@ use Rattle.m36_outside.specs.ReadAnswer.{ReadHasCause, IsNoFault}
 use Rattle.m36_outside.specs.declared.folder.ReadAnswer.{ReadAnswer}
 use Rattle.m36_outside.specs.declared.folder.ReadAnswer.TheVariants.{Read, Absent, TooLarge, Failed, NoMemory}
 
--- A read that did not fail leaves the count.
+-- A read that did not fail leaves the count unchanged.
 pub read_without_fault : (answer : ReadAnswer) (count : ℕ) → (answer ≡ Failed → ⊥) → ReadHasCause answer count count
 read_without_fault (Read bytes) count sure = refl
 read_without_fault Absent count sure = refl

@@ -1,4 +1,4 @@
--- A run that writes its text in pieces: what completes the text that is left completes the whole text.
+-- A run that writes its text in pieces: completing the rest of the text completes the whole text.
 use Rattle.std.proofs.Common.{◌≡◌, ℕ, List, [], ◌++◌, Option, sym, subst}
 use Rattle.m36_outside.specs.Written.{Grew, GrewWithin}
 use Rattle.m36_outside.proofs.Grown.{grew_on, grew_more, grew_longer, grew_by_nothing, within_nothing}
@@ -8,11 +8,11 @@ pub record Completes (now start : Option (List ℕ)) (left all : List ℕ) : Typ
   pub whole : (new : Option (List ℕ)) → Grew now new left → Grew start new all
   pub cut : (new : Option (List ℕ)) → GrewWithin now new left → GrewWithin start new all
 
--- at the beginning all is left
+-- at the start all is left
 pub completes_all : (start : Option (List ℕ)) (all : List ℕ) → Completes start start all all
 completes_all start all = record { whole = λ new grown. grown; cut = λ new cut. cut }
 
--- a piece was written whole, with which what was left began
+-- a piece was written as a whole, and the rest of what was left is still to be written
 pub completes_rest :
     (now next start : Option (List ℕ)) (before piece left all : List ℕ)
     → Completes now start before all → before ≡ piece ++ left → Grew now next piece → Completes next start left all
@@ -21,26 +21,26 @@ completes_rest now next start before piece left all run begins grown = record {
   cut = λ new rest. run.cut new (subst (λ t. GrewWithin now new t) (sym begins) (grew_more now next new piece left grown rest));
 }
 
--- the last piece was written whole
+-- the last piece was written as a whole
 pub completes_whole :
     (now new start : Option (List ℕ)) (left all : List ℕ)
     → Completes now start left all → Grew now new left → Grew start new all
 completes_whole now new start left all before grown = before.whole new grown
 
--- a part of the next piece was written, with which what was left began
+-- a prefix of the next piece was written
 pub completes_cut :
     (now new start : Option (List ℕ)) (before piece left all : List ℕ)
     → Completes now start before all → before ≡ piece ++ left → GrewWithin now new piece → GrewWithin start new all
 completes_cut now new start before piece left all run begins cut =
     run.cut new (subst (λ t. GrewWithin now new t) (sym begins) (grew_longer now new piece left cut))
 
--- a part of the last piece was written
+-- a prefix of the last piece was written
 pub completes_cut_last :
     (now new start : Option (List ℕ)) (left all : List ℕ)
     → Completes now start left all → GrewWithin now new left → GrewWithin start new all
 completes_cut_last now new start left all before cut = before.cut new cut
 
--- no more is written, though some is left
+-- no more is written, although some is left
 pub completes_stop :
     (now start : Option (List ℕ)) (left all : List ℕ) → Completes now start left all → GrewWithin start now all
 completes_stop now start left all before = before.cut now (within_nothing now left)

@@ -1,4 +1,4 @@
--- Laws of a reader whose bytes are known: what was read is what it had, from the beginning on.
+-- Laws of a reader whose bytes are known: the bytes that were read are the first ones that it had.
 use Rattle.std.proofs.Common.{◌≡◌, ℕ, ◌<◌, ◌≤◌, List, [], ◌++◌, length, take, Option, Some, None, IfSome, refl, sym, ap, ◌∙◌, arith, length-append}
 use Rattle.std.proofs.lemmas.List.{append-nil, append_assoc}
 use Rattle.std.specs.Io.KnownBytes.{Consumes, Keeps, IsAtEnd}
@@ -31,7 +31,7 @@ consumes_all None now text first end = tt
 consumes_all (Some all) None text first end = absurd first
 consumes_all (Some all) (Some left) text first end = ap (λ l. Some l) (first ∙ ap (λ l. text ++ l) end ∙ append-nil text)
 
--- where too much was read, there was too much
+-- if too much was read, the file has too much
 pub consumes_too_much :
     (start now : Option (List ℕ)) (text : List ℕ)
     → Consumes start now text → file_limit < length text
@@ -93,7 +93,7 @@ piece_failed (Some left) None next first more = absurd first
 piece_failed (Some left) (Some same) None first more = absurd more
 piece_failed (Some left) (Some same) (Some rest) first more = ap (λ l. Some l) (more ∙ first)
 
--- reads that gave none leave all as it is
+-- reads that gave nothing change nothing
 pub keeps_on : (start now next : Option (List ℕ)) → Keeps start now → Keeps now next → Keeps start next
 keeps_on None now next first more = tt
 keeps_on (Some left) None next first more = absurd first

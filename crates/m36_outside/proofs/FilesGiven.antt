@@ -113,7 +113,7 @@ pub refused_gives :
     → answer ≡ refusal_of kind → ReadGives answer now now
 refused_gives answer kind now is = subst (λ a. ReadGives a now now) (sym is) (refusal_gives kind now)
 
--- and is within the limit
+-- and the answer is within the limit
 refusal_within : (kind : ErrorKind) → IsWithinLimit (refusal_of kind)
 refusal_within NotFound = tt
 refusal_within _ = tt

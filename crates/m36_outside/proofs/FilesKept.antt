@@ -4,13 +4,13 @@ use Rattle.std.specs.Cmp.Lexicographic.{bytes_decides}
 use Rattle.std.proofs.lemmas.Bool.{cases_Bool}
 use Rattle.m36_outside.specs.Files.{Files, with_file}
 
--- the file that was put in is there
+-- the file that was set has its new content
 pub with_file-same : (files : Files) (name : List ℕ) (content : Option (List ℕ)) → with_file name content files name ≡ content
 unfolding with_file
 with_file-same files name content =
     let same : bytes_eq name name ≡ true = (bytes_decides name name).1 refl in rw same refl
 
--- every other file is as it was
+-- every other file is unchanged
 pub with_file-other :
     (files : Files) (name other : List ℕ) (content : Option (List ℕ))
     → (other ≡ name → ⊥) → with_file name content files other ≡ files other

@@ -1,4 +1,4 @@
--- Laws of a list of named files: what a look-up finds, and what putting a file in changes.
+-- Laws of a list of named files: what a look-up finds, and what setting a file changes.
 use Rattle.std.proofs.Common.{◌≡◌, ℕ, ◌+◌, ◌<◌, ◌≤◌, Bool, true, false, not, cond, List, [], ◌∷◌, ◌++◌, length, get_or, set, drop, Some, None, suc, inl, inr, refl, sym, ap, ◌∙◌, arith, bytes_eq}
 use Rattle.std.specs.Cmp.Lexicographic.{bytes_decides}
 use Rattle.std.proofs.lemmas.Bool.{cases_Bool, true≢false}
@@ -30,12 +30,12 @@ place_more files name from file inside at other =
 
 pub ruleset places = (place_found, place_more)
 
--- the same choice, made once or twice
+-- nested equal choices are one choice
 once : {A : Type 0} (b : Bool) (x y z : A) → cond b x z ≡ cond b x (cond b y z)
 once true x y z = refl
 once false x y z = refl
 
--- two choices that do not meet may change places
+-- two choices that exclude each other commute
 apart : {A : Type 0} (a b : Bool) (x y z : A) → (a ≡ true → b ≡ false) → cond a x (cond b y z) ≡ cond b y (cond a x z)
 apart true true x y z h = let e : true ≡ false = h refl in cc
 apart true false x y z h = refl
@@ -46,7 +46,7 @@ apart false false x y z h = refl
 same_name : (name : List ℕ) (file : NamedFile) → has_name name file ≡ true → name ≡ file.name
 same_name name file found = (bytes_decides name file.name).0 found
 
--- a file with another name is not the one that either is asked for
+-- a file with another name is not the one that is looked up
 other_name :
     (name other : List ℕ) (file : NamedFile)
     → has_name name file ≡ false → has_name other file ≡ true → bytes_eq other name ≡ false
@@ -57,7 +57,7 @@ other_name name other file differs found = elim (cases_Bool (bytes_eq other name
   | inr e ↦ e
 ]
 
--- the file at the place of its name is what a look-up finds
+-- the file at the index of its name is what a look-up finds
 pub named_at :
     (files : List NamedFile) (name : List ℕ) (at : ℕ) (file : NamedFile)
     → at ≡ position_or_len (has_name name) files → at < length files → file ≡ get_or files at file
@@ -73,7 +73,7 @@ named_at (x ∷ xs) name at file place inside is = elim (cases_Bool (has_name na
       rw e (named_at xs name (position_or_len (has_name name) xs) file refl (omega arith) same)
 ]
 
--- past the last place there is none
+-- after the last index there is none
 pub named_none :
     (files : List NamedFile) (name : List ℕ)
     → length files ≤ position_or_len (has_name name) files → file_named files name ≡ None
@@ -84,7 +84,7 @@ named_none (x ∷ xs) name past = elim (cases_Bool (has_name name x)) [
       rw e (named_none xs name (omega arith))
 ]
 
--- another content at the place of a name
+-- a new content for the file at the index of a name
 pub named_set :
     (files : List NamedFile) (name content : List ℕ) (at : ℕ) (file : NamedFile) (other : List ℕ)
     → at ≡ position_or_len (has_name name) files → at < length files → file ≡ get_or files at file
@@ -118,7 +118,7 @@ named_push (x ∷ xs) name content other past = elim (cases_Bool (has_name name 
       rw rest (apart (has_name other x) (bytes_eq other name) (Some x.content) (Some content) (file_named xs other) (other_name name other x e))
 ]
 
--- the same of all names at once, in the form in which code meets them
+-- the same for all names at once, in the form that the code uses
 pub set_named :
     (files : List NamedFile) (name content bytes : List ℕ) (at : ℕ) (file : NamedFile)
     → bytes ≡ content → at ≡ position_or_len (has_name name) files → at < length files → file ≡ get_or files at file

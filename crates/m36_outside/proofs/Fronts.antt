@@ -1,10 +1,10 @@
--- What a list begins with, after other elements were put into it.
+-- The first elements of a list, after other elements were put into it.
 use Rattle.std.proofs.Common.{◌≡◌, ℕ, ◌+◌, ◌≤◌, List, ◌++◌, length, take, sym, ap, ◌∙◌}
 use Rattle.std.proofs.lemmas.List.{length-take-le, take-append-le}
 use Rattle.std.proofs.Math.Seq.{take-append-add}
 use borrow.Rule.Slice.PartMut.{put_mid, post_of}
 
--- what was before the place, and then some of what was put there
+-- the elements before the index, and then some of those that were put there
 pub front_put :
     (place size count : ℕ) (xs ys : List ℕ)
     → place ≤ length xs → count ≤ length ys

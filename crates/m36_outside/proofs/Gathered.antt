@@ -1,4 +1,4 @@
--- Laws of pieces that are gathered in a block before a sink is given them.
+-- Laws of pieces that are gathered in a block before they are put into a sink.
 use Rattle.std.proofs.Common.{◌≡◌, ℕ, List, [], ◌∷◌, ◌++◌, Option, sym, ap, subst, ◌∙◌}
 use Rattle.std.proofs.lemmas.List.{append-nil, append_assoc}
 use Rattle.m36_outside.specs.Gathered.{Gathers, Loses, Adds}
@@ -24,7 +24,7 @@ gathers_here old new more written taken is = record {
   took = takes_no_lines taken;
 }
 
--- the pieces of the block were put, and then others added to it
+-- the pieces of the block were put, and then others were added to it
 pub gathers_behind :
     (old now new more : List (List ℕ)) (written between written' : Option (List ℕ)) (taken midway taken' : List (List ℕ))
     → Grew written between (joined old) → midway ≡ taken ++ old → now ≡ []
@@ -67,7 +67,7 @@ loses_here old more written written' taken taken' grew took = record {
   took = takes_lines_longer taken taken' old more took;
 }
 
--- a piece was put that has no room in a block
+-- a piece was put that is too long for a block
 pub gathers_put :
     (old new : List (List ℕ)) (piece : List ℕ) (written written' : Option (List ℕ)) (taken taken' : List (List ℕ))
     → old ≡ [] → new ≡ old → Grew written written' piece → taken' ≡ taken ++ piece ∷ []
@@ -92,7 +92,7 @@ loses_put old piece written written' taken taken' none grew took =
 -- what a function that adds pieces to a block takes by `using`
 pub ruleset gathering = (gathers_here, gathers_behind, loses_behind, loses_here, gathers_put, loses_put)
 
--- ---- pieces that are added, and handed over at the end
+-- ---- pieces that are added, and put at the end
 
 -- what is in the block was put after what was put before
 finished :
@@ -175,7 +175,7 @@ lines_lost now next taken new start old piece before left all run begins lost =
     ap (λ l. old ++ l) begins ∙ sym (append_assoc old (piece ∷ []) left) in
     run.cut new (subst (λ l. TakesSome taken new l) (sym same) (takes_lines_longer taken new (old ++ piece ∷ []) left lost.took))
 
--- the last was added, and all was handed over
+-- the last was added, and all were put
 pub completes_finished :
     (now new start : Option (List ℕ)) (old : List (List ℕ)) (piece all : List ℕ)
     → Completes now start (joined old ++ piece) all → Grew now new (joined (old ++ piece ∷ [])) → Grew start new all

@@ -1,4 +1,4 @@
--- Laws of output that grows: how what two calls wrote, one after the other, makes what both wrote.
+-- Laws of output that grows: what two calls wrote, one after the other, is what both wrote.
 use Rattle.std.proofs.Common.{◌≡◌, ℕ, List, [], ◌++◌, Option, Some, None, take, drop, refl, sym, ap, ◌∙◌}
 use Rattle.std.proofs.lemmas.List.{append-nil, append_assoc, take-append-drop}
 use Rattle.m36_outside.specs.Written.{appended, Grew, GrewWithin}
@@ -13,7 +13,7 @@ pub appended-appended : (x y : List ℕ) (now : Option (List ℕ)) → appended 
 appended-appended x y None = refl
 appended-appended x y (Some written) = ap (λ w. Some w) (append_assoc written x y)
 
--- where nothing is to be written, nothing need be done
+-- if nothing has to be written, nothing has to be done
 pub grew_by_nothing : (now : Option (List ℕ)) → Grew now now []
 grew_by_nothing now = sym (appended-nil now)
 
@@ -21,15 +21,15 @@ grew_by_nothing now = sym (appended-nil now)
 pub grew_on : (old now new : Option (List ℕ)) (x y : List ℕ) → Grew old now x → Grew now new y → Grew old new (x ++ y)
 grew_on old now new x y first second = second ∙ ap (λ w. appended y w) first ∙ appended-appended x y old
 
--- the whole is a part
+-- the whole is a prefix
 pub grew_within : (old new : Option (List ℕ)) (x : List ℕ) → Grew old new x → GrewWithin old new x
 grew_within old new x grown = record { part = x; rest = []; whole = sym (append-nil x); grew = grown }
 
--- nothing is a part
+-- nothing is a prefix
 pub within_nothing : (now : Option (List ℕ)) (x : List ℕ) → GrewWithin now now x
 within_nothing now x = record { part = []; rest = x; whole = refl; grew = grew_by_nothing now }
 
--- one text, and then a part of another
+-- one text, and then a prefix of another
 pub grew_more :
     (old now new : Option (List ℕ)) (x y : List ℕ)
     → Grew old now x → GrewWithin now new y → GrewWithin old new (x ++ y)
@@ -40,7 +40,7 @@ grew_more old now new x y first second = record {
   grew = grew_on old now new x second.part first second.grew;
 }
 
--- a part of one text is a part of a longer one
+-- a prefix of one text is a prefix of a longer one
 pub grew_longer :
     (old new : Option (List ℕ)) (x y : List ℕ) → GrewWithin old new x → GrewWithin old new (x ++ y)
 grew_longer old new x y cut = record {
@@ -50,7 +50,7 @@ grew_longer old new x y cut = record {
   grew = cut.grew;
 }
 
--- the first bytes of a text are a part of it
+-- the first bytes of a text are a prefix of it
 pub within_front : (old new x : List ℕ) (n : ℕ) → new ≡ old ++ take n x → GrewWithin (Some old) (Some new) x
 within_front old new x n grown = record {
   part = take n x;

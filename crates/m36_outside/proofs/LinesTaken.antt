@@ -1,5 +1,4 @@
--- Laws of lines that a sink takes, each as one piece: how those that two calls took, one after the other, make those
--- that both took.
+-- Laws of lines that a sink takes, each as one piece: what two calls took, one after the other, is what both took.
 use Rattle.std.proofs.Common.{◌≡◌, ℕ, List, [], ◌∷◌, ◌++◌, Option, refl, sym, ap, subst, ◌∙◌}
 use Rattle.std.proofs.lemmas.List.{append-nil, append_assoc}
 use Rattle.m36_outside.specs.Passing.{TakesPart, TakesSome}
@@ -15,7 +14,7 @@ pub takes_lines_on :
 takes_lines_on old now new first second one two =
     two ∙ ap (λ taken. taken ++ second) one ∙ append_assoc old first second
 
--- a first part of the one line that was put
+-- a prefix of the one line that was put
 pub takes_some_of_line :
     (written written' : Option (List ℕ)) (old new : List (List ℕ)) (line : List ℕ)
     → TakesPart written written' old new line → TakesSome old new (line ∷ [])
@@ -30,7 +29,7 @@ takes_some_of_line written written' old new line cut = record {
   took = cut.took ∙ ap (λ taken. taken ++ cut.part ∷ []) (sym (append-nil old));
 }
 
--- some lines, and then a part of others
+-- some lines, and then some others and a prefix of the next
 pub takes_lines_more :
     (old now new first second : List (List ℕ))
     → now ≡ old ++ first → TakesSome now new second → TakesSome old new (first ++ second)
@@ -47,7 +46,7 @@ takes_lines_more old now new first second one cut = record {
       ∙ ap (λ taken. taken ++ cut.part ∷ []) (append_assoc old first cut.lines);
 }
 
--- a part of some lines is a part of more
+-- some lines and a prefix of the next are so of more lines
 pub takes_lines_longer :
     (old new first second : List (List ℕ)) → TakesSome old new first → TakesSome old new (first ++ second)
 takes_lines_longer old new first second cut = record {
@@ -61,7 +60,7 @@ takes_lines_longer old new first second cut = record {
   took = cut.took;
 }
 
--- a first part of the first of several lines
+-- a prefix of the first of several lines
 pub takes_some_of_lines :
     (written written' : Option (List ℕ)) (old new left : List (List ℕ)) (line : List ℕ)
     → TakesPart written written' old new line → TakesSome old new (line ∷ left)
@@ -88,11 +87,11 @@ pub record CompletesLines (now start left all : List (List ℕ)) : Type 0 where
   pub whole : (new : List (List ℕ)) → new ≡ now ++ left → new ≡ start ++ all
   pub cut : (new : List (List ℕ)) → TakesSome now new left → TakesSome start new all
 
--- at the beginning all are left
+-- at the start all are left
 pub completes_lines_all : (start all : List (List ℕ)) → CompletesLines start start all all
 completes_lines_all start all = record { whole = λ new took. took; cut = λ new some. some }
 
--- lines were taken whole, with which what was left began
+-- lines were taken as a whole, and the rest of what was left is still to be taken
 pub completes_lines_rest :
     (now next start before first left all : List (List ℕ))
     → CompletesLines now start before all → before ≡ first ++ left → next ≡ now ++ first
@@ -102,14 +101,14 @@ completes_lines_rest now next start before first left all run begins took = reco
   cut = λ new some. run.cut new (subst (λ due. TakesSome now new due) (sym begins) (takes_lines_more now next new first left took some));
 }
 
--- a part of the next lines was taken, with which what was left began
+-- some of the next lines were taken, and a prefix of one
 pub completes_lines_cut :
     (now new start before first left all : List (List ℕ))
     → CompletesLines now start before all → before ≡ first ++ left → TakesSome now new first → TakesSome start new all
 completes_lines_cut now new start before first left all run begins some =
     run.cut new (subst (λ due. TakesSome now new due) (sym begins) (takes_lines_longer now new first left some))
 
--- the last lines were taken whole, or a part of them
+-- the last lines were taken as a whole, or some of them
 pub completes_lines_whole :
     (now new start left all : List (List ℕ)) → CompletesLines now start left all → new ≡ now ++ left → new ≡ start ++ all
 completes_lines_whole now new start left all before took = before.whole new took

@@ -5,7 +5,7 @@ use Rattle.std.proofs.lemmas.List.{drop_all, drop_more}
 use Rattle.m36_outside.specs.declared.sink.Put.TheVariants.{Done, Failed}
 use Rattle.m36_outside.specs.MemSink.{MemSinkFields, put_fails, after_put, block_fails, after_block}
 
--- the pieces from a place on
+-- the pieces from an index on
 rest_is :
     (pieces : List (List ℕ)) (place : ℕ) (piece : List ℕ)
     → place < length pieces → piece ≡ get_or pieces place [] → drop place pieces ≡ piece ∷ drop (place + 1) pieces

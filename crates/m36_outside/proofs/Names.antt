@@ -1,4 +1,4 @@
--- A name of no file is not one that may be that of a file.
+-- A name that names no file is not one that may name a file.
 use Rattle.std.proofs.Common.{◌≡◌, ℕ, List}
 use Rattle.m36_outside.specs.System.{NamesFile, NamesNoFile}
 use Rattle.m36_outside.specs.declared.folder.ReadAnswer.{ReadAnswer}

@@ -143,7 +143,7 @@ removed_after spare name done old now new first noted =
 
 -- ---- the file
 
--- the file that was written took the content, or a first part of it
+-- the file that was written took the content, or a prefix of it
 pub notes_write :
     (put : Put) (old new : List (List ℕ)) (content : List ℕ) → new ≡ old → put ≡ Failed → NotesWrite put old new content
 notes_write put old new content same failed =
@@ -177,7 +177,7 @@ pub replaced_not :
     → MakesNone calls new errors errors' → ReplaceCalls Failed name calls new
 replaced_not name calls new errors errors' none = record { count = none.count; noted = inl none.noted }
 
--- no spare file was to be made
+-- no spare file had to be made
 pub untouched : (name : List ℕ) (calls : List NameCall) → ReplaceCalls Failed name calls calls
 untouched name calls = record { count = 0; noted = inl (tried_none calls) }
 

@@ -12,7 +12,7 @@ pub rose_until : (old new last : ℕ) → Rose old new → new ≤ last → last
 rose_until old new last (inl more) later bound = inl (omega arith)
 rose_until old new last (inr end) later bound = inr (omega arith)
 
--- both
+-- the outer call began earlier and ended later
 pub rose_within :
     (start old new last : ℕ) → Rose old new → start ≤ old → new ≤ last → last < 2 ^ 64 → Rose start last
 rose_within start old new last rose earlier later bound =

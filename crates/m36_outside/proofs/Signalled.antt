@@ -21,11 +21,11 @@ use Rattle.m36_outside.specs.declared.sink.Put.TheVariants as put
 pub signals_none : (now : List ErrorKind) → Signals now now
 signals_none now = record { count = 0; noted = sym (append-nil now) }
 
--- no error more
+-- no further error
 pub signals_same : (start now next : List ErrorKind) → Signals start now → next ≡ now → Signals start next
 signals_same start now next first same = record { count = first.count; noted = same ∙ first.noted }
 
--- one signal more
+-- one more signal
 pub signals_more :
     (start now next : List ErrorKind) → Signals start now → next ≡ now ++ Interrupted ∷ [] → Signals start next
 signals_more start now next first more = record {
@@ -42,13 +42,13 @@ pub signals_by :
 signals_by start now next kind first more is =
     signals_more start now next first (more ∙ ap (λ k. now ++ k ∷ []) is)
 
--- one turn more
+-- one more try
 pub turns_more :
     (start now next : List ErrorKind) (kind : ErrorKind) (turn : ℕ)
     → length start + turn ≤ length now → next ≡ now ++ kind ∷ [] → length start + (turn + 1) ≤ length next
 turns_more start now next kind turn many noted = omega (arith, ap length noted, length-append now (kind ∷ []))
 
--- an error that is no signal
+-- an error that is not a signal
 pub zero_is_fault : (now next : List ErrorKind) → next ≡ now ++ WriteZero ∷ [] → IsFault now next
 zero_is_fault now next noted = record { error = WriteZero; no_signal = λ e. cc; noted = noted }
 
@@ -66,7 +66,7 @@ pub gives_up_by :
 gives_up_by start now next kind first noted other =
     gives_up_at start now next first (other_is_fault now next kind other noted)
 
--- one error, by whether it is a signal
+-- one error, which is a signal or not
 pub noted_signal :
     (signal : Bool) (kind : ErrorKind) (now next : List ErrorKind)
     → IsTrue signal ↔ (kind ≡ Interrupted) → next ≡ now ++ kind ∷ []
@@ -155,9 +155,9 @@ gives_up_behind old new before after fault none noted = record {
   last = last_behind old new before fault.between after noted fault.last;
 }
 
--- ---- by the answers
+-- ---- by the answer
 
--- what was read was added
+-- what was read was appended
 pub chunk_has_error :
     (answer : Chunk) (before after got : List ℕ) (old new : List ErrorKind)
     → AddSays answer before after got → Signals old new → ChunkHasError answer old new
@@ -167,7 +167,7 @@ chunk_has_error chunk.TooLarge before after got old new added signals = signals
 chunk_has_error chunk.Failed before after got old new added signals = absurd added
 chunk_has_error chunk.NoMemory before after got old new added signals = signals
 
--- it was read
+-- an opened file was read
 pub open_error_behind :
     (answer : ReadAnswer) (old new before after : List ErrorKind)
     → OpenHasError answer before after → before ≡ [] → new ≡ old ++ after → OpenHasError answer old new
@@ -181,7 +181,7 @@ open_error_behind read.Failed old new before after fault none noted =
 open_error_behind read.NoMemory old new before after signals none noted =
     signals_behind old new before after signals none noted
 
--- a file was opened, and read
+-- a file was opened and read
 pub read_has_error :
     (answer : ReadAnswer) (name : List ℕ) (old new : List ErrorKind)
     → OpenHasError answer old new → ReadHasError answer name old new
@@ -191,7 +191,7 @@ read_has_error read.TooLarge name old new signals = signals
 read_has_error read.Failed name old new fault = record { why = inl fault }
 read_has_error read.NoMemory name old new signals = signals
 
--- it could not be opened
+-- a file could not be opened
 refusal_has_error :
     (kind : ErrorKind) (name : List ℕ) (old new : List ErrorKind)
     → new ≡ old ++ kind ∷ [] → ReadHasError (refusal_of kind) name old new
@@ -204,7 +204,7 @@ pub refused_has_error :
 refused_has_error answer kind name old new is noted =
     subst (λ a. ReadHasError a name old new) (sym is) (refusal_has_error kind name old new noted)
 
--- it was written
+-- a text was written
 pub put_error_behind :
     (answer : Put) (old new before after : List ErrorKind)
     → PutHasError answer before after → before ≡ [] → new ≡ old ++ after → PutHasError answer old new

@@ -1,4 +1,4 @@
--- Laws of bytes that are taken from the beginning on.
+-- Laws of bytes that are consumed from the beginning on.
 use Rattle.std.proofs.Common.{◌≡◌, ℕ, ◌+◌, List, ◌++◌, take, drop, sym, ap, ◌∙◌}
 use Rattle.std.proofs.lemmas.List.{drop-drop, take-append-drop}
 

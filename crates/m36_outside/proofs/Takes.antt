@@ -1,4 +1,4 @@
--- A put took a first part of its piece.
+-- A put took a prefix of its piece.
 use Rattle.std.proofs.Common.{◌≡◌, ℕ, List, [], ◌∷◌, ◌++◌, Option, Some, take, drop, refl, sym, ap, ◌∙◌}
 use Rattle.std.proofs.lemmas.List.{append-nil, append_assoc, take-append-drop}
 use Rattle.m36_outside.specs.Passing.{TakesPart, PutTakes, joined}
@@ -9,14 +9,14 @@ use Rattle.m36_outside.specs.declared.sink.Put.{Put}
 use Rattle.m36_outside.specs.declared.sink.Put.TheVariants.{Done, Failed}
 use Rattle.m36_outside.proofs.Grown.{grew_by_nothing}
 
--- nothing of it
+-- nothing of a piece
 pub takes_nothing :
     (now : Option (List ℕ)) (old new : List (List ℕ)) (whole : List ℕ)
     → new ≡ old ++ [] ∷ [] → TakesPart now now old new whole
 takes_nothing now old new whole took =
     record { part = []; rest = whole; is = refl; took = took; grew = grew_by_nothing now }
 
--- its first bytes, in memory
+-- the first bytes of a piece, in memory
 pub takes_front :
     (written written' : List ℕ) (old new : List (List ℕ)) (whole : List ℕ) (count : ℕ)
     → written' ≡ written ++ take count whole → new ≡ old ++ take count whole ∷ []
@@ -42,7 +42,7 @@ joined_more (first ∷ pieces) piece =
 joined_by : (old new : List (List ℕ)) (piece : List ℕ) → new ≡ old ++ piece ∷ [] → joined new ≡ joined old ++ piece
 joined_by old new piece took = ap joined took ∙ joined_more old piece
 
--- a first part of it, as a writer took it
+-- a prefix of a piece, as a writer took it
 pub takes_written :
     (old new : List (List ℕ)) (whole before after : List ℕ)
     → GrewWithin (Some before) (Some after) whole → before ≡ [] → new ≡ old ++ after ∷ []
@@ -57,14 +57,14 @@ takes_written old new whole before after within none took =
       grew = ap (λ w. Some w) (joined_by old new within.part part);
     }
 
--- all of it, as a writer took it
+-- all of a piece, as a writer took it
 pub takes_whole :
     (old new : List (List ℕ)) (whole before after : List ℕ)
     → Grew (Some before) (Some after) whole → before ≡ [] → new ≡ old ++ after ∷ [] → new ≡ old ++ whole ∷ []
 takes_whole old new whole before after grown none took =
     took ∙ ap (λ p. old ++ p ∷ []) (taken_is before after whole grown none)
 
--- what is written by it
+-- what is written after a whole piece
 pub writes_whole :
     (old new : List (List ℕ)) (whole : List ℕ)
     → new ≡ old ++ whole ∷ [] → Grew (Some (joined old)) (Some (joined new)) whole

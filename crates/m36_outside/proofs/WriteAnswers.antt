@@ -30,7 +30,7 @@ pub write_cause :
     → answer ≡ write_answer_of put → PutHasCause put old new → WriteHasCause answer old new
 write_cause put answer old new is why = subst (λ a. WriteHasCause a old new) (sym is) (cause put old new why)
 
--- the file has the name of none
+-- the name names no file
 pub write_failed :
     (put : Put) (answer : WriteAnswer) → answer ≡ write_answer_of put → put ≡ Failed → answer ≡ write.Failed
 write_failed put answer is failed = subst (λ p. answer ≡ write_answer_of p) failed is

@@ -3,10 +3,11 @@ use Rattle.std.specs.Prelude.{ℕ, ◌≡◌, ◌≤◌, Bool, List, [], ◌∷�
 use Rattle.std.specs.Prelude.{nat_lt, if◌then◌else◌}
 use Rattle.m36_outside.specs.Passing.{joined}
 
--- the capacity of a block, in bytes and in pieces
+-- the maximum number of bytes in a block
 abbrev pub block_bytes : ℕ
 block_bytes = 32768
 
+-- the maximum number of pieces in a block
 abbrev pub block_pieces : ℕ
 block_pieces = 2048
 

@@ -7,7 +7,6 @@ abbrev pub Files : Type 0
 Files = List ℕ → Option (List ℕ)
 
 -- the files with that of one name replaced, and every other unchanged
--- the files, with that of one name as given and every other as it is
 unfoldable pub with_file : List ℕ → Option (List ℕ) → Files → Files
 with_file name content files other = if pointwise nat_eq other name then content else files other
 

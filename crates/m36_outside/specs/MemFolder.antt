@@ -7,6 +7,7 @@ use Rattle.m36_outside.specs.declared.file_list.NamedFile.{NamedFile}
 use Rattle.m36_outside.specs.declared.folder.ReadAnswer.{ReadAnswer}
 use Rattle.m36_outside.specs.declared.folder.WriteAnswer.{WriteAnswer}
 
+-- the files, the plans of reads and writes, the logs of calls, and the counts of faults
 pub record MemFolderFields : Type 0 where
   pub files : List NamedFile
   pub reads : CallPlan

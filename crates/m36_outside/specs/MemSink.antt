@@ -4,6 +4,8 @@ use Rattle.std.specs.Prelude.{if◌then◌else◌, false}
 use Rattle.m36_outside.specs.Counts.{raised}
 use Rattle.m36_outside.specs.CallPlan.{CallPlan, new_plan, next_fails, after_call}
 
+-- what was written, the pieces taken, the capacity in bytes, the plan of puts, and the count of
+-- faults
 pub record MemSinkFields : Type 0 where
   pub bytes : List ℕ
   pub pieces : List (List ℕ)
@@ -39,13 +41,13 @@ after_put sink piece = record {
   faults = if put_fails sink piece then raised sink.faults else sink.faults;
 }
 
--- The pieces of a block are put one after another, up to the first put that fails. `block_fails`:
--- one does. `after_block`: the output afterwards.
+-- The pieces of a block are put one after another, up to the first put that fails: one fails.
 unfoldable pub block_fails : MemSinkFields → List (List ℕ) → Bool
 block_fails sink [] = false
 block_fails sink (piece ∷ pieces) =
     put_fails sink piece || block_fails (after_put sink piece) pieces
 
+-- the output after the pieces of a block were put, up to the first put that fails
 unfoldable pub after_block : MemSinkFields → List (List ℕ) → MemSinkFields
 after_block sink [] = sink
 after_block sink (piece ∷ pieces) =

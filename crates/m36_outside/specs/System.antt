@@ -104,19 +104,20 @@ abbrev pub NotesWrite : Put → List (List ℕ) → List (List ℕ) → List ℕ
 NotesWrite Done old new content = new ≡ old ++ content ∷ []
 NotesWrite Failed old new content = NotesPart old new content
 
--- What a write implies, by the answer of the folder. A directory never answers NoMemory to a
--- write. `WriteTakes`: for the bytes that the file took. `WriteCalls`: for the calls that change
--- names. `WriteHasError`: for the errors.
+-- What the answer of the folder implies for the bytes that the file took. A directory never answers
+-- NoMemory to a write.
 abbrev pub WriteTakes : WriteAnswer → List (List ℕ) → List (List ℕ) → List ℕ → Type 0
 WriteTakes write.Written old new content = NotesWrite Done old new content
 WriteTakes write.Failed old new content = NotesWrite Failed old new content
 WriteTakes write.NoMemory old new content = ⊥
 
+-- what it implies for the calls that change names
 abbrev pub WriteCalls : WriteAnswer → List ℕ → List NameCall → List NameCall → Type 0
 WriteCalls write.Written name old new = ReplaceCalls Done name old new
 WriteCalls write.Failed name old new = ReplaceCalls Failed name old new
 WriteCalls write.NoMemory name old new = ⊥
 
+-- what it implies for the errors
 abbrev pub WriteHasError : WriteAnswer → List ℕ → List ErrorKind → List ErrorKind → Type 0
 WriteHasError write.Written name old new = FileHasError Done name old new
 WriteHasError write.Failed name old new = FileHasError Failed name old new

@@ -35,7 +35,8 @@ impl FolderCalls {
 
     /// Logs a read.
     pub fn note_read(&mut self, name: &[u8], answer: &ReadAnswer)
-        ensures asked { self.new.asked.entries ≡ self.old.asked.entries ++ (name.now, answer.now) ∷ [] }
+        ensures asked { self.new.asked.entries
+            ≡ self.old.asked.entries ++ (name.now, answer.now) ∷ [] }
         ensures wrote { self.new.wrote.entries ≡ self.old.wrote.entries }
     {
         self.asked.note(&(name, answer));
@@ -43,7 +44,8 @@ impl FolderCalls {
 
     /// Logs a write.
     pub fn note_write(&mut self, name: &[u8], content: &[u8], answer: WriteAnswer)
-        ensures wrote { self.new.wrote.entries ≡ self.old.wrote.entries ++ (name.now, content.now, answer) ∷ [] }
+        ensures wrote { self.new.wrote.entries
+            ≡ self.old.wrote.entries ++ (name.now, content.now, answer) ∷ [] }
         ensures asked { self.new.asked.entries ≡ self.old.asked.entries }
     {
         self.wrote.note(&(name, content, answer));

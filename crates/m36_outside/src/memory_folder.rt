@@ -83,7 +83,8 @@ impl MemFolder {
     /// memory runs out, nothing changes.
     pub fn add(&mut self, name: &[u8], content: &[u8]) -> Result<(), NoMemory>
         ensures ok { OnOk result
-            (file_named self.new.files ≡ with_file name.now (Some content.now) (file_named self.old.files)) }
+            (file_named self.new.files
+            ≡ with_file name.now (Some content.now) (file_named self.old.files)) }
         ensures rest { self.new ≡ record self.old { files = self.new.files } }
         ensures err { OnErr result (self.new ≡ self.old) }
     {
@@ -128,7 +129,8 @@ impl Folder for MemFolder {
 
     fn write(&mut self, alloc: Global, name: &[u8], content: &[u8]) -> WriteAnswer
         ensures says { WriteSays result
-            (Some (file_named self.old.files)) (Some (file_named self.new.files)) name.now content.now }
+            (Some (file_named self.old.files))
+            (Some (file_named self.new.files)) name.now content.now }
         ensures wrote { self.new.wrote ≡ self.old.wrote ++ (name.now, content.now, result) ∷ [] }
         ensures cause { WriteHasCause result self.old.write_faults self.new.write_faults }
         ensures count { self.old.write_faults ≤ self.new.write_faults }

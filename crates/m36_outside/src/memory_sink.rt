@@ -43,7 +43,8 @@ impl Model for MemSink {
       faults = s.faults;
     } };
 
-    ghost invariant = { λ s. (vec_len s.bytes ≤ s.room) × (s.room ≤ vec_capacity s.bytes) × (s.faults < 2 ^ 64) };
+    ghost invariant = { λ s. (vec_len s.bytes ≤ s.room) × (s.room ≤ vec_capacity s.bytes)
+        × (s.faults < 2 ^ 64) };
 }
 
 impl MemSink {
@@ -118,7 +119,8 @@ impl Sink for MemSink {
 
     #[tactic(auto, using(crate::proofs::Blocks::putting, crate::proofs::MemoryBlocks::in_memory))]
     fn put_block(&mut self, block: &Block) -> Put
-        ensures says { PutSays result (Some self.old.bytes) (Some self.new.bytes) (joined block.now) }
+        ensures says { PutSays result (Some self.old.bytes) (Some self.new.bytes)
+            (joined block.now) }
         ensures took { TakesLines result self.old.pieces self.new.pieces block.now }
         ensures cause { PutHasCause result self.old.faults self.new.faults }
         ensures count { self.old.faults ≤ self.new.faults }

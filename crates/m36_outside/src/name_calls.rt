@@ -159,7 +159,8 @@ pub fn rename<R: Files>(
     calls: &mut Passed<NameCall>,
     errors: &mut Passed<ErrorKind>,
 ) -> bool
-    ensures calls { calls.new.entries ≡ calls.old.entries ++ NameCall.Rename from.now to.now result ∷ [] }
+    ensures calls { calls.new.entries
+        ≡ calls.old.entries ++ NameCall.Rename from.now to.now result ∷ [] }
     ensures error { ErrorUnless result errors.old.entries errors.new.entries }
 {
     let done = note_refusal(fs::rename(rt, from, to), errors);

@@ -79,7 +79,8 @@ impl WriterNotes {
             (λ count. self.new.taken.entries ≡ self.old.taken.entries ++ take count bytes.now) }
         ensures inner { MatchOption result
             (Keeps (W.contents writer.old) (W.contents writer.new))
-            (λ count. Appends (W.contents writer.old) (W.contents writer.new) (take count bytes.now)) }
+            (λ count. Appends (W.contents writer.old) (W.contents writer.new)
+            (take count bytes.now)) }
         ensures flushed { self.new.flushed.entries ≡ self.old.flushed.entries }
         ensures failed { IfNone result (IsFault self.old.errors.entries self.new.errors.entries) }
         ensures signal { IfSome result (λ count. count ≡ 0 →
@@ -165,9 +166,11 @@ impl<R: Read> NotedReader<R> {
             (λ count. self.new.given.entries ≡ self.old.given.entries ++ take count into.new ∷ []) }
         ensures inner { MatchOption result
             (Keeps (R.remaining self.old.inner) (R.remaining self.new.inner))
-            (λ count. Consumes (R.remaining self.old.inner) (R.remaining self.new.inner) (take count into.new)) }
+            (λ count. Consumes (R.remaining self.old.inner) (R.remaining self.new.inner)
+            (take count into.new)) }
         ensures end { IfSome result (λ count. count ≡ 0 → IsAtEnd (R.remaining self.new.inner)) }
-        ensures sure { IfSome result (λ _. Signals self.old.errors.entries self.new.errors.entries) }
+        ensures sure { IfSome result
+            (λ _. Signals self.old.errors.entries self.new.errors.entries) }
         ensures failed { IfNone result (GivesUp self.old.errors.entries self.new.errors.entries) }
     {
         for _turn in 0..u64::MAX {

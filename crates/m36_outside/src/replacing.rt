@@ -50,7 +50,8 @@ fn replace<R: Files>(
 ) -> Put
     ensures took { NotesWrite result notes.old.taken.entries notes.new.taken.entries content.now }
     ensures given { notes.new.given.entries ≡ notes.old.given.entries }
-    ensures names { SpareUsed result spare.now name.now notes.old.names.entries notes.new.names.entries }
+    ensures names { SpareUsed result spare.now name.now notes.old.names.entries
+        notes.new.names.entries }
     ensures error { SpareErrors result notes.old.errors.entries notes.new.errors.entries }
 {
     let answer = fill(&mut file, content, notes);
@@ -85,7 +86,8 @@ fn fill<W: Write>(file: &mut W, content: &[u8], notes: &mut FileNotes) -> Put
 fn give_name<R: Files>(rt: &R, spare: &str, name: &str, notes: &mut FileNotes) -> Put
     ensures taken { notes.new.taken.entries ≡ notes.old.taken.entries }
     ensures given { notes.new.given.entries ≡ notes.old.given.entries }
-    ensures names { SpareUsed result spare.now name.now notes.old.names.entries notes.new.names.entries }
+    ensures names { SpareUsed result spare.now name.now notes.old.names.entries
+        notes.new.names.entries }
     ensures error { SpareErrors result notes.old.errors.entries notes.new.errors.entries }
 {
     if rename(rt, spare, name, &mut notes.names, &mut notes.errors) {

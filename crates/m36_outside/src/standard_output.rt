@@ -32,7 +32,8 @@ impl<R> Model for StdSink<R> {
 
     ghost Value = { SinkTold };
 
-    ghost view = { λ s. record { faults = s.faults; taken = s.taken.entries; errors = s.errors.entries } };
+    ghost view = { λ s.
+        record { faults = s.faults; taken = s.taken.entries; errors = s.errors.entries } };
 
     ghost invariant = { λ s. s.faults < 2 ^ 64 };
 }
@@ -59,9 +60,11 @@ impl<R: Print + Drop> Sink for StdSink<R> {
     ghost faults = { λ s. s.faults };
 
     fn put(&mut self, piece: &[u8]) -> Put
-        ensures says { PutSays result (Some (joined self.old.taken)) (Some (joined self.new.taken)) piece.now }
+        ensures says { PutSays result (Some (joined self.old.taken)) (Some (joined self.new.taken))
+            piece.now }
         ensures took { PutTakes result
-            (Some (joined self.old.taken)) (Some (joined self.new.taken)) self.old.taken self.new.taken piece.now }
+            (Some (joined self.old.taken))
+            (Some (joined self.new.taken)) self.old.taken self.new.taken piece.now }
         ensures cause { PutHasCause result self.old.faults self.new.faults }
         ensures count { self.old.faults ≤ self.new.faults }
         ensures count_bound { self.new.faults < 2 ^ 64 }

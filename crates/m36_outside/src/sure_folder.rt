@@ -47,7 +47,8 @@ impl SureFolder {
     /// Sets the file with this name, which may exist already. If memory runs out, nothing changes.
     pub fn add(&mut self, name: &[u8], content: &[u8]) -> Result<(), NoMemory>
         ensures ok { OnOk result
-            (file_named self.new.files ≡ with_file name.now (Some content.now) (file_named self.old.files)) }
+            (file_named self.new.files
+            ≡ with_file name.now (Some content.now) (file_named self.old.files)) }
         ensures rest { self.new ≡ record self.old { files = self.new.files } }
         ensures err { OnErr result (self.new ≡ self.old) }
     {
@@ -71,7 +72,8 @@ impl Folder for SureFolder {
         ensures told { ReadSays result (file_named self.old.files name.now) }
         ensures limit { IsWithinLimit result }
         ensures cause { ReadHasCause result 0 0 }
-        ensures after { self.new ≡ record self.old { asked = self.old.asked ++ (name.now, result) ∷ [] } }
+        ensures after { self.new
+            ≡ record self.old { asked = self.old.asked ++ (name.now, result) ∷ [] } }
     {
         let answer = self.files.read(alloc, name);
         self.calls.note_read(name, &answer);
@@ -80,7 +82,8 @@ impl Folder for SureFolder {
 
     fn write(&mut self, alloc: Global, name: &[u8], content: &[u8]) -> WriteAnswer
         ensures says { WriteSays result
-            (Some (file_named self.old.files)) (Some (file_named self.new.files)) name.now content.now }
+            (Some (file_named self.old.files))
+            (Some (file_named self.new.files)) name.now content.now }
         ensures wrote { self.new.wrote ≡ self.old.wrote ++ (name.now, content.now, result) ∷ [] }
         ensures asked { self.new.asked ≡ self.old.asked }
         ensures cause { WriteHasCause result 0 0 }

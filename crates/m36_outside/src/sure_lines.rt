@@ -53,7 +53,8 @@ impl Lines for SureLines {
         ensures says { PieceSays result (Some self.old.left) (Some self.new.left) into.new }
         ensures gives { PieceGives result self.old.given self.new.given into.new }
         ensures cause { PieceHasCause result 0 0 }
-        ensures rest { self.new.left ≡ drop (piece_length (length into.old) self.old.left) self.old.left }
+        ensures rest { self.new.left
+            ≡ drop (piece_length (length into.old) self.old.left) self.old.left }
     {
         let count = self.unread.take(into);
         self.given.note(&&into[..count]);

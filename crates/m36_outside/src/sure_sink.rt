@@ -37,7 +37,8 @@ impl Sink for SureSink {
     #[tactic(auto, using(crate::proofs::Takes::takes))]
     fn put(&mut self, piece: &[u8]) -> Put
         ensures says { PutSays result
-            (Some (joined self.old.taken.entries)) (Some (joined self.new.taken.entries)) piece.now }
+            (Some (joined self.old.taken.entries))
+            (Some (joined self.new.taken.entries)) piece.now }
         ensures took { self.new.taken.entries ≡ self.old.taken.entries ++ piece.now ∷ [] }
         ensures cause { PutHasCause result 0 0 }
         ensures sure { result ≡ Put.Done }
@@ -49,7 +50,8 @@ impl Sink for SureSink {
     #[tactic(auto, using(crate::proofs::Blocks::written_at_once))]
     fn put_block(&mut self, block: &Block) -> Put
         ensures says { PutSays result
-            (Some (joined self.old.taken.entries)) (Some (joined self.new.taken.entries)) (joined block.now) }
+            (Some (joined self.old.taken.entries)) (Some (joined self.new.taken.entries))
+            (joined block.now) }
         ensures took { self.new.taken.entries ≡ self.old.taken.entries ++ block.now }
         ensures cause { PutHasCause result 0 0 }
         ensures sure { result ≡ Put.Done }

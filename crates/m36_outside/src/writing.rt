@@ -14,10 +14,12 @@ use std::io::{ErrorKind, Write};
 /// Writes all of these bytes, and flushes them. A writer that takes nothing has failed.
 #[tactic(auto, using(crate::proofs::Appended::appending, crate::proofs::Signalled::in_turn))]
 pub fn write_whole<W: Write>(writer: &mut W, notes: &mut WriterNotes, bytes: &[u8]) -> Put
-    ensures taken { PutSays result (Some notes.old.taken.entries) (Some notes.new.taken.entries) bytes.now }
+    ensures taken { PutSays result (Some notes.old.taken.entries) (Some notes.new.taken.entries)
+        bytes.now }
     ensures inner { IfSome (W.contents writer.old)
         (λ held. PutSays result (Some held) (W.contents writer.new) bytes.now) }
-    ensures flushed { NotesDone result notes.old.flushed.entries notes.new.flushed.entries notes.new.taken.entries }
+    ensures flushed { NotesDone result notes.old.flushed.entries notes.new.flushed.entries
+        notes.new.taken.entries }
     ensures error { PutHasError result notes.old.errors.entries notes.new.errors.entries }
 {
     let mut done = 0;
@@ -67,7 +69,8 @@ fn write_from<W: Write>(
     ensures progress { IfSome result (λ count. 1 ≤ count) }
     ensures taken { MatchOption result
         (notes.new.taken.entries ≡ notes.old.taken.entries)
-        (λ count. notes.new.taken.entries ≡ notes.old.taken.entries ++ take count (drop place bytes.now)) }
+        (λ count. notes.new.taken.entries
+        ≡ notes.old.taken.entries ++ take count (drop place bytes.now)) }
     ensures inner { MatchOption result
         (Keeps (W.contents writer.old) (W.contents writer.new))
         (λ count. Appends (W.contents writer.old) (W.contents writer.new)

@@ -1,4 +1,4 @@
--- What the code of the pager does is a page put away, or one taken in.
+-- The code of the pager evicts a page, or takes one in.
 use Rattle.std.proofs.Common.{ℕ, ◌≡◌, ◌≢◌, ◌+◌, ◌-◌, ◌*◌, ◌/◌, ◌%◌, ◌^◌, ◌<◌, ◌≤◌, ◌⊎◌, Bool, true, false, List, length, get_or, set, Option, Some, None, refl, sym, ap, subst, inl, inr, ◌∙◌, arith}
 use Rattle.std.specs.Prelude.{position, All, IsSome}
 use Rattle.std.proofs.lemmas.Bool.{cases_eq, cases_lt, ltb-true}
@@ -13,7 +13,7 @@ use Rattle.m36_page.proofs.Tables.{found, words_pages, words_spots, words_kept, 
 use Rattle.m36_page.specs.Moved.{HasWords, IsAway, IsTaken, IsEmptied}
 use Rattle.m36_page.proofs.Moves.{resident_frame, away_kept, away_settled, away_frame, away_out, same_page}
 
--- ---- put away
+-- ---- evicted
 
 pub away_from : (p : PagerFields) (core : List ℕ) (new : PagerFields) (now : List ℕ) (k seg page i : ℕ) (d : TableFields) (words : List ℕ)
     → IsSettled p core → Holds p k seg page → HasWords p new seg i d words
@@ -183,14 +183,14 @@ holder_gone : (new : PagerFields) (k seg page : ℕ) (p : PagerFields) → ((x q
 holder_gone new k seg page p never None e = e
 holder_gone new k seg page p never (Some h) e = absurd (never h.0 h.1 e)
 
--- of a frame that holds the same pages before and after, the holder is the same
+-- if a frame holds the same pages before and after, its holder is the same
 same_holder : (p new : PagerFields) (j : ℕ) → ((x q : ℕ) → Holds new j x q → Holds p j x q) → ((x q : ℕ) → Holds p j x q → Holds new j x q)
     → (o o' : Option (ℕ × ℕ)) → get_or p.holders j None ≡ o → get_or new.holders j None ≡ o' → get_or new.holders j None ≡ get_or p.holders j None
 same_holder p new j left stay None None e f = f ∙ sym e
 same_holder p new j left stay None (Some h) e f = let held : get_or p.holders j None ≡ Some h = left h.0 h.1 f in absurd (cc)
 same_holder p new j left stay (Some h) o' e f = stay h.0 h.1 e ∙ sym e
 
--- frames beside the one that a page was taken into hold what they held
+-- frames other than the one that a page was taken into hold what they held
 pub taken_holders : (p : PagerFields) (core : List ℕ) (new : PagerFields) (now : List ℕ) (k seg page : ℕ)
     → IsTaken p core new now k seg page → (j : ℕ) → j ≢ k → get_or new.holders j None ≡ get_or p.holders j None
 taken_holders p core new now k seg page taken j other =

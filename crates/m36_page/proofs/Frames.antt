@@ -35,7 +35,7 @@ pub resident_unmarked : (frame : ℕ) → unmarked (resident_ptw frame) ≡ resi
 unfolding unmarked
 resident_unmarked frame = omega arith
 
--- ---- a pager and its core as a call finds them
+-- ---- a pager and its core before a call
 
 pub held_inside : (holders : List (Option (ℕ × ℕ))) (k : ℕ) (h : ℕ × ℕ) → get_or holders k None ≡ Some h → k < length holders
 held_inside holders k h e =
@@ -104,7 +104,7 @@ word_by : (f : Option ℕ) (core now : List ℕ) (w kept kept' : ℕ) → (f ≡
 word_by None core now w kept kept' none some = none refl
 word_by (Some frame) core now w kept kept' none some = some frame refl
 
--- a page that stays where it is has the words that it had
+-- a page that stays where it is has the same words
 pub word_stays : (old : PagerFields) (core : List ℕ) (new : PagerFields) (now : List ℕ) (seg w : ℕ)
     → frame_of new now seg (w / 1024) ≡ frame_of old core seg (w / 1024)
     → (frame_of old core seg (w / 1024) ≡ None → kept_word new seg w ≡ kept_word old seg w)
@@ -169,7 +169,7 @@ held_in_core holders spots first core k inside size some =
 pub marked_none : (core : List ℕ) (at : ℕ → Type 0) → IsMarked core core at
 marked_none core at = record { size = refl; each = λ a. inl refl }
 
--- marked at places of one kind, where those are of another
+-- marks at places of one kind, which are of another kind
 pub marked_as : (core now : List ℕ) (one at : ℕ → Type 0) → ((a : ℕ) → one a → at a) → IsMarked core now one → IsMarked core now at
 marked_as core now one at all m = record {
   size = m.size;
@@ -187,14 +187,14 @@ passed_on core mid now at a one two =
           ]
     ]
 
--- marked first, and then
+-- marks, and then more marks
 pub marked_then : (core mid now : List ℕ) (at : ℕ → Type 0) → IsMarked core mid at → IsMarked mid now at → IsMarked core now at
 marked_then core mid now at a b = record {
   size = b.size ∙ a.size;
   each = λ x. passed_on core mid now at x (a.each x) (b.each x);
 }
 
--- the mark of a page that the references do not pin
+-- the used mark of a page that the references do not pin
 pub marked_free : (refs : List Reference) (holder : Option (ℕ × ℕ)) (core now : List ℕ) (spot : ℕ) → IsSome holder → is_pinned refs holder ≡ false
     → IsMarked core now (λ a. a ≡ spot) → IsMarked core now (λ a. IsSome holder × (is_pinned refs holder ≡ false) × (a ≡ spot))
 marked_free refs holder core now spot some free m =

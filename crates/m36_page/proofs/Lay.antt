@@ -1,4 +1,4 @@
--- Page table words that are laid.
+-- Page table words that are laid out.
 use Rattle.std.proofs.Common.{ℕ, ◌≡◌, ◌≢◌, ◌+◌, ◌-◌, ◌*◌, ◌<◌, ◌≤◌, ◌⊎◌, Bool, true, List, [], ◌∷◌, length, get_or, map, replicate, Option, Some, None, refl, sym, ap, subst, inl, inr, ◌∙◌, arith}
 use Rattle.std.specs.Prelude.{slice_get, position, All}
 use Rattle.std.proofs.lemmas.Bool.{cases_lt, cases_eq}
@@ -93,7 +93,7 @@ laid_page p core now s q i at has laid =
     ap (λ a. unmarked (get_or now a 0)) (spot_by p s q i none_table at)
     ∙ ap unmarked (laid.absent i (get_or p.tables i none_table) q is.0 here inside) ∙ absent_unmarked
 
--- what is laid reads as no page in a frame
+-- after laying, the page table words are those of pages in no frame
 pub laid_reads : (p : PagerFields) (core now : List ℕ) → AllEmpty p → AreAbsent p.tables (length p.tables) core now → Reads p now
 laid_reads p core now empty laid = record {
   pages = λ s q has.

@@ -8,7 +8,7 @@ use Rattle.m36_page.specs.Changes.{IsSameShape, IsSpot, IsPaged, IsKept}
 use Rattle.m36_page.specs.Moved.{IsAway, IsTaken}
 use Rattle.m36_page.proofs.Frames.{frame_absent, frame_resident, absent_unmarked, resident_unmarked, bounded, IsIn, IsOut, whereabouts, content_same, word_stays}
 
--- ---- kept twice
+-- ---- `IsKept` twice
 
 paged_back : (a : PagerFields) (ac : List ℕ) (b : PagerFields) (bc : List ℕ) → IsKept a ac b bc → (x : ℕ) → IsPaged b x → IsPaged a x
 paged_back a ac b bc one x paged =
@@ -45,14 +45,14 @@ kept_then a ac b bc c cc' one two =
       others = λ x out. two.others x (λ paged. out (paged_back a ac b bc one x paged)) ∙ one.others x out;
     }
 
--- ---- marks that are put off
+-- ---- used marks that are cleared
 
 pub record AreMarks (p : PagerFields) (core now : List ℕ) : Type 0 where
   pub size : length now ≡ length core
   pub unmarks : (a : ℕ) → unmarked (get_or now a 0) ≡ unmarked (get_or core a 0)
   pub others : (a : ℕ) → (IsSpot p a → ⊥) → get_or now a 0 ≡ get_or core a 0
 
--- a word of a frame holds no page table word
+-- a word of a frame is not a page table word
 no_spot : (p : PagerFields) (a : ℕ) → IsPager p → 1024 * p.first ≤ a → IsSpot p a → ⊥
 no_spot p a pager above spot =
     let below = pager.below spot.seg spot.page spot.has in
@@ -113,7 +113,7 @@ marks_kept p core now s marks = record {
   others = λ a out. marks.others a (λ spot. out (inl spot));
 }
 
--- ---- a page that is put away
+-- ---- a page that is evicted
 
 -- the frame that holds a page is the one that it is in
 pub resident_frame : (p : PagerFields) (core : List ℕ) (k seg page : ℕ) → IsSettled p core → Holds p k seg page
@@ -130,7 +130,7 @@ same_page s q seg page =
       | inr other ↦ inr (λ both. other both.0)
     ]
 
--- another page's word is another
+-- the page table word of another page has another place
 other_spot : (p : PagerFields) (s q seg page : ℕ) → IsPager p → has_page p s q ≡ true → has_page p seg page ≡ true
     → ((s ≡ seg) × (q ≡ page) → ⊥) → spot_of p s q ≢ spot_of p seg page
 other_spot p s q seg page pager has has' other = λ same. other (pager.apart s q seg page has has' same)
@@ -156,7 +156,7 @@ away_out p core new now k seg page away =
     let word : get_or now (spot_of new seg page) 0 ≡ absent_ptw = ap (λ a. get_or now a 0) (away.shape.spots seg page) ∙ away.spot in
     frame_absent (get_or now (spot_of new seg page) 0) (ap unmarked word ∙ absent_unmarked)
 
--- of a page that a frame holds, no other frame does
+-- a page is held by at most one frame
 pub one_frame : (p : PagerFields) (core : List ℕ) (k j seg page : ℕ) → Reads p core → Holds p k seg page → Holds p j seg page → k ≡ j
 one_frame p core k j seg page reads h i =
     let a = reads.frames k seg page h in
@@ -362,7 +362,7 @@ taken_settled p core new now k seg page s taken =
       most = omega (arith, size, most);
     }
 
--- another page's frame is another
+-- another page is in another frame
 taken_apart : (p : PagerFields) (core : List ℕ) (new : PagerFields) (now : List ℕ) (k seg page j s q : ℕ)
     → IsTaken p core new now k seg page → Holds p j s q → j ≢ k
 taken_apart p core new now k seg page j s q taken h = λ same.

@@ -9,7 +9,7 @@ use Rattle.m36_desc.specs.Fields.{PtwFields}
 there : (core : List ℕ) (a : ℕ) → a < length core → option_map ptw_of (slice_get core a) ≡ Some (ptw_of (slice_index core a))
 there core a lt = ap (option_map ptw_of) (slice_get-get_or core a 0 lt)
 
--- it is there
+-- there is one
 pub word_there : (core : List ℕ) (a : ℕ) → a < length core → None ≡ option_map ptw_of (slice_get core a) → ⊥
 word_there core a lt none =
     let wrong : None ≡ Some (ptw_of (slice_index core a)) = none ∙ there core a lt in

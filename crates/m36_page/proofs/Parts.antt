@@ -1,4 +1,4 @@
--- The pager by its parts.
+-- The parts of the pager.
 use Rattle.std.proofs.Common.{ℕ, ◌≡◌, ◌≢◌, ◌+◌, ◌-◌, ◌*◌, ◌/◌, ◌%◌, ◌^◌, ◌<◌, ◌≤◌, ◌⊎◌, Bool, true, false, List, length, get_or, set, Option, Some, None, refl, sym, ap, subst, inl, inr, ◌∙◌, arith}
 use Rattle.std.specs.Prelude.{nat_lt, option_and_then, slice_get, position, All, IsSome, IfNone, IfSome, is_some}
 use Rattle.std.specs.List.{list_any}
@@ -100,7 +100,7 @@ room_is first holders tables ts p seg page i t e same place item pager has =
     let words : length t.words ≡ length (get_or tables i t).words = ap (λ (x : TableFields). length x.words) item in
     omega (arith, room, words)
 
--- ---- what is kept beside
+-- ---- the private part
 
 pub inside_away : (p : PagerFields) (core : List ℕ) (new : PagerFields) (now : List ℕ) (k seg page : ℕ) (spots : List ℕ)
     → IsInside p spots → IsAway p core new now k seg page → IsInside new spots
@@ -195,7 +195,7 @@ marks_of p refs core now pager m = record {
   others = λ a out. elim (m.each a) [ inl e ↦ e | inr e ↦ absurd (out (free_spot p refs a pager e.0)) ];
 }
 
--- a page of a reference is in no frame that may be taken
+-- a page of a reference is not in a frame that may be taken
 unpinned : (p : PagerFields) (refs : List Reference) (k i : ℕ) (d : Reference) → i < length refs → IsFree refs p.holders k
     → Holds p k (get_or refs i d).at.seg ((get_or refs i d).at.word / 1024) → ⊥
 unpinned p refs k i d below free holds =
@@ -206,7 +206,7 @@ unpinned p refs k i d below free holds =
     let none = free.free in
     absurd (cc)
 
--- a page that a frame holds is not one that is in none
+-- a page that a frame holds is not one that is in no frame
 held_other : (p : PagerFields) (core : List ℕ) (k s q seg page : ℕ) → IsSettled p core → Holds p k s q → frame_of p core seg page ≡ None
     → (s ≡ seg) × (q ≡ page) → ⊥
 held_other p core k s q seg page settled holds out same =
@@ -214,7 +214,7 @@ held_other p core k s q seg page settled holds out same =
     sym (ap (λ y. frame_of p core y q) same.0 ∙ ap (λ y. frame_of p core seg y) same.1) ∙ resident_frame p core k s q settled holds in
     absurd (cc)
 
--- the page table word of the page that was put away
+-- the page table word of the page that was evicted
 brought_away : (p : PagerFields) (core mid : List ℕ) (gone : PagerFields) (left : List ℕ) (new : PagerFields) (now : List ℕ) (k seg page s q : ℕ)
     → IsSettled p core → IsEmptied p mid gone left k → IsTaken gone left new now k seg page
     → frame_of p core seg page ≡ None → Holds p k s q → get_or now (spot_of p s q) 0 ≡ absent_ptw
@@ -228,7 +228,7 @@ brought_away p core mid gone left new now k seg page s q settled emptied taken o
     held_other p core k s q seg page settled holds out (settled.pager.apart s q seg page has has' (at ∙ shape.spots seg page)) in
     taken.others (spot_of p s q) apart (inl (omega (arith, below, first))) ∙ emptied.spot s q holds
 
--- a word beside those of the frame and of the two pages
+-- a word that is neither in the frame nor a page table word of the two pages
 brought_word : (p : PagerFields) (core mid : List ℕ) (gone : PagerFields) (left : List ℕ) (new : PagerFields) (now : List ℕ) (k seg page : ℕ) (refs : List Reference) (a : ℕ)
     → IsMarked core mid (IsFreeSpot p refs) → IsEmptied p mid gone left k → IsTaken gone left new now k seg page
     → a ≢ spot_of p seg page → ((s q : ℕ) → Holds p k s q → a ≢ spot_of p s q)
@@ -274,7 +274,7 @@ brought p core mid gone left new now k seg page refs s marks emptied taken free 
       others_kept = λ x w out. taken.kept x w ∙ emptied.others.kept x w out;
     }
 
--- where a frame is free not all are pinned
+-- if a frame is free, not all are pinned
 pub not_pinned : (p : PagerFields) (refs : List Reference) (k : ℕ) → IsFree refs p.holders k → AllPinned p refs → ⊥
 not_pinned p refs k free all =
     let pinned : is_pinned refs (get_or p.holders k None) ≡ true =
@@ -410,7 +410,7 @@ unfolding content_of page_word
 content_kept p core seg w has e =
     ap (λ b. then_some b (page_word p core seg w)) has ∙ ap (λ f. Some (word_in f core w (kept_word p seg w))) e
 
--- the frame that a page table word names is one of core
+-- the frame that a page table word names is in core
 pub frame_here : (p : PagerFields) (core : List ℕ) (seg page spot frame : ℕ) (o : Option ℕ) → IsPager p → Reads p core → HasFrames p core
     → length core ≤ 2 ^ 24 → has_page p seg page ≡ true → spot ≡ spot_of p seg page → o ≡ frame_in (get_or core spot 0) → o ≡ Some frame
     → 1024 * frame + 1024 ≤ length core

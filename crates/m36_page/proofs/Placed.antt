@@ -1,4 +1,4 @@
--- Tables that are apart make a pager.
+-- Tables that share no core word make a pager.
 use Rattle.std.proofs.Common.{ℕ, zero, suc, ◌≡◌, ◌≢◌, ◌+◌, ◌-◌, ◌*◌, ◌<◌, ◌≤◌, ◌⊎◌, Bool, true, false, List, [], ◌∷◌, ◌++◌, length, get_or, take, drop, map, replicate, Option, Some, None, refl, sym, ap, subst, inl, inr, ⊎_elim, ◌∙◌, arith, length-append, length-drop}
 use Rattle.std.specs.Prelude.{nat_le, ◌&&◌, ◌||◌, position, All}
 use Rattle.std.specs.List.{list_all}
@@ -27,7 +27,7 @@ placed_here first tables i t lt is =
     ∙ ap (λ (x : PageTable). are_placed first (x ∷ drop (i + 1) tables)) (sym is)
     ∙ placed_law first t (drop (i + 1) tables)
 
--- what stands behind a table
+-- the tables after index i
 pub rest_of : (tables : List PageTable) (i : ℕ) → take (length tables - i) (drop i tables) ≡ drop i tables
 rest_of tables i = ap (λ n. take n (drop i tables)) (sym (length-drop i tables)) ∙ take-length (drop i tables)
 
@@ -55,7 +55,7 @@ pub placed_done : (first : ℕ) (tables : List PageTable) (i : ℕ) (total : Boo
 unfolding are_placed
 placed_done first tables i total le so_far = sym (at_drop_all (are_placed first) tables i le) ∙ so_far
 
--- ---- what is known of each table
+-- ---- what holds for each table
 
 first_two : (a b c : Bool) → (a && b && c) ≡ true → (a ≡ true) × (b ≡ true) × (c ≡ true)
 first_two a b c e =
@@ -163,7 +163,7 @@ never_held first frames tables k s q h =
           absurd (cc)
     ]
 
--- tables at one place are one
+-- tables with a common place are one table
 one_place : (first frames : ℕ) (tables : List PageTable) (s q s' q' : ℕ) → are_placed first tables ≡ true
     → (a : IsPlaced first frames tables s q) (b : IsPlaced first frames tables s' q')
     → spot_of (pager_given first frames tables) s q ≡ spot_of (pager_given first frames tables) s' q'

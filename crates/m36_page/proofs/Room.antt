@@ -1,4 +1,4 @@
--- Frames that all hold pages of references are no more than the references.
+-- If all frames hold pages of references, there are no more frames than references.
 use Rattle.std.proofs.Common.{ℕ, zero, suc, ◌≡◌, ◌+◌, ◌/◌, ◌<◌, ◌≤◌, Bool, true, false, cond, List, [], ◌∷◌, length, get_or, Option, Some, None, refl, sym, ap, subst, ◌∙◌, arith}
 use Rattle.std.specs.Prelude.{◌||◌, nat_eq, count_by, All}
 use Rattle.std.specs.List.{list_any}

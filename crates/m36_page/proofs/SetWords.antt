@@ -48,7 +48,7 @@ same_some a b e = cc
 same_word : (w word : ℕ) → w / 1024 ≡ word / 1024 → w % 1024 ≡ word % 1024 → w ≡ word
 same_word w word high low = omega (arith, high, low)
 
--- another word of a segment lies elsewhere
+-- another word of a segment has another place
 elsewhere : (p : PagerFields) (core : List ℕ) (s w seg word f frame : ℕ) → IsSettled p core
     → has_page p s (w / 1024) ≡ true → has_page p seg (word / 1024) ≡ true
     → frame_of p core s (w / 1024) ≡ Some f → frame_of p core seg (word / 1024) ≡ Some frame

@@ -1,4 +1,4 @@
--- Tables of which one has other words.
+-- Tables of which one has its words replaced.
 use Rattle.std.proofs.Common.{ℕ, zero, suc, ◌≡◌, ◌≢◌, ◌+◌, ◌-◌, ◌*◌, ◌/◌, ◌%◌, ◌^◌, ◌<◌, ◌≤◌, ◌⊎◌, Bool, true, false, cond, List, [], ◌∷◌, length, get_or, set, Option, Some, None, refl, sym, ap, subst, inl, inr, ◌∙◌, arith}
 use Rattle.std.specs.Prelude.{nat_eq, nat_lt, not, position, slice_get, All, IsSome, is_some, option_and_then}
 use Rattle.std.specs.List.{position_or_len}
@@ -11,11 +11,11 @@ use Rattle.m36_page.specs.Fields.{TableFields, PagerFields}
 use Rattle.m36_page.specs.Residence.{is_of, table_of, has_page_in, spot_in, kept_in, has_page, spot_of, kept_word, Holds, IsPager}
 use Rattle.m36_page.specs.Moved.{HasWords}
 
--- a table with other words
+-- a table with its words replaced
 abbrev with_words : TableFields → List ℕ → TableFields
 with_words t words = record t { words = words }
 
--- the place of a table is that of before
+-- the index of a table is the same as before
 place_set : (tables : List TableFields) (i seg : ℕ) (t d : TableFields) → t.seg ≡ (get_or tables i d).seg
     → position_or_len (is_of seg) (set tables i t) ≡ position_or_len (is_of seg) tables
 place_set [] i seg t d e = refl
@@ -28,7 +28,7 @@ position_set tables i seg t d e =
     ap (λ n. cond (nat_lt n (length (set tables i t))) (Some n) None) (place_set tables i seg t d e)
     ∙ ap (λ n. cond (nat_lt (position_or_len (is_of seg) tables) n) (Some (position_or_len (is_of seg) tables)) None) (length-set tables i t)
 
--- the table of a segment, by its place
+-- the table of a segment, by its index
 pub found : (tables : List TableFields) (seg i : ℕ) (d : TableFields) → position (is_of seg) tables ≡ Some i
     → (i < length tables) × ((get_or tables i d).seg ≡ seg) × (table_of tables seg ≡ Some (get_or tables i d))
 unfolding table_of
@@ -39,7 +39,7 @@ found tables seg i d at =
       ap (λ o. option_and_then (slice_get tables) o) at ∙ slice_get-get_or tables i d is.0,
     )
 
--- the table of a segment where one has other words
+-- the table of a segment if one table has its words replaced
 table_at : (tables : List TableFields) (seg i : ℕ) (t d : TableFields) → position (is_of seg) tables ≡ Some i → t.seg ≡ seg
     → table_of (set tables i t) seg ≡ Some t
 unfolding table_of
@@ -75,7 +75,7 @@ table_other tables seg s i t d at same other =
           other (sym moved ∙ is.1),
     ))
 
--- ---- what a pager shows after the words of one table have changed
+-- ---- the pager after the words of one table have changed
 
 table_now : (p new : PagerFields) (seg i : ℕ) (d : TableFields) (words : List ℕ) → HasWords p new seg i d words
     → table_of new.tables seg ≡ Some (record (get_or p.tables i d) { words = words })
@@ -126,7 +126,7 @@ pub words_others : (p new : PagerFields) (seg i : ℕ) (d : TableFields) (words 
 unfolding kept_word
 words_others p new seg i d words h s w other = ap (λ t. kept_in t w) (table_still p new seg s i d words h other)
 
--- each table has the words of all its pages still
+-- each table still has the words of all its pages
 pub words_whole : (p new : PagerFields) (seg i : ℕ) (d : TableFields) (words : List ℕ) → HasWords p new seg i d words
     → length words ≡ length (get_or p.tables i d).words
     → All (λ t. length t.words ≡ 1024 * t.pages) p.tables → All (λ t. length t.words ≡ 1024 * t.pages) new.tables
@@ -138,7 +138,7 @@ words_whole p new seg i d words h size all =
     subst P (sym h.tables)
     (All-set (λ (t : TableFields). length t.words ≡ 1024 * t.pages) p.tables i (record (get_or p.tables i d) { words = words }) (size ∙ was) all)
 
--- a segment that has a table has a place of it
+-- the table of a segment that has one has an index
 pub placed : (tables : List TableFields) (seg : ℕ) → IsSome (table_of tables seg) → position (is_of seg) tables ≡ None → ⊥
 unfolding table_of
 placed tables seg some none =

@@ -1,16 +1,16 @@
--- Words of which those behind the last that is written are zero.
+-- Words that are zero after the last one that is written.
 use Rattle.std.proofs.Common.{ℕ, zero, suc, ◌≡◌, ◌+◌, ◌-◌, ◌<◌, ◌≤◌, List, [], ◌∷◌, ◌++◌, length, get_or, set, replicate, refl, sym, ap, ◌∙◌, arith, append_assoc}
 use Rattle.std.proofs.lemmas.List.{get_or_past, length-append, length-replicate, length-set, replicate-append-replicate, set-append_left, take_all}
 use Rattle.m36_page.specs.Copied.{IsCopied}
 
--- so many zeros
+-- n zeros
 abbrev pub zeros : ℕ → List ℕ
 zeros n = replicate n 0
 
 length-zeros : (n : ℕ) → length (zeros n) ≡ n
 length-zeros n = length-replicate {A = ℕ} n 0
 
--- the words, and zeros behind them up to a count
+-- the words, and zeros after them up to a count
 abbrev pub filled : List ℕ → ℕ → List ℕ
 filled words count = words ++ zeros (count - length words)
 
@@ -20,7 +20,7 @@ length-filled words count le =
     let size-zeros = length-zeros (count - length words) in
     omega (arith, all, size-zeros, le)
 
--- a word of them is that of the words, or zero
+-- one of them is one of the words, or zero
 read-zeros : (n i : ℕ) → get_or (zeros n) i 0 ≡ 0
 read-zeros zero i = get_or_past [] i 0 (omega arith)
 read-zeros (suc n) zero = refl
@@ -34,7 +34,7 @@ read-behind (w ∷ words) n (suc i) = read-behind words n i
 pub get_or-filled : (words : List ℕ) (count i : ℕ) → get_or (filled words count) i 0 ≡ get_or words i 0
 get_or-filled words count i = read-behind words (count - length words) i
 
--- written up to a number, they read as before
+-- with n words written, the words are the same as before
 filled-twice : (words : List ℕ) (n count : ℕ) → length words ≤ count → n ≤ count → filled (filled words n) count ≡ filled words count
 filled-twice words n count le most =
     let a : ℕ = n - length words in
@@ -45,7 +45,7 @@ filled-twice words n count le most =
     append_assoc words (zeros a) (zeros b)
     ∙ ap (λ l. words ++ l) (replicate-append-replicate {A = ℕ} a b 0 ∙ ap (λ k. zeros k) same)
 
--- a word that is set among those that are written
+-- a word that is set among the written words
 pub set-filled : (words more new : List ℕ) (n count i v : ℕ) → length words ≤ count → n ≤ count → more ≡ filled words n → i < n → new ≡ set more i v
     → filled new count ≡ set (filled words count) i v
 set-filled words more new n count i v le most is small written =
@@ -60,7 +60,7 @@ set-filled words more new n count i v le most is small written =
     ∙ ap (λ l. set (filled l count) i v) is
     ∙ ap (λ l. set l i v) (filled-twice words n count le most)
 
--- a page that is copied among those that are written
+-- a page that is copied to the written words
 pub copied-filled : (core words more new : List ℕ) (from at n count : ℕ) → length words ≤ count → n ≤ count → more ≡ filled words n
     → IsCopied core from more at new → IsCopied core from (filled words count) at (filled new count)
 copied-filled core words more new from at n count le most is copied =
@@ -76,7 +76,7 @@ copied-filled core words more new from at n count le most is copied =
           get_or-filled new count a ∙ copied.outside a out ∙ ap (λ l. get_or l a 0) is ∙ get_or-filled words n a ∙ sym (get_or-filled words count a);
     }
 
--- a page that is copied from them
+-- a page that is copied from the written words
 pub given-filled : (words old new : List ℕ) (from at count : ℕ) → IsCopied words from old at new → IsCopied (filled words count) from old at new
 given-filled words old new from at count copied = record {
   size = copied.size;

@@ -1,4 +1,4 @@
--- What the calls of a pager change, and what they keep.
+-- What the calls of a pager change, and what they leave unchanged.
 use Rattle.std.specs.Prelude.{ℕ, ◌≡◌, ◌≢◌, ◌+◌, ◌*◌, ◌/◌, ◌%◌, ◌<◌, ◌≤◌, ◌⊎◌, Bool, true, false}
 use Rattle.std.specs.Prelude.{◌&&◌, nat_eq, List, length, slice_get, slice_index}
 use Rattle.std.specs.Prelude.{slice_index_or, slice_set, All, Option, Some, None, IsSome}
@@ -11,26 +11,26 @@ use Rattle.m36_page.specs.Fields.{TableFields, PagerFields}
 use Rattle.m36_page.specs.Residence.{has_page, spot_of, kept_word, absent_ptw, resident_ptw}
 use Rattle.m36_page.specs.Residence.{frame_of, content_of, Holds}
 
--- the same frames, and the same pages at the same places
+-- the same frames, and the same pages with page table words at the same places
 pub record IsSameShape (old new : PagerFields) : Type 0 where
   pub first : new.first ≡ old.first
   pub frames : length new.holders ≡ length old.holders
   pub pages : (seg page : ℕ) → has_page new seg page ≡ has_page old seg page
   pub spots : (seg page : ℕ) → spot_of new seg page ≡ spot_of old seg page
 
--- a core word that holds a page table word of the tables
+-- the core word `a` is a page table word of the tables
 pub record IsSpot (p : PagerFields) (a : ℕ) : Type 0 where
   pub seg : ℕ
   pub page : ℕ
   pub has : has_page p seg page ≡ true
   pub is : spot_of p seg page ≡ a
 
--- a core word that a call may change: a page table word, or one of a pageable frame
+-- a core word that a call may change: a page table word, or a word of a pageable frame
 abbrev pub IsPaged : PagerFields → ℕ → Type 0
 IsPaged p a = IsSpot p a ⊎ ((1024 * p.first ≤ a) × (a < 1024 * (p.first + length p.holders)))
 
--- Pages may have moved: no content has changed, and no core word but page table words and those of
--- pageable frames.
+-- Pages may have moved: no content has changed, and no core word except page table words and words
+-- of pageable frames.
 pub record IsKept (old : PagerFields) (core : List ℕ) (new : PagerFields)
     (now : List ℕ) : Type 0 where
   pub shape : IsSameShape old new
@@ -38,13 +38,13 @@ pub record IsKept (old : PagerFields) (core : List ℕ) (new : PagerFields)
   pub content : (seg w : ℕ) → content_of new now seg w ≡ content_of old core seg w
   pub others : (a : ℕ) → (IsPaged old a → ⊥) → slice_index now a ≡ slice_index core a
 
--- frames other than frame k hold the pages that they held
+-- frames other than frame k hold the same pages as before
 abbrev pub OthersHold : PagerFields → PagerFields → ℕ → Type 0
 OthersHold old new k =
     (j : ℕ) → j ≢ k → slice_index_or new.holders j None ≡ slice_index_or old.holders j None
 
--- Frames other than frame k hold the pages that they held. Of core only the page table word of the
--- page in frame k may have changed, and of the words kept only those of that page.
+-- Frames other than frame k hold the same pages as before. In core only the page table word of the
+-- page in frame k may have changed, and of the kept words only those of that page.
 pub record OthersStay (old : PagerFields) (core : List ℕ) (new : PagerFields) (now : List ℕ)
     (k : ℕ) : Type 0 where
   pub holders : OthersHold old new k
@@ -53,13 +53,13 @@ pub record OthersStay (old : PagerFields) (core : List ℕ) (new : PagerFields) 
   pub kept : (s w : ℕ) → (Holds old k s (w / 1024) → ⊥)
       → kept_word new s w ≡ kept_word old s w
 
--- a core word of a table, counted from 0
+-- the core word `a` is a page table word of one of these tables
 abbrev pub IsTableWord : List TableFields → ℕ → Type 0
 IsTableWord tables a =
     (j : ℕ) × (t : TableFields) × (slice_get tables j ≡ Some t) × (t.at ≤ a) × (a < t.at + t.pages)
 
--- Every page table word of so many tables says that its page is in no frame, and no other core word
--- has changed.
+-- The page table words of the first `count` tables are those of pages in no frame, and no other
+-- core word has changed.
 pub record AreAbsent (tables : List TableFields) (count : ℕ) (core now : List ℕ) : Type 0 where
   pub size : length now ≡ length core
   pub absent : (j : ℕ) (t : TableFields) (q : ℕ) → j < count → slice_get tables j ≡ Some t
@@ -71,8 +71,8 @@ pub record AreAbsent (tables : List TableFields) (count : ℕ) (core now : List 
 abbrev pub AllEmpty : PagerFields → Type 0
 AllEmpty p = (k seg page : ℕ) → Holds p k seg page → ⊥
 
--- A word of a segment was set: in its frame where its page is in one, and else where it is kept. No
--- other word has changed, nor where any page is.
+-- A word of a segment was set: in its frame if its page is in one, and otherwise in the kept
+-- words. No other word has changed, and each page is where it was.
 pub record IsSet (old : PagerFields) (core : List ℕ) (new : PagerFields) (now : List ℕ)
     (seg word v : ℕ) : Type 0 where
   pub shape : IsSameShape old new
@@ -87,13 +87,13 @@ pub record IsSet (old : PagerFields) (core : List ℕ) (new : PagerFields) (now 
   pub in_none : frame_of old core seg (word / 1024) ≡ None → now ≡ core
   pub kept : (s w : ℕ) → ((s ≡ seg) × (w ≡ word) → ⊥) → kept_word new s w ≡ kept_word old s w
 
--- ---- references that stay
+-- ---- pinned pages
 
--- a reference is to this page
+-- a reference is to this page (segment and number)
 abbrev pub is_to : ℕ × ℕ → Reference → Bool
 is_to held e = nat_eq e.at.seg held.0 && nat_eq (e.at.word / 1024) held.1
 
--- a frame holds a page of the references
+-- a frame holds a page that one of the references is to
 abbrev pub is_pinned : List Reference → Option (ℕ × ℕ) → Bool
 is_pinned refs None = false
 is_pinned refs (Some held) = list_any (is_to held) refs
@@ -108,8 +108,8 @@ Stays old core new now e =
     has_page old e.at.seg (e.at.word / 1024) ≡ true
     → StaysIn (frame_of old core) (frame_of new now) e
 
--- A core word holds a page table word of a pager: that of a page which is in a frame, and which the
--- references do not pin.
+-- The core word `a` is the page table word of a page that is in a frame and that the references do
+-- not pin.
 pub record IsFreeSpot (p : PagerFields) (refs : List Reference) (a : ℕ) : Type 0 where
   pub k : ℕ
   pub seg : ℕ
@@ -118,17 +118,16 @@ pub record IsFreeSpot (p : PagerFields) (refs : List Reference) (a : ℕ) : Type
   pub free : is_pinned refs (Some (seg, page)) ≡ false
   pub is : spot_of p seg page ≡ a
 
--- a core word is what it was, or it is at one of these places and its used mark was put off
+-- a core word is unchanged, or it is at one of these places and its used mark was cleared
 abbrev pub IsPassed : (ℕ → Type 0) → List ℕ → List ℕ → ℕ → Type 0
 IsPassed at core now a =
     (slice_index now a ≡ slice_index core a)
     ⊎ (at a × (slice_index now a ≡ without_used (slice_index core a)))
 
--- A page was brought in. Frames other than frame k hold the pages that they held, so at most one
--- page was put away. Of core no words have changed but those of frame k, the page table words of
--- the two pages, in which no mark is on, and used marks, which were put off, of pages that the
--- references do not pin. Of the words kept only those of the page that was put away may have
--- changed.
+-- A page was brought in. Frames other than frame k hold the same pages as before, so at most one
+-- page was evicted. The core words that have changed are those of frame k, the page table words of
+-- the two pages, in which no mark is set, and used marks, which were cleared, of pages that the
+-- references do not pin. Only the kept words of the evicted page may have changed.
 pub record IsBrought (old : PagerFields) (core : List ℕ) (new : PagerFields) (now : List ℕ)
     (seg page : ℕ) (refs : List Reference) : Type 0 where
   pub kept : IsKept old core new now

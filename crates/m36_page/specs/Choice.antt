@@ -9,13 +9,13 @@ pub record IsFree (refs : List Reference) (holders : List (Option (ℕ × ℕ)))
   pub inside : k < length holders
   pub free : is_pinned refs (slice_index_or holders k None) ≡ false
 
--- the frames from one up to another all hold pages of the references
+-- the frames in `from .. to` all hold pages of the references
 pub record ArePinned (refs : List Reference) (holders : List (Option (ℕ × ℕ)))
     (from to : ℕ) : Type 0 where
   pub each : (k : ℕ) → from ≤ k → k < to → is_pinned refs (slice_index_or holders k None) ≡ true
 
--- The page table word of each frame's page has a spot in core: a core word is that of a frame whose
--- page the references do not pin.
+-- Each frame's page has its page table word at a place in `spots`. The core word `a` is that of a
+-- frame whose page the references do not pin.
 pub record IsHeldSpot (refs : List Reference) (holders : List (Option (ℕ × ℕ))) (spots : List ℕ)
     (a : ℕ) : Type 0 where
   pub k : ℕ
@@ -24,12 +24,12 @@ pub record IsHeldSpot (refs : List Reference) (holders : List (Option (ℕ × �
   pub free : is_pinned refs (Some held) ≡ false
   pub is : slice_index spots k ≡ a
 
--- no word has changed but at a spot, and there at most the used mark, which was put off
+-- no word has changed except the used mark of words at these places, which was cleared
 pub record IsMarked (core now : List ℕ) (at : ℕ → Type 0) : Type 0 where
   pub size : length now ≡ length core
   pub each : (a : ℕ) → IsPassed at core now a
 
--- each spot of a frame that holds a page is a word of core
+-- the page table word of each frame that holds a page is a word of core
 abbrev pub AreInCore : List (Option (ℕ × ℕ)) → List ℕ → List ℕ → Type 0
 AreInCore holders spots core =
     (k : ℕ) (held : ℕ × ℕ) → slice_index_or holders k None ≡ Some held

@@ -1,4 +1,4 @@
--- A page that is put away, and one that is taken in: what has changed, word by word.
+-- A page that is evicted, and one that is taken in: what has changed, word by word.
 use Rattle.std.specs.Prelude.{ℕ, ◌≡◌, ◌≢◌, ◌+◌, ◌*◌, ◌/◌, ◌%◌, ◌<◌, ◌⊎◌, true, List, length}
 use Rattle.std.specs.Prelude.{slice_index, slice_index_or, slice_set, position, Some, None}
 use Rattle.m36_page.specs.Copied.{IsOutside}
@@ -7,14 +7,14 @@ use Rattle.m36_page.specs.Residence.{is_of, has_page, spot_of, kept_word, absent
 use Rattle.m36_page.specs.Residence.{frame_of, Holds, IsPager, IsSettled}
 use Rattle.m36_page.specs.Changes.{IsSameShape, IsKept, OthersStay}
 
--- The table of a segment, at place i, has these words now.
+-- The table of a segment, which has index i, has these words now.
 pub record HasWords (p new : PagerFields) (seg i : ℕ) (d : TableFields)
     (words : List ℕ) : Type 0 where
   pub at : position (is_of seg) p.tables ≡ Some i
   pub tables : new.tables
       ≡ slice_set p.tables i (record (slice_index_or p.tables i d) { words = words })
 
--- The page of frame k was put away: its words are kept as they stood in the frame.
+-- The page of frame k was evicted: its kept words are those that the frame had.
 pub record IsAway (p : PagerFields) (core : List ℕ) (new : PagerFields) (now : List ℕ)
     (k seg page : ℕ) : Type 0 where
   pub held : Holds p k seg page
@@ -30,8 +30,8 @@ pub record IsAway (p : PagerFields) (core : List ℕ) (new : PagerFields) (now :
   pub spot : slice_index now (spot_of p seg page) ≡ absent_ptw
   pub others : (a : ℕ) → a ≢ spot_of p seg page → slice_index now a ≡ slice_index core a
 
--- A page that was in no frame was taken into frame k, which held none: the frame has the words that
--- were kept for it.
+-- A page that was in no frame was taken into frame k, which was empty: the frame has the kept
+-- words of the page.
 pub record IsTaken (p : PagerFields) (core : List ℕ) (new : PagerFields) (now : List ℕ)
     (k seg page : ℕ) : Type 0 where
   pub has : has_page p seg page ≡ true
@@ -51,7 +51,7 @@ pub record IsTaken (p : PagerFields) (core : List ℕ) (new : PagerFields) (now 
   pub others : (a : ℕ) → a ≢ spot_of p seg page → IsOutside (1024 * (p.first + k)) 1024 a
       → slice_index now a ≡ slice_index core a
 
--- A frame was emptied, if it held a page: all other pages stay where they are.
+-- Frame k was emptied, if it held a page: all other pages stay where they are.
 pub record IsEmptied (p : PagerFields) (core : List ℕ) (new : PagerFields) (now : List ℕ)
     (k : ℕ) : Type 0 where
   pub kept : IsKept p core new now
@@ -66,7 +66,7 @@ pub record IsEmptied (p : PagerFields) (core : List ℕ) (new : PagerFields) (no
   pub out : (s q : ℕ) → has_page p s q ≡ true → frame_of p core s q ≡ None
       → frame_of new now s q ≡ None
 
--- A word that is kept was changed, and nothing else.
+-- A kept word was replaced, and nothing else has changed.
 pub record IsKeptWord (p new : PagerFields) (seg word v : ℕ) : Type 0 where
   pub shape : IsSameShape p new
   pub holders : new.holders ≡ p.holders

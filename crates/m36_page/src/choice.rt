@@ -1,4 +1,4 @@
-//! Which page gives way.
+//! Chooses the frame whose page is evicted.
 
 ghost use Rattle.std.specs.Prelude.{ℕ, ◌≡◌, ◌+◌, ◌≤◌, ◌<◌, true, false, length, slice_index_or, slice_index, slice_get, Some, None, IsSome, IfSome, IfNone};
 ghost use Rattle.m36_desc.specs.Descriptors.{ptw_of};
@@ -10,7 +10,7 @@ use m36_core::Core;
 use m36_model::Reference;
 use m36_word::Word;
 
-// Words in a page.
+// The number of words of a page.
 const PAGE: u32 = 1024;
 
 fn is_to(held: (u16, u16), reference: &Reference) -> bool
@@ -26,7 +26,7 @@ fn is_page_pinned(references: &[Reference], held: (u16, u16)) -> bool
     references.iter().any(|reference| is_to(held, reference))
 }
 
-/// Whether a frame holds a page of the references.
+/// Whether a frame holds a page that one of the references is to.
 pub(crate) fn is_pinned(references: &[Reference], holder: Option<(u16, u16)>) -> bool
     ensures { result ≡ is_pinned references.now holder }
 {
@@ -36,7 +36,7 @@ pub(crate) fn is_pinned(references: &[Reference], holder: Option<(u16, u16)>) ->
     }
 }
 
-/// The first frame of some, from one up to another, that holds no page of the references.
+/// The first frame in `from .. to` that holds no page of the references.
 pub(crate) fn free_between(
     holders: &[Option<(u16, u16)>],
     references: &[Reference],
@@ -55,7 +55,8 @@ pub(crate) fn free_between(
     None
 }
 
-/// A frame that holds no page of the references, the first from one on; None exactly where each frame holds one.
+/// The first frame from `from` on, and then from 0 on, that holds no page of the references; None
+/// exactly if each frame holds one.
 pub(crate) fn free_from(
     holders: &[Option<(u16, u16)>],
     references: &[Reference],
@@ -71,10 +72,10 @@ pub(crate) fn free_from(
     }
 }
 
-// The used mark of a page table word counts so much.
+// The value of the used mark in a page table word.
 const USED: u64 = 512;
 
-// The hand looks at no more frames than these before it takes one that was used.
+// The maximum number of frames that the hand looks at before it takes one that was used.
 const MOST_PASSED: usize = 64;
 
 fn is_used(core: &Core, spot: u32) -> bool
@@ -85,7 +86,7 @@ fn is_used(core: &Core, spot: u32) -> bool
     ptw.used
 }
 
-// Puts the used mark of a page table word off, and answers whether it was on.
+// Clears the used mark of a page table word, and returns whether it was set.
 #[tactic(auto, using(crate::proofs::Frames::unused, crate::proofs::Frames::marked_none))]
 fn put_off(core: &mut Core, spot: u32) -> bool
     requires { spot < length core.old }
@@ -99,7 +100,8 @@ fn put_off(core: &mut Core, spot: u32) -> bool
     true
 }
 
-// Whether the hand passes over a frame: its page must stay, or was used. The mark of a page that was used is put off.
+// Whether the hand passes over a frame: its page is pinned, or was used. The mark of an unpinned
+// page that was used is cleared.
 #[tactic(auto, using(crate::proofs::Frames::marked_none))]
 fn is_passed(
     core: &mut Core,
@@ -121,7 +123,7 @@ fn is_passed(
     }
 }
 
-// The first frame of some, from one up to another, that the hand does not pass over.
+// The first frame in `from .. to` that the hand does not pass over.
 #[tactic(auto, using(crate::proofs::Frames::marked_none))]
 fn unused_between(
     core: &mut Core,
@@ -145,7 +147,7 @@ fn unused_between(
     None
 }
 
-// The same from the hand on, round the frames: it looks at 64 of them at most.
+// As `unused_between`, from the hand on and around the frames, for at most 64 of them.
 fn unused_from(
     core: &mut Core,
     references: &[Reference],
@@ -167,8 +169,9 @@ fn unused_from(
     unused_between(core, references, holders, spots, 0, behind)
 }
 
-/// A frame to be taken: one that holds no page of the references, by the hand, which passes over pages that were used and
-/// puts their marks off. None exactly where each frame holds a page of the references.
+/// Chooses a frame that holds no page of the references. A hand goes around the frames; it passes
+/// over pages that were used, and clears their used marks. None exactly if each frame holds a page
+/// of the references.
 #[tactic(auto, using(crate::proofs::Frames::marked_none))]
 pub(crate) fn choose(
     core: &mut Core,

@@ -1,4 +1,4 @@
-//! One page copied between core and the words that are kept.
+//! Copies one page between core and the kept words.
 
 ghost use Rattle.std.specs.Prelude.{◌≡◌, ◌+◌, ◌*◌, ◌≤◌, length};
 ghost use Rattle.m36_page.specs.Copied.{IsCopied};
@@ -6,10 +6,10 @@ ghost use Rattle.m36_page.specs.Copied.{IsCopied};
 use m36_core::{Core, frame_law};
 use m36_word::Word;
 
-// Words in a page.
+// The number of words of a page.
 const PAGE: usize = 1024;
 
-/// Copies the words of a frame into words from a place on.
+/// Copies the words of a frame to `words`, from index `from` on.
 pub(crate) fn copy_out(core: &Core, frame: u32, words: &mut [Word], from: usize)
     requires frame { 1024 * frame + 1024 ≤ length core.now }
     requires room { from + 1024 ≤ length words.old }
@@ -21,7 +21,7 @@ pub(crate) fn copy_out(core: &Core, frame: u32, words: &mut [Word], from: usize)
     }
 }
 
-// Copies the words of a page into a frame.
+// Copies a page of `words`, from index `from` on, into a frame.
 fn copy_whole(core: &mut Core, frame: u32, words: &[Word], from: usize)
     requires frame { 1024 * frame + 1024 ≤ length core.old }
     requires room { from + 1024 ≤ length words.now }
@@ -34,7 +34,7 @@ fn copy_whole(core: &mut Core, frame: u32, words: &[Word], from: usize)
     }
 }
 
-// The same of a page of which not all words may be there: zeros for those that are lacking.
+// As `copy_whole`, for a page that may be incomplete: missing words are zeros.
 fn copy_part(core: &mut Core, frame: u32, words: &[Word], from: usize)
     requires { 1024 * frame + 1024 ≤ length core.old }
     ensures { IsCopied words.now from core.old (1024 * frame) core.new }
@@ -50,7 +50,7 @@ fn copy_part(core: &mut Core, frame: u32, words: &[Word], from: usize)
     }
 }
 
-/// Copies words from a place on into a frame, and zeros for those that are lacking.
+/// Copies a page of `words`, from index `from` on, into a frame. Missing words are zeros.
 pub(crate) fn copy_in(core: &mut Core, frame: u32, words: &[Word], from: usize)
     requires { 1024 * frame + 1024 ≤ length core.old }
     ensures { IsCopied words.now from core.old (1024 * frame) core.new }

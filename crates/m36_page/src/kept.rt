@@ -1,4 +1,4 @@
-//! The words of the pages of a segment, as they are kept.
+//! The words of the pages of a segment while these are in no frame.
 
 ghost use Rattle.std.specs.Prelude.{◌≡◌, ◌+◌, ◌-◌, ◌*◌, ◌≤◌, ◌<◌, ◌++◌, length, replicate, slice_index, slice_set, vec_capacity, IfOk};
 ghost use Rattle.m36_page.specs.Copied.{IsCopied};
@@ -9,11 +9,12 @@ use m36_word::{NoMemory, Word};
 use std::alloc::Global;
 use std::marker::Model;
 
-// Words in a page.
+// The number of words of a page.
 const PAGE: usize = 1024;
 
-/// The words of whole pages, so many as there are, seen as the list of them. There is room for all of them from the start,
-/// but only those up to the last that was given or kept are written there: those behind are zero, and take no time.
+/// The words of `count` / 1,024 whole pages; the view is the list of them. Room for all of them is
+/// allocated at the start, but only the words up to the last one that was given or kept are
+/// written there. Those after it are zero and cost no time.
 #[derive(Drop)]
 pub(crate) struct KeptWords {
     written: Vec<Word>,
@@ -27,13 +28,15 @@ impl Model for KeptWords {
 
     ghost view = { λ k. k.written.items ++ replicate (k.count - length k.written.items) 0 };
 
-    ghost invariant = { λ k. (length k.written.items ≤ k.count) × (k.count ≤ vec_capacity k.written) };
+    ghost invariant = { λ k. (length k.written.items ≤ k.count)
+        × (k.count ≤ vec_capacity k.written) };
 }
 
-// Writes words up to a count, zeros behind those that are written.
+// Makes the first `count` words written, with zeros for those that were not.
 fn write_up_to(written: &mut Vec<Word>, count: usize)
     requires { count ≤ vec_capacity written.old }
-    ensures items { written.new.items ≡ written.old.items ++ replicate (count - length written.old.items) 0 }
+    ensures items { written.new.items
+        ≡ written.old.items ++ replicate (count - length written.old.items) 0 }
     ensures capacity { vec_capacity written.old ≤ vec_capacity written.new }
 {
     if written.len() < count {
@@ -44,7 +47,7 @@ fn write_up_to(written: &mut Vec<Word>, count: usize)
     }
 }
 
-// Writes the words of a frame over those from a place on.
+// Overwrites the words from index `from` on with those of a frame.
 fn write_page(written: &mut Vec<Word>, from: usize, core: &Core, frame: u32)
     requires frame { 1024 * frame + 1024 ≤ length core.now }
     requires room { from + 1024 ≤ length written.old.items }
@@ -55,8 +58,8 @@ fn write_page(written: &mut Vec<Word>, from: usize, core: &Core, frame: u32)
 }
 
 impl KeptWords {
-    /// Words with zeros behind them, so many in all. The error is want of memory; later calls take none, which is to be read:
-    /// a clause says only that there is room.
+    /// These words, followed by zeros, `count` in all. Fails only with `NoMemory`. Later calls
+    /// allocate nothing; no clause says so, except that there is room.
     pub(crate) fn new(alloc: Global, words: &[Word], count: usize) -> Result<KeptWords, NoMemory>
         requires { length words.now ≤ count }
         ensures { IfOk result (λ k. k ≡ words.now ++ replicate (count - length words.now) 0) }
@@ -66,7 +69,7 @@ impl KeptWords {
         Ok(KeptWords { written, count })
     }
 
-    /// A word.
+    /// The word with this index.
     pub(crate) fn word(&self, i: usize) -> Word
         ensures { result ≡ slice_index self.now i }
     {
@@ -76,7 +79,7 @@ impl KeptWords {
         }
     }
 
-    /// Keeps another word.
+    /// Replaces a word.
     pub(crate) fn put(&mut self, i: usize, value: Word)
         requires { i < length self.old }
         ensures { self.new ≡ slice_set self.old i value }
@@ -85,7 +88,7 @@ impl KeptWords {
         self.written[i] = value;
     }
 
-    /// Keeps the words of a frame, from a place on.
+    /// Replaces the words from index `from` on with those of a frame.
     pub(crate) fn keep_page(&mut self, from: usize, core: &Core, frame: u32)
         requires frame { 1024 * frame + 1024 ≤ length core.now }
         requires room { from + 1024 ≤ length self.old }
@@ -95,7 +98,7 @@ impl KeptWords {
         write_page(&mut self.written, from, core, frame);
     }
 
-    /// Copies the words of a page, from a place on, into a frame.
+    /// Copies the words of a page, from index `from` on, into a frame.
     pub(crate) fn give_page(&self, from: usize, core: &mut Core, frame: u32)
         requires frame { 1024 * frame + 1024 ≤ length core.old }
         ensures { IsCopied self.now from core.old (1024 * frame) core.new }

@@ -1,22 +1,26 @@
-//! Demand paging: the pages of segments are in the pageable frames of core, or their words are kept here.
+//! Demand paging. A page of a segment is in a pageable frame of core, or its words are kept here.
 //!
-//! What is promised: the content of every word of every segment is the same wherever its page is. Bringing a page in or
-//! putting one away changes no content and no core word but page table words and those of pageable frames. Bringing one
-//! in puts at most one away, and none that must stay; of the pages that stay where they are it changes used marks alone,
-//! which it puts off, and none of a page that must stay. The words kept change for the page that is
-//! put away alone. Setting a word changes it in its frame, or where it is kept, and nothing else.
+//! The contract:
 //!
-//! What is in no clause, and to be read in the code: after `Pager::new` no memory is taken, since `kept` writes within
-//! the room that was taken there; and the page that gives way is chosen by a hand that goes round the frames and passes
-//! over, once, a page whose used mark is on, which it puts off (`choice`). A test of `system_tests`
-//! sees this choice.
+//! - The content of every word of every segment is the same wherever its page is. Bringing a page
+//!   in or evicting one changes no content, and no core word except page table words and words of
+//!   pageable frames.
+//! - Bringing a page in evicts at most one page, and none that is pinned. Of the pages that stay
+//!   where they are it changes only used marks, which it clears, and none of a pinned page.
+//! - The kept words change only for the page that is evicted.
+//! - Setting a word changes it in its frame or in the kept words, and nothing else.
 //!
-//! `Pager::new` takes room for the words of all pages, and writes there only those that are given. The zeros behind them
-//! are not written until a word behind them is kept, so a large segment of few words takes more room than a small one,
-//! and no more time.
+//! Two facts are in no clause, and can be read in the code. After `Pager::new` no memory is
+//! allocated, since `kept` writes within the room that was allocated there. And the page that is
+//! evicted is chosen by a hand that goes around the frames; it passes over a page whose used mark
+//! is set once, and clears the mark (`choice`). A test of `system_tests` observes this choice.
 //!
-//! Source: Multics Processor Manual AL39, "Paging"; the choice is after Corbato, "A Paging Experiment with the Multics
-//! System" (1968).
+//! `Pager::new` allocates room for the words of all pages, but writes only those that are given.
+//! The zeros after them are not written until a word after them is kept. So a large segment with
+//! few words takes more room than a small one, but no more time.
+//!
+//! Source: Multics Processor Manual AL39, "Paging"; the choice is after Corbato, "A Paging
+//! Experiment with the Multics System" (1968).
 #![tactic(auto)]
 
 mod choice;

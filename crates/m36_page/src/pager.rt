@@ -1,4 +1,4 @@
-//! Pagers.
+//! The pager.
 
 ghost use Rattle.std.specs.Prelude.{ℕ, ◌≡◌, ◌≢◌, ◌+◌, ◌-◌, ◌^◌, ◌*◌, ◌/◌, ◌<◌, ◌≤◌, ◌⊎◌, Bool, true, false, ◌&&◌, nat_eq, if◌then◌else◌, length, slice_index_or, slice_set, replicate, IfOk, Some, None, IsSome, IfSome, IfNone, OnOk, OnErr};
 ghost use Rattle.m36_model.specs.Core.{unmarked};
@@ -20,27 +20,29 @@ use m36_word::{NoMemory, Word};
 use std::alloc::Global;
 use std::marker::Model;
 
-// Words in a page.
+// The number of words of a page.
 const PAGE: u32 = 1024;
 
-/// The error of a page for which there is no frame: every frame holds a page that must stay.
+/// The error if there is no frame for a page: every frame holds a pinned page.
 #[derive(Clone, Copy, PartialEq, Eq)]
 pub struct Pinned;
 
-/// The pages of segments: which pageable frame holds which page, and the words of the pages that are in none. It is seen as
-/// the number of the first pageable frame, the page that each of them holds, and the tables with the words that are kept.
+/// The pages of segments: which pageable frame holds which page, and the words of the pages that
+/// are in no frame. The model is the number of the first pageable frame, the page that each of
+/// them holds, and the tables with the kept words.
 ///
-/// Each call that takes a core wants the pageable frames in it, and each but `lay` wants each page table word of the tables,
-/// but for its marks, as the last call left it; before the first call every page is in no frame. `lay` writes these words,
-/// as of pages in no frame, and wants that no frame holds a page yet.
+/// Each call with a core requires that the core has the pageable frames. Each call except `lay`
+/// also requires that every page table word of the tables is as the last call left it, except for
+/// its marks. Before the first call every page is in no frame. `lay` writes these words, and
+/// requires that no frame holds a page yet.
 #[derive(Drop)]
 pub struct Pager {
     holders: Vec<Option<(u16, u16)>>,
-    // Of each frame that holds a page the place of its page table word.
+    // The place of the page table word of each frame's page, for the frames that hold one.
     spots: Vec<u32>,
     tables: Vec<Table>,
     first: u32,
-    // The frame at which the hand stands, from 0 on.
+    // The next frame that the hand looks at, from 0 on.
     hand: usize,
 }
 
@@ -51,12 +53,15 @@ impl Model for Pager {
 
     ghost Value = { PagerFields };
 
-    ghost view = { λ p. record { first = p.first; holders = p.holders.items; tables = p.tables.items } };
+    ghost view = { λ p.
+        record { first = p.first; holders = p.holders.items; tables = p.tables.items } };
 
-    ghost invariant = { λ p. (IsInside (record { first = p.first; holders = p.holders.items; tables = p.tables.items }) p.spots.items) × (p.hand ≤ length p.holders.items) };
+    ghost invariant = { λ p. (IsInside
+        (record { first = p.first; holders = p.holders.items; tables = p.tables.items })
+        p.spots.items) × (p.hand ≤ length p.holders.items) };
 }
 
-// So many frames, none of which holds a page.
+// `frames` frames, none of which holds a page.
 fn empty_frames(alloc: Global, frames: usize) -> Result<Vec<Option<(u16, u16)>>, NoMemory>
     ensures { IfOk result (λ holders. holders.items ≡ replicate frames None) }
 {
@@ -73,7 +78,7 @@ fn no_spots(alloc: Global, frames: usize) -> Result<Vec<u32>, NoMemory>
     Ok(spots)
 }
 
-// The place behind one, and behind the last the first.
+// The index after `place`, or 0 after the last.
 fn next_of(place: usize, count: usize) -> usize
     requires { place < count }
     ensures { result ≤ count }
@@ -82,9 +87,9 @@ fn next_of(place: usize, count: usize) -> usize
 }
 
 impl Pager {
-    /// A pager over so many frames of core from one on, of which none holds a page yet. Pages are at places of core words that
-    /// no two share, all below the first of these frames. The error is want of memory; later calls take none, which is in
-    /// no clause.
+    /// A pager over `frames` frames of core from frame `first` on, none of which holds a page yet.
+    /// The page table words have distinct places, all below frame `first`. Fails only with
+    /// `NoMemory`. Later calls allocate nothing; no clause says so.
     pub fn new(
         alloc: Global,
         first: u32,
@@ -105,8 +110,8 @@ impl Pager {
         })
     }
 
-    /// Writes the page table word of every page: that of a page in no frame. It is for a pager of which no frame holds a page
-    /// yet, and no other core word changes.
+    /// Writes the page table word of every page, as that of a page in no frame. No frame may hold
+    /// a page yet. No other core word changes.
     pub fn lay(&self, core: &mut Core)
         requires frames { HasFrames self.now core.old }
         requires empty { AllEmpty self.now }
@@ -117,7 +122,7 @@ impl Pager {
         put_absent_tables(core, &self.tables);
     }
 
-    // The place of the page table word of a page.
+    // The place in core of the page table word of a page.
     fn spot(&self, seg: u16, page: u32) -> u32
         requires frames { 1024 * self.now.first < 2 ^ 32 }
         requires page { has_page self.now seg page ≡ true }
@@ -129,7 +134,7 @@ impl Pager {
         table.at + page
     }
 
-    // Puts the page of a frame away.
+    // Evicts the page of frame k.
     fn put_page_away(&mut self, core: &mut Core, k: usize, seg: u16, page: u16)
         requires settled { IsSettled self.old core.old }
         requires held { Holds self.old k seg page }
@@ -143,7 +148,7 @@ impl Pager {
         self.holders[k] = None;
     }
 
-    // Empties a frame.
+    // Evicts the page of frame k, if it holds one.
     fn empty(&mut self, core: &mut Core, k: usize)
         requires settled { IsSettled self.old core.old }
         requires inside { k < length self.old.holders }
@@ -155,7 +160,7 @@ impl Pager {
         }
     }
 
-    // Takes a page that is in no frame into one that is empty.
+    // Takes a page that is in no frame into frame k, which is empty.
     fn take_in(&mut self, core: &mut Core, k: usize, seg: u16, page: u16)
         requires settled { IsSettled self.old core.old }
         requires inside { k < length self.old.holders }
@@ -175,7 +180,7 @@ impl Pager {
         self.hand = next_of(k, self.holders.len());
     }
 
-    // The frame that is taken next.
+    // The frame to take next.
     fn choose(&self, core: &mut Core, references: &[Reference]) -> Option<usize>
         requires { IsSettled self.now core.old }
         ensures found { IfSome result (IsFree references.now self.now.holders) }
@@ -186,9 +191,10 @@ impl Pager {
         choose(core, references, &self.holders, &self.spots, self.hand)
     }
 
-    /// Brings a page into a frame, for which at most one page is put away. One that is in a frame is left as it is, and nothing
-    /// changes. The error says that the page is in no frame and every frame holds a page of the references, and then nothing
-    /// has changed; with more frames than references it never comes.
+    /// Brings a page into a frame; at most one page is evicted for it. If the page is already in a
+    /// frame, nothing changes. The error: the page is in no frame, and every frame holds a page of
+    /// `pinned`; then nothing has changed. It cannot occur if there are more frames than
+    /// references in `pinned`.
     pub fn bring(
         &mut self,
         core: &mut Core,
@@ -199,12 +205,16 @@ impl Pager {
         requires frames { HasFrames self.old core.old }
         requires reads { Reads self.old core.old }
         requires page { has_page self.old seg page ≡ true }
-        ensures ok { OnOk result (IsBrought self.old core.old self.new core.new seg page pinned.now.items) }
-        ensures err { OnErr result ((self.new ≡ self.old) × (core.new ≡ core.old) × AllPinned self.old pinned.now.items) }
+        ensures ok { OnOk result
+            (IsBrought self.old core.old self.new core.new seg page pinned.now.items) }
+        ensures err { OnErr result
+            ((self.new ≡ self.old) × (core.new ≡ core.old) × AllPinned self.old pinned.now.items) }
         ensures absent { OnErr result (frame_of self.old core.old seg page ≡ None) }
-        ensures same { IsSome (frame_of self.old core.old seg page) → (self.new ≡ self.old) × (core.new ≡ core.old) }
+        ensures same { IsSome (frame_of self.old core.old seg page)
+            → (self.new ≡ self.old) × (core.new ≡ core.old) }
         ensures room { OnErr result (length self.old.holders ≤ length pinned.now.items) }
-        ensures free { OnOk result (IsSome (frame_of self.old core.old seg page) ⊎ (AllPinned self.old pinned.now.items → ⊥)) }
+        ensures free { OnOk result (IsSome (frame_of self.old core.old seg page)
+            ⊎ (AllPinned self.old pinned.now.items → ⊥)) }
         ensures reads { Reads self.new core.new }
         ensures pager { IsPager self.new }
         ensures frames { HasFrames self.new core.new }
@@ -222,7 +232,8 @@ impl Pager {
         Ok(())
     }
 
-    /// Puts the page of a pageable frame away. Where it holds none nothing changes, and the other frames stay as they are.
+    /// Evicts the page of a pageable frame. If the frame holds none, nothing changes. The other
+    /// frames are unchanged.
     pub fn evict(&mut self, core: &mut Core, frame: u32)
         requires frames { HasFrames self.old core.old }
         requires reads { Reads self.old core.old }
@@ -257,7 +268,7 @@ impl Pager {
         self.has(seg, page as u32)
     }
 
-    // The word that is kept for a word of a segment.
+    // The kept word for a word of a segment.
     fn kept(&self, seg: u16, word: u32) -> Word
         requires { has_page self.now seg (word / 1024) ≡ true }
         ensures { result ≡ kept_word self.now seg word }
@@ -265,7 +276,8 @@ impl Pager {
         word_of(&self.tables[table_place(&self.tables, seg)], word)
     }
 
-    /// The word of a segment; None exactly where the segment has no table, or the word is past its pages.
+    /// The word of a segment; None exactly if the segment has no table, or the word is past its
+    /// pages.
     pub fn content(&self, core: &Core, seg: u16, word: u32) -> Option<Word>
         requires frames { HasFrames self.now core.now }
         requires reads { Reads self.now core.now }
@@ -281,13 +293,14 @@ impl Pager {
         }
     }
 
-    /// Where core has a word of a segment whose page is in a frame.
+    /// The place in core of a word of a segment; None if its page is in no frame.
     pub fn place(&self, core: &Core, seg: u16, word: u32) -> Option<u32>
         requires frames { HasFrames self.now core.now }
         requires reads { Reads self.now core.now }
         requires page { has_page self.now seg (word / 1024) ≡ true }
         ensures inside { IfSome result (λ a. a < length core.now) }
-        ensures set { IfSome result (λ a. (v : ℕ) → IsSet self.now core.now self.now (slice_set core.now a v) seg word v) }
+        ensures set { IfSome result
+            (λ a. (v : ℕ) → IsSet self.now core.now self.now (slice_set core.now a v) seg word v) }
         ensures reads { IfSome result (λ a. (v : ℕ) → Reads self.now (slice_set core.now a v)) }
         ensures away { IfNone result (frame_of self.now core.now seg (word / 1024) ≡ None) }
         ensures pager { IsPager self.now }
@@ -299,7 +312,7 @@ impl Pager {
         }
     }
 
-    // Keeps another word for a word of a segment.
+    // Replaces the kept word for a word of a segment.
     fn keep(&mut self, seg: u16, word: u32, value: Word)
         requires { has_page self.old seg (word / 1024) ≡ true }
         ensures { IsKeptWord self.old self.new seg word value }
@@ -308,7 +321,8 @@ impl Pager {
         put_word(&mut self.tables[i], word, value);
     }
 
-    /// Sets a word of a segment whose page is in no frame, where it is kept. Nothing else changes.
+    /// Sets a word of a segment whose page is in no frame, in the kept words. Nothing else
+    /// changes.
     pub fn set_kept(&mut self, core: &Core, seg: u16, word: u32, w: Word)
         requires frames { HasFrames self.old core.now }
         requires reads { Reads self.old core.now }
@@ -323,7 +337,8 @@ impl Pager {
         self.keep(seg, word, w);
     }
 
-    /// Sets a word of a segment: in its frame where its page is in one, and else where it is kept. Nothing else changes.
+    /// Sets a word of a segment: in its frame if its page is in one, and otherwise in the kept
+    /// words. Nothing else changes.
     pub fn set(&mut self, core: &mut Core, seg: u16, word: u32, w: Word)
         requires frames { HasFrames self.old core.old }
         requires reads { Reads self.old core.old }

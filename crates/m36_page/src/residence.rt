@@ -26,7 +26,7 @@ pub(crate) fn ptw_in_core(core: &Core, spot: u32) -> Ptw
     }
 }
 
-/// The frame that a page table word names.
+/// The frame that a page table word names; None if the page is in no frame.
 #[tactic(auto, unfolding(crate::specs::Residence::frame_in))]
 pub(crate) fn frame_at(core: &Core, spot: u32) -> Option<u32>
     requires { spot < length core.now }
@@ -67,7 +67,7 @@ pub(crate) fn put_resident(core: &mut Core, spot: u32, frame: u32)
     core.poke(spot, resident.to_words());
 }
 
-/// Writes the page table words of pages in no frame, so many from a place on.
+/// Writes `pages` page table words of pages in no frame, from place `at` on.
 pub(crate) fn put_all_absent(core: &mut Core, at: u32, pages: u16)
     requires room { at + pages ≤ length core.old }
     requires most { length core.old < 2 ^ 32 }

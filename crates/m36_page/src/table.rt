@@ -17,13 +17,13 @@ use std::marker::Model;
 /// The page table of a segment, and the words of its pages.
 #[derive(Drop)]
 pub struct PageTable {
-    /// The words of the segment, at most 1,024 times `pages`; those that are lacking are zero.
+    /// The words of the segment, at most 1,024 times `pages`; missing words are zero.
     pub words: Words,
     /// The place in core of the page table word of page 0; 24 bits.
     pub at: u32,
     /// The number of the segment; 15 bits.
     pub seg: u16,
-    /// How many pages there are.
+    /// The number of pages.
     pub pages: u16,
 }
 
@@ -60,7 +60,8 @@ fn tables_behind(tables: &[PageTable], i: usize) -> &[PageTable]
     &tables[i + 1..]
 }
 
-/// Whether each table ends below frame `first` and has no more words than its pages, and no two share a core word.
+/// Whether each table ends below frame `first` and has no more words than its pages, and no two
+/// tables share a core word.
 pub fn are_placed(first: u32, tables: &[PageTable]) -> bool
     ensures { result ≡ are_placed first tables.now }
 {
@@ -72,7 +73,7 @@ pub fn are_placed(first: u32, tables: &[PageTable]) -> bool
     true
 }
 
-// A page table with the words that are kept, of every page of it.
+// A page table with the kept words of all its pages.
 #[derive(Drop)]
 pub(crate) struct Table {
     pub(crate) words: KeptWords,
@@ -95,7 +96,7 @@ fn is_of(seg: u16, table: &Table) -> bool
     table.seg == seg
 }
 
-/// The place of the table of a segment; None where it has none.
+/// The index of the table of a segment; None if it has none.
 pub(crate) fn place_of(tables: &[Table], seg: u16) -> Option<usize>
     ensures place { result ≡ position (is_of seg) tables.now }
     ensures within { IfSome result (λ i. i < length tables.now) }
@@ -103,7 +104,7 @@ pub(crate) fn place_of(tables: &[Table], seg: u16) -> Option<usize>
     tables.iter().position(|table| is_of(seg, table))
 }
 
-/// The place of the table of a segment that has one.
+/// The index of the table of a segment that has one.
 #[tactic(auto, using(crate::proofs::Tables::placed))]
 pub(crate) fn table_place(tables: &[Table], seg: u16) -> usize
     requires { IsSome (table_of tables.now seg) }
@@ -116,10 +117,10 @@ pub(crate) fn table_place(tables: &[Table], seg: u16) -> usize
     }
 }
 
-// Words in a page.
+// The number of words of a page.
 const PAGE: usize = 1024;
 
-/// Copies the words of a frame into those that are kept of a page.
+/// Copies the words of a frame to the kept words of a page.
 pub(crate) fn copy_page_out(table: &mut Table, page: u16, core: &Core, frame: u32)
     requires frame { 1024 * frame + 1024 ≤ length core.now }
     requires room { 1024 * page + 1024 ≤ length table.old.words }
@@ -129,7 +130,7 @@ pub(crate) fn copy_page_out(table: &mut Table, page: u16, core: &Core, frame: u3
     table.words.keep_page(PAGE * page as usize, core, frame);
 }
 
-/// Copies the words that are kept of a page into a frame.
+/// Copies the kept words of a page into a frame.
 pub(crate) fn copy_page_in(table: &Table, page: u16, core: &mut Core, frame: u32)
     requires frame { 1024 * frame + 1024 ≤ length core.old }
     requires room { 1024 * page + 1024 ≤ length table.now.words }
@@ -138,7 +139,7 @@ pub(crate) fn copy_page_in(table: &Table, page: u16, core: &mut Core, frame: u32
     table.words.give_page(PAGE * page as usize, core, frame);
 }
 
-/// A table as it is given, with every word of its pages.
+/// The table that is given, with a kept word for every word of its pages.
 pub(crate) fn table_given(alloc: Global, given: &PageTable) -> Result<Table, NoMemory>
     requires { length given.now.words ≤ 1024 * given.now.pages }
     ensures { IfOk result (λ t. t ≡ table_given given.now) }
@@ -152,7 +153,7 @@ pub(crate) fn table_given(alloc: Global, given: &PageTable) -> Result<Table, NoM
     })
 }
 
-/// Tables as they are given.
+/// The tables that are given.
 pub(crate) fn tables_given(alloc: Global, given: &[PageTable]) -> Result<Vec<Table>, NoMemory>
     requires { All (λ t. length t.words ≤ 1024 * t.pages) given.now }
     ensures { IfOk result (λ tables. tables.items ≡ map table_given given.now) }
@@ -164,7 +165,7 @@ pub(crate) fn tables_given(alloc: Global, given: &[PageTable]) -> Result<Vec<Tab
     Ok(tables)
 }
 
-/// The word that is kept for a word.
+/// The kept word for a word of the segment.
 pub(crate) fn word_of(table: &Table, word: u32) -> Word
     requires { word < length table.now.words }
     ensures { result ≡ slice_index table.now.words word }
@@ -172,7 +173,7 @@ pub(crate) fn word_of(table: &Table, word: u32) -> Word
     table.words.word(word as usize)
 }
 
-/// Keeps another word for a word.
+/// Replaces the kept word for a word of the segment.
 pub(crate) fn put_word(table: &mut Table, word: u32, value: Word)
     requires { word < length table.old.words }
     ensures { table.new ≡ record table.old { words = slice_set table.old.words word value } }
@@ -180,7 +181,7 @@ pub(crate) fn put_word(table: &mut Table, word: u32, value: Word)
     table.words.put(word as usize, value);
 }
 
-/// Writes the page table words of tables, all as of pages in no frame.
+/// Writes the page table words of all tables, as those of pages in no frame.
 pub(crate) fn put_absent_tables(core: &mut Core, tables: &[Table])
     requires room { All (λ t. t.at + t.pages ≤ length core.old) tables.now }
     ensures { AreAbsent tables.now (length tables.now) core.old core.new }

@@ -148,7 +148,7 @@ unfolding Alike puts_all
 alike_puts [] p q alike = alike
 alike_puts (piece ∷ pieces) p q alike = (refl, alike_puts pieces p q alike)
 
--- a value that has the property is the only one
+-- the value with the property is unique
 pub alike_one :
     {may : May} {A B : Type 0} (Is : B → Type 0) (go : B → Program may A)
     → ((b c : B) → Is b → Is c → b ≡ c) → ((b : B) → Is b → Alike (go b) (go b)) → Alike (some Is go) (some Is go)

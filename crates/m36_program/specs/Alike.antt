@@ -70,6 +70,7 @@ TakesAlike alike (takes allowed go) = (piece : List ℕ) → alike piece (go pie
 TakesAlike {may} {A} alike (some {B} Is go) = (b : B) → Is b → TakesAlike alike (go b)
 TakesAlike alike (wants rest) = TakesAlike alike rest
 
+-- The second program is like the first, step by step.
 unfoldable pub Alike : {may : May} {A : Type 0} → Program may A → Program may A → Type 0
 Alike (done a) other = EndsAlike (Ok a) other
 Alike (stops status own) other = EndsAlike (Err status) other

@@ -31,6 +31,7 @@ AfterRead read.TooLarge goes more result = goes TooLarge more
 AfterRead read.Failed goes more result = Ends (Err ReadFault) more result
 AfterRead read.NoMemory goes more result = Ends (Err NoMemory) more result
 
+-- The first event is the read of this file.
 pub record NextRead {A : Type 0} (name : List ℕ) (goes : Found → List Event → Type 0)
     (events : List Event) (result : Result A Status) : Type 0 where
   pub answer : ReadAnswer
@@ -40,12 +41,15 @@ pub record NextRead {A : Type 0} (name : List ℕ) (goes : Found → List Event 
 
 -- ---- writing
 
+-- A program continues if the file was written. A failed write ends it, and so does running out of
+-- memory.
 abbrev pub AfterWrite :
     {A : Type 0} → WriteAnswer → (List Event → Type 0) → List Event → Result A Status → Type 0
 AfterWrite write.Written goes more result = goes more
 AfterWrite write.Failed goes more result = Ends (Err WriteFault) more result
 AfterWrite write.NoMemory goes more result = Ends (Err NoMemory) more result
 
+-- The first event is the write of this file.
 pub record NextWrite {A : Type 0} (name content : List ℕ) (goes : List Event → Type 0)
     (events : List Event) (result : Result A Status) : Type 0 where
   pub answer : WriteAnswer
@@ -78,6 +82,7 @@ pub record FailedOutput {A : Type 0} (piece : List ℕ) (goes : List Event → T
 
 -- ---- taking
 
+-- The first event is a piece of input.
 pub record NextInput (goes : List ℕ → List Event → Type 0) (events : List Event) : Type 0 where
   pub piece : List ℕ
   pub more : List Event
@@ -91,6 +96,7 @@ pub record FailedInput {A : Type 0} (events : List Event) (result : Result A Sta
 
 -- ---- choosing
 
+-- Some value has the property `Is`, and the program continues with it.
 pub record Chosen {B : Type 0} (Is goes : B → Type 0) : Type 0 where
   pub value : B
   pub is : Is value
@@ -98,6 +104,7 @@ pub record Chosen {B : Type 0} (Is goes : B → Type 0) : Type 0 where
 
 -- ---- a program
 
+-- The program can produce exactly these events, in this order, and end with this result.
 unfoldable pub Goes :
     {may : May} {A : Type 0} → Program may A → List Event → Result A Status → Type 0
 Goes (done a) events result = Ends (Ok a) events result

@@ -13,6 +13,7 @@ pub record HasValue {B : Type 0} (Is holds : B → Type 0) : Type 0 where
   pub is : Is value
   pub each : (b : B) → Is b → holds b
 
+-- At each choice that the program can reach there is a value with the property.
 unfoldable pub Lives : {may : May} {A : Type 0} → Program may A → Type 0
 Lives (done a) = ⊤
 Lives (stops status own) = ⊤

@@ -38,6 +38,7 @@ pub record FailsAcross {may : May} {A B : Type 0} (p : Program may A) (next : A 
   pub begins : Goes p (passed ++ outputs last) (Ok value)
   pub goes_on : Goes (next value) (OutputFailed rest ∷ []) result
 
+-- One of the three holds for the events and the result of two joined programs.
 abbrev pub Split :
     {may : May} {A B : Type 0} → Program may A → (A → Program may B) → List Event → Result B Status
     → Type 0
@@ -46,6 +47,7 @@ Split p next events result =
 
 -- ---- calls
 
+-- The first program was performed with a value, and then the second.
 pub record BothPerform {may : May} {A B : Type 0} (p : Program may A) (next : A → Program may B)
     (result : Result B Status) (old new : Seen) : Type 0 where
   pub value : A
@@ -53,6 +55,7 @@ pub record BothPerform {may : May} {A B : Type 0} (p : Program may A) (next : A 
   pub begins : Performs p (Ok value) old between
   pub goes_on : Performs (next value) result between new
 
+-- The first program was performed and ended with a status.
 pub record FirstPerforms {may : May} {A B : Type 0} (p : Program may A) (result : Result B Status)
     (old new : Seen) : Type 0 where
   pub status : Status

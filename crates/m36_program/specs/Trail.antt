@@ -28,6 +28,7 @@ IsUnfailed (Err (status.MachineStop end)) = ⊤
 IsUnfailed (Err status.Steps) = ⊤
 IsUnfailed (Err status.NoMemory) = ⊤
 
+-- What holds for the events and the result of every program that may do `may`.
 abbrev pub Trail : {A : Type 0} → May → List Event → Result A Status → Type 0
 Trail may [] result = IsUnfailed result
 Trail may (FileRead name answer ∷ more) result =
@@ -56,18 +57,21 @@ pub record ReadFailed (old new : Seen) : Type 0 where
   pub outputs : new.output_faults ≡ old.output_faults
   pub inputs : new.input_faults ≡ old.input_faults
 
+-- a write of a file failed
 pub record WriteFailed (old new : Seen) : Type 0 where
   pub reads : new.read_faults ≡ old.read_faults
   pub writes : Rose old.write_faults new.write_faults
   pub outputs : new.output_faults ≡ old.output_faults
   pub inputs : new.input_faults ≡ old.input_faults
 
+-- a put failed
 pub record PutFailed (old new : Seen) : Type 0 where
   pub reads : new.read_faults ≡ old.read_faults
   pub writes : new.write_faults ≡ old.write_faults
   pub outputs : Rose old.output_faults new.output_faults
   pub inputs : new.input_faults ≡ old.input_faults
 
+-- taking input failed
 pub record TakeFailed (old new : Seen) : Type 0 where
   pub reads : new.read_faults ≡ old.read_faults
   pub writes : new.write_faults ≡ old.write_faults

@@ -85,7 +85,7 @@ module _ (g : RegsFields) where
     pub address_formed : (f : Formed) (core'' : List ℕ) (refs'' : List Reference) (g' : RegsFields) (end : Ended) → formed_from g i core refs ≡ ended core' refs' (Ok f) → EndsFormed g (operated e n g w (chain_end_fields f)) core' f refs' core'' refs'' g' end → EndsSo g (addressed e n g w) core refs core'' refs'' g' end
     address_formed f core'' refs'' g' end r rest = ap end_of (forms (Ok f) r) ∙ rest
 
-  -- MME, DRL and DIS.
+  -- MME, DRL and DIS
   pub starts_nothing : (e : Effect) (n w : ℕ) (k : Operand) (h : Halt) → k ≡ operand_of e → k ≡ kind.N → h ≡ at_once e g → started e n g w (operand_of e) ≡ halted g (Some w) None h
   starts_nothing e n w k h row none end =
       ap (λ (x : Operand). started e n g w x) (sym row ∙ none) ∙ ap (λ (x : Halt). halted g (Some w) None x) (sym end)

@@ -141,7 +141,7 @@ pub refused_puts_nothing : (e : Effect) (n : ℕ) (g g' : RegsFields) (f : Final
 refused_puts_nothing e n g g' f o fault h =
     by_refusal (words_written (operand_of e)) g' fault (exec e n g f o) h (refused_so e n g f o)
 
--- how many words are put, by the operand kind
+-- the number of words that are put, by the operand kind
 pub puts_count : (k k' : Operand) (words : List ℕ) → k ≡ k' → PutsFor k' words → length words ≡ words_written k
 puts_count k k' words e p = rw e (count k' p)
   where

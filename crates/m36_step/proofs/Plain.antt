@@ -47,7 +47,7 @@ pub not_absa : (e : Effect) → group_of e ≡ group.Address → is_absa e ≡ f
 not_absa effect.Absa h = cc
 not_absa _ h = refl
 
--- nor does a shift
+-- a shift is not ABSA
 pub shift_not_absa : (e : Effect) → group_of e ≡ group.Shift → is_absa e ≡ false
 shift_not_absa effect.Absa h = cc
 shift_not_absa _ h = refl

@@ -19,6 +19,7 @@ is_service (Ended end) = false
 is_service Full = false
 is_service NoMemory = false
 
+-- the turn is a service
 abbrev pub IsService : Turn → Type 0
 IsService turn = T (is_service turn)
 
@@ -49,6 +50,7 @@ IsStep (Ended end) = ⊥
 IsStep Full = ⊥
 IsStep NoMemory = ⊥
 
+-- the outcome is a fault or a stop
 abbrev pub IsNotNext : Outcome → Type 0
 IsNotNext Next = ⊥
 IsNotNext (Faulted fault) = Unit {0}

@@ -21,10 +21,12 @@ ended_by Next = None
 ended_by (Faulted fault) = Some (end.Fault fault)
 ended_by (Stopped stop) = Some (end.Stop stop)
 
+-- the turn of a state, given how the run has ended
 abbrev pub turn_by : Option End → State (List ℕ) → Turn
 turn_by None s = Stepped (record_of core_store s)
 turn_by (Some e) s = Ended e
 
+-- the machine after that turn
 abbrev pub after_by : Option End → State (List ℕ) → MachineFields
 after_by None s =
     record {
@@ -37,9 +39,11 @@ after_by (Some e) s = record { state = s; ended = Some e }
 unfoldable pub machine_turn : MachineFields → Turn
 machine_turn m = turn_by m.ended m.state
 
+-- the machine after its turn
 unfoldable pub machine_after : MachineFields → MachineFields
 machine_after m = after_by m.ended m.state
 
+-- the machine makes this turn, and is `later` after it
 abbrev pub MachineTurns : MachineFields → Turn → MachineFields → Type 0
 MachineTurns before turn later = (turn ≡ machine_turn before) × (later ≡ machine_after before)
 
@@ -47,6 +51,7 @@ MachineTurns before turn later = (turn ≡ machine_turn before) × (later ≡ ma
 abbrev pub MachineWent : MachineFields → ℕ → BackAnswer → MachineFields → Type 0
 MachineWent before n answer later = IsUnable before answer later
 
+-- going back changes nothing unless it answers Done
 pub machine_stays :
     (before : MachineFields) (n : ℕ) (answer : BackAnswer) (after : MachineFields)
     → MachineWent before n answer after → IsDone answer ⊎ (after ≡ before)
@@ -60,6 +65,7 @@ turn_no_service : (m : MachineFields) → IsService (machine_turn m) → ⊥
 unfolding machine_turn
 turn_no_service m h = no_service m.ended m.state h
 
+-- a service is not followed by another, since a machine has no services
 pub machine_apart :
     (first second third : MachineFields) (one two : Turn)
     → MachineTurns first one second → MachineTurns second two third
@@ -87,6 +93,7 @@ turn_interrupted :
 unfolding machine_turn machine_after
 turn_interrupted m interrupts step = no_step_after m.ended m.state interrupts step
 
+-- the turn after one that interrupts is not a step
 pub machine_interrupted :
     (first second third : MachineFields) (one two : Turn)
     → MachineTurns first one second → MachineTurns second two third
@@ -95,6 +102,7 @@ machine_interrupted first second third one two h k interrupts step =
     turn_interrupted first (subst Interrupts h.0 interrupts)
     (subst IsStep (k.0 ∙ ap machine_turn h.1) step)
 
+-- the turn of a state is one that the machine may take
 pub machine_possible :
     (m : MachineFields) → MachineTurns m (machine_turn m) (machine_after m)
 machine_possible m = (refl, refl)
@@ -105,6 +113,7 @@ kept_by :
 kept_by None s = tt
 kept_by (Some e) s = refl
 
+-- a turn is a step, or an end that changes nothing
 pub machine_kept :
     (m : MachineFields) → IsStepOrEnd (machine_after m ≡ m) (machine_turn m)
 unfolding machine_turn machine_after

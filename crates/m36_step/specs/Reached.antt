@@ -71,8 +71,8 @@ reached_end e n g f kind.Rwl core refs o u =
     written_end e n g f (words_written kind.Rwl) core refs o u
 reached_end e n g f _ core refs o u = unwritten_end e n g f core refs o u
 
--- A program that references its operand continues as the code does, for every instruction.
--- `Reads`: nothing will be written. `Writes`: `count` words will be written.
+-- A program that references its operand, and will write nothing, continues as the code does, for
+-- every instruction.
 abbrev pub Reads :
     (Effect → ℕ → Operation) → RegsFields → Formed → List ℕ → List Reference → List ℕ
     → List Reference → Operand36 → Result Reached Fault → Type 0
@@ -80,6 +80,7 @@ Reads program g f core refs core' refs' o u =
     (e : Effect) (n : ℕ)
     → ran_from g (program e n) f core refs ≡ unwritten_end e n g f core' refs' o u
 
+-- The same for a program that will write `count` words.
 abbrev pub Writes :
     (Effect → ℕ → Operation) → RegsFields → Formed → ℕ → List ℕ → List Reference → List ℕ
     → List Reference → Operand36 → Result Reached Fault → Type 0
@@ -93,6 +94,7 @@ code_part Whole = part.Whole
 code_part Left = part.Left
 code_part Right = part.Right
 
+-- the code's part for an operand kind
 abbrev pub part_for : Operand → code.Part
 part_for operand = code_part (part_written operand)
 

@@ -26,6 +26,7 @@ read_served d core f refs (Ok words) =
     }
 read_served d core f refs (Err fault) = record { reply = Err fault; mid = formed_mid core f refs }
 
+-- Core serves this Read, and the answer has these words or this refusal.
 abbrev pub ServesRead :
     RegsFields → Formed → ℕ → Memory → List Reference → List ℕ → List Reference
     → Result (List ℕ) Fault → Type 0
@@ -44,6 +45,7 @@ write_served d core f count refs (Ok place) =
 write_served d core f count refs (Err fault) =
     record { reply = Err fault; mid = formed_mid core f refs }
 
+-- Core serves this Write, and its first word has this place, or it is refused.
 abbrev pub ServesWrite :
     RegsFields → Formed → ℕ → Memory → List Reference → List ℕ → List Reference → Result ℕ Fault
     → Type 0

@@ -17,6 +17,7 @@ abbrev pub unshown : RegsFields → Shown
 unshown g = record { word = None; at = None; outcome = Next; ppr = g.ppr }
 
 -- The step ends in this way, with some references.
-pub record EndsShown (g : RegsFields) (core core' : List ℕ) (after : RegsFields) (e : Ended) : Type 0 where
+pub record EndsShown (g : RegsFields) (core core' : List ℕ) (after : RegsFields) (e : Ended)
+    : Type 0 where
   pub refs : List Reference
   pub ends : EndsSo g (program g) core [] core' refs after e

@@ -53,7 +53,8 @@ pub(crate) fn read_counted<R: Recorder>(
     requires plain { counting.now.last.direct ≡ None }
     requires inside { counting.now.place < length walk.old.core }
     requires room { R.taken rec.old < 39 }
-    ensures went { IsTrue result → OperatesCounted (R.has rec.old) (R.tells rec.new) row.now regs.old
+    ensures went { IsTrue result
+        → OperatesCounted (R.has rec.old) (R.tells rec.new) row.now regs.old
         word counting.now walk.old.core walk.new.core regs.new }
     ensures walk { IsFalse result → walk.new ≡ walk.old }
     ensures regs { IsFalse result → regs.new ≡ regs.old }
@@ -99,7 +100,8 @@ pub(crate) fn store_counted<R: Recorder>(
     requires plain { counting.now.last.direct ≡ None }
     requires inside { counting.now.place < length walk.old.core }
     requires room { R.taken rec.old < 39 }
-    ensures went { IsTrue result → OperatesCounted (R.has rec.old) (R.tells rec.new) row.now regs.old
+    ensures went { IsTrue result
+        → OperatesCounted (R.has rec.old) (R.tells rec.new) row.now regs.old
         word counting.now walk.old.core walk.new.core regs.new }
     ensures walk { IsFalse result → walk.new ≡ walk.old }
     ensures regs { IsFalse result → regs.new ≡ regs.old }

@@ -24,7 +24,8 @@ impl Model for LinkNote {
 
     ghost Value = { LinkNoteFields };
 
-    ghost view = { λ n. record { name = n.name.items; answer = n.answer; at = n.at; ring = n.ring } };
+    ghost view = { λ n.
+        record { name = n.name.items; answer = n.answer; at = n.at; ring = n.ring } };
 
     ghost invariant = { λ n. n.ring < 2 ^ 3 };
 }

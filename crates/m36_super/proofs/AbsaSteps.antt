@@ -1,4 +1,4 @@
--- A step over the core of a booted image that executes ABSA is one over the flat memory that does.
+-- A step that executes ABSA over the core of a booted image also executes it over the flat memory.
 use Rattle.std.proofs.Common.{◌≡◌, refl, sym, ◌∙◌, ap, subst}
 use Rattle.std.specs.Prelude.{ℕ, List, Ok}
 use Rattle.m36_desc.specs.Fields.{DbrFields}
@@ -17,7 +17,7 @@ use Rattle.m36_isol.proofs.Mirror.{Mirrors, SameButPlace, Asks, EndTwo, AreMids,
 use Rattle.m36_isol.proofs.MirrorStep.{EndsSo, StopsSo, EndPlaced, present_at, program_asks}
 use Rattle.m36_isol.proofs.Booted.{StandsFor, IsPair, stands_first, booted_mirrors}
 
--- ---- a program whose values at two places are related either way
+-- ---- a program whose values at two places are related in both directions
 
 either_end : {A : Type 0} (R : A → A → Type 0) (m n : Act A) → EndTwo R m n → EndTwo R n m → EndTwo (λ a b. R a b × R b a) m n
 either_end R (done a) (done b) h k = (h, k)

@@ -24,9 +24,9 @@ use Rattle.m36_super.specs.TurnLaws.{LocatesInTurn, IsFlatTurn, TurnAuditLaw, Is
 use Rattle.m36_super.proofs.Served.{services_alike}
 use Rattle.m36_super.proofs.Turns.{turn_law}
 
--- ---- the descriptors stay in each turn
+-- ---- each turn keeps the descriptors
 
--- the descriptors of a state
+-- the descriptors of a state are the same
 abbrev IsLow : Booted → Booted → Type 0
 IsLow before after =
     take descriptor_words after.state.memory.core ≡ take descriptor_words before.state.memory.core

@@ -1,4 +1,4 @@
--- A booted image is where a run starts.
+-- A booted image is the start of a run.
 use Rattle.std.proofs.Common.{◌≡◌, refl, sym, ap, subst, arith}
 use Rattle.std.specs.Prelude.{ℕ, false, List, length, Ok}
 use Rattle.m36_dir.specs.Catalog.{CatalogFields}
@@ -48,7 +48,7 @@ booted lib image s e answer is r =
       stands = record { dbr = r.dbr; laid = r.pages.laid };
     })
 
--- ---- what holds of a system at its start
+-- ---- what holds for a system at its start
 
 pub start_lib : (lib : Library) (s : SuperFields) → IsBooted lib s → s.lib ≡ lib
 start_lib lib s is = ap (λ (x : SuperFields). x.lib) is.system

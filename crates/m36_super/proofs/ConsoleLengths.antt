@@ -1,4 +1,4 @@
--- What the console writes has as many characters as A says: of each word four are read, and those past the last are cut off.
+-- A console service writes as many characters as A says: each word has four, and those past the last are cut off.
 use Rattle.std.proofs.Common.{◌≡◌, ℕ, zero, suc, ◌+◌, ◌*◌, ◌/◌, ◌≤◌, List, ◌++◌, length, Result, Ok, Err, refl, sym, subst, arith, length-append}
 use Rattle.std.proofs.lemmas.List.{length-take-le}
 use Rattle.std.specs.Prelude.{⊤, slice_index}
@@ -11,7 +11,7 @@ use Rattle.m36_super.specs.Services.{console_word_count, characters_of, console_
 use Rattle.m36_super.specs.ConsoleLaw.{ConsoleCounts}
 use Rattle.m36_super.proofs.ConsoleReads.{four_characters}
 
--- a text, where one was read, has so many characters
+-- a text that was read has this length
 abbrev HasLength : ℕ → Result (List ℕ) Fault → Type 0
 HasLength n (Ok text) = length text ≡ n
 HasLength n (Err why) = ⊤

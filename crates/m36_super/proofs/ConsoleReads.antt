@@ -77,7 +77,7 @@ module _ (f : Flat) (g : RegsFields) (at : AtFields) where
   bounds_read : (d : SdwFields) (b : Bool) → flat_sdw f g.dbr at.seg ≡ Ok d → no_acv d ≡ None → within d at.word ≡ b → AreFound b (examined flat_store g f at)
   bounds_read d b e h inside = subst (AreFound b) (sym (rights_read d None e h)) (placed d b inside)
 
--- ---- words that anyone may ask for
+-- ---- words without access checks
 
 module _ (core : List ℕ) (p : PagerFields) (seg w : ℕ) where
   sdw_is : (v : Result SdwFields Refusal) → core_sdw core booted_dbr seg ≡ v → flat_sdw (flat_by core p) booted_dbr seg ≡ v
@@ -118,7 +118,7 @@ module _ (core : List ℕ) (p : PagerFields) (seg w : ℕ) where
 
 -- ---- over the memory of a booted system
 
--- what a descriptor says of reading
+-- the answer for a right to read that is denied
 abbrev pub denied_answer : ℕ → Result (Unit {0}) Acv
 denied_answer acv = Err (record { 0 = acv })
 
@@ -171,7 +171,7 @@ module _ (core : List ℕ) (p : PagerFields) (g : RegsFields) (at : AtFields) (d
 
 -- ---- words of the text, one after another
 
--- So many words are still to be read.
+-- `left` words are still to be read.
 pub record IsReading (g : RegsFields) (f : Flat) (count k left : ℕ) (text : List ℕ) : Type 0 where
   pub size : length text ≡ 4 * k
   pub count_is : k + left ≡ count

@@ -1,4 +1,4 @@
--- The first section of a ring that a link service lays is as that in the image of a start.
+-- A link service lays the first linkage section of a ring as the image of a start does.
 use Rattle.std.proofs.Common.{◌≡◌, refl, sym, ◌∙◌, ap, subst, inl, inr, arith}
 use Rattle.std.proofs.lemmas.Bool.{eqb-true, cases_lt}
 use Rattle.std.proofs.lemmas.List.{length-replicate, get_or_past, get_or_append_left, get_or-append_right}
@@ -42,7 +42,7 @@ one_stays f seg at v seg' w e = ap (λ (b : Bool). if b then v else f.content se
 one_here : (f : Flat) (seg at v : ℕ) → (flat_put_one f (Segment_word seg at) Whole v).content seg at ≡ v
 one_here f seg at v = ap (λ (b : Bool). if b then v else f.content seg at) (both_same seg at)
 
--- a word that is none of those that are written
+-- a word other than those that are written
 stays : (f : Flat) (seg at : ℕ) (words : List ℕ) (seg' w : ℕ) → ((k : ℕ) → k < length words → ((seg == seg') && ((at + k) == w)) ≡ false)
     → (flat_put f (written_from seg at words)).content seg' w ≡ f.content seg' w
 unfolding flat_put written_from
@@ -85,7 +85,7 @@ module _ (l : LayFields) (f : Flat) (base : l.base ≡ 1024) (low : l.seg < 1024
   abbrev after : Flat
   after = flat_put section (written_from place l.seg lot)
 
-  -- the word of the table
+  -- the word of the linkage offset table
   lot_here : after.content place l.seg ≡ lot_word l
   unfolding flat_put written_from
   lot_here = one_here section place l.seg (lot_word l)
@@ -102,7 +102,7 @@ module _ (l : LayFields) (f : Flat) (base : l.base ≡ 1024) (low : l.seg < 1024
       second_false (place == place) ((l.base + k) == w) (not_same (l.base + k) w (apart k few)))
       ∙ zeros w
 
-  -- no word of the section is one of the table
+  -- no word of the section is in the table
   below : (w : ℕ) → w < 1024 → section.content place w ≡ 0
   below w lt = not_section w (λ k few e. omega (arith, e, base, lt))
 
@@ -115,7 +115,7 @@ module _ (l : LayFields) (f : Flat) (base : l.base ≡ 1024) (low : l.seg < 1024
   front_size : length front ≡ l.seg
   front_size = let nought : ℕ = 0 in length-replicate l.seg nought
 
-  -- the table
+  -- the linkage offset table
   table_here : slice_index (lot_of l) l.seg ≡ lot_word l
   table_here =
       let none : l.seg - l.seg ≡ 0 = omega arith in
@@ -141,7 +141,7 @@ module _ (l : LayFields) (f : Flat) (base : l.base ≡ 1024) (low : l.seg < 1024
             ]
       ]
 
-  -- the words behind it
+  -- the words after the table
   section_at : (w : ℕ) → 1024 ≤ w → section.content place w ≡ slice_index l.words (w - 1024)
   section_at w high =
       elim (cases_lt (w - 1024) (length l.words)) [

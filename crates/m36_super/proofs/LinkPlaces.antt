@@ -1,4 +1,4 @@
--- Where a link that is snapped stands: in the linkage segment of its ring, with both of its words.
+-- The place of a link that is snapped: in the linkage segment of its ring, with both of its words.
 use Rattle.std.proofs.Common.{◌≡◌, refl, sym, ◌∙◌, ap, subst, arith, length-append}
 use Rattle.std.proofs.lemmas.Bool.{eqb-true, leb-true, and_parts}
 use Rattle.std.specs.Prelude.{ℕ, suc, ◌+◌, ◌-◌, ◌*◌, ◌/◌, ◌%◌, ◌^◌, ◌<◌, ◌≤◌, Bool, true, false, ◌&&◌, nat_eq, nat_le, if◌then◌else◌, find, List, [], ◌∷◌, length, slice_get, All, Option, Some, None, is_some, option_and_then, Ok}
@@ -15,7 +15,7 @@ use Rattle.m36_link.specs.Links.{link_from, link_in, holds_link, section_at}
 use Rattle.m36_link.specs.Snap.{snap_of, snap_in}
 use Rattle.m36_link.specs.Laws.{IsWhole, IsMade}
 
--- an element that is found passes the test, and what holds of each element holds of it
+-- an element that is found passes the test, and satisfies what each element does
 pub record IsFound {A : Type 0} (p : A → Bool) (P : A → Type 0) (x : A) : Type 0 where
   pub passes : p x ≡ true
   pub holds : P x

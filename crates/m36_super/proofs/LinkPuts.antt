@@ -1,4 +1,4 @@
--- What a link service writes, by the parts of its answer.
+-- What a link service writes, from the parts of its answer.
 use Rattle.std.proofs.Common.{◌≡◌, sym, subst}
 use Rattle.std.specs.Prelude.{ℕ, List, [], ◌∷◌, length, Option, None, Some}
 use Rattle.m36_model.specs.Fields.{AtFields}

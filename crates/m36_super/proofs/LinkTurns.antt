@@ -1,4 +1,4 @@
--- Words that a link service writes, and the turn that it is.
+-- The words that a link service writes, and its turn.
 use Rattle.std.proofs.Common.{◌≡◌, refl, sym, ◌∙◌, ap, subst, arith, drop, drop-cons}
 use Rattle.std.specs.Prelude.{ℕ, zero, suc, ◌+◌, ◌^◌, ◌<◌, ◌≤◌, Bool, List, [], ◌∷◌, ◌++◌, length, slice_index_or, Some, None, Result, Ok, Err}
 use Rattle.m36_model.specs.Fields.{AtFields}
@@ -132,7 +132,7 @@ no_memory_by : (answer : Result SnapFields RefusedFields) (frames : ℕ) (at : A
 no_memory_by (Ok s) frames at before = refl
 no_memory_by (Err why) frames at before = refl
 
--- where no memory is found nothing has changed
+-- if memory runs out, nothing has changed
 pub linked_without_memory : (answer : Result SnapFields RefusedFields) (frames : ℕ) (at : AtFields) (before after : Booted) (turn : Turn) → turn ≡ NoMemory → after ≡ before → IsLinkTurn answer frames at before turn after
 linked_without_memory answer frames at before after turn told same =
     subst (λ (t : Turn). IsLinkTurn answer frames at before t after) (sym told) (subst (IsLinkTurn answer frames at before NoMemory) (sym same) (no_memory_by answer frames at before))

@@ -82,7 +82,7 @@ one_fault o a b e f = cc
 fault_apart : (o : Outcome) (f : Fault) → o ≡ Faulted f → o ≡ Next → ⊥
 fault_apart o f e g = cc
 
--- the step ends at a page that is in no frame, and tells its word
+-- the step ends at a page that is in no frame, and reports its word
 pub record IsFaultAt (kept : ℕ → ℕ → ℕ) (s : State (List ℕ)) (at : AtFields) : Type 0 where
   pub fault : IsPageFault kept s
   pub at_is : at ≡ fault.fault.at
@@ -114,7 +114,7 @@ each_of_all P Q f [] h = tt
 each_of_all P Q f (x ∷ xs) h =
     (f x (h 0 x (omega arith)), each_of_all P Q f xs (λ k d lt. h (suc k) d (omega (arith, lt))))
 
--- a page that is not pinned has no reference
+-- no reference is to a page that is not pinned
 unreferenced : (refs : List Reference) (seg page : ℕ) → is_pinned refs (Some (seg, page)) ≡ false → IsUnreferenced refs seg page
 unreferenced refs seg page free =
     let P : Reference → Type 0 = λ e. (e.at.seg ≡ seg) × (e.at.word / 1024 ≡ page) → ⊥ in
@@ -150,7 +150,7 @@ module _ (old : State (List ℕ)) (p q : PagerFields) (now : List ℕ) (runs : I
   has : has_page p seg page ≡ true
   has = runs.managed.pages.serves seg page lacked.is
 
-  -- where page table words are
+  -- the places of page table words
   spot_at : (s n : ℕ) → has_page p s n ≡ true → spot_of p s n ≡ table_at s + n
   spot_at = managed_mid.pages.at
 
@@ -161,7 +161,7 @@ module _ (old : State (List ℕ)) (p q : PagerFields) (now : List ℕ) (runs : I
       let step = paged_step_law frames (kept_word p) old runs.dbr runs.managed.pages.laid in
       frame_absent _ (ap (λ (a : ℕ). unmarked (slice_index mid a)) (spot_at seg page has) ∙ step.pages seg page lacked.is ∙ lacked.word)
 
-  -- a frame that holds a page has it in core, and the other way round
+  -- a frame holds a page if and only if core has the page there
   occupies : (k s n : ℕ) → Holds p k s n → Occupies mid s n (p.first + k)
   occupies k s n holds =
       let here = managed_mid.pages.pager.held k s n holds in
@@ -262,7 +262,7 @@ module _ (old : State (List ℕ)) (p q : PagerFields) (now : List ℕ) (runs : I
               };
         }
 
--- ---- what an attempt does, by its parts
+-- ---- the parts of an attempt
 
 pub bring_managed : (old later : State (List ℕ)) (p : PagerFields) → later ≡ state_after core_store old → IsRunning (length p.holders) old.regs old.store p → IsManaged (length p.holders) later.store p
 bring_managed old later p mid_is runs =

@@ -1,4 +1,4 @@
--- What the flat memory shows of a word, by what the pager finds; and how a word that is set changes it.
+-- A word of the flat memory, from what the pager finds; and how setting a word changes it.
 use Rattle.std.proofs.Common.{◌≡◌, refl, sym, ◌∙◌, ap, subst, inl, inr, arith}
 use Rattle.std.proofs.lemmas.Bool.{eqb-true, le-leb}
 use Rattle.std.specs.Prelude.{ℕ, ◌+◌, ◌*◌, ◌/◌, ◌^◌, ◌<◌, ◌≤◌, ◌%◌, ◌⊎◌, Bool, true, false, ◌&&◌, ◌==◌, if◌then◌else◌, List, [], ◌∷◌, length, take, slice_index, slice_set, Option, Some, None, Result, Ok, Err}
@@ -32,7 +32,7 @@ abbrev pub found_word : Option ℕ → ℕ
 found_word None = 0
 found_word (Some v) = v
 
--- the word that is shown, where it is within the bound of a live segment
+-- the word of the flat memory, if it is within the bound of a live segment
 abbrev pub shown_by : Bool → Bool → Option ℕ → ℕ
 shown_by true true found = found_word found
 shown_by true false found = 0
@@ -60,7 +60,7 @@ module _ (frames : ℕ) (core : List ℕ) (p : PagerFields) (m : IsManaged frame
   pub here : IsResidence core frames (held_in p core)
   here = residence frames core p m.pages.laid.most m.pages.first m.pages.count m.pages.pager m.reads m.pages.serves m.pages.at
 
-  -- a word within the bound of a live segment is of a page
+  -- a word within the bound of a live segment is in a page
   pub page_there : (seg w : ℕ) (d : SdwFields) → core_sdw core booted_dbr seg ≡ Ok d → within d w ≡ true → has_page p seg (w / 1024) ≡ true
   page_there seg w d live inside =
       m.pages.serves seg (w / 1024) (page_of_word core frames m.pages.laid seg w d live inside)
@@ -253,7 +253,7 @@ word_put core now p q ring word v m low fits s reads pager =
       managed = subst (λ (n : ℕ). IsManaged n now q) (sym count) (managed (length p.holders) core now p q ring word v m low fits s reads pager);
     }
 
--- the page of each word of a linkage segment
+-- a word of a linkage segment is in a page
 pub linkage_page : (core : List ℕ) (p : PagerFields) (ring word : ℕ) → IsManaged (length p.holders) core p → ring < 8 → word < 2 ^ 18 → has_page p (linkage_segment ring) (word / 1024) ≡ true
 linkage_page core p ring word m low fits =
     let l = m.linkage ring low in

@@ -1,4 +1,4 @@
--- A call of the pager moves pages of the booted image; and a step leaves what is managed.
+-- A call of the pager moves pages of the booted image; and a step keeps `IsManaged`.
 use Rattle.std.proofs.Common.{◌≡◌, refl, sym, ◌∙◌, ap, subst, inl, inr, arith}
 use Rattle.std.specs.Prelude.{ℕ, zero, suc, ◌+◌, ◌*◌, ◌/◌, ◌<◌, ◌≤◌, ◌⊎◌, Bool, true, false, List, [], ◌∷◌, length, take, slice_index, slice_index_or, Option, Some, None}
 use Rattle.m36_model.specs.Core.{core_store, unmarked}
@@ -35,7 +35,7 @@ take_same (suc n) (x ∷ xs) (y ∷ ys) size h =
     let rest = take_same n xs ys more (λ a k. h (suc a) (omega arith)) in
     λ i. head i ∷ rest i
 
--- a place of a list that has something
+-- an index at which a list has a page is within it
 get_within : (holders : List (Option (ℕ × ℕ))) (k : ℕ) (held : ℕ × ℕ) → slice_index_or holders k None ≡ Some held → k < length holders
 get_within [] k held h = cc
 get_within (x ∷ holders) zero held h = omega arith
@@ -68,7 +68,7 @@ module _ (frames : ℕ) (core : List ℕ) (p : PagerFields) (most : wired_frames
       let small : p.first + h.0 < 16384 = omega arith in
       inr (p.first + h.0, frame_resident _ (p.first + h.0) small h.2, record { k = h.0; holds = h.1; frame_is = refl; word = h.2 })
 
-  -- where a page is in a frame, the frame holds it
+  -- if a page is in a frame, the frame holds it
   held_by : (seg page frame : ℕ) (b : Bool) → has_page p seg page ≡ b → frame_by b (frame_of p core seg page) ≡ Some frame → IsHeld seg page frame
   held_by seg page frame true has e = by_tells (tells seg page has (reads.pages seg page has))
     where
@@ -131,7 +131,7 @@ linkage_kept : (core now : List ℕ) → ((seg : ℕ) → core_sdw now booted_db
 linkage_kept core now same seg h = record { sdw = h.sdw; live = same seg ∙ h.live; whole = h.whole }
 
 module _ (frames : ℕ) (core now : List ℕ) (p q : PagerFields) (m : IsManaged frames core p) (pager : IsPager q) (reads : Reads q now) (shape : IsSameShape p q) (size : length now ≡ length core) (others : (a : ℕ) → (IsPaged p a → ⊥) → slice_index now a ≡ slice_index core a) where
-  -- the descriptors stay
+  -- the descriptors are unchanged
   not_paged : (a : ℕ) → a < 2048 → IsPaged p a → ⊥
   not_paged a low (inl h) =
       let at : spot_of p h.seg h.page ≡ (2048 + 256 * h.seg) + h.page = m.pages.at h.seg h.page h.has in

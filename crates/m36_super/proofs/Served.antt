@@ -1,4 +1,4 @@
--- Page services one after another change nothing that the flat memory shows.
+-- Page services, one after another, change nothing of the flat memory.
 use Rattle.std.proofs.Common.{◌≡◌, refl, sym, ◌∙◌, ap, subst}
 use Rattle.std.specs.Prelude.{ℕ, zero, suc, take}
 use Rattle.m36_model.specs.Registers.{RegsFields}

@@ -1,4 +1,4 @@
--- A step with its page services is a turn of the booted run, and all is managed after it.
+-- A step with its page services is a turn of the booted run, and keeps `IsManaged`.
 use Rattle.std.proofs.Common.{◌≡◌, refl, sym, ◌∙◌, ap, subst, inl, inr, arith}
 use Rattle.std.specs.Prelude.{ℕ, zero, suc, ◌+◌, ◌-◌, ◌<◌, ◌≤◌, ◌⊎◌, Bool, true, false, List, length}
 use Rattle.m36_model.specs.Store.{State}
@@ -33,7 +33,7 @@ served_more frames zero old mid new so_far one =
 served_more frames (suc n) old mid new so_far one =
     (so_far.0, so_far.1, served_more frames n so_far.0 mid new so_far.2 one)
 
--- So many services may still come.
+-- `left` services may still follow.
 pub record IsServing (old : State (List ℕ)) (p : PagerFields) (now : State (List ℕ)) (q : PagerFields) (left : ℕ) : Type 0 where
   pub services : ℕ
   pub count : services + left ≡ 18
@@ -78,7 +78,7 @@ serving_done old mid now p q r told left h t =
       taken = taken_again mid now q r told t;
     }
 
--- after the last of them no page is lacking
+-- after the last of them no page is missing
 pub serving_last : (old mid now : State (List ℕ)) (p q r : PagerFields) (told : StepRecord) (left : ℕ) → left ≤ 0 → IsServing old p mid q left → told ≡ record_of core_store mid → now ≡ state_after core_store mid → r ≡ q → IsStepped old p now r told
 serving_last old mid now p q r told left none h told_is state same =
     let count = h.count in
@@ -134,7 +134,7 @@ step_turn true after old new p q told known coming next h after_is next_is =
       };
     }
 
--- ---- what is managed after it
+-- ---- the invariant after it
 
 running_after : (last : State (List ℕ)) (q : PagerFields) (told : StepRecord) → IsRunning (length q.holders) last.regs last.store q → told ≡ record_of core_store last → IsPresent told.outcome → loaded_after false told ≡ false → (state_after core_store last).regs.dbr ≡ booted_dbr
 running_after last q told runs told_is present none =

@@ -21,7 +21,7 @@ use Rattle.m36_super.proofs.Turns.{moved_dbr}
 use Rattle.m36_page.specs.Fields.{PagerFields}
 use Rattle.m36_model.specs.Store.{State}
 
--- ---- no service is due once an LDBR has been executed
+-- ---- the next turn is not a service once an LDBR has been executed
 
 due_in : (a b : Bool) (f : Fault) → IsDue (coming_in a b f) false
 due_in true b f = refl
@@ -47,7 +47,7 @@ due_at loaded coming at e due = subst (λ (c : Coming). IsDue c loaded) e due
 pub due_print : (loaded : Bool) (coming : Coming) → coming ≡ Print → IsDue coming loaded → loaded ≡ false
 due_print loaded coming e due = subst (λ (c : Coming). IsDue c loaded) e due
 
--- ---- turns by what is coming
+-- ---- turns, by what the next turn is
 
 turn_by : (lib : Library) (before : Booted) (turn : Turn) (after : Booted) (coming : Coming) → before.coming ≡ coming → IsTurnBy coming lib before turn after → IsTurn lib before turn after
 unfolding IsTurn

@@ -65,7 +65,7 @@ pub loads_law : LoadsLaw
 loads_law e =
     (executes_by e e.word e.outcome refl refl, λ k. loads_ldbr e.word e.outcome k.word k.number k.fetched k.does k.next)
 
--- an instruction counter that moves on leaves the DBR
+-- advancing the instruction counter leaves the DBR unchanged
 pub moved_dbr : (g : RegsFields) → (moved_on g).dbr ≡ g.dbr
 unfolding moved_on
 moved_dbr g = refl
@@ -79,7 +79,7 @@ module _ (lib : Library) (state : PagedState) (known : KnownFields) where
   abbrev before : Coming → Booted
   before coming = record { state = state; known = known; coming = coming; loaded = false }
 
-  -- what is the turn of the flat run
+  -- the turn of the flat run
   abbrev IsBy : Coming → FlatTurn → Turn → Booted → Type 0
   IsBy coming t turn after = (turn ≡ t.turn) × (flat_run_of after ≡ t.after)
 
@@ -91,13 +91,13 @@ module _ (lib : Library) (state : PagedState) (known : KnownFields) where
   flat_kept coming turn after h stands =
       record { cases = inl h; locates = λ k. subst LocatesInTurn h.turn_is k; stands = stands }
 
-  -- the core that a step leaves
+  -- the core after a step
   stands_after : (s : PagedState) → IsPagedStep frames s.memory.kept (core_state s) → (((state_after core_store (core_state s)).regs.dbr ≡ booted_dbr) ⊎ ExecutesLdbr (told_of s)) → (b : Bool) → loaded_after false (told_of s) ≡ b → Stands b frames (record { regs = (state_after core_store (core_state s)).regs; memory = stepped_memory s })
   stands_after s step dbr true e = tt
   stands_after s step (inl same) false e = record { dbr = same; laid = step.laid }
   stands_after s step (inr loads) false e = absurd (not_loaded (told_of s) e loads)
 
-  -- a step over a state that stands for the flat memory
+  -- a step from a state that represents the flat memory
   step_turn : (last : PagedState) → IsAlike frames state last → (turn : Turn) → turn ≡ Stepped (told_of last) → IsFlatStep last.memory.kept (core_state last) → IsBy Step (flat_stepped (flat_run_of (before Step))) turn (with_step (before Step) last)
   unfolding flat_stepped
   step_turn last alike turn told h =
@@ -115,7 +115,7 @@ module _ (lib : Library) (state : PagedState) (known : KnownFields) where
         },
       )
 
-  -- a step that executes ABSA is one of the flat run that does
+  -- if a step executes ABSA, that of the flat run does too
   step_locates : (last : PagedState) → IsAlike frames state last → ExecutesAbsa (told_of last) → LocatesInTurn (flat_turn lib (flat_run_of (before Step))).turn
   unfolding flat_turn flat_stepped
   step_locates last alike h =

@@ -1,4 +1,4 @@
--- What booting answers.
+-- The result of booting.
 use Rattle.std.specs.Prelude.{◌≡◌, false, Result, Ok, Err}
 use Rattle.m36_boot.specs.declared.fault.BootFault.{BootFault}
 use Rattle.m36_boot.specs.Refusals.{Told, boot_answer}
@@ -11,7 +11,8 @@ use Rattle.m36_super.specs.Coming.{Step}
 use Rattle.m36_super.specs.BootedRun.{IsStanding}
 use Rattle.m36_super.specs.SuperFields.{SuperFields, booted_of}
 
--- the system that an image starts, with what the answer to its start makes known
+-- the system that an image starts, with the names and sections that the answer to its link makes
+-- known
 abbrev pub at_start : Library → Image → SuperFields
 at_start lib image =
     record {
@@ -25,7 +26,8 @@ at_start lib image =
     }
 
 -- A booted system at its start: the one that the image of its catalog and files starts. Image,
--- answer, layout and system define it; that its core is laid as the laws of the run ask follows.
+-- answer, layout and system define it. It follows that its core is laid out as the laws of the run
+-- require.
 pub record IsBooted (lib : Library) (s : SuperFields) : Type 0 where
   pub image : Image
   pub answer : boot_answer lib.catalog lib.files ≡ Ok image.snap
@@ -34,7 +36,7 @@ pub record IsBooted (lib : Library) (s : SuperFields) : Type 0 where
   -- what follows
   pub stands : IsStanding lib.catalog.frames (booted_of s).state
 
--- The system, or the first code; want of memory may come at any time.
+-- the system, or the first fault; or NoMemory
 abbrev pub BootSays : Library → Result SuperFields BootFault → Type 0
 BootSays lib (Ok s) = IsBooted lib s
 BootSays lib (Err told) = Told told (boot_answer lib.catalog lib.files)

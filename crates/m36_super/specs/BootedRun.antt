@@ -1,7 +1,7 @@
--- The booted run: what the next turn may be, and to which state it leads. Page services are silent.
--- Which frame a page service takes, and which used marks it puts off, is free within its rules. A
--- link service may run out of memory, and then changes nothing. All else of a turn, and of the state
--- after it, is a function of the state before.
+-- The booted run: what the next turn may be, and the state after it. Page services are not
+-- reported. Which frame a page service takes, and which used marks it clears, is open within its
+-- rules. A link service may run out of memory, and then changes nothing. Everything else of a
+-- turn, and of the state after it, is a function of the state before.
 use Rattle.std.specs.Prelude.{◌≡◌, ℕ, ◌≤◌, Bool, true, false, List, [], ◌∷◌}
 use Rattle.std.specs.Prelude.{Result, Ok, Err}
 use Rattle.m36_model.specs.Fields.{AtFields}
@@ -40,10 +40,11 @@ pub record Booted : Type 0 where
 
 -- ---- steps
 
--- a step over core as it stands
+-- the record of a step over the current core
 abbrev pub told_of : PagedState → StepRecord
 told_of s = record_of core_store (core_state s)
 
+-- the state of the run after a step from this paged state
 abbrev pub with_step : Booted → PagedState → Booted
 with_step r s =
     record r {
@@ -56,12 +57,12 @@ with_step r s =
       loaded = loaded_after r.loaded (told_of s);
     }
 
--- The turn is the step of a paged state, and leads behind it.
+-- The turn is the step from this paged state, and `after` is the state after it.
 pub record Takes (s : PagedState) (before : Booted) (turn : Turn) (after : Booted) : Type 0 where
   pub told : turn ≡ Stepped (told_of s)
   pub after_is : after ≡ with_step before s
 
--- Pages are served until the step meets none that is absent.
+-- Pages are served until the step meets no absent page.
 pub record IsStep (frames : ℕ) (before : Booted) (turn : Turn) (after : Booted) : Type 0 where
   pub services : ℕ
   pub few : services ≤ pages_of_an_instruction
@@ -70,22 +71,23 @@ pub record IsStep (frames : ℕ) (before : Booted) (turn : Turn) (after : Booted
   pub present : IsPresent (told_of last).outcome
   pub takes : Takes last before turn after
 
--- Before an LDBR has been executed pages are served, and from then on none.
+-- Pages are served until an LDBR has been executed, and none after that.
 abbrev pub IsStepTurn : Bool → ℕ → Booted → Turn → Booted → Type 0
 IsStepTurn false frames before turn after = IsStep frames before turn after
 IsStepTurn true frames before turn after = Takes before.state before turn after
 
 -- ---- services
 
--- Words of segments are written, each where its page is, and nothing else of the memory changes,
--- marks of page table words included. So the core is still that of the image, and the flat memory
--- has the same words written.
+-- Words of segments are written, each where its page is. Nothing else of the memory changes, and
+-- no mark of a page table word. So the core is still that of the image, and the flat memory
+-- changes by the same words.
 pub record IsWritten (frames : ℕ) (old new : Paged) (changes : List Change) : Type 0 where
   pub put : new ≡ paged_put old changes
   -- what follows
   pub laid : IsLaid new.core frames
   pub flat : flat_of new ≡ flat_put (flat_of old) changes
 
+-- A link was snapped: the turn, and the state after it.
 pub record IsLinked
     (frames : ℕ) (at : AtFields) (s : SnapFields) (before : Booted) (turn : Turn) (after : Booted)
     : Type 0 where
@@ -96,7 +98,7 @@ pub record IsLinked
   pub coming : after.coming ≡ Step
   pub loaded : after.loaded ≡ before.loaded
 
--- a link service by its answer; want of memory is free, and changes nothing
+-- a link service, by its answer; NoMemory is always allowed, and changes nothing
 abbrev pub IsLinkTurn :
     Result SnapFields RefusedFields → ℕ → AtFields → Booted → Turn → Booted → Type 0
 IsLinkTurn answer frames at before NoMemory after = after ≡ before
@@ -121,6 +123,7 @@ IsConsoleTurn false (Ok text) before turn after =
 
 -- ---- one turn
 
+-- what a turn may be, by what the next turn is
 abbrev pub IsTurnBy : Coming → Library → Booted → Turn → Booted → Type 0
 IsTurnBy Step lib before turn after =
     IsStepTurn before.loaded lib.catalog.frames before turn after
@@ -132,6 +135,7 @@ IsTurnBy Print lib before turn after =
     (console_text before.state.regs (flat_of before.state.memory)) before turn after
 IsTurnBy (Over e) lib before turn after = (turn ≡ Ended e) × (after ≡ before)
 
+-- the turn, and the state after it, are those that the run may have
 unfoldable pub IsTurn : Library → Booted → Turn → Booted → Type 0
 IsTurn lib before turn after = IsTurnBy before.coming lib before turn after
 
@@ -143,17 +147,20 @@ AreTurns lib r [] last = last ≡ r
 AreTurns lib r (turn ∷ turns) last =
     (mid : Booted) × IsTurn lib r turn mid × AreTurns lib mid turns last
 
--- ---- what is kept in a run until an LDBR is executed
+-- ---- the invariant of a run until an LDBR is executed
 
+-- The registers have the descriptor segment of the image, and the core is laid out as that of the
+-- image.
 pub record IsStanding (frames : ℕ) (s : PagedState) : Type 0 where
   pub dbr : s.regs.dbr ≡ booted_dbr
   pub laid : IsLaid s.memory.core frames
 
+-- this holds until an LDBR is executed
 abbrev pub Stands : Bool → ℕ → PagedState → Type 0
 Stands false frames s = IsStanding frames s
 Stands true frames s = Unit {0}
 
--- the flat run's state for which a state of the booted run stands
+-- the state of the flat run that a state of the booted run represents
 abbrev pub flat_run_of : Booted → FlatRun
 flat_run_of r =
     record {

@@ -3,13 +3,13 @@ use Rattle.std.specs.Prelude.{◌≡◌, ℕ, ◌++◌, List, slice_index, Resul
 use Rattle.m36_model.specs.Act.{Answer}
 use Rattle.m36_model.specs.declared.outcome.Fault.{Fault}
 
--- the word of an answer, or its fault
+-- the result is the word of the answer, or the fault
 abbrev pub ExaminedSays : Result ℕ Fault → Result Answer Fault → Type 0
 ExaminedSays (Ok w) definition =
     (a : Answer) × (definition ≡ Ok a) × (slice_index a.words 0 ≡ w)
 ExaminedSays (Err f) definition = definition ≡ Err f
 
--- characters before those of a text that is read, or the fault of reading it
+-- a text with these characters before it, or the fault of reading the text
 abbrev pub behind : List ℕ → Result (List ℕ) Fault → Result (List ℕ) Fault
 behind characters (Ok more) = Ok (characters ++ more)
 behind characters (Err f) = Err f

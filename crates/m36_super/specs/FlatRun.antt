@@ -18,14 +18,15 @@ use Rattle.m36_super.specs.Services.{link_changes, note_snapped, note_refused, a
 use Rattle.m36_super.specs.Services.{console_text}
 use Rattle.m36_super.specs.Coming.{Coming, Step, Link, Print, Over, loaded_after, coming_behind}
 
--- registers and flat memory, what is known, what the next turn is, and whether an LDBR has been
--- executed
+-- registers and flat memory; what the rings know; what the next turn is; and whether an LDBR has
+-- been executed
 pub record FlatRun : Type 0 where
   pub state : State Flat
   pub known : KnownFields
   pub coming : Coming
   pub loaded : Bool
 
+-- a turn, and the state of the flat run after it
 pub record FlatTurn : Type 0 where
   pub turn : Turn
   pub after : FlatRun
@@ -66,7 +67,7 @@ flat_linked_by (Err why) r at =
       after = record r { coming = Over (end.Link why.code) };
     }
 
--- a console service; a refused one ends the run at once
+-- a console service; if it is refused, the run ends at once
 abbrev pub flat_printed_by : Bool → Result (List ℕ) Fault → FlatRun → FlatTurn
 flat_printed_by true text r =
     record { turn = Ended end.Console; after = record r { coming = Over end.Console } }
@@ -82,6 +83,7 @@ flat_printed_by false (Ok text) r =
           };
     }
 
+-- a turn of the flat run, by what the next turn is
 abbrev pub flat_turn_by : Coming → Library → FlatRun → FlatTurn
 flat_turn_by Step lib r = flat_stepped r
 flat_turn_by (Link at) lib r = flat_linked_by (snap_of r.known lib.catalog lib.files at) r at
@@ -93,7 +95,7 @@ flat_turn_by (Over e) lib r = record { turn = Ended e; after = r }
 unfoldable pub flat_turn : Library → FlatRun → FlatTurn
 flat_turn lib r = flat_turn_by r.coming lib r
 
--- as many turns of it
+-- the next n turns of the flat run
 unfoldable pub flat_turns : Library → FlatRun → ℕ → List Turn
 flat_turns lib r zero = []
 flat_turns lib r (suc n) = (flat_turn lib r).turn ∷ flat_turns lib (flat_turn lib r).after n

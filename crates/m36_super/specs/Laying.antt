@@ -1,4 +1,4 @@
--- Words that are written into segments: one after another, and the section of an object with its
+-- Words that are written into segments: several one after another, and a linkage section with its
 -- word of the linkage offset table.
 use Rattle.std.specs.Prelude.{ℕ, ◌+◌, List, [], ◌∷◌, ◌++◌, Option, None, Some}
 use Rattle.m36_model.specs.Act.{Whole}
@@ -6,14 +6,14 @@ use Rattle.m36_model.specs.Store.{Segment_word, Change}
 use Rattle.m36_link.specs.Fields.{LayFields}
 use Rattle.m36_link.specs.Known.{linkage_segment, lot_word}
 
--- words written into a segment from a word on
+-- these words, written into a segment from word number `w` on
 unfoldable pub written_from : ℕ → ℕ → List ℕ → List Change
 written_from seg w [] = []
 written_from seg w (v ∷ words) =
     record { spot = Segment_word seg w; part = Whole; value = v }
     ∷ written_from seg (w + 1) words
 
--- a section that is laid: its words, and its word of the linkage offset table of the ring
+-- a linkage section that is laid: its words, and its word of the linkage offset table of the ring
 unfoldable pub laying : Option LayFields → List Change
 laying None = []
 laying (Some l) =

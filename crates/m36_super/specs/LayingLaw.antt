@@ -1,4 +1,4 @@
--- The first section of a ring that a link service lays is as that in the image of a start.
+-- A link service lays the first linkage section of a ring as the image of a start does.
 use Rattle.std.specs.Prelude.{◌≡◌, ◌≢◌, ℕ, ◌<◌, Some, slice_index}
 use Rattle.m36_model.specs.Flat.{Flat, flat_put}
 use Rattle.m36_link.specs.Fields.{LayFields}
@@ -7,9 +7,9 @@ use Rattle.m36_link.specs.Accepted.{IsNext}
 use Rattle.m36_boot.specs.Segments.{linkage_words}
 use Rattle.m36_super.specs.Laying.{laying}
 
--- Where the first section of a ring is laid and the linkage segment of the ring is all zeros, this
--- segment then has the words with which the image lays the section: in the linkage offset table the
--- word for it, and after the table its words. No word of another segment changes.
+-- If the first linkage section of a ring is laid and the linkage segment of the ring is all zeros,
+-- this segment then has the words with which the image lays the section: in the linkage offset
+-- table the word for it, and after the table its words. No word of another segment changes.
 pub record LayingLaw : Type 0 where
   pub here :
       (l : LayFields) (f : Flat) → IsNext nothing_known l → l.seg < lot_words

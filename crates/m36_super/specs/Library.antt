@@ -1,4 +1,4 @@
--- What a booted system is made of, and never changes.
+-- The parts of a booted system that never change.
 use Rattle.std.specs.Prelude.{ℕ, List}
 use Rattle.m36_dir.specs.Catalog.{CatalogFields}
 

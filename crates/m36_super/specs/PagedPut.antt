@@ -1,4 +1,4 @@
--- Words written into the segments of a paged memory, each where its page is.
+-- Words that are written into the segments of a paged memory, each where its page is.
 use Rattle.std.specs.Prelude.{ℕ, ◌==◌, if◌then◌else◌, List, [], ◌∷◌, Result, Ok, Err}
 use Rattle.m36_model.specs.Act.{Part}
 use Rattle.m36_model.specs.Faults.{missing_page}
@@ -9,8 +9,8 @@ use Rattle.m36_model.specs.BootedCore.{booted_dbr}
 use Rattle.m36_model.specs.Residence.{Paged}
 use Rattle.m36_model.specs.declared.outcome.Refusal.{Refusal}
 
--- A word is written into its frame where its page is in one, and otherwise into the words kept. A
--- word that has no place, as one past the bound of its segment, is not written.
+-- A word is written into its frame if its page is in one, and otherwise into the kept words. A
+-- word without a place, such as one past the bound of its segment, is not written.
 abbrev pub put_at : Paged → ℕ → ℕ → Part → ℕ → Result Spot Refusal → Paged
 put_at m seg w part v (Ok spot) = record m { core = put_one m.core spot part v }
 put_at m seg w part v (Err why) =
@@ -18,6 +18,7 @@ put_at m seg w part v (Err why) =
     then record m { kept = content_with m.kept seg w part v }
     else m
 
+-- one word of a segment written
 abbrev pub paged_put_one : Paged → Spot → Part → ℕ → Paged
 paged_put_one m (Core_word a) part v = m
 paged_put_one m (Segment_word seg w) part v =

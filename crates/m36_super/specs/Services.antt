@@ -1,5 +1,5 @@
 -- The services that a booted run calls for: links and the console. Both see the content of
--- segments, wherever the pages are, and a link service changes it.
+-- segments wherever their pages are, and a link service changes it.
 use Rattle.std.specs.Prelude.{ℕ, zero, suc, ◌+◌, ◌%◌, ◌^◌, nat_lt, if◌then◌else◌, codes, Bool}
 use Rattle.std.specs.Prelude.{List, [], ◌++◌, map, take, slice_index, Option, None, Some}
 use Rattle.std.specs.Prelude.{Result, Ok, Err}
@@ -23,40 +23,43 @@ use Rattle.m36_super.specs.Laying.{written_from, laying}
 
 -- ---- links
 
--- A link service that succeeds writes the pair, the section that it lays and the word of the
--- linkage offset table for it, and no other word.
+-- A link service that succeeds writes the pair, the linkage section that it lays and the word of
+-- the linkage offset table for it, and no other word.
 unfoldable pub link_changes : AtFields → SnapFields → List Change
 link_changes at s = written_from at.seg at.word (pair_words s.pair) ++ laying s.lay
 
--- the link as it is told: ? where the word is none
+-- the link as it is reported: ? if the word is not a link
 abbrev pub link_text : Option LinkFields → List ℕ
 link_text None = codes "?"
 link_text (Some link) = reference_text link
 
+-- the note of a link service
 abbrev pub note_of : AtFields → Option LinkFields → Result Pair LinkCode → LinkNoteFields
 note_of at link answer = record { name = link_text link; answer = answer; at = at; ring = at.ring }
 
--- what is told of a link that was snapped, and of one that was refused
+-- the note of a link that was snapped
 abbrev pub note_snapped : AtFields → SnapFields → LinkNoteFields
 note_snapped at s = note_of at (Some s.link) (Ok s.pair)
 
+-- the note of a link that was refused
 abbrev pub note_refused : AtFields → RefusedFields → LinkNoteFields
 note_refused at why = note_of at why.link (Err why.code)
 
 -- ---- the console
 
--- The service writes as many characters as A says, and is refused above 256.
+-- The service writes as many characters as A says; it is refused if A is above 256.
 abbrev pub console_limit : ℕ
 console_limit = 256
 
--- whether it is asked for more
+-- A is above the limit
 abbrev pub asks_too_much : RegsFields → Bool
 asks_too_much g = nat_lt console_limit g.a
 
--- in how many words so many characters stand, and the most of them
+-- the number of words for `count` characters
 abbrev pub console_word_count : ℕ → ℕ
 console_word_count count = quarter_words count
 
+-- the maximum number of words of a text
 abbrev pub console_word_limit : ℕ
 console_word_limit = console_word_count console_limit
 
@@ -64,31 +67,33 @@ console_word_limit = console_word_count console_limit
 abbrev pub written_character : ℕ → ℕ
 written_character c = if nat_lt c 128 then c else 63
 
--- what is written of the four characters of nine bits in a word
+-- the bytes that are written for the four characters of nine bits in a word
 unfoldable pub characters_of : ℕ → List ℕ
 characters_of w = map written_character (quarters_of w)
 
--- The words of the text stand from the word on that PR2 names. They are read in its ring by the
+-- Word k of the text. The text begins at the address in PR2. It is read in the ring of PR2 by the
 -- rules of access, and no mark is set.
 abbrev pub console_at : RegsFields → ℕ → AtFields
 console_at g k =
     record { seg = (ptr g 2).seg; word = ((ptr g 2).word + k) % 2 ^ 18; ring = (ptr g 2).ring }
 
+-- the characters of a word before those of the rest of the text, or the first fault
 abbrev pub joined : Result Answer Fault → Result (List ℕ) Fault → Result (List ℕ) Fault
 joined (Err f) rest = Err f
 joined (Ok a) (Err f) = Err f
 joined (Ok a) (Ok characters) = Ok (characters_of (slice_index a.words 0) ++ characters)
 
--- so many words from a word of the text on
+-- the characters of n words of the text from word k on
 unfoldable pub console_words : RegsFields → Flat → ℕ → ℕ → Result (List ℕ) Fault
 console_words g f k zero = Ok []
 console_words g f k (suc n) =
     joined (examined flat_store g f (console_at g k)) (console_words g f (k + 1) n)
 
+-- the first n characters of a text, or the fault of reading it
 abbrev pub cut_to : ℕ → Result (List ℕ) Fault → Result (List ℕ) Fault
 cut_to n (Err f) = Err f
 cut_to n (Ok characters) = Ok (take n characters)
 
--- what the console writes, or the first fault of its reading
+-- the text that the console writes, or the first fault of reading it
 unfoldable pub console_text : RegsFields → Flat → Result (List ℕ) Fault
 console_text g f = cut_to g.a (console_words g f 0 (console_word_count g.a))

@@ -14,13 +14,14 @@ use Rattle.m36_isol.specs.PageServices.{IsServed, AreServed, pages_of_an_instruc
 use Rattle.m36_page.specs.Fields.{PagerFields}
 use Rattle.m36_super.specs.SuperFields.{paged_of, IsRunning}
 
--- the word whose page a step lacked, if it lacked one
+-- the step lacked the page of the word at `at`
 pub record IsLacked (outcome : Outcome) (at : AtFields) : Type 0 where
   pub fault : Fault
   pub outcome_is : outcome ≡ Faulted fault
   pub number : fault.number ≡ missing_page
   pub at_is : at ≡ fault.at
 
+-- The step lacked the page of this word, or it lacked none.
 abbrev pub LackedSays : Outcome → Option AtFields → Type 0
 LackedSays outcome None = IsPresent outcome
 LackedSays outcome (Some at) = IsLacked outcome at
@@ -33,7 +34,7 @@ pub record IsTried
     pub frames : length q.holders ≡ length p.holders
     pub runs : IsRunning (length q.holders) new.regs new.store q
 
--- A step over core as it stands: once an LDBR has been executed no page is served.
+-- A step over the current core, without page services, as after an LDBR.
 pub record IsBareStep
     (old : State (List ℕ)) (p : PagerFields) (new : State (List ℕ)) (q : PagerFields)
     (told : StepRecord) : Type 0 where
@@ -41,19 +42,20 @@ pub record IsBareStep
   pub state : new ≡ state_after core_store old
   pub pager : q ≡ p
 
--- A step lacked none.
+-- A step that lacked no page.
 pub record IsTaken
     (old : State (List ℕ)) (p : PagerFields) (new : State (List ℕ)) (q : PagerFields)
     (told : StepRecord) : Type 0 where
   pub step : IsBareStep old p new q told
   pub present : IsPresent told.outcome
 
+-- A try of a step: a page was brought in (true), or the step was taken (false).
 abbrev pub AttemptSays :
     Bool → State (List ℕ) → PagerFields → State (List ℕ) → PagerFields → StepRecord → Type 0
 AttemptSays true old p new q told = IsTried old p new q
 AttemptSays false old p new q told = IsTaken old p new q told
 
--- The pages that a step lacked were served, and then it was taken.
+-- The pages that a step lacked were brought in, and then it was taken.
 pub record IsStepped
     (old : State (List ℕ)) (p : PagerFields) (new : State (List ℕ)) (q : PagerFields)
     (told : StepRecord) : Type 0 where
@@ -65,6 +67,8 @@ pub record IsStepped
   pub runs : IsRunning (length q.holders) last.regs last.store q
   pub taken : IsTaken last q new q told
 
+-- A step: with page services until an LDBR has been executed (false), and without them after that
+-- (true).
 abbrev pub StepSays :
     Bool → State (List ℕ) → PagerFields → State (List ℕ) → PagerFields → StepRecord → Type 0
 StepSays false old p new q told = IsStepped old p new q told

@@ -1,4 +1,4 @@
--- What a booted system shows.
+-- The model of a booted system.
 use Rattle.std.specs.Prelude.{◌≡◌, ℕ, Bool, true, false, List, length}
 use Rattle.std.specs.Prelude.{Option, None, ◌<◌, Ok}
 use Rattle.m36_desc.specs.Fields.{SdwFields}
@@ -22,8 +22,8 @@ use Rattle.m36_super.specs.Library.{Library}
 use Rattle.m36_super.specs.Coming.{Coming, Step, Link, Print, Over}
 use Rattle.m36_super.specs.BootedRun.{Booted}
 
--- its library, the registers, its core, the pager with the words kept, what is known, what the next
--- turn is, and whether an LDBR has been executed
+-- its library, the registers, its core, the pager with the kept words, what the rings know, what
+-- the next turn is, and whether an LDBR has been executed
 pub record SuperFields : Type 0 where
   pub lib : Library
   pub regs : RegsFields
@@ -42,18 +42,19 @@ abbrev pub run_of : State (List ℕ) → PagerFields → KnownFields → Coming 
 run_of s p known coming loaded =
     record { state = paged_of s p; known = known; coming = coming; loaded = loaded }
 
+-- the state of the booted run of a system
 abbrev pub booted_of : SuperFields → Booted
 booted_of s =
     run_of (record { regs = s.regs; store = s.core }) s.pager s.known s.coming s.loaded
 
--- The descriptor of a linkage segment: it has all the pages of a segment.
+-- The descriptor of a linkage segment: it has all the pages that a segment can have.
 pub record IsLinkage (core : List ℕ) (seg : ℕ) : Type 0 where
   pub sdw : SdwFields
   pub live : core_sdw core booted_dbr seg ≡ Ok sdw
   pub whole : sdw.bound ≡ bound_of_pages linkage_pages
 
--- The core is that of the image, the pager has the page tables of the image and no others, and the
--- page table words are as it left them.
+-- The core is laid out as that of the image, the pager has exactly the page tables of the image,
+-- and the page table words are as the pager left them, except for marks.
 pub record IsManaged (frames : ℕ) (core : List ℕ) (p : PagerFields) : Type 0 where
   pub pages : HasPages frames core p
   pub reads : Reads p core
@@ -65,18 +66,19 @@ pub record IsRunning (frames : ℕ) (regs : RegsFields) (core : List ℕ)
   pub dbr : regs.dbr ≡ booted_dbr
   pub managed : IsManaged frames core p
 
+-- this holds until an LDBR is executed
 abbrev pub Manages : Bool → ℕ → RegsFields → List ℕ → PagerFields → Type 0
 Manages false frames regs core p = IsRunning frames regs core p
 Manages true frames regs core p = Unit {0}
 
--- no service is due once an LDBR has been executed
+-- once an LDBR has been executed, the next turn is not a service
 abbrev pub IsDue : Coming → Bool → Type 0
 IsDue Step loaded = Unit {0}
 IsDue (Link at) loaded = loaded ≡ false
 IsDue Print loaded = loaded ≡ false
 IsDue (Over e) loaded = Unit {0}
 
--- What holds of every booted system.
+-- The invariant of a booted system.
 pub record IsSuper (s : SuperFields) : Type 0 where
   pub files : length s.lib.files ≡ length s.lib.catalog.segments
   pub frames : length s.pager.holders ≡ s.lib.catalog.frames
@@ -89,10 +91,12 @@ abbrev pub frame_by : Bool → Option ℕ → Option ℕ
 frame_by true frame = frame
 frame_by false frame = None
 
+-- the frame of a page of a pager, if the pager has the page and it is in one
 abbrev pub held_in : PagerFields → List ℕ → ℕ → ℕ → Option ℕ
 held_in p core seg page = frame_by (has_page p seg page) (frame_of p core seg page)
 
--- What a call of the pager gives: pages have moved, and all is managed again.
+-- The result of a call of the pager: pages have moved, and the pager and its core satisfy
+-- `IsManaged`.
 pub record IsPaging
     (frames : ℕ) (core now : List ℕ) (p q : PagerFields) : Type 0 where
   pub moved :
@@ -101,13 +105,14 @@ pub record IsPaging
   pub after_is : (seg page : ℕ) → moved.after seg page ≡ held_in q now seg page
   pub manages : IsManaged frames now q
 
+-- A call of the pager that keeps all content moves pages.
 abbrev pub PagingLaw : Type 0
 PagingLaw =
     (frames : ℕ) (core now : List ℕ) (p q : PagerFields)
     → IsManaged frames core p → IsPager q → Reads q now → IsKept p core q now
     → IsPaging frames core now p q
 
--- A step leaves all managed.
+-- A step keeps `IsManaged`.
 abbrev pub StepManagedLaw : Type 0
 StepManagedLaw =
     (frames : ℕ) (s : State (List ℕ)) (p : PagerFields) → s.regs.dbr ≡ booted_dbr

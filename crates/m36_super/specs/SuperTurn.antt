@@ -1,4 +1,4 @@
--- The turns of a booted system are those of its booted run, and its catalog and files stay.
+-- The turns of a booted system are those of its booted run; its catalog and files do not change.
 use Rattle.std.specs.Prelude.{◌≡◌, ℕ, ◌⊎◌, Bool, true, false, Option, nat_eq, ◌&&◌}
 use Rattle.m36_model.specs.Faults.{master_mode_entry, fault_tag_2}
 use Rattle.m36_model.specs.Core.{core_store}
@@ -26,32 +26,35 @@ use Rattle.m36_super.specs.BootedRun.{IsTurn, Takes, told_of}
 use Rattle.m36_isol.specs.PageServices.{PagedState}
 use Rattle.m36_super.specs.SuperFields.{SuperFields, booted_of}
 
+-- the system makes this turn, and is `later` after it
 abbrev pub SuperTurns : SuperFields → Turn → SuperFields → Type 0
 SuperTurns before turn later =
     IsTurn before.lib (booted_of before) turn (booted_of later) × (later.lib ≡ before.lib)
 
--- A booted system does not go back.
+-- A booted system cannot go back.
 abbrev pub SuperWent : SuperFields → ℕ → BackAnswer → SuperFields → Type 0
 SuperWent before n answer later = IsUnable before answer later
 
--- The content of a word: of the flat memory until an LDBR has been executed, and of core
--- from then on.
+-- The content of a word: of the flat memory until an LDBR has been executed, and of core after
+-- that.
 abbrev pub content_by : Bool → SuperFields → ℕ → ℕ → Option ℕ
 content_by false s seg w =
     content_in flat_store (flat_of (booted_of s).state.memory) s.regs.dbr seg w
 content_by true s seg w = content_in core_store s.core s.regs.dbr seg w
 
+-- the content of a word of a segment of a system; None if it has no place
 unfoldable pub super_content : SuperFields → ℕ → ℕ → Option ℕ
 super_content s seg w = content_by s.loaded s seg w
 
--- ---- who has not gone back stays, and a service is not followed by another
+-- ---- going back changes nothing unless it answers Done, and a service is not followed by another
 
+-- going back changes nothing unless it answers Done
 pub super_stays :
     (before : SuperFields) (n : ℕ) (answer : BackAnswer) (after : SuperFields)
     → SuperWent before n answer after → IsDone answer ⊎ (after ≡ before)
 super_stays before n answer after went = inr went.1
 
--- the next turn is no service
+-- the next turn is not a service
 abbrev pub IsQuiet : Coming → Type 0
 IsQuiet Step = Unit {0}
 IsQuiet (Link at) = ⊥
@@ -64,6 +67,7 @@ step_no_service :
 step_no_service false frames before turn after h service = subst IsService h.takes.told service
 step_no_service true frames before turn after h service = subst IsService h.told service
 
+-- after a link service the next turn is not a service
 pub link_quiet :
     (answer : Result SnapFields RefusedFields) (frames : ℕ) (at : AtFields) (before : Booted)
     (turn : Turn) (after : Booted) → IsLinkTurn answer frames at before turn after → IsService turn
@@ -110,6 +114,7 @@ no_service (Link at) lib before turn after h quiet service = quiet
 no_service Print lib before turn after h quiet service = quiet
 no_service (Over e) lib before turn after h quiet service = subst IsService h.0 service
 
+-- a service is not followed by another
 pub super_apart :
     (first second third : SuperFields) (one two : Turn)
     → SuperTurns first one second → SuperTurns second two third → IsService one → IsService two → ⊥
@@ -235,6 +240,7 @@ no_step (Link at) lib before turn after h held step =
 no_step Print lib before turn after h held step = console_no_step _ _ before turn after h step
 no_step (Over e) lib before turn after h held step = subst IsStep h.0 step
 
+-- the turn after one that interrupts is not a step
 pub super_interrupted :
     (first second third : SuperFields) (one two : Turn)
     → SuperTurns first one second → SuperTurns second two third → Interrupts one → IsStep two → ⊥

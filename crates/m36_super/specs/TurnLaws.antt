@@ -1,5 +1,6 @@
--- What holds of every booted run: the core stays that of the image until an LDBR is executed, and
--- until then each turn that is no ABSA and wants no memory is the turn of the flat run.
+-- What holds for every booted run until an LDBR is executed: the core stays laid out as that of
+-- the image, and each turn that executes no ABSA and does not run out of memory is the turn of the
+-- flat run.
 use Rattle.std.specs.Prelude.{◌≡◌, ◌⊎◌, ◌↔◌, true, false, List, length}
 use Rattle.m36_model.specs.StoreLaw.{Each}
 use Rattle.m36_model.specs.Audit.{IsAudited}
@@ -15,7 +16,7 @@ use Rattle.m36_super.specs.Coming.{loads, loaded_after}
 use Rattle.m36_super.specs.FlatRun.{flat_turn, flat_turns}
 use Rattle.m36_super.specs.BootedRun.{Booted, IsTurn, AreTurns, Stands, flat_run_of}
 
--- A step counts as one that loads the DBR exactly where it executes an LDBR.
+-- A step counts as loading the DBR exactly if it executes an LDBR.
 abbrev pub LoadsLaw : Type 0
 LoadsLaw = (e : StepRecord) → (loads e.word e.outcome ≡ true) ↔ ExecutesLdbr e
 
@@ -34,8 +35,8 @@ pub record IsFlatTurn (lib : Library) (before : Booted) (turn : Turn)
   pub turn_is : turn ≡ (flat_turn lib (flat_run_of before)).turn
   pub after_is : flat_run_of after ≡ (flat_turn lib (flat_run_of before)).after
 
--- Until an LDBR is executed a turn is the flat run's, or wants memory, or executes ABSA, and then
--- the flat run's does too; and the core stays that of the image.
+-- Until an LDBR is executed, a turn is that of the flat run, or runs out of memory, or executes
+-- ABSA, and then the turn of the flat run does too. The core stays laid out as that of the image.
 pub record IsTurnKept (lib : Library) (before : Booted) (turn : Turn)
     (after : Booted) : Type 0 where
   pub cases :
@@ -43,6 +44,7 @@ pub record IsTurnKept (lib : Library) (before : Booted) (turn : Turn)
   pub locates : LocatesInTurn turn → LocatesInTurn (flat_turn lib (flat_run_of before)).turn
   pub stands : Stands after.loaded lib.catalog.frames after.state
 
+-- Each turn before an LDBR is executed satisfies `IsTurnKept`.
 abbrev pub TurnLaw : Type 0
 TurnLaw =
     (lib : Library) (before : Booted) (turn : Turn) (after : Booted) → before.loaded ≡ false
@@ -57,7 +59,7 @@ TurnAuditLaw =
     → IsAudited before.state.memory.core booted_dbr → IsTurn lib before turn after
     → after.loaded ≡ false → IsAudited after.state.memory.core booted_dbr
 
--- the turn executes no ABSA and no LDBR, and does not want memory
+-- the turn executes no ABSA and no LDBR, and does not run out of memory
 abbrev pub IsPlainTurn : Turn → Type 0
 IsPlainTurn (Stepped e) = (ExecutesAbsa e → ⊥) × (loaded_after false e ≡ false)
 IsPlainTurn (Linked note) = Unit {0}
@@ -66,8 +68,7 @@ IsPlainTurn (Ended e) = Unit {0}
 IsPlainTurn Full = Unit {0}
 IsPlainTurn NoMemory = ⊥
 
--- The turns of a booted run that are plain are those of the flat run. The flat run knows of no
--- frames.
+-- If all turns of a booted run are plain, they are those of the flat run, which has no frames.
 abbrev pub FunctionLaw : Type 0
 FunctionLaw =
     (lib : Library) (turns : List Turn) (r last : Booted) → r.loaded ≡ false

@@ -1,4 +1,4 @@
-//! Booted systems.
+//! The booted system.
 
 ghost use Rattle.std.specs.Prelude.{◌≡◌, ◌<◌, length, false};
 ghost use Rattle.m36_link.specs.Laws.{IsMade};
@@ -21,8 +21,9 @@ use m36_word::Word;
 use std::alloc::Global;
 use std::marker::Model;
 
-/// A booted system: a processor with its core, the pages of all segments, what link services have made, and the catalog with
-/// the files of its segments. It is seen as these, and as what its next turn is.
+/// A booted system: a processor with its core, the pages of all segments, the results of link
+/// services, and the catalog with the files of its segments. Its model is these parts and what its
+/// next turn is.
 #[derive(Drop)]
 pub struct Super {
     machine: Machine,
@@ -74,7 +75,8 @@ impl Super {
     ) -> Super
         requires files { length files.items ≡ length catalog.segments }
         requires frames { length pager.holders ≡ catalog.frames }
-        requires runs { IsRunning (length pager.holders) machine.state.regs machine.state.store pager }
+        requires runs { IsRunning (length pager.holders) machine.state.regs machine.state.store
+            pager }
         requires made { IsMade catalog files.items known }
         ensures { result
             ≡ record {
@@ -106,7 +108,7 @@ impl Super {
         &self.catalog
     }
 
-    /// Core as it stands.
+    /// The current core.
     pub fn core(&self) -> &Core
         ensures { result.now ≡ self.now.core }
     {
@@ -121,14 +123,14 @@ impl Super {
         self.coming
     }
 
-    /// A record for `step_told` to fill: it has the registers as they stand, and tells of no step.
+    /// An empty record with the current registers, for `step_told` to overwrite.
     pub fn untold(&self) -> StepRecord
         ensures { result ≡ untold_record self.now.regs }
     {
         self.machine.untold()
     }
 
-    /// The turn that is a step, told in a record that an earlier one may have filled.
+    /// Takes the turn, which is a step, and overwrites `told` with its record.
     #[tactic(auto, using(crate::proofs::SystemTurns::step_is_turn))]
     pub fn step_told(&mut self, told: &mut StepRecord)
         requires { self.old.coming ≡ Coming.Step }
@@ -144,7 +146,7 @@ impl Super {
         step_told(machine, pager, coming, loaded, told);
     }
 
-    // A step, with the services of the pages that it lacks until an LDBR has been executed.
+    // Takes a step. Until an LDBR has been executed, the pages that it lacks are brought in.
     fn step(&mut self) -> Turn
         requires { self.old.coming ≡ Coming.Step }
         ensures { SuperTurns self.old result self.new }
@@ -154,7 +156,7 @@ impl Super {
         Turn::Stepped(told)
     }
 
-    // A link service.
+    // Takes a turn that is a link service.
     #[tactic(auto, using(crate::proofs::SystemTurns::link_is_turn))]
     fn link(&mut self, at: At) -> Turn
         requires coming { self.old.coming ≡ Coming.Link at }
@@ -174,7 +176,7 @@ impl Super {
         link(*alloc, catalog, files, machine, pager, known, coming, at)
     }
 
-    // A console service.
+    // Takes a turn that is a console service.
     #[tactic(auto, using(crate::proofs::SystemTurns::print_is_turn))]
     fn print(&mut self) -> Turn
         requires coming { self.old.coming ≡ Coming.Print }
@@ -190,7 +192,7 @@ impl Super {
         print(machine, pager, coming)
     }
 
-    // The turn that is coming.
+    // Takes the next turn.
     #[tactic(auto, using(crate::proofs::SystemTurns::system_turns))]
     fn turn_of(&mut self, coming: Coming) -> Turn
         requires coming { coming ≡ self.old.coming }
@@ -205,7 +207,7 @@ impl Super {
         }
     }
 
-    // A turn that is no step, or whose step finds no record to fill.
+    // Takes a turn that is not a step, or a step with no record to overwrite.
     #[cold]
     #[inline(never)]
     fn turn_anew(&mut self, turn: &mut Turn)
@@ -228,7 +230,8 @@ impl Stepper for Super {
 
     ghost content = { super_content };
 
-    /// A step, with the services of the pages that it lacks; or the service for which the step before it calls; or the end.
+    /// A step, for which the pages that it lacks are brought in; or the service that the step
+    /// before it calls for; or the end.
     #[inline]
     fn turn_into(&mut self, turn: &mut Turn) {
         if let Coming::Step = self.coming
@@ -240,7 +243,7 @@ impl Stepper for Super {
         }
     }
 
-    /// A booted system does not go back.
+    /// A booted system cannot go back.
     fn back(&mut self, _n: u32) -> BackAnswer {
         BackAnswer::Unable
     }
@@ -249,7 +252,7 @@ impl Stepper for Super {
         self.machine.regs()
     }
 
-    /// Until an LDBR has been executed, a word that is put away is found too.
+    /// Until an LDBR has been executed, the words of absent pages are found too.
     #[tactic(auto, unfolding(crate::specs::SuperTurn::super_content))]
     fn content(&self, seg: u16, word: u32) -> Option<Word> {
         if self.loaded {

@@ -1,4 +1,4 @@
-//! Booting.
+//! Boots a catalog and its files.
 
 ghost use Rattle.std.specs.Prelude.{◌≡◌, length, IfOk, Ok, true};
 ghost use Rattle.std.specs.List.{list_all};
@@ -26,7 +26,7 @@ fn is_short(file: &Words) -> bool
     file.slice().len() <= SEGMENT_LIMIT as usize
 }
 
-/// Whether each file has at most 2^18 words, as many as a segment.
+/// Whether each file has at most 2^18 words, as a segment can have.
 pub fn are_short(files: &[Words]) -> bool
     ensures value { result ≡ list_all is_short files.now }
     ensures short { result ≡ true → AreShort files.now }
@@ -34,7 +34,7 @@ pub fn are_short(files: &[Words]) -> bool
     files.iter().all(|file| is_short(file))
 }
 
-/// The files, each read once. The error is want of memory alone.
+/// The files; each is read as an object once. Fails only with `NoMemory`.
 pub fn files_of(alloc: Global, words: Vec<Words>) -> Result<Vec<File>, NoMemory>
     requires { AreShort words.items }
     ensures { IfOk result (λ files. files.items ≡ words.items) }
@@ -46,7 +46,7 @@ pub fn files_of(alloc: Global, words: Vec<Words>) -> Result<Vec<File>, NoMemory>
     Ok(files)
 }
 
-// What the answer to the start makes known.
+// What the ring of the start knows after the answer to its link.
 #[tactic(auto, using(crate::proofs::BootTurns::start_laid, crate::proofs::BootTurns::start_made))]
 fn known_of(
     alloc: Global,
@@ -64,7 +64,7 @@ fn known_of(
     Ok(known)
 }
 
-// The system of an image.
+// The system that an image starts.
 #[tactic(auto, using(crate::proofs::BootTurns::image_runs))]
 fn started(
     alloc: Global,
@@ -76,7 +76,8 @@ fn started(
     requires answer { start_answer catalog files.items ≡ Ok image.snap }
     requires runnable { IsRunnable catalog.frames image }
     requires reads { Reads image.pager image.core }
-    ensures { IfOk result (λ s. s ≡ at_start (record { catalog = catalog; files = files.items }) image) }
+    ensures { IfOk result
+        (λ s. s ≡ at_start (record { catalog = catalog; files = files.items }) image) }
 {
     let known = known_of(alloc, &catalog, files.as_slice(), &image.snap)?;
     let Image {
@@ -90,8 +91,8 @@ fn started(
 }
 
 impl Super {
-    /// Boots a catalog with the words of the file of each of its segments, in the order of the catalog. The error is the first
-    /// of the codes U1 to U4 that stands, or want of memory.
+    /// Boots a catalog with the words of the file of each of its segments, in the order of the
+    /// catalog. The error is the first of the faults U1 to U4 that applies, or `NoMemory`.
     #[tactic(auto, using(crate::proofs::BootTurns::booted))]
     pub fn boot(alloc: Global, catalog: Catalog, words: Vec<Words>) -> Result<Super, BootFault>
         requires files { length words.items ≡ length catalog.segments }

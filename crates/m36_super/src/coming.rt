@@ -1,4 +1,4 @@
-//! What the next turn of a booted run is, by the step before it.
+//! What the next turn of a booted run is, given the step before it.
 
 ghost use Rattle.std.specs.Prelude.{ℕ, ◌≡◌, false, Some};
 ghost use Rattle.m36_model.specs.Step.{decode};
@@ -8,7 +8,7 @@ use m36_inst::{Effect, Inst, row};
 use m36_model::{At, End, Fault, Outcome, StepRecord};
 use m36_word::Word;
 
-// Fault tag 2, that of a link to be snapped.
+// The fault of fault tag 2, which a link to be snapped has.
 const FAULT_TAG_2: u8 = 24;
 
 // The fault of MME.
@@ -19,15 +19,15 @@ const MASTER_MODE_ENTRY: u8 = 2;
 pub enum Coming {
     /// A step.
     Step,
-    /// The service of the link at this place, for its ring.
+    /// The service of the link at this address, for the ring of the address.
     Link(At),
     /// The console service.
     Print,
-    /// The end of the run, told again.
+    /// The end of the run, which is reported again.
     Over(End),
 }
 
-// Whether a word is the instruction LDBR.
+// Whether a word is an LDBR instruction.
 #[tactic(auto, unfolding(m36_model::specs::Step::decode))]
 fn is_ldbr(word: Word) -> bool
     ensures { result ≡ is_ldbr (decode word) }
@@ -65,7 +65,7 @@ pub(crate) fn loaded_after(loaded: bool, told: &StepRecord) -> bool
     loaded || loads(told)
 }
 
-// What comes after a fault, until an LDBR has been executed.
+// What follows a fault, if no LDBR has been executed.
 fn coming_in(ring: u8, fault: Fault) -> Coming
     ensures { result ≡ coming_on false ring fault }
 {
@@ -78,7 +78,7 @@ fn coming_in(ring: u8, fault: Fault) -> Coming
     }
 }
 
-/// What comes after a step that an instruction of a ring took.
+/// What follows a step whose instruction was executed in this ring.
 pub(crate) fn coming_after(loaded: bool, ring: u8, outcome: Outcome) -> Coming
     ensures { result ≡ coming_after loaded ring outcome }
 {

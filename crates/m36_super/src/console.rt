@@ -1,4 +1,4 @@
-//! Console services.
+//! The console service.
 
 ghost use Rattle.std.specs.Prelude.{◌≡◌, ◌≤◌, ◌<◌, ◌+◌, ◌*◌, ◌/◌, ◌++◌, ◌==◌, Bool, length, Ok, Err, MatchResult};
 ghost use Rattle.m36_model.specs.Flat.{flat_store};
@@ -24,16 +24,16 @@ use m36_step::{ConsoleNote, Machine, Turn};
 use m36_tables::{descriptor, violation, within};
 use m36_word::Word;
 
-// A console service writes at most so many characters.
+// The maximum number of characters that a console service writes.
 const MOST_CHARACTERS: u64 = 256;
 
-// The pointer register that names the text.
+// The pointer register that points to the text.
 const TEXT: u8 = 2;
 
-// The access violation of a word past the bound.
+// The access violation for a word past the bound.
 const OUT_OF_SEGMENT_BOUNDS: u8 = 15;
 
-// The fault of a refusal at a word.
+// The fault for a refusal at a word.
 fn fault(why: Refusal, at: At) -> Fault
     ensures { result ≡ fault_by why at }
 {
@@ -44,14 +44,14 @@ fn fault(why: Refusal, at: At) -> Fault
     }
 }
 
-// Whether a place is in the segment that executes.
+// Whether an address is in the segment that is being executed.
 fn is_executing(regs: &Regs, at: At) -> bool
     ensures { result ≡ (at.seg == regs.now.ppr.psr) }
 {
     at.seg == regs.ppr.psr
 }
 
-// A word that a descriptor describes.
+// A word of the segment with this descriptor.
 #[tactic(auto, using(crate::proofs::ConsoleReads::described))]
 fn described_word(core: &Core, pager: &Pager, regs: &Regs, sdw: &Sdw, at: At) -> Result<Word, Fault>
     requires managed { IsManaged (length pager.now.holders) core.now pager.now }
@@ -69,7 +69,7 @@ fn described_word(core: &Core, pager: &Pager, regs: &Regs, sdw: &Sdw, at: At) ->
     Ok(found_word(core, pager, sdw, at.seg, at.word))
 }
 
-// The word at a place, by the rules of access, wherever its page is. No mark is set.
+// The word at an address, by the rules of access, wherever its page is. No mark is set.
 #[tactic(auto, using(crate::proofs::ConsoleReads::dead_word))]
 fn examined(core: &Core, pager: &Pager, regs: &Regs, at: At) -> Result<Word, Fault>
     requires managed { IsManaged (length pager.now.holders) core.now pager.now }
@@ -82,7 +82,7 @@ fn examined(core: &Core, pager: &Pager, regs: &Regs, at: At) -> Result<Word, Fau
     }
 }
 
-// What is written of a character of nine bits.
+// The byte that is written for a character of nine bits.
 fn written(character: u64) -> u8
     ensures { result ≡ written_character character }
 {
@@ -93,7 +93,7 @@ fn written(character: u64) -> u8
     }
 }
 
-// Puts the four characters of a word.
+// Appends the four characters of a word.
 #[tactic(auto, unfolding(crate::specs::Services::characters_of, obj36_parts::specs::Halves::quarter))]
 fn put_characters(text: &mut ArrayVec<u8, 256>, word: Word)
     requires { length text.old.items + 4 ≤ console_limit }
@@ -112,7 +112,7 @@ fn put_characters(text: &mut ArrayVec<u8, 256>, word: Word)
     }
 }
 
-// The place of a word of the text.
+// The address of word k of the text.
 fn place(regs: &Regs, k: u32) -> At
     requires { k ≤ console_word_limit }
     ensures { result ≡ console_at regs.now k }
@@ -125,7 +125,8 @@ fn place(regs: &Regs, k: u32) -> At
     }
 }
 
-// So many words of the text, each as four characters, or the first fault of reading them.
+// The characters of the first `count` words of the text, four of each; or the first fault of
+// reading them.
 #[tactic(auto, using(crate::proofs::ConsoleReads::reading))]
 fn text_words(
     core: &Core,
@@ -155,7 +156,7 @@ fn text_words(
     Ok(text)
 }
 
-// So many characters of the text, or the first fault of reading them.
+// The first `count` characters of the text, or the first fault of reading them.
 #[tactic(auto, unfolding(crate::specs::Services::console_text))]
 fn text(core: &Core, pager: &Pager, regs: &Regs, count: u32) -> Result<ConsoleNote, Fault>
     requires managed { IsManaged (length pager.now.holders) core.now pager.now }
@@ -171,7 +172,7 @@ fn text(core: &Core, pager: &Pager, regs: &Regs, count: u32) -> Result<ConsoleNo
     Ok(ConsoleNote { bytes })
 }
 
-// The run ends so.
+// Ends the run in this way.
 fn ends(coming: &mut Coming, end: &End) -> Turn
     ensures turn { result ≡ Turn.Ended end.now }
     ensures coming { coming.new ≡ Coming.Over end.now }
@@ -180,7 +181,7 @@ fn ends(coming: &mut Coming, end: &End) -> Turn
     Turn::Ended(*end)
 }
 
-/// The console service.
+/// Takes a turn that is a console service.
 #[tactic(auto, using(crate::proofs::SystemTurns::printed))]
 pub(crate) fn print(machine: &mut Machine, pager: &Pager, coming: &mut Coming) -> Turn
     requires { IsRunning (length pager.now.holders) machine.old.state.regs machine.old.state.store

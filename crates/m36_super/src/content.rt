@@ -17,7 +17,7 @@ use m36_step::Machine;
 use m36_tables::{descriptor, in_order, within};
 use m36_word::Word;
 
-/// A word within the bound of a segment.
+/// A word within the bound of a segment with this descriptor.
 #[tactic(auto, using(crate::proofs::PagedContents::found))]
 pub(crate) fn found_word(core: &Core, pager: &Pager, sdw: &Sdw, seg: u16, word: u32) -> Word
     requires managed { IsManaged (length pager.now.holders) core.now pager.now }
@@ -31,7 +31,7 @@ pub(crate) fn found_word(core: &Core, pager: &Pager, sdw: &Sdw, seg: u16, word: 
     }
 }
 
-// A word of a segment that a descriptor describes, if it has a place.
+// A word of the segment with this descriptor, if it has a place.
 #[tactic(auto, using(crate::proofs::ConsoleReads::placed_words))]
 fn placed_word(core: &Core, pager: &Pager, sdw: &Sdw, seg: u16, word: u32) -> Option<Word>
     requires managed { IsManaged (length pager.now.holders) core.now pager.now }
@@ -47,7 +47,7 @@ fn placed_word(core: &Core, pager: &Pager, sdw: &Sdw, seg: u16, word: u32) -> Op
     Some(found_word(core, pager, sdw, seg, word))
 }
 
-/// The content of a word of a segment, whoever asks for it; None where it has no place.
+/// The content of a word of a segment, without access checks; None if it has no place.
 #[tactic(auto, using(crate::proofs::ConsoleReads::dead_content))]
 pub(crate) fn flat_content(machine: &Machine, pager: &Pager, seg: u16, word: u32) -> Option<Word>
     requires runs { IsRunning (length pager.now.holders) machine.now.state.regs

@@ -1,26 +1,34 @@
-//! The booted system: segments of a catalog in the core of a processor, with its paging, its links and its console.
+//! The booted system ("supervisor"): the segments of a catalog in the core of a processor, with
+//! paging, links and a console.
 //!
-//! What is promised: `Super::boot` gives exactly the system that the booted image starts, or the first of the codes U1
-//! to U4 that stands, or want of memory. A `turn` of a system is one of its booted run: a step, with the services of
-//! the pages that it lacks, or the link or console service for which the step before it called, or the end of the run,
-//! told again. Page services are silent. Two things of a page service are free: the frame that is
-//! taken, which holds no page that the instruction has referenced, and which used marks of other
-//! pages are put off. Out of memory may come in a link service alone, which then changes nothing.
-//! Given these, each turn and the state after it, with every word of core and every word that is
-//! kept, are a function of the state before. A system does not go back.
+//! `Super::boot` returns exactly the system that the booted image starts, or the first of the
+//! faults U1 to U4 that applies, or `NoMemory`. A `turn` of the system is a turn of its booted
+//! run: a step, for which the pages that it lacks are brought in; or the link or console service
+//! that the step before it called for; or the end of the run, which is reported again. Page
+//! services are not reported.
 //!
-//! The laws say how the booted run and the flat run, which has no pages and is a function of the catalog and the files,
-//! belong together. Until an LDBR is executed each turn that executes no ABSA and wants no memory is the turn of the
-//! flat run, one that executes ABSA stands where the flat run executes one too, the core stays that of the booted image,
-//! and the audit conditions are kept, services included. Where the linkage segment of a ring is all
-//! zeros, the first section that a link service lays there is as the section that the image of a
-//! start has. What the console writes has as many characters as A says.
+//! The contract leaves two things of a page service open: which frame is taken, which must hold no
+//! page that the instruction has referenced, and which used marks of other pages are cleared. Only
+//! a link service can run out of memory; then it changes nothing. Given these choices, each turn
+//! and the state after it, with every word of core and every kept word, are a function of the
+//! state before. A system cannot go back.
 //!
-//! `specs/` says what the next turn of a run may be (`BootedRun`), what a service does (`Services`), and what the flat
-//! run is (`FlatRun`); the booted image is that of `m36_boot`.
+//! The flat run has no pages, and is a function of the catalog and the files. The laws relate the
+//! booted run to it, until an LDBR is executed:
 //!
-//! The layout, the services and their rules are this simulator's own; descriptors, page tables and faults are those of
-//! the Multics Processor Manual AL39.
+//! - Each turn that executes no ABSA and does not run out of memory is the turn of the flat run.
+//!   If a turn executes ABSA, the turn of the flat run does too.
+//! - The core stays laid out as that of the booted image, and the audit conditions are kept, also
+//!   by services.
+//! - If the linkage segment of a ring is all zeros, a link service lays the first linkage section
+//!   there as the image of a start does.
+//! - The console writes as many characters as A says.
+//!
+//! `specs/BootedRun.antt` says what the next turn of a run may be, `Services` what a service does,
+//! and `FlatRun` what the flat run is. The booted image is that of `m36_boot`.
+//!
+//! The layout, the services and their rules are this simulator's own; descriptors, page tables and
+//! faults are those of the Multics Processor Manual AL39.
 #![tactic(auto)]
 
 pub mod booted;
@@ -41,10 +49,11 @@ pub use booted::Super;
 pub use booting::{are_short, files_of};
 pub use coming::Coming;
 
-/// Until an LDBR is executed a turn of a booted run is that of the flat run, or wants memory, or executes ABSA as the turn of
-/// the flat run does, and the core stays that of the booted image; it keeps the audit conditions. So the turns up to the first
-/// that executes ABSA or LDBR, or wants memory, are those of the flat run, which knows of no frames. A step counts as one that
-/// loads the descriptor segment base register exactly where it executes an LDBR.
+/// Until an LDBR is executed, a turn of a booted run is that of the flat run, or runs out of
+/// memory, or executes ABSA as the turn of the flat run does. The core stays laid out as that of
+/// the booted image, and the turn keeps the audit conditions. So the turns before the first that
+/// executes ABSA or LDBR, or runs out of memory, are those of the flat run, which has no frames. A
+/// step counts as loading the descriptor segment base register exactly if it executes an LDBR.
 pub fn law_turn()
     ensures loads { LoadsLaw }
     ensures turn { TurnLaw }
@@ -52,21 +61,22 @@ pub fn law_turn()
     ensures function { FunctionLaw }
 {}
 
-/// A call of the pager that keeps all content moves pages of the booted image, and leaves the image managed; so does a step
-/// that leaves the descriptor segment base register.
+/// A call of the pager that keeps all content moves pages of the booted image, and the pager and
+/// its core still satisfy `IsManaged`. So does a step before which the descriptor segment base
+/// register is that of the image.
 pub fn law_paging()
     ensures paging { PagingLaw }
     ensures step { StepManagedLaw }
 {}
 
-/// Where the linkage segment of a ring is all zeros, a link service lays the first section of the
-/// ring there as the image of a start has it, with its word of the linkage offset table. No word of
-/// another segment changes.
+/// If the linkage segment of a ring is all zeros, a link service lays the first linkage section of
+/// the ring there as the image of a start does, with its word of the linkage offset table. No word
+/// of another segment changes.
 pub fn law_laying()
     ensures { LayingLaw }
 {}
 
-/// What a console service writes has as many characters as A says.
+/// A console service writes as many characters as A says.
 pub fn law_console()
     ensures { ConsoleCounts }
 {}

@@ -1,4 +1,4 @@
-//! Link services.
+//! The link service.
 
 ghost use Rattle.std.specs.Prelude.{◌≡◌, ◌≤◌, ◌<◌, ◌+◌, ◌^◌, ◌⊎◌, length, IfSome, option_copied, ◌∷◌, [], Bool, Ok, Err, Some};
 ghost use Rattle.obj36_parts.specs.ObjectSegment.{segment_limit};
@@ -40,7 +40,7 @@ fn write_word(machine: &mut Machine, pager: &mut Pager, ring: u8, word: u32, w: 
     }
 }
 
-// Writes words of the linkage segment of a ring, from a word on.
+// Writes words of the linkage segment of a ring, from word number `word` on.
 #[tactic(auto, using(crate::proofs::LinkTurns::writing))]
 fn write_words(machine: &mut Machine, pager: &mut Pager, ring: u8, word: u32, words: &[Word])
     requires managed { IsManaged (length pager.old.holders) machine.old.state.store pager.old }
@@ -57,7 +57,7 @@ fn write_words(machine: &mut Machine, pager: &mut Pager, ring: u8, word: u32, wo
     }
 }
 
-// Writes a section that is laid, and its word of the linkage offset table.
+// Writes a linkage section that is laid, and its word of the linkage offset table.
 #[tactic(auto, using(crate::proofs::LinkTurns::put_section))]
 fn write_section(machine: &mut Machine, pager: &mut Pager, lay: &Lay)
     requires managed { IsManaged (length pager.old.holders) machine.old.state.store pager.old }
@@ -70,7 +70,7 @@ fn write_section(machine: &mut Machine, pager: &mut Pager, lay: &Lay)
     write_word(machine, pager, lay.ring, lay.seg as u32, lay.lot_word());
 }
 
-// Writes the section that an answer lays, if it lays one.
+// Writes the linkage section that an answer lays, if it lays one.
 #[tactic(auto, using(crate::proofs::LinkTurns::put_nothing))]
 fn write_lay(machine: &mut Machine, pager: &mut Pager, lay: &Option<Lay>)
     requires managed { IsManaged (length pager.old.holders) machine.old.state.store pager.old }
@@ -85,7 +85,8 @@ fn write_lay(machine: &mut Machine, pager: &mut Pager, lay: &Option<Lay>)
     }
 }
 
-// Writes what an answer changes: the pair in the place of the link, and the section that is laid.
+// Writes the changes of an answer: the pair in place of the link, and the linkage section that is
+// laid.
 #[tactic(auto, using(crate::proofs::LinkTurns::put_changes))]
 fn write_changes(machine: &mut Machine, pager: &mut Pager, at: At, snap: &Snap)
     requires managed { IsManaged (length pager.old.holders) machine.old.state.store pager.old }
@@ -106,7 +107,7 @@ fn write_changes(machine: &mut Machine, pager: &mut Pager, at: At, snap: &Snap)
     write_lay(machine, pager, &snap.lay);
 }
 
-// What is told of a link that was snapped.
+// The note of a link that was snapped.
 fn note_snapped(at: At, snap: &Snap) -> LinkNote
     ensures { result ≡ note_snapped at snap.now }
 {
@@ -119,7 +120,7 @@ fn note_snapped(at: At, snap: &Snap) -> LinkNote
     }
 }
 
-// What is told of a link that was refused.
+// The note of a link that was refused.
 fn note_refused(at: At, code: LinkCode, link: Option<&Link>) -> LinkNote
     ensures { result ≡ note_of at (option_copied link.entry) (Err code) }
 {
@@ -132,7 +133,7 @@ fn note_refused(at: At, code: LinkCode, link: Option<&Link>) -> LinkNote
     }
 }
 
-// The link at a place was answered.
+// Completes the service of the link at `at`, for which there is an answer.
 #[tactic(auto, using(crate::proofs::LinkTurns::snapped))]
 fn snapped(
     machine: &mut Machine,

@@ -1,4 +1,4 @@
-//! Links as they are told.
+//! The text of a link.
 
 ghost use Rattle.std.specs.Prelude.{◌≡◌, ◌+◌, ◌≤◌, ◌++◌, length, option_copied};
 ghost use Rattle.m36_super.specs.Services.{link_text};
@@ -7,7 +7,7 @@ use arrayvec::ArrayVec;
 use obj36::Link;
 use obj36::reference::{entry, subject};
 
-// Puts bytes at the end of a text that has room for them.
+// Appends bytes to a text that has room for them.
 fn put(text: &mut ArrayVec<u8, 65>, bytes: &[u8])
     requires { length text.old.items + length bytes.now ≤ 65 }
     ensures { text.new.items ≡ text.old.items ++ bytes.now }
@@ -18,7 +18,8 @@ fn put(text: &mut ArrayVec<u8, 65>, bytes: &[u8])
     }
 }
 
-/// The text of a link: `segment$entry`, `segment$`, `*section$` or `*section$entry`, and `?` where there is none.
+/// The text of a link: `segment$entry`, `segment$`, `*section$` or `*section$entry`; `?` if there
+/// is no link.
 #[tactic(auto, unfolding(obj36::specs::References::reference_text))]
 pub(crate) fn link_text(link: Option<&Link>) -> ArrayVec<u8, 65>
     ensures { result.items ≡ link_text (option_copied link.entry) }

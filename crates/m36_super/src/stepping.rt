@@ -14,16 +14,16 @@ use m36_model::{At, Fault, Outcome, Refs, StepRecord};
 use m36_page::{Pager, Pinned};
 use m36_step::{Machine, Turn};
 
-// An instruction references at most so many pages.
+// The maximum number of pages that an instruction references.
 const MOST_PAGES: u8 = 18;
 
 // The fault of a page that is in no frame.
 const PAGE_FAULT: u8 = 17;
 
-// Words in a page.
+// The number of words of a page.
 const PAGE: u32 = 1024;
 
-// The word whose page a step that faulted lacked.
+// The address of the word whose page was absent, if this fault is a page fault.
 fn lacked_by(fault: Fault) -> Option<At>
     ensures { LackedSays (Outcome.Faulted fault) result }
 {
@@ -34,7 +34,7 @@ fn lacked_by(fault: Fault) -> Option<At>
     }
 }
 
-// The word whose page a step lacked, if it lacked one.
+// The address of the word whose page was absent, if a step with this outcome lacked a page.
 fn lacked(outcome: Outcome) -> Option<At>
     ensures { LackedSays outcome result }
 {
@@ -45,7 +45,7 @@ fn lacked(outcome: Outcome) -> Option<At>
     }
 }
 
-// Brings the page of a word into a frame that holds none of these references.
+// Brings the page of a word into a frame that holds no page of these references.
 #[tactic(auto, using(crate::proofs::PagedContents::has_frames))]
 fn bring_in(machine: &mut Machine, pager: &mut Pager, at: At, refs: &Refs)
     requires managed { IsManaged (length pager.old.holders) machine.old.state.store pager.old }
@@ -63,7 +63,8 @@ fn bring_in(machine: &mut Machine, pager: &mut Pager, at: At, refs: &Refs)
     }
 }
 
-// A step; where it lacks a page, the page is brought in, and the answer is that it has to be taken again.
+// Takes a step. If it lacks a page, brings the page in and returns true: the step has to be
+// retried.
 #[tactic(auto, using(crate::proofs::PageTurns::attempts))]
 fn attempt(machine: &mut Machine, pager: &mut Pager, told: &mut StepRecord) -> bool
     requires { IsRunning (length pager.old.holders) machine.old.state.regs machine.old.state.store
@@ -80,7 +81,8 @@ fn attempt(machine: &mut Machine, pager: &mut Pager, told: &mut StepRecord) -> b
     }
 }
 
-// A step, with the services of the pages that it lacks. The record becomes that of the step that lacks none.
+// Takes a step with its page services. The record becomes that of the last try, which lacks no
+// page.
 #[tactic(auto, using(crate::proofs::StepTurns::services))]
 fn step_with_pages(machine: &mut Machine, pager: &mut Pager, told: &mut StepRecord)
     requires { IsRunning (length pager.old.holders) machine.old.state.regs machine.old.state.store
@@ -97,7 +99,7 @@ fn step_with_pages(machine: &mut Machine, pager: &mut Pager, told: &mut StepReco
     machine.step_into(told);
 }
 
-// A step; pages are served until an LDBR has been executed.
+// Takes a step. Pages are brought in until an LDBR has been executed.
 fn step_into(machine: &mut Machine, pager: &mut Pager, loaded: bool, told: &mut StepRecord)
     requires { Manages loaded (length pager.old.holders) machine.old.state.regs
         machine.old.state.store pager.old }
@@ -110,7 +112,7 @@ fn step_into(machine: &mut Machine, pager: &mut Pager, loaded: bool, told: &mut 
     }
 }
 
-/// The turn that is a step, told in a record that an earlier one may have filled.
+/// Takes the turn, which is a step, and overwrites `told` with its record.
 #[tactic(auto, using(crate::proofs::StepTurns::turns))]
 pub(crate) fn step_told(
     machine: &mut Machine,

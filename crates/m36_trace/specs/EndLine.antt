@@ -13,5 +13,6 @@ ending_text outcome = outcome_with (codes "limit") outcome
 abbrev pub end_line_with : List ℕ → ℕ → List ℕ
 end_line_with how steps = joined_by_spaces (codes "end" ∷ how ∷ decimal_text steps ∷ [])
 
+-- the end line of a run with this last outcome, without its line feed
 unfoldable pub end_line_of : Outcome → ℕ → List ℕ
 end_line_of outcome steps = end_line_with (ending_text outcome) steps

@@ -24,6 +24,7 @@ kept_by n ring seg address_ring address_seg a q ic word at ind =
     ++ spaced (word_text q)
     ++ as_line (indicators_text ind ++ codes " next")
 
+-- the line made of the kept parts and the other values of a step
 abbrev pub kept_line : TraceText → PprFields → Option ℕ → Option FinalFields → RegsFields → List ℕ
 kept_line text ppr word at after =
     kept_by (text.number.next - 1) text.place.ring text.place.seg

@@ -14,7 +14,8 @@ all_triples = map (λ v. spaced (octal_text 3 v)) (range_with_len 0 512)
 
 -- a ring and a segment number with a character between them, and the bar before the word number
 abbrev pub front_text : ℕ → ℕ → ℕ → List ℕ
-front_text ring mark seg = octal_text 1 ring ++ (mark ∷ (octal_text segment_digits seg ++ codes "|"))
+front_text ring mark seg =
+    octal_text 1 ring ++ (mark ∷ (octal_text segment_digits seg ++ codes "|"))
 
 -- the same with the word number
 abbrev pub kept_place : ℕ → ℕ → ℕ → ℕ → List ℕ
@@ -25,6 +26,7 @@ abbrev pub kept_operand : ℕ → ℕ → ℕ → Option ℕ → List ℕ
 kept_operand ring seg word (Some operand) = codes "=" ++ word_text operand
 kept_operand ring seg word None = kept_place ring 58 seg word
 
+-- the final address with the kept ring and segment number, or a dash if no address was formed
 abbrev pub kept_final : ℕ → ℕ → Option FinalFields → List ℕ
 kept_final ring seg (Some end) = kept_operand ring seg end.at.word end.direct
 kept_final ring seg None = codes "-"

@@ -55,6 +55,7 @@ fault_text f =
     then codes "fault " ++ decimal_text f.number ++ codes "." ++ decimal_text f.acv
     else codes "fault " ++ decimal_text f.number
 
+-- the name of a stop
 abbrev pub stop_text : Stop → List ℕ
 stop_text Dis = codes "dis"
 stop_text Operation = codes "stop operation"
@@ -66,6 +67,7 @@ outcome_with next Next = next
 outcome_with next (Faulted f) = fault_text f
 outcome_with next (Stopped s) = stop_text s
 
+-- an outcome
 abbrev pub outcome_text : Outcome → List ℕ
 outcome_text outcome = outcome_with (codes "next") outcome
 
@@ -85,9 +87,11 @@ fields_by n ppr word at outcome after =
     ∷ outcome_text outcome
     ∷ []
 
+-- the fields of step n, from its record
 abbrev pub fields : ℕ → StepRecord → List (List ℕ)
 fields n r = fields_by n r.ppr r.word r.at r.outcome r.after
 
+-- the trace line of step n, without its line feed
 unfoldable pub line_of : ℕ → StepRecord → List ℕ
 line_of n r = joined_by_spaces (fields n r)
 

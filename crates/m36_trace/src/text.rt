@@ -107,7 +107,8 @@ pub(crate) struct StepLine<'a> {
 impl<'a> Spelled for StepLine<'a> {
     ghost use Rattle.m36_trace.specs.Kept.{kept_line};
 
-    ghost text = { λ line. kept_line line.text.now line.told.now.ppr line.told.now.word line.told.now.at line.told.now.after };
+    ghost text = { λ line. kept_line line.text.now
+        line.told.now.ppr line.told.now.word line.told.now.at line.told.now.after };
 
     fn spell(&self, into: &mut [u8]) -> usize {
         let told = self.told;
@@ -126,7 +127,8 @@ pub(crate) struct ShownLine<'a> {
 impl<'a> Spelled for ShownLine<'a> {
     ghost use Rattle.m36_trace.specs.Kept.{kept_line};
 
-    ghost text = { λ line. kept_line line.text.now line.shown.now.ppr line.shown.now.word line.shown.now.at line.after.now };
+    ghost text = { λ line. kept_line line.text.now
+        line.shown.now.ppr line.shown.now.word line.shown.now.at line.after.now };
 
     fn spell(&self, into: &mut [u8]) -> usize {
         let shown = self.shown;

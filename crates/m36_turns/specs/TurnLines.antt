@@ -20,6 +20,7 @@ use Rattle.m36_trace.specs.TraceLine.{line_of, word_of_segment}
 
 -- ---- a link service: the ring, the address of the link word, the link, and the pair or the code
 
+-- the name of a code
 abbrev pub link_code_text : LinkCode → List ℕ
 link_code_text L1 = codes "L1"
 link_code_text L2 = codes "L2"
@@ -28,13 +29,16 @@ link_code_text L4 = codes "L4"
 link_code_text (L5 code) = codes "L5"
 link_code_text (L6 place count) = codes "L6"
 
+-- a pair: its two words, with a space between them
 abbrev pub pair_text : Pair → List ℕ
 pair_text p = word_text p.even ++ codes " " ++ word_text p.odd
 
+-- the pair, or the name of the code
 abbrev pub link_answer_text : Result Pair LinkCode → List ℕ
 link_answer_text (Ok pair) = pair_text pair
 link_answer_text (Err code) = link_code_text code
 
+-- the line of a link service
 unfoldable pub link_line_of : LinkNoteFields → List ℕ
 link_line_of n =
     joined_by_spaces
@@ -48,20 +52,24 @@ link_line_of n =
 abbrev pub is_escaped : ℕ → Bool
 is_escaped c = nat_eq c 92 || nat_le c 31 || nat_le 127 c
 
+-- a character, as it is or escaped
 unfoldable pub console_character : ℕ → List ℕ
 console_character c = if is_escaped c then 92 ∷ octal_text 3 c else c ∷ []
 
+-- the line of a console service
 unfoldable pub console_line_of : List ℕ → List ℕ
 console_line_of characters = codes "console " ++ flat_map console_character characters
 
 -- ---- the end of a run: how it ended, and the number of steps
 
+-- how a run ended
 abbrev pub end_text : End → List ℕ
 end_text (end.Fault fault) = ending_text (Faulted fault)
 end_text (end.Stop stop) = ending_text (Stopped stop)
 end_text (end.Link code) = codes "link " ++ link_code_text code
 end_text end.Console = codes "console"
 
+-- the end line of a run
 unfoldable pub run_end_line_of : End → ℕ → List ℕ
 run_end_line_of how steps = end_line_with (end_text how) steps
 

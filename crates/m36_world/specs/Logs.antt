@@ -51,6 +51,7 @@ pub record TakesNext (event : Event) (rest : List (List ℕ) → List (List ℕ)
   pub begins : Takes event old between
   pub goes_on : rest between new
 
+-- the output logged the pieces of all these events
 unfoldable pub TakesAll : List Event → List (List ℕ) → List (List ℕ) → Type 0
 TakesAll [] old new = new ≡ old
 TakesAll (event ∷ events) old new = TakesNext event (TakesAll events) old new

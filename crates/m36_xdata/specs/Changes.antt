@@ -14,6 +14,7 @@ use Rattle.m36_xdata.specs.declared.changes.Taken.TheVariants as taken_by
 use Rattle.m36_xdata.specs.declared.changes.Stored.{Stored}
 use Rattle.m36_xdata.specs.declared.changes.Stored.TheVariants as put_as
 
+-- the registers with the new values
 abbrev pub taken : Taken → RegsFields → RegsFields
 taken taken_by.Nothing g = g
 taken (taken_by.A w) g = with_value A w g
@@ -21,6 +22,7 @@ taken (taken_by.Q w) g = with_value Q w g
 taken (taken_by.Aq p) g = record g { a = p.even; q = p.odd }
 taken (taken_by.X i) g = with_value (X i.n) i.value g
 
+-- the words to write, as a list
 abbrev pub stored : Stored → List ℕ
 stored put_as.Nothing = []
 stored (put_as.One w) = w ∷ []

@@ -7,6 +7,7 @@ use Rattle.m36_model.specs.WordsPut.{IsHalf}
 use Rattle.m36_xdata.specs.declared.registers.Register.{Register}
 use Rattle.m36_xdata.specs.declared.registers.Register.TheVariants as register
 
+-- the register of the definitions
 abbrev pub working : Register → Working
 working register.A = A
 working register.Q = Q

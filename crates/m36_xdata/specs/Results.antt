@@ -2,6 +2,7 @@
 use Rattle.m36_model.specs.Arithmetic.{SumFields}
 use Rattle.m36_xdata.specs.declared.numbers.Computed.{Computed}
 
+-- the result of an operation, in the terms of the definitions
 abbrev pub sum_fields : Computed → SumFields
 sum_fields s =
     record {

@@ -18,7 +18,7 @@ pub enum Register {
     X(u8),
 }
 
-/// The indicators.
+/// The indicators of the registers.
 pub fn indicators(regs: &Regs) -> Ind
     ensures { result ≡ regs.now.ind }
 {

@@ -4,7 +4,7 @@ use Rattle.m36_debug.specs.SessionTexts.{pointer_lines}
 use Rattle.m36_debug.proofs.PutLaws.{Putting}
 use Rattle.m36_debug.proofs.registers.put_pointers.Given as goal
 
--- the lines of the others are left to put
+-- the lines of the other pointer registers are still to be put
 abbrev pub invariant-loop-pointer : goal.invariant-loop-pointer
 invariant-loop-pointer g l =
     let s = g.S.Sink in

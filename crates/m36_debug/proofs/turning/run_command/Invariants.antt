@@ -8,7 +8,7 @@ use Rattle.m36_step.specs.Answers.{IsService, Interrupts}
 use Rattle.m36_debug.proofs.TurnLaws.{WasMade}
 use Rattle.m36_debug.proofs.turning.run_command.Given as goal
 
--- a step counts twice, and a service once: it is not followed by another
+-- the measure counts a step twice and a service once, since a service is not followed by another
 abbrev pub decreases-turns : goal.decreases-turns
 decreases-turns g l = l.run.left + l.run.left + (if l.served then 0 else 1)
 

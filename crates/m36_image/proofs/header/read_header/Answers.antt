@@ -1,4 +1,4 @@
--- Each exit but the last is the first fault of the header: a line that is missing, or has a code.
+-- Each exit but the last reports the first fault of the header: a line that is missing, or has a code.
 use Rattle.std.proofs.Common.{sym, ap, Some, ◌∙◌}
 use Rattle.m36_image.proofs.Headers.{missing_first, first_code, missing_second, second_form, missing_third, third_form, header_read}
 use Rattle.m36_image.proofs.header.read_header.Goals as goal

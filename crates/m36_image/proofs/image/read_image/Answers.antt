@@ -1,4 +1,4 @@
--- The image is that of the header and the lines behind it.
+-- The image is that of the header and the lines after it.
 use Rattle.std.proofs.Common.{sym, ap, ◌∙◌}
 use Rattle.m36_image.proofs.Images.{image_accepted, ok_state}
 use Rattle.m36_image.proofs.image.read_image.Goals as goal

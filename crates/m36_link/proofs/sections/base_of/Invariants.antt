@@ -2,7 +2,7 @@ use Rattle.std.proofs.Common.{◌≡◌, ◌≤◌, ◌^◌, length}
 use Rattle.m36_link.specs.Known.{lot_words, next_base}
 use Rattle.m36_link.proofs.sections.base_of.Given as goal
 
--- behind the rest the next section goes where it goes behind all
+-- the base so far, continued with the rest of the sections, is the base after all of them
 abbrev pub invariant-loop-rest : goal.invariant-loop-rest
 invariant-loop-rest l = record {
   base : next_base l.ring l.base l.rest ≡ next_base l.ring lot_words l.laid;

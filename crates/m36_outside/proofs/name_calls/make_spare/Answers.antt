@@ -1,4 +1,4 @@
--- A spare name was free, or refused; or all were.
+-- A spare name was free, or refused; or all were refused.
 use Rattle.std.proofs.Common.{◌≡◌, ℕ, true, [], ◌∷◌, ◌++◌, replicate, ap, subst, ◌∙◌, arith}
 use Rattle.std.specs.declared.io.ErrorKind.{ErrorKind}
 use Rattle.std.specs.declared.io.ErrorKind.TheVariants.{AlreadyExists}

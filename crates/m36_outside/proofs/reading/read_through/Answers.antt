@@ -1,4 +1,4 @@
--- What was read was added.
+-- What was read was appended.
 use Rattle.std.proofs.Common.{[], ◌≡◌, ℕ, take, sym, subst, refl, append-nil, rules, arith}
 use Rattle.std.specs.Io.KnownBytes.{Consumes}
 use Rattle.m36_outside.proofs.Consumed.{chunk_says}

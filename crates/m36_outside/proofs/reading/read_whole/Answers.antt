@@ -1,4 +1,4 @@
--- One more piece was read and added, or one was the last.
+-- One more piece was read and appended, or one was the last.
 use Rattle.std.proofs.Common.{◌≤◌, length, sym, subst}
 use Rattle.m36_outside.specs.ReadAnswer.{file_limit}
 use Rattle.m36_outside.proofs.Consumed.{consumes_more, consumes_all, consumes_too_much}
@@ -45,7 +45,7 @@ pub returns-in-End-clause-error : goal.returns-in-End-clause-error
 returns-in-End-clause-error g c =
     signals_on c.args.from.now.errors.entries c.loop-text.from.errors.entries c.read_chunk.new.from.errors.entries c.loop-text.invariant.signals c.in-End.ensures.error
 
--- A piece was given and added, and now there are too many bytes.
+-- A piece was given and appended, and now there are too many bytes.
 pub returns-in-TooLarge-clause-told : goal.returns-in-TooLarge-clause-told
 returns-in-TooLarge-clause-told g c =
     let left = g.R.Read.remaining in
@@ -74,7 +74,7 @@ pub returns-in-Failed-clause-error : goal.returns-in-Failed-clause-error
 returns-in-Failed-clause-error g c =
     gives_up_on c.args.from.now.errors.entries c.loop-text.from.errors.entries c.read_chunk.new.from.errors.entries c.loop-text.invariant.signals c.in-Failed.ensures.error
 
--- No memory was found for the last piece.
+-- Memory ran out for the last piece.
 pub returns-in-NoMemory-clause-gives : goal.returns-in-NoMemory-clause-gives
 returns-in-NoMemory-clause-gives g c =
     gives_some_more c.args.from.now.given.entries c.loop-text.from.given.entries c.read_chunk.new.from.given.entries c.loop-text.text c.loop-text.invariant.given c.in-NoMemory.ensures.gives

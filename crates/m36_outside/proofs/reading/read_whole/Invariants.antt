@@ -5,7 +5,7 @@ use Rattle.m36_outside.specs.ReadAnswer.{file_limit}
 use Rattle.m36_outside.specs.Signals.{Signals}
 use Rattle.m36_outside.proofs.reading.read_whole.Given as goal
 
--- What was read is what the reader had, from the beginning on, and not too much.
+-- What was read are the first bytes that the reader had, within the limit.
 abbrev pub invariant-loop-text : goal.invariant-loop-text
 invariant-loop-text g l = record {
   told : Consumes (g.R.Read.remaining l.fn.from.inner) (g.R.Read.remaining l.from.inner) l.text;

@@ -1,4 +1,4 @@
--- A spare file was made and used, or none could be made; or the name is that of no file.
+-- A spare file was made and used, or none could be made; or the name names no file.
 use Rattle.m36_outside.proofs.Names.{not_written}
 use Rattle.m36_outside.proofs.Replaced.{replaced_as, replaced_not, replaced_errors, replaced_errors_not, untouched}
 use Rattle.m36_outside.specs.declared.sink.Put.TheVariants.{Failed}

@@ -1,4 +1,4 @@
--- One more signal broke in.
+-- One more signal interrupted the write.
 use Rattle.std.proofs.Common.{◌≡◌, ℕ, [], ◌∷◌, ◌++◌, ◌≤◌, take, ap, subst, ◌∙◌, append-nil, rules, arith}
 use Rattle.std.specs.Io.KnownBytes.{Appends}
 use Rattle.std.specs.declared.io.ErrorKind.TheVariants.{Interrupted}
@@ -42,7 +42,7 @@ returns-in-Some-clause-sure g c =
     let some : 1 ≤ c.in-Some.count = first_of (omega arith, search rules, grind arith) in
     signals_same c.args.notes.now.errors.entries c.loop-turn.notes.errors.entries c.write.new.self.errors.entries c.loop-turn.invariant.signals (c.in-Some.ensures.sure some)
 
--- An error came that is no signal.
+-- The error is not a signal.
 pub returns-in-None-clause-inner : goal.returns-in-None-clause-inner
 returns-in-None-clause-inner g c =
     let held = g.W.Write.contents in
@@ -52,7 +52,7 @@ pub returns-in-None-clause-failed : goal.returns-in-None-clause-failed
 returns-in-None-clause-failed g c =
     gives_up_at c.args.notes.now.errors.entries c.loop-turn.notes.errors.entries c.write.new.self.errors.entries c.loop-turn.invariant.signals c.in-None.ensures.failed
 
--- Each turn noted a signal.
+-- Each try was interrupted by a signal.
 pub returns-clause-inner : goal.returns-clause-inner
 returns-clause-inner g c = c.loop-turn.invariant.inner
 

@@ -1,4 +1,4 @@
--- One more write was made, or it gave up; or all is written, and flushed or not.
+-- One more write was made, or gave up; or everything is written, and flushed or not.
 use Rattle.std.proofs.Common.{◌≤◌, Some, length, ap, ◌∙◌, arith}
 use Rattle.m36_outside.proofs.Appended.{grows_more, grows_part, grows_whole, appends_more, appends_kept, appends_whole}
 use Rattle.m36_outside.proofs.Signalled.{signals_on, gives_up_on}
@@ -35,7 +35,7 @@ pub returns-in-None-clause-error : goal.returns-in-None-clause-error
 returns-in-None-clause-error g c =
     gives_up_on c.args.notes.now.errors.entries c.loop-done.notes.errors.entries c.write_from.new.notes.errors.entries c.loop-done.invariant.signals c.in-None.ensures.failed
 
--- All was written and flushed.
+-- Everything was written and flushed.
 pub returns-then-flush-clause-taken : goal.returns-then-flush-clause-taken
 returns-then-flush-clause-taken g c =
     let all : length c.args.bytes.now ≤ c.loop-done.done = omega arith in

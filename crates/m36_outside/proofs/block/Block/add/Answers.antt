@@ -1,4 +1,4 @@
--- The pieces before it were handed over.
+-- The earlier pieces were put.
 use Rattle.std.proofs.Common.{[], ◌∷◌, ◌++◌, subst}
 use Rattle.m36_outside.specs.Gathered.{Loses}
 use Rattle.m36_outside.proofs.Gathered.{adds_behind, loses_here}

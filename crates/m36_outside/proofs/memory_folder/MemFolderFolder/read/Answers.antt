@@ -1,4 +1,4 @@
--- A read that was not to fail has no cause.
+-- A read that does not have to fail has no cause.
 use Rattle.std.proofs.Common.{ap, subst}
 use Rattle.m36_outside.specs.MemFolder.{MemFolderFields}
 use Rattle.m36_outside.specs.ReadAnswer.{ReadHasCause}

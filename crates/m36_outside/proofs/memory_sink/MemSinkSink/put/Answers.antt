@@ -1,4 +1,4 @@
--- Nothing of the piece was taken, or as much as there is room for, or all of it.
+-- Nothing of the piece was taken, or as much as fits, or all of it.
 use Rattle.std.proofs.Common.{[], ◌∷◌, ◌++◌, ◌-◌, Some, take, ap, subst, ◌∙◌}
 use Rattle.m36_outside.specs.MemSink.{MemSinkFields}
 use Rattle.m36_outside.specs.Passing.{TakesPart}

@@ -1,4 +1,4 @@
--- One more signal broke in.
+-- One more signal interrupted the flush.
 use Rattle.std.proofs.Common.{◌≡◌, [], ◌∷◌, ◌++◌, rules, arith}
 use Rattle.std.specs.declared.io.ErrorKind.TheVariants.{Interrupted}
 use Rattle.m36_outside.specs.Signals.{IsFault}
@@ -21,7 +21,7 @@ loop-turn-preserved g c =
       turns = turns_more start now next Interrupted c.loop-turn._turn c.loop-turn.invariant.turns signal;
     }
 
--- It was flushed.
+-- The flush was done.
 pub returns-in-Ok-clause-inner : goal.returns-in-Ok-clause-inner
 returns-in-Ok-clause-inner g c =
     let held = g.W.Write.contents in
@@ -30,7 +30,7 @@ returns-in-Ok-clause-inner g c =
 pub returns-in-Ok-clause-sure : goal.returns-in-Ok-clause-sure
 returns-in-Ok-clause-sure g c = c.loop-turn.invariant.signals
 
--- An error came that is no signal.
+-- The error is not a signal.
 pub returns-then-not-note_error-clause-inner : goal.returns-then-not-note_error-clause-inner
 returns-then-not-note_error-clause-inner g c =
     let held = g.W.Write.contents in
@@ -43,7 +43,7 @@ returns-then-not-note_error-clause-failed g c =
     let fault : IsFault now next = first_of (search rules, grind arith) in
     gives_up_at c.args.self.now.errors.entries now next c.loop-turn.invariant.signals fault
 
--- Each turn noted a signal.
+-- Each try was interrupted by a signal.
 pub returns-clause-inner : goal.returns-clause-inner
 returns-clause-inner g c = c.loop-turn.invariant.inner
 

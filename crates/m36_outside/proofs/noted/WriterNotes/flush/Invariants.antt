@@ -3,7 +3,7 @@ use Rattle.std.specs.Io.KnownBytes.{Keeps}
 use Rattle.m36_outside.specs.Signals.{Signals}
 use Rattle.m36_outside.proofs.noted.WriterNotes.flush.Given as goal
 
--- Nothing was flushed yet, and each turn so far noted a signal.
+-- Nothing was flushed yet, and each try so far was interrupted by a signal.
 abbrev pub invariant-loop-turn : goal.invariant-loop-turn
 invariant-loop-turn g l = record {
   taken : l.self.taken.entries ≡ l.fn.self.taken.entries;

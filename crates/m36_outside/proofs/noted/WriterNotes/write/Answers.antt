@@ -1,4 +1,4 @@
--- The writer took nothing, or a signal broke in.
+-- The writer took nothing, or a signal interrupted the write.
 use Rattle.std.proofs.Common.{◌≡◌, ℕ, take, subst, rules, arith}
 use Rattle.std.specs.Io.KnownBytes.{Appends}
 use Rattle.m36_outside.proofs.Appended.{keeps_nothing, appends_nothing}

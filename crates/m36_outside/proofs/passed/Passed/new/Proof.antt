@@ -1,4 +1,4 @@
--- A record of no bytes is made, at the empty list.
+-- A log without bytes is made, with the empty list.
 use mathlib.Core.Path.{refl}
 use mathlib.Core.List.{[], ◌∷◌}
 use seplogic.Ra.Ura.{Ura}

@@ -1,4 +1,4 @@
--- The record is opened, and closed at the list with one more entry: what it owns does not depend on the list.
+-- The log is opened, and closed with the list with one more entry: what it owns does not depend on the list.
 use Rattle.std.proofs.Common.{List, [], ◌∷◌, ◌++◌, refl}
 use seplogic.Ra.Ura.{Ura}
 use mir.Syntax.{Fn, Dict, a_type, dcons, dnil, named}

@@ -1,4 +1,4 @@
--- One more piece was put, or a first part of it, or there is none left.
+-- One more piece was put, or a prefix of it, or none is left.
 use Rattle.std.proofs.Common.{◌∙◌, ◌<◌, ◌≤◌, length, arith}
 use Rattle.m36_outside.proofs.Blocks.{block_grew, block_took, block_cut, block_took_some, block_grew_all, block_took_all}
 use Rattle.m36_outside.proofs.sink.Sink.put_block.Goals as goal

@@ -1,4 +1,4 @@
--- The words that are lacking are zero.
+-- Missing words are zero.
 use Rattle.std.proofs.Common.{ℕ, List, ◌*◌, subst}
 use Rattle.m36_page.specs.Copied.{IsCopied}
 use Rattle.m36_page.proofs.ZerosBehind.{given-filled}

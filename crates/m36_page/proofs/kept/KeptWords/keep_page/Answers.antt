@@ -1,4 +1,4 @@
--- The page is copied among the words that are written.
+-- The page is copied to the written words.
 use Rattle.std.proofs.Common.{ℕ, List, ◌+◌, ◌*◌, ◌≡◌, ◌≤◌, length, ap, subst, arith}
 use Rattle.m36_page.specs.Copied.{IsCopied}
 use Rattle.m36_page.proofs.ZerosBehind.{filled, length-filled, copied-filled}
