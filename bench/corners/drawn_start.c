@@ -1,4 +1,4 @@
-/* Tells how much the keys of a hash table meet, under one start after another.
+/* Counts how much the keys of a hash table meet, under one start after another.
 
    Word: the kind of key. Standard input has the count of names, then the names, and then starts of
    32 bytes in hexadecimal, a line each. For each start a line goes to standard output: how many
