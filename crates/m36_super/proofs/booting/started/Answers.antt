@@ -9,4 +9,4 @@ at_start-requires-clause-frames c = c.requires.runnable.pages.count
 
 pub at_start-requires-clause-runs : goal.at_start-requires-clause-runs
 at_start-requires-clause-runs c =
-    subst (λ (s : State (List ℕ)). IsRunning (length c.args.image.pager.holders) s.regs s.store c.args.image.pager) (sym c.in_ok-machine.ensures.state) (image_runs c.args.catalog.frames c.args.image c.requires.runnable c.requires.reads)
+    subst (λ (s : State (List ℕ)). IsRunning (length c.args.image.pager.holders) s.regs s.store c.args.image.pager) (sym c.start-machine.ensures.state) (image_runs c.args.catalog.frames c.args.image c.requires.runnable c.requires.reads)
