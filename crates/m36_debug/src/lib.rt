@@ -6,7 +6,7 @@
 //!
 //! | Line | Writes |
 //! |---|---|
-//! | `step`, `step N` | up to N steps and their services, a line each; the end line if the run ends |
+//! | `step`, `step N` | up to N steps and services, a line each; the end line if the run ends |
 //! | `go` | nothing for at most 100,000 steps, up to a break; then as `where`, or the end line |
 //! | `break S W` | the break; there are at most 16 |
 //! | `regs` | A, Q and the indicators; the index registers; a line for each pointer register |

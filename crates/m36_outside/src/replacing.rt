@@ -1,8 +1,8 @@
 //! Writes a file of the current directory as a whole, or not at all.
 //!
 //! The content goes into a spare file, whose name no file had before. Once the spare file has all
-//! of the content, one system call renames it to the name of the file. After any failure a removal
-//! of the spare file is tried, and the file is unchanged.
+//! of the content, one system call renames it to the name of the file. After any failure the file
+//! is unchanged, and a removal of the spare file is tried if there is one.
 
 ghost use Rattle.std.specs.Prelude.{◌≡◌, Some, IfSome};
 ghost use Rattle.m36_outside.specs.NameCalls.{ReplaceCalls, SpareUsed, SpareErrors};
@@ -38,7 +38,7 @@ pub fn write_file<R: Files>(rt: &R, name: &[u8], content: &[u8], notes: &mut Fil
     }
 }
 
-/// Writes the content to the spare file and renames it. If either fails, it removes the spare
+/// Writes the content to the spare file and renames it. If either fails, tries to remove the spare
 /// file.
 fn replace<R: Files>(
     rt: &R,
@@ -82,7 +82,7 @@ fn fill<W: Write>(file: &mut W, content: &[u8], notes: &mut FileNotes) -> Put
     answer
 }
 
-/// Renames the spare file to the name, and removes it if that fails.
+/// Renames the spare file to the name. If that fails, tries to remove the spare file.
 fn give_name<R: Files>(rt: &R, spare: &str, name: &str, notes: &mut FileNotes) -> Put
     ensures taken { notes.new.taken.entries ≡ notes.old.taken.entries }
     ensures given { notes.new.given.entries ≡ notes.old.given.entries }

@@ -15,8 +15,10 @@
 //! refuses it. All checks are made before anything is written; if one fails, nothing has changed,
 //! and the step is executed from its beginning in the general way. Frequent instructions on a
 //! word, a half or a pair, shifts, transfers, CALL6 and RTCD are quick if the address reads at
-//! most one indirect word or one ITS pair, or counts a tally word. The recorder of a quick step
-//! decides what is recorded of it: [`Machine::hurry`] takes quick steps and records nothing.
+//! most one indirect word or one ITS pair. If the address counts a tally word, those that read or
+//! store a word are quick; with a direct operand, those that read a word are. The recorder of a
+//! quick step decides what is recorded of it: [`Machine::hurry`] takes quick steps and records
+//! nothing.
 //!
 //! A [`Stepper`] is a machine that takes turns. A [`Turn`] is a step, a service that the step
 //! before it calls for, or the report that the run has ended. The relations of the trait are the
