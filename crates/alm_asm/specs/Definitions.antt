@@ -69,12 +69,14 @@ gives_entries deed.Block = None
 gives_entries deed.Even = None
 gives_entries deed.Bound = None
 
+-- the definitions `done`, with those of the arguments if their line defines names
 abbrev pub definitions_by : List ℕ → List (List ℕ × Sum) → List Named → List Arg → Option Bool
     → List Named
 definitions_by text symbols done arguments None = done
 definitions_by text symbols done arguments (Some is_entry) =
     with_names text symbols is_entry done arguments
 
+-- the definitions `done`, with those of a line
 unfoldable pub definitions_after : List ℕ → List (List ℕ × Sum) → List Named → Line36 → List Named
 definitions_after text symbols done line =
     definitions_by text symbols done line.args (gives_entries line.deed)
@@ -103,24 +105,29 @@ is_label_kind is_entry Unsaid = false
 unfoldable pub is_label : Bool → Sum → Bool
 is_label is_entry sum = has_room Half sum.value && is_label_kind is_entry (kind_of sum)
 
+-- E7 at the index `at`, unless the symbol is such a label
 abbrev pub label_refusal : Line36 → ℕ → Bool → Option Refusal
 label_refusal line at true = None
 label_refusal line at false = Some (refusal_at line at E7)
 
+-- E6 for a symbol that is not defined, and E7 for one that is not such a label
 abbrev pub sum_refusal : Line36 → ℕ → Bool → Option Sum → Option Refusal
 sum_refusal line at is_entry None = Some (refusal_at line at E6)
 sum_refusal line at is_entry (Some sum) = label_refusal line at (is_label is_entry sum)
 
+-- E5 for a name that has a definition already, and otherwise as `sum_refusal`
 abbrev pub taken_refusal : Line36 → ℕ → Bool → Option Sum → Bool → Option Refusal
 taken_refusal line at is_entry sum true = Some (refusal_at line at E5)
 taken_refusal line at is_entry sum false = sum_refusal line at is_entry sum
 
+-- the refusal of a name that a line defines, given the definitions above it, if any
 unfoldable pub name_refusal : List ℕ → List (List ℕ × Sum) → Line36 → Bool → List Named → Span
     → Option Refusal
 name_refusal text symbols line is_entry done span =
     taken_refusal line span.from is_entry (sum_named (name_at text span) symbols)
     (is_taken done (name_at text span))
 
+-- the refusal of an argument as a name that a line defines; only symbols are names
 abbrev pub arg_refusal : List ℕ → List (List ℕ × Sum) → Line36 → Bool → List Named → Arg
     → Option Refusal
 arg_refusal text symbols line is_entry done (arg.Symbol span) =
@@ -130,6 +137,8 @@ arg_refusal text symbols line is_entry done (arg.Chars words) = None
 arg_refusal text symbols line is_entry done (arg.Plain terms) = None
 arg_refusal text symbols line is_entry done (arg.Operand pr segment entry terms tag) = None
 
+-- the first in the text of `first` and the refusals of these arguments, each given the definitions
+-- of those before it
 unfoldable pub names_refused : List ℕ → List (List ℕ × Sum) → Line36 → Bool → List Named
     → Option Refusal → List Arg → Option Refusal
 names_refused text symbols line is_entry done first [] = first

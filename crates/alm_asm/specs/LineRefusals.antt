@@ -32,10 +32,12 @@ use Rattle.alm_lines.specs.declared.refusal.Refusal.{Refusal}
 use Rattle.alm_lines.specs.declared.refusal.Room.{Room}
 use Rattle.alm_lines.specs.declared.refusal.Room.TheVariants.{Half, Offset}
 
+-- the refusal, unless the condition holds
 abbrev pub unless : Bool → Refusal → Option Refusal
 unless true refusal = None
 unless false refusal = Some refusal
 
+-- the index of an operation in the text; 0 if there is none
 abbrev pub op_place : Option Span → ℕ
 op_place (Some op) = op.from
 op_place None = 0
@@ -47,12 +49,14 @@ abbrev pub external_place : Span → Option Span → ℕ
 external_place segment (Some entry) = entry.to + 1
 external_place segment None = segment.to + 2
 
+-- whether this is the static section
 abbrev pub is_static : Section → Bool
 is_static Text = false
 is_static Linkage = false
 is_static Symbol = false
 is_static Static = true
 
+-- whether a name for a section, if it is one, needs a static section
 abbrev pub needs_static : Option Section → Bool
 needs_static (Some section) = is_static section
 needs_static None = false
@@ -68,6 +72,8 @@ is_in_reach text tables spot segment entry terms tag =
     (link_place tables.links tables.first_link
     (link_of text tables.symbols spot segment entry terms tag)) offset_limit
 
+-- The bounds of an expression: those of bits 3 to 17 after a pointer register, and otherwise those
+-- of a half.
 abbrev pub own_room : Option ℕ → Room
 own_room (Some pr) = Offset
 own_room None = Half
@@ -84,6 +90,8 @@ reaches text tables spot segment entry terms tag =
     not (has_number text tables.symbols spot terms)
     || is_in_reach text tables spot segment entry terms tag
 
+-- The refusal of an external operand: that of its expression; or E7 at its segment, if its link is
+-- out of reach or it names a static section that the lines do not have.
 abbrev pub external_refusal : List ℕ → Tables → Spot → Line36 → Span → Option Span → List Term → ℕ
     → Option Refusal
 external_refusal text tables spot line segment entry terms tag =
@@ -94,10 +102,12 @@ external_refusal text tables spot line segment entry terms tag =
     (unless (reaches text tables spot segment entry terms tag) at))
     (unless (may_name tables (own_section (slice_of text segment))) at)
 
+-- the refusal of an operand that is an expression
 abbrev pub own_operand : List ℕ → Tables → Spot → Line36 → Room → List Term → Option Refusal
 own_operand text tables spot line room terms =
     expression_refusal text tables.symbols spot line terms (expression_place terms) room true
 
+-- the refusal of an operand: external if it names a segment, and otherwise an expression
 abbrev pub operand_by : List ℕ → Tables → Spot → Line36 → Option ℕ → Option Span → Option Span
     → List Term → ℕ → Option Refusal
 operand_by text tables spot line pr (Some segment) entry terms tag =
@@ -105,6 +115,7 @@ operand_by text tables spot line pr (Some segment) entry terms tag =
 operand_by text tables spot line pr None entry terms tag =
     own_operand text tables spot line (own_room pr) terms
 
+-- the refusal of the operand of an instruction, if it has one; no other argument is refused here
 abbrev pub operand_refusal : List ℕ → Tables → Spot → Line36 → Option Arg → Option Refusal
 operand_refusal text tables spot line (Some (arg.Symbol span)) = None
 operand_refusal text tables spot line (Some (arg.Number word)) = None

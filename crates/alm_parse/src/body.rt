@@ -29,6 +29,7 @@ pub enum Body {
     Plain(Span),
 }
 
+// The index of the first byte that no symbol can have.
 fn first_other(bytes: &[u8]) -> Option<usize>
     ensures value { result ≡ position (λ b. not (is_name_character b)) bytes.now }
     ensures within { IfSome result (λ i. i < length bytes.now) }

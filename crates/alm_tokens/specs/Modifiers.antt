@@ -44,11 +44,12 @@ unfoldable pub register_of : List ℕ → Option ℕ
 register_of bytes =
     option_or (number_beside registers bytes) (option_map (λ n. 8 + n) (octal_in 1 (after_x bytes)))
 
--- the pointer registers: pr0 to pr7, and their names
+-- the number of a pointer register that is written `pr0` to `pr7`
 abbrev pub pr_digit : List ℕ → Option ℕ
 pr_digit (p ∷ r ∷ rest) = if (p == 112) && (r == 114) then octal_in 1 rest else None
 pr_digit _ = None
 
+-- the names of the pointer registers, with their numbers
 abbrev pub pointer_registers : List NumberedName
 pointer_registers =
     numbered (codes "ap") 0
@@ -61,9 +62,11 @@ pointer_registers =
     ∷ numbered (codes "sb") 7
     ∷ []
 
+-- the number of a pointer register that is written by its name
 unfoldable pub pr_name : List ℕ → Option ℕ
 pr_name bytes = number_beside pointer_registers bytes
 
+-- the number of a pointer register that is written in either way
 unfoldable pub pr_number : List ℕ → Option ℕ
 pr_number bytes = option_or (pr_digit bytes) (pr_name bytes)
 

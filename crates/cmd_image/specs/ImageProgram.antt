@@ -1,5 +1,5 @@
--- What `bare FILE` and `audit FILE` do, as programs: the file is read and decoded, the audit's text
--- is put, and where the machine is run, a line for each step and the end line.
+-- What `bare FILE` and `audit FILE` do, as programs: they read and decode the file and put the text
+-- of the audit. If the machine is run, they put a line for each step, and the end line.
 use Rattle.std.specs.Prelude.{ℕ, zero, suc, ◌≡◌, ◌+◌, Bool, true, false, List, [], Result, Ok, Err}
 use Rattle.std.specs.Prelude.{Option, Some, None}
 use Rattle.m36_text.specs.Lines.{as_line}
@@ -34,11 +34,11 @@ abbrev pub decoded :
 decoded name (Ok state) = done state
 decoded name (Err refusal) = refuses (refused name (code_of refusal.code) refusal.line)
 
--- the bytes of an image are decoded
+-- decodes the bytes of an image, unless memory runs out
 unfoldable pub decode : {may : May} → List ℕ → List ℕ → Program may (State (List ℕ))
 decode name bytes = wants (decoded name (state_given bytes))
 
--- the machine that a file writes out
+-- reads and decodes an image; its value is the machine of the image
 unfoldable pub image_state : {may : May} → List ℕ → Program may (State (List ℕ))
 image_state name = then_with (file_bytes name) (decode name)
 
@@ -53,7 +53,7 @@ may_end (end.Stop Tag) = tt
 may_end (end.Link code) = tt
 may_end end.Console = tt
 
--- So is that of a run that has not ended.
+-- The status of a run is one that a program may end with, also if the run has not ended.
 abbrev pub may_end_by : (e : Option End) → MayEnd (status_by e)
 may_end_by None = tt
 may_end_by (Some e) = may_end e
@@ -62,20 +62,22 @@ may_end_by (Some e) = may_end e
 unfoldable pub run_status : Outcome → Program quiet (Unit {0})
 run_status last = ends (status_after last) (may_end_by (ended_by last))
 
--- the end line after so many steps, the last with this outcome
+-- puts the end line of a run of `taken` steps, the last with this outcome, and ends with its status
 unfoldable pub run_ends : ℕ → Outcome → Program quiet (Unit {0})
 run_ends taken last = puts (as_line (end_line_of last taken)) (run_status last)
 
 -- ---- the run
 
--- another step may follow only Next
+-- The program after a step with this outcome. After Next it continues with `rest`; after a fault or
+-- a stop it puts the end line.
 abbrev pub after_step :
     ℕ → Outcome → Program quiet (Unit {0}) → Program quiet (Unit {0})
 after_step taken Next rest = rest
 after_step taken (Faulted fault) rest = run_ends taken (Faulted fault)
 after_step taken (Stopped stop) rest = run_ends taken (Stopped stop)
 
--- At most so many more steps after those that were taken: a line for each step, and the end line.
+-- Takes at most as many steps as the second number says, after `taken` steps. It puts a line for
+-- each step, and the end line.
 unfoldable pub run_from : ℕ → ℕ → State (List ℕ) → Program quiet (Unit {0})
 run_from taken zero state = run_ends taken Next
 run_from taken (suc left) state =
@@ -84,8 +86,8 @@ run_from taken (suc left) state =
 
 -- ---- the audit
 
--- These are the findings of the audit of a machine; where there are none, its tables isolate each
--- ring.
+-- These are the findings of the audit of a machine. If there are none, its tables isolate each ring
+-- from 1 to 7.
 pub record IsFound (state : State (List ℕ)) (findings : List (ℕ × ℕ)) : Type 0 where
   pub found : AreFindings state.store state.regs.dbr findings
   pub isolated : findings ≡ [] → IsIsolated state.store state.regs.dbr
@@ -95,22 +97,23 @@ abbrev pub audit_may_end : (passed : Bool) → MayEnd (audit_status passed)
 audit_may_end true = tt
 audit_may_end false = tt
 
--- the audit's text, and no run
+-- puts the text of the audit, and ends with Done or AuditNo
 unfoldable pub audit_only : List (ℕ × ℕ) → Program quiet (Unit {0})
 audit_only findings =
     puts_all (audit_pieces findings)
     (ends (audit_status (passes findings)) (audit_may_end (passes findings)))
 
--- the audit's text, and the run
+-- puts the text of the audit, and runs the machine for at most `steps` steps
 unfoldable pub audit_and_run : ℕ → State (List ℕ) → List (ℕ × ℕ) → Program quiet (Unit {0})
 audit_and_run steps state findings =
     puts_all (audit_pieces findings) (run_from 0 steps state)
 
+-- `bare FILE` for a machine with these findings; the Boolean is whether it is run
 abbrev pub bare_by : Bool → ℕ → State (List ℕ) → List (ℕ × ℕ) → Program quiet (Unit {0})
 bare_by true steps state findings = audit_and_run steps state findings
 bare_by false steps state findings = audit_only findings
 
--- what a command does with a machine, by what its audit finds
+-- what a command does with a machine that has these findings
 abbrev pub by_command :
     ImageCommand → State (List ℕ) → List (ℕ × ℕ) → Program quiet (Unit {0})
 by_command (Bare bare) state findings =
@@ -119,10 +122,10 @@ by_command Audit state findings = audit_only findings
 
 -- ---- a command
 
--- what a command does with a machine
+-- Audits a machine and performs a command for it. Memory may run out only before the audit.
 unfoldable pub on_image : ImageCommand → State (List ℕ) → Program quiet (Unit {0})
 on_image command state = wants (some (IsFound state) (by_command command state))
 
--- `bare FILE` and `audit FILE`
+-- `bare FILE` or `audit FILE`
 unfoldable pub image_program : ImageCommand → List ℕ → Program quiet (Unit {0})
 image_program command name = then_with (image_state name) (on_image command)

@@ -1,4 +1,5 @@
--- `bare FILE` and `audit FILE` have one text: whatever they choose, they put the same.
+-- `bare FILE` and `audit FILE` have one text: over the same files every call puts the same pieces,
+-- up to where it ends.
 use Rattle.std.specs.Prelude.{ℕ, ◌≡◌, List, Some, Result}
 use Rattle.m36_outside.specs.Files.{Files}
 use Rattle.m36_outside.specs.Passing.{joined}
@@ -11,9 +12,9 @@ use Rattle.m36_program.specs.Alike.{Alike, IsEnd, OneText}
 use Rattle.m36_ran.specs.declared.command.ImageCommand.{ImageCommand}
 use Rattle.cmd_image.specs.ImageProgram.{image_program}
 
--- Over the same files what a call puts, however it ends, are first pieces of what a call puts that
--- comes to its end; what is written grows by a first part of that; and if it comes to its end too,
--- they are the same, with the same result.
+-- Two calls over the same files, of which the second ends as the program says (`IsEnd`). The pieces
+-- that the first puts are a prefix of those of the second, and what is written grows by a prefix of
+-- their bytes. If the first also ends as the program says, the pieces and the results are equal.
 pub record ImageTextLaw : Type 0 where
   pub alike :
       (command : ImageCommand) (name : List ℕ)

@@ -1,4 +1,4 @@
--- What a step of a run answers.
+-- What the result of a step of a run implies.
 use Rattle.std.specs.Prelude.{ℕ, ◌≡◌, ◌++◌, false, List, [], ◌∷◌}
 use Rattle.m36_text.specs.Lines.{as_line}
 use Rattle.m36_model.specs.Store.{State}
@@ -12,18 +12,20 @@ use Rattle.m36_ran.specs.Machine.{told}
 use Rattle.cmd_image.specs.declared.running.AfterStep.{AfterStep}
 use Rattle.cmd_image.specs.declared.running.AfterStep.TheVariants as step
 
--- A step with this outcome was taken, and its line was added to the block.
+-- Step n had this outcome, and its line was added to the block.
 pub record Stepped (n : ℕ) (outcome : Outcome) (state : State (List ℕ))
     (block block' : List (List ℕ)) (old new : Seen) : Type 0 where
   pub outcome_is : (told state).outcome ≡ outcome
   pub added : Gathers block block' (as_line (line_of n (told state)) ∷ []) old new
 
--- It ends the run.
+-- As `Stepped`, for a step that ends the run.
 pub record Ending (n : ℕ) (outcome : Outcome) (state : State (List ℕ))
     (block block' : List (List ℕ)) (old new : Seen) : Type 0 where
   pub last : is_next outcome ≡ false
   pub stepped : Stepped n outcome state block block' old new
 
+-- What the result of step n implies. If the output failed, the lines of the block and of the step
+-- were put up to there.
 abbrev pub TurnSays : AfterStep → ℕ → State (List ℕ) → List (List ℕ) → List (List ℕ)
     → Seen → Seen → Type 0
 TurnSays step.Next n state block block' old new = Stepped n Next state block block' old new

@@ -16,7 +16,7 @@ use m36_reading::Status;
 use m36_world::World;
 use std::alloc::Global;
 
-/// Puts the audit's text, and answers whether the audit passes.
+/// Puts the text of an audit. Fails with AuditNo if there are findings.
 #[tactic(auto, using(crate::proofs::ImageSteps::auditing))]
 fn answer_audit<W: World>(findings: &[Finding], world: &mut W) -> Result<(), Status>
     ensures { Performs (audit_only (pairs findings.now)) result
@@ -52,7 +52,7 @@ fn run_audited<W: World>(
     }
 }
 
-// The command `bare FILE` on an image, by what its audit has found.
+// Performs `bare FILE` for an image, given the findings of its audit.
 fn answer_bare<W: World>(
     bare: BareRun,
     findings: &[Finding],
@@ -70,7 +70,7 @@ fn answer_bare<W: World>(
     }
 }
 
-// Does what a command says with an image, by what its audit has found.
+// Performs a command for an image, given the findings of its audit.
 fn answer_found<W: World>(
     command: ImageCommand,
     findings: &[Finding],
@@ -86,7 +86,7 @@ fn answer_found<W: World>(
     }
 }
 
-/// Audits an image, and does what a command says with it.
+/// Audits an image, and performs a command for it.
 #[tactic(auto, using(crate::proofs::ImageSteps::found))]
 fn with_image<W: World>(
     alloc: Global,
@@ -111,7 +111,8 @@ fn with_image<W: World>(
     }
 }
 
-/// `bare FILE` and `audit FILE`: reads a bare image, and does what a command says with it.
+/// Performs `bare FILE` or `audit FILE`: reads a bare image, audits it, and runs it if the command
+/// says so.
 #[tactic(auto, unfolding(crate::specs::ImageProgram::image_program), using(m36_program::proofs::Performing::performing))]
 pub fn image_file<W: World>(
     alloc: Global,

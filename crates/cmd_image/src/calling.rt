@@ -16,7 +16,7 @@ use m36_reading::Status;
 use m36_world::Borrowed;
 use std::alloc::Global;
 
-/// `bare FILE` and `audit FILE`, and how that ended. Nothing is taken of the input.
+/// Performs `bare FILE` or `audit FILE`, and returns the status. Takes no input.
 pub fn image_command<F: Folder, L: Lines, S: Sink>(
     alloc: Global,
     name: &[u8],
@@ -25,14 +25,14 @@ pub fn image_command<F: Folder, L: Lines, S: Sink>(
     lines: &mut L,
     out: &mut S,
 ) -> Status
-    // All that happens, in order, is what the program says.
+    // The events of the call, in order, are those of the program.
     ensures performs { PerformsOver (image_program command name.now) (early result)
         (objects F.asked F.wrote F.files F.read_faults F.write_faults L.given L.left L.faults
         S.taken S.written S.faults folder.old lines.old out.old)
         (objects F.asked F.wrote F.files F.read_faults F.write_faults L.given L.left L.faults
         S.taken S.written S.faults folder.new lines.new out.new) }
 
-    // The image is read, and what is due is answered.
+    // The files that were read, the text and the status are those of the command.
     ensures does { Does (state_kind command) (state_reads name.now) result
         (outside_of F.files F.wrote F.read_faults F.write_faults S.written S.taken S.faults
         folder.old out.old)

@@ -2,7 +2,7 @@
 
 ghost use Rattle.cmd_image.specs.OneText.{ImageTextLaw};
 
-/// Over the same files each call puts a first part of one text.
+/// Over the same files each call puts a prefix of one text.
 pub fn law_image_text()
     ensures { ImageTextLaw }
 {}

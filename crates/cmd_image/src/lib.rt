@@ -1,20 +1,26 @@
-//! `bare FILE` and `audit FILE` as programs.
+//! The commands `bare FILE` and `audit FILE`, defined as programs (`m36_program`).
 //!
-//! `image_program` (`specs/ImageProgram.antt`) says what the two commands do, event by event: the
-//! file is read and decoded (F1, F2, I1 to I3). Memory may run out, and from there on it no longer
-//! may. An image has one list of findings, and the audit's text puts a line for each. Where nothing
-//! was found, or `--unaudited` is given, `bare FILE` goes on: it puts a trace line for each step, and
-//! then the end line. [`image_file`] performs this program over any world.
+//! `image_program` (`specs/ImageProgram.antt`) says what the two commands do, event by event:
 //!
-//! [`image_command`] performs it over a folder, an input and an output of the caller. What the three
-//! record of the call are some events, in one order, that the program goes by (`PerformsOver`); the
-//! same call does what the reading of an image and the answer that is due say (`Does`), and takes no
-//! input. [`law_image_text`]: over the same files all calls put first parts of one text, and those
-//! that come to their end put all of it.
+//! - The file is read and decoded. It is refused if it is absent (F1), too large (F2) or not a bare
+//!   image (I1 to I3).
+//! - The image is audited. Memory may run out until here, but not later.
+//! - The text of the audit is put: a line for each finding, or `audit yes`. An image has only one
+//!   list of findings.
+//! - If nothing was found, or `--unaudited` is given, `bare FILE` runs the machine. It puts a trace
+//!   line for each step, and then the end line.
+//!
+//! [`image_file`] performs this program over any world. [`image_command`] performs it over a
+//! folder, an input and an output of the caller: the calls that these three log are the events of
+//! the program, in one order (`PerformsOver`). It takes no input. Its contract also states the same
+//! command as a reading and an answer (`Does`).
+//!
+//! [`law_image_text`] says that over the same files every call puts a prefix of one text. A call
+//! that is not ended by a fault or by lack of memory puts all of it.
 //!
 //! The lines of a run are gathered in a block, which is handed over when it is full and at the end.
-//! The loop says what is left of its program (`Leads`); a step adds its line to the block, before
-//! what is left.
+//! The invariant of the loop is what is left of the program (`Leads`): the lines in the block, and
+//! then the steps that are left.
 #![tactic(auto)]
 
 pub mod answering;

@@ -1,4 +1,4 @@
-//! The machine that a file writes out.
+//! Reads a bare image.
 
 ghost use Rattle.std.specs.Prelude.{◌≤◌, [], length};
 ghost use Rattle.m36_outside.specs.ReadAnswer.{file_limit};
@@ -14,7 +14,7 @@ use m36_reading::Status;
 use m36_world::World;
 use std::alloc::Global;
 
-/// The machine that the bytes of a file write out: I1 to I3 where they are no bare image.
+/// The image that the bytes of a file describe. Refused with I1 to I3 if they are no bare image.
 #[tactic(auto, using(crate::proofs::ImageSteps::decoding))]
 fn decode(alloc: Global, name: &[u8], bytes: &[u8]) -> Result<Image, Status>
     requires { length bytes.now ≤ file_limit }
@@ -29,7 +29,7 @@ fn decode(alloc: Global, name: &[u8], bytes: &[u8]) -> Result<Image, Status>
     }
 }
 
-/// Reads a bare image.
+/// The image in a file. Refused with F1, F2 or I1 to I3.
 #[tactic(auto, using(crate::proofs::ImageSteps::reading))]
 pub fn read_state<W: World>(alloc: Global, name: &[u8], world: &mut W) -> Result<Image, Status>
     ensures { Performs {may = quiet} (image_state name.now) result

@@ -42,7 +42,8 @@ fn add_text<W: World>(block: &mut Block, mut line: ArrayString<160>, world: &mut
     add_piece(block, line.as_str().as_bytes(), world)
 }
 
-// Adds the line of step n where no part of an earlier line serves for it, or the block is full.
+// Adds the line of step n if `push_shown` did not: the block has no room for it, or the parts kept
+// of earlier lines cannot be used.
 #[inline(never)]
 fn add_whole<W: World>(n: u64, shown: &Shown, after: &Regs, block: &mut Block, world: &mut W) -> Put
     ensures adds { Adds result block.old block.new
@@ -71,7 +72,7 @@ fn add_shown<W: World>(
     add_whole(n, shown, after, block, world)
 }
 
-/// Takes step n of a run, and adds its line.
+/// Takes step n of a run, counted from 1, and adds its line to the block.
 #[inline]
 pub fn take_turn<W: World>(
     machine: &mut Machine,
@@ -107,7 +108,8 @@ fn finish_line<W: World>(block: &mut Block, mut line: ArrayString<160>, world: &
     finish(block, line.as_str().as_bytes(), world)
 }
 
-// Puts the lines of a block and the end line of a run of so many steps.
+// Puts the lines of a block, and the end line of a run of `taken` steps. Returns the status of the
+// run.
 #[tactic(auto, using(crate::proofs::RunLoop::ending))]
 fn end_run<W: World>(
     block: &mut Block,
@@ -124,7 +126,7 @@ fn end_run<W: World>(
     }
 }
 
-/// Runs a machine for at most so many steps, and puts a trace line for each and the end line. The
+/// Runs a machine for at most `steps` steps, and puts a trace line for each and the end line. The
 /// lines are gathered in a block, which is handed over when it is full and at the end of the run.
 #[tactic(auto, using(crate::proofs::RunLoop::running))]
 pub fn run<W: World>(machine: &mut Machine, steps: u32, world: &mut W) -> Result<(), Status>

@@ -108,7 +108,7 @@ pub record AreNear (b : BasesFields) (n : ℕ) : Type 0 where
   pub statics : b.statics ≤ 2 ^ 19 * n
   pub links : b.links ≤ 2 ^ 19 * n
 
--- the parts of an object have at most 2^18 items each
+-- an object has at most 2^18 words of text, 2^18 static words and 2^18 links
 pub record AreFew (p : PartsFields) : Type 0 where
   pub text : length p.text ≤ segment_limit
   pub statics : length p.statics ≤ segment_limit

@@ -29,6 +29,7 @@ fn is_some_newer(all: &[Placed<'_>]) -> bool
     all.iter().any(|p| is_newer_component(p))
 }
 
+// The index after the last static word of a component, among those of the bound object.
 fn end_of_statics(p: &Placed<'_>) -> u64
     ensures value { result ≡ p.now.bases.statics + p.now.shape.statics }
     ensures bound { result < 2 ^ 61 }
@@ -36,6 +37,7 @@ fn end_of_statics(p: &Placed<'_>) -> u64
     p.bases.statics + p.shape.statics
 }
 
+// The index after the last link of a component, among those of the bound object.
 fn end_of_links(p: &Placed<'_>) -> u64
     ensures value { result ≡ p.now.bases.links + p.now.shape.links }
     ensures bound { result < 2 ^ 61 }
@@ -43,6 +45,7 @@ fn end_of_links(p: &Placed<'_>) -> u64
     p.bases.links + p.shape.links
 }
 
+// The number of static words of the bound object: the end of those of the last component.
 #[tactic(auto, unfolding(crate::specs::Bound::statics_end))]
 fn statics_end(all: &[Placed<'_>]) -> u64
     ensures value { result ≡ statics_end 0 all.now }
@@ -57,6 +60,7 @@ fn statics_end(all: &[Placed<'_>]) -> u64
     end
 }
 
+// The number of links of the bound object: the end of those of the last component.
 #[tactic(auto, unfolding(crate::specs::Bound::links_end))]
 fn links_end(all: &[Placed<'_>]) -> u64
     ensures value { result ≡ links_end 0 all.now }

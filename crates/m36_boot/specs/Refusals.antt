@@ -51,7 +51,7 @@ bound_fault seg (Some p) =
 unfoldable pub gate_fault : ℕ → SegmentFields → List ℕ → Option BootFault
 gate_fault seg s words = if is_gate s.kind then bound_fault seg (value_of words) else None
 
--- the same for a segment that may not exist
+-- as `gate_fault`; no fault if there is no segment
 abbrev pub gate_fault_of : ℕ → Option SegmentFields → List ℕ → Option BootFault
 gate_fault_of seg None words = None
 gate_fault_of seg (Some s) words = gate_fault seg s words

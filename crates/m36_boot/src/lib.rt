@@ -4,7 +4,7 @@
 //! `lay` returns exactly the image of the definitions, word by word: the descriptors, the page
 //! tables, the content of each segment, the stacks, the LOT with the linkage section of the start,
 //! and the registers. Otherwise it returns the first of the faults U1 to U4 that applies, with its
-//! segment. Either may be replaced only by `NoMemory`.
+//! segment. Instead of either, it may fail with `NoMemory`.
 //!
 //! More about the image that is proved:
 //!

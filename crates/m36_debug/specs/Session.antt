@@ -114,7 +114,7 @@ abbrev pub break_says : SittingFields → List ℕ → ℕ → ℕ → List (Lis
 break_says s line seg word =
     (if has_room s then break_line seg word else unknown_line line) ∷ []
 
--- what is written for a line; a command writes the end line again if the run has ended
+-- what is written for a line; `step` and `go` write the end line again if the run has ended
 abbrev pub line_says :
     RegsFields → (ℕ → ℕ → Option ℕ) → SittingFields → List ℕ → SessionLine → List (List ℕ)
 line_says g content s line (session.Step n) = end_lines s.ended s.taken

@@ -48,25 +48,31 @@ pub record IsItp (p : ItpFields) : Type 0 where
   pub bit : p.bit < 2 ^ 6
   pub tag : p.tag < 2 ^ 6
 
--- Each field that is read is within its width, whatever the words are.
+-- Each field of an SDW is within its width, whatever the words that it is read from.
 abbrev pub SdwFits : Type 0
 SdwFits = (even odd : ℕ) → IsSdw (sdw_of even odd)
 
+-- as `SdwFits`, for a PTW
 abbrev pub PtwFits : Type 0
 PtwFits = (w : ℕ) → IsPtw (ptw_of w)
 
+-- as `SdwFits`, for the DBR
 abbrev pub DbrFits : Type 0
 DbrFits = (even odd : ℕ) → IsDbr (dbr_of even odd)
 
+-- as `SdwFits`, for a pointer register that is read from an ITS pair
 abbrev pub PtrFits : Type 0
 PtrFits = (even odd : ℕ) → IsPtr (ptr_of even odd)
 
+-- as `SdwFits`, for an ITS pair
 abbrev pub ItsFits : Type 0
 ItsFits = (even odd : ℕ) → IsIts (its_of even odd)
 
+-- as `SdwFits`, for an ITP pair
 abbrev pub ItpFits : Type 0
 ItpFits = (even odd : ℕ) → IsItp (itp_of even odd)
 
+-- as `SdwFits`, for a pointer register that is read from a packed pointer, which has no ring
 abbrev pub PackedFits : Type 0
 PackedFits = (w ring : ℕ) → ring < 2 ^ 3 → IsPtr (packed_of w ring)
 

@@ -78,6 +78,7 @@ pub record Entry : Type 0 where
 abbrev pub entry : List ℕ → List ℕ → Entry
 entry dir name = record { dir = dir; name = name }
 
+-- two entries have the same directory and name
 abbrev pub is_entry : Entry → Entry → Bool
 is_entry a b = is_text a.dir b.dir && is_text a.name b.name
 
@@ -86,10 +87,12 @@ abbrev pub directory_behind : List ℕ → BootLine → List ℕ
 directory_behind dir (line.Segment given) = given.dir
 directory_behind dir _ = dir
 
+-- the directory of the last segment line; `dir` if there is none
 unfoldable pub directory_at_end : List ℕ → List BootLine → List ℕ
 directory_at_end dir [] = dir
 directory_at_end dir (next ∷ lines) = directory_at_end (directory_behind dir next) lines
 
+-- the name that a line puts into a directory; a name line uses `dir`
 abbrev pub entries_of_line : List ℕ → BootLine → List Entry
 entries_of_line dir (line.Segment given) = entry given.dir given.name ∷ []
 entries_of_line dir (line.Name name) = entry dir name ∷ []

@@ -9,7 +9,7 @@ use Rattle.m36_model.specs.Step.{indirect_words, record_of}
 abbrev pub references_of_a_step : ℕ
 references_of_a_step = indirect_words + 4
 
--- no step records more references
+-- No step records more than `references_of_a_step` references.
 abbrev pub FewReferencesLaw : Type 0
 FewReferencesLaw =
     (s : State (List ℕ)) → length (record_of core_store s).refs.items ≤ references_of_a_step

@@ -101,6 +101,7 @@ at_word seg word ring = record { seg = seg; word = word; ring = ring }
 abbrev pub ends_in : ℕ → ℕ → ℕ → FinalFields
 ends_in seg word ring = record { at = at_word seg word ring; bit = 0; direct = None }
 
+-- a reference to `count` words, from a word of a segment on
 abbrev pub referred : Kind → ℕ → ℕ → ℕ → ℕ → Reference
 referred kind seg word ring count =
     record { at = at_word seg word ring; kind = kind; count = count }

@@ -10,8 +10,8 @@
 //!
 //! The command `audit FILE` is this program:
 //!
-//! ```antt audit name = then_with (file_bytes name) (λ bytes. then_with (image_of name bytes)
-//! audit_of)
+//! ```antt
+//! audit name = then_with (file_bytes name) (λ bytes. then_with (image_of name bytes) audit_of)
 //!
 //! image_of name bytes = by (image_in bytes):
 //!     Ok image ↦ done image  |  Err fault ↦ refuses (bad_file name fault)

@@ -18,6 +18,7 @@ use Rattle.m36_relocate.specs.declared.layout.Meant.TheVariants.{HeadWord}
 use Rattle.m36_relocate.specs.declared.layout.Spot.{Spot}
 use Rattle.m36_relocate.specs.declared.layout.Moving.{Moving}
 
+-- the version of an object, and the numbers of its static words and links
 abbrev pub shape_of : PartsFields → ShapeFields
 shape_of p = record { newer = is_newer p; statics = length p.statics; links = length p.links }
 

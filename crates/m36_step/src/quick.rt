@@ -147,6 +147,7 @@ fn operated_directly<R: Recorder>(
 }
 
 /// Executes an instruction whose address counts a tally word, if it reads a word or stores one.
+/// False, with nothing changed, if it does neither or the step is not quick.
 #[inline(never)]
 fn counted<R: Recorder>(
     walk: &mut Walk,

@@ -133,6 +133,8 @@ fn whole_words(alloc: Global, t: &[u8]) -> Result<Words, NoMemory>
     Ok(words)
 }
 
+// Adds the word that is packed alone in the last five bytes, if there are any. Their last four bits
+// are no part of it.
 fn push_last(words: &mut Words, bytes: &[u8]) -> Result<(), NoMemory>
     requires { (length bytes.now ≡ 0) ⊎ (length bytes.now ≡ 5) }
     ensures { OnOk result (words.new ≡ words.old ++ last_word bytes.now) }
@@ -153,6 +155,7 @@ fn push_group(words: &mut Words, bytes: &[u8]) -> Result<(), NoMemory>
     Ok(())
 }
 
+// Adds the two words that 72 bits hold, the more significant one first.
 fn push_pair(words: &mut Words, bits: u128) -> Result<(), NoMemory>
     requires { bits < 2 ^ 72 }
     ensures { OnOk result (words.new ≡ words.old ++ bits / 2 ^ 36 ∷ bits % 2 ^ 36 ∷ []) }

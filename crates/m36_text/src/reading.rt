@@ -91,8 +91,8 @@ fn capped_value(base: u8, t: &[u8], cap: u128) -> u128
     value
 }
 
-/// The laws of numerals. The octal text of a number, if it has enough places, and the decimal text
-/// of a number are parsed as that number. An octal text has as many digits as its places say. The
+/// The laws of numerals. The decimal text of a number is parsed as that number, and so is its octal
+/// text if it has enough places. An octal text with `places` places has that number of digits. The
 /// decimal text of a number other than zero does not begin with a zero.
 #[tactic(auto, using(crate::proofs::NumeralLaws::reads_octal, crate::proofs::NumeralLaws::reads_decimal, crate::proofs::DigitLaws::length_octal, crate::proofs::NumeralLaws::has_no_leading_zero))]
 pub fn numeral_laws()

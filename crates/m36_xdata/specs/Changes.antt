@@ -46,8 +46,9 @@ abbrev pub answer_changed : Result Change Fault → RegsFields → Result Effect
 answer_changed (Ok c) g = Ok (changed c g)
 answer_changed (Err f) g = Err f
 
--- The code has left the registers g', from g, and puts these words and this overflow: this is the
--- effect of the definition. If the instruction is refused, the registers are unchanged.
+-- The code changed the registers from g to g', and returned these words to write and whether there
+-- is an overflow. Together they are the effect that the definition gives. If the instruction is
+-- refused, the registers are unchanged.
 abbrev pub LeavesSo :
     RegsFields → RegsFields → Held → Result Bool Fault → Result EffectFields Fault → Type 0
 LeavesSo g g' put (Ok overflow) definition =

@@ -54,6 +54,7 @@ pub fn load_and_clear(r: Register, given: &Operand36, regs: &Regs) -> Change
     }
 }
 
+// The indicators in bits 18 to 25 of a word, as LDI loads them.
 #[tactic(auto, unfolding(m36_model::specs::Loads::indicators_of))]
 fn indicators_of(w: Word) -> Ind
     ensures { result ≡ indicators_of w }
