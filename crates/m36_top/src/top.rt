@@ -21,7 +21,7 @@ use m36_made::make_folder;
 use m36_outside::{Folder, Lines, Sink, Text};
 use m36_ran::ImageCommand;
 use m36_reading::Status;
-use m36_scheduled::procs_file;
+use cmd_procs::procs_file;
 use m36_sessions::{folder_session, image_session};
 use m36_told::{access_user, alm_file, bind_file, print_file};
 use std::alloc::Global;
