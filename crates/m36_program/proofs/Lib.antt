@@ -5,6 +5,7 @@ pub mod GoesLaws
 pub mod KeptLaws
 pub mod LeadLaws
 pub mod LiveLaws
+pub mod Objects
 pub mod OneText
 pub mod Performing
 pub mod PieceLaws

@@ -5,7 +5,7 @@ ghost use Rattle.m36_reading.specs.Ends.{end_of};
 ghost use Rattle.m36_reading.specs.Outside.{outside_of};
 ghost use Rattle.m36_reading.specs.Doing.{Does};
 ghost use Rattle.m36_sessions.specs.Held.{talk_of};
-ghost use Rattle.cmd_image.specs.Objects.{objects};
+ghost use Rattle.m36_program.specs.Objects.{objects};
 ghost use Rattle.m36_top.specs.Words.{command_of};
 ghost use Rattle.m36_top.specs.Dues.{due_kind};
 ghost use Rattle.m36_top.specs.Programs.{CommandPerforms, TopPerforms};

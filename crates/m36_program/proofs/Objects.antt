@@ -1,5 +1,5 @@
 -- A call over a world of three references is one over the three objects.
-use Rattle.std.proofs.Common.{◌≡◌, ℕ, List, [], ◌∷◌, ◌++◌, Option, Result, sym, ap, subst, ◌∙◌, refl}
+use Rattle.std.proofs.Common.{◌≡◌, ℕ, false, List, ◌++◌, Option, Result, sym, ap, subst, ◌∙◌, refl}
 use Rattle.m36_outside.specs.Files.{Files}
 use Rattle.m36_outside.specs.FolderCalls.{Asked, Wrote}
 use Rattle.m36_world.specs.declared.event.Event.{Event}
@@ -7,18 +7,15 @@ use Rattle.m36_world.specs.Follow.{Follow}
 use Rattle.m36_world.specs.Seen.{Seen}
 use Rattle.m36_world.proofs.Following.{follow_logs}
 use Rattle.m36_reading.specs.declared.status.Status.{Status}
-use Rattle.m36_reading.specs.Doing.{Does}
+use Rattle.m36_reading.specs.Doing.{Kind, Does}
+use Rattle.m36_reading.specs.Reading.{Reading, Early}
 use Rattle.m36_program.specs.Early.{early, status_by}
 use Rattle.m36_program.specs.Goes.{Goes}
 use Rattle.m36_program.specs.Performs.{Performs}
+use Rattle.m36_program.specs.Program.{May, Program}
 use Rattle.m36_program.specs.Trail.{InputKept}
 use Rattle.m36_program.proofs.ProgramLaws.{early_given, performs_given, performs_input}
-use Rattle.m36_ran.specs.Ran.{state_kind, state_reads}
-use Rattle.m36_ran.specs.declared.command.ImageCommand.{ImageCommand}
-use Rattle.cmd_image.specs.ImageProgram.{image_program}
-use Rattle.cmd_image.specs.Objects.{objects, PerformsOver}
-use Rattle.cmd_image.specs.Reading.{outside_by}
-use Rattle.cmd_image.proofs.Bridge.{performs_does}
+use Rattle.m36_program.specs.Objects.{objects, PerformsOver, outside_by}
 
 -- What the objects recorded is the same.
 pub record SameObjects (seen other : Seen) : Type 0 where
@@ -73,11 +70,11 @@ same_now asked wrote files read_faults write_faults given left input_faults take
 }
 
 pub performs_over :
-    (command : ImageCommand) (name : List ℕ) (result : Result (Unit {0}) Status) (status : Status) (old new old' new' : Seen)
+    {may : May} (program : Program may (Unit {0})) (result : Result (Unit {0}) Status) (status : Status)
+    (old new old' new' : Seen)
     → status ≡ status_by result → old.events ≡ old'.events → SameObjects old old' → SameObjects new new'
-    → Performs (image_program command name) result old new
-    → PerformsOver (image_program command name) (early status) old' new'
-performs_over command name result status old new old' new' status_is none same_old same_new performs =
+    → Performs program result old new → PerformsOver program (early status) old' new'
+performs_over program result status old new old' new' status_is none same_old same_new performs =
     let logs = follow_logs performs.events old new performs.follow in
     let old_is : old ≡ record old' { references = old.references } =
     same_seen old old' same_old ∙ ap (λ e. record old' { events = e; references = old.references }) none in
@@ -92,35 +89,32 @@ performs_over command name result status old new old' new' status_is none same_o
           subst (λ s. Follow performs.events s (record new' { events = old'.events ++ performs.events; references = old.references })) old_is
           (subst (λ s. Follow performs.events old s) new_is performs.follow);
       goes =
-          subst (λ r. Goes (image_program command name) performs.events r)
-          (sym (ap early status_is ∙ early_given result (performs_given (image_program command name) result old new performs))) performs.goes;
+          subst (λ r. Goes program performs.events r)
+          (sym (ap early status_is ∙ early_given result (performs_given program result old new performs))) performs.goes;
     }
 
 same_outside : (seen other : Seen) → SameObjects seen other → outside_by seen ≡ outside_by other
 same_outside seen other same = ap outside_by (same_seen seen other same)
 
+-- what the call does by the old layer, over the world, it does over the three objects
 pub does_over :
-    (command : ImageCommand) (name : List ℕ) (result : Result (Unit {0}) Status) (status : Status) (old new old' new' : Seen)
-    → status ≡ status_by result → SameObjects old old' → SameObjects new new'
-    → Performs (image_program command name) result old new
-    → Does (state_kind command) (state_reads name) status (outside_by old') (outside_by new') old'.reads new'.reads
-does_over command name result status old new old' new' status_is same_old same_new performs =
-    let kind = state_kind command in
-    let p = state_reads name in
-    let s = status_by result in
+    {D : Type 0} (kind : Kind D) (p : Reading (Early D)) (s status : Status) (old new old' new' : Seen)
+    → status ≡ s → SameObjects old old' → SameObjects new new'
+    → Does kind p s (outside_by old) (outside_by new) old.reads new.reads
+    → Does kind p status (outside_by old') (outside_by new') old'.reads new'.reads
+does_over kind p s status old new old' new' status_is same_old same_new does =
     subst (λ t. Does kind p t (outside_by old') (outside_by new') old'.reads new'.reads) (sym status_is)
     (subst (λ r. Does kind p s (outside_by old') (outside_by new') old'.reads r) same_new.reads
     (subst (λ r. Does kind p s (outside_by old') (outside_by new') r new.reads) same_old.reads
     (subst (λ o. Does kind p s (outside_by old') o old.reads new.reads) (same_outside new new' same_new)
-    (subst (λ o. Does kind p s o (outside_by new) old.reads new.reads) (same_outside old old' same_old)
-    (performs_does command name result old new performs)))))
+    (subst (λ o. Does kind p s o (outside_by new) old.reads new.reads) (same_outside old old' same_old) does))))
 
 pub untaken_over :
-    (command : ImageCommand) (name : List ℕ) (result : Result (Unit {0}) Status) (old new old' new' : Seen)
-    → SameObjects old old' → SameObjects new new' → Performs (image_program command name) result old new
+    {may : May} (program : Program may (Unit {0})) (result : Result (Unit {0}) Status) (old new old' new' : Seen)
+    → may.takes ≡ false → SameObjects old old' → SameObjects new new' → Performs program result old new
     → InputKept old' new'
-untaken_over command name result old new old' new' same_old same_new performs =
-    let kept = performs_input (image_program command name) result old new refl performs in record {
+untaken_over program result old new old' new' never same_old same_new performs =
+    let kept = performs_input program result old new never performs in record {
       left = sym same_new.left ∙ kept.left ∙ same_old.left;
       inputs = sym same_new.inputs ∙ kept.inputs ∙ same_old.inputs;
       faults = sym same_new.input_faults ∙ kept.faults ∙ same_old.input_faults;
