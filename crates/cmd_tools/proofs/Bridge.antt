@@ -261,8 +261,9 @@ later_unwritten answer file files old between new did rest = record {
     others = rest.set.others;
     are = ap (λ l. file ∷ l) rest.set.are;
     files = subst (λ f. WriteSays answer (with_sets rest.set.before f) new.files rest.set.last.name rest.set.last.content) did.files rest.set.files;
-    wrote = rest.set.wrote ∙ ap (λ l. l ++ writes_of rest.set.before ++ write_of answer rest.set.last ∷ []) (ap (λ s. s.writes) did.rest)
-        ∙ append_assoc old.writes (write_of write.Written file ∷ []) (writes_of rest.set.before ++ write_of answer rest.set.last ∷ []);
+    wrote = rest.set.wrote
+        ∙ ap (λ l. (l ++ writes_of rest.set.before) ++ write_of answer rest.set.last ∷ []) (ap (λ s. s.writes) did.rest)
+        ∙ ap (λ l. l ++ write_of answer rest.set.last ∷ []) (append_assoc old.writes (write_of write.Written file ∷ []) (writes_of rest.set.before));
     cause = subst (λ n. WriteHasCause answer n new.write_faults) did.cause rest.set.cause;
   };
   sink = rest.sink ∙ ap output_of did.rest;
@@ -281,7 +282,7 @@ first_unwritten answer file files old new did = record {
     others = files;
     are = refl;
     files = did.files;
-    wrote = ap (λ s. s.writes) did.rest;
+    wrote = ap (λ s. s.writes) did.rest ∙ ap (λ l. l ++ write_of answer file ∷ []) (sym (append-nil old.writes));
     cause = did.cause;
   };
   sink = ap output_of did.rest;
@@ -315,10 +316,10 @@ ended_there more old new none follow = subst (λ e. Follow e old new) none follo
 
 by_answer :
     (answer : WriteAnswer) (file : Set) (files : List Set) (rest : Program writing (Unit {0})) (more : List Event)
-    (goes : Type 0) (result : Result (Unit {0}) Status) (old between new : Seen)
+    (goes : List Event → Type 0) (result : Result (Unit {0}) Status) (old between new : Seen)
     → IsFileWrite file.name file.content answer old between → Follow more between new
-    → (goes → AfterFiles files rest result between new)
-    → AfterWrite answer (λ events. goes) more result → AfterFiles (file ∷ files) rest result old new
+    → (goes more → AfterFiles files rest result between new)
+    → AfterWrite answer goes more result → AfterFiles (file ∷ files) rest result old new
 by_answer write.Written file files rest more goes result old between new did follow on after =
     after_first file files rest result old between new did (on after)
 by_answer write.Failed file files rest more goes result old between new did follow on after =

@@ -17,12 +17,7 @@ use m36_world::World;
 use std::alloc::Global;
 
 // What a user may do with each segment of a catalog.
-fn access_of(
-    alloc: Global,
-    user: &User,
-    catalog: &Catalog,
-    lists: &Acl,
-) -> Result<Report, Refusal>
+fn access_of(alloc: Global, user: &User, catalog: &Catalog, lists: &Acl) -> Result<Report, Refusal>
     ensures { Gives result (Ok (access_told user.now catalog.now lists.now)) }
 {
     let text = lists.access_text(alloc, catalog, user)?;

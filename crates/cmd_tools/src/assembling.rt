@@ -91,11 +91,7 @@ fn read_source<W: World>(alloc: Global, files: &AlmFiles, world: &mut W) -> Resu
 
 /// `alm NAME`: assembles a source, writes the object, and then puts the listing.
 #[tactic(auto, using(crate::proofs::ToolSteps::assembles))]
-pub fn assemble_file<W: World>(
-    alloc: Global,
-    files: &AlmFiles,
-    world: &mut W,
-) -> Result<(), Status>
+pub fn assemble_file<W: World>(alloc: Global, files: &AlmFiles, world: &mut W) -> Result<(), Status>
     ensures { Performs (alm_program files.now) result (W.seen world.old) (W.seen world.new) }
 {
     match read_source(alloc, files, world) {

@@ -117,11 +117,7 @@ fn read_one<W: World>(
 }
 
 // Reads the objects of these names.
-fn read_objects<W: World>(
-    alloc: Global,
-    names: &[Name],
-    world: &mut W,
-) -> Result<Objects, Status>
+fn read_objects<W: World>(alloc: Global, names: &[Name], world: &mut W) -> Result<Objects, Status>
     ensures { Performs {may = writing} (each_onto file_object [] names.now) result
         (W.seen world.old) (W.seen world.new) }
 {
@@ -224,11 +220,7 @@ fn read_text<W: World>(
 }
 
 // Reads a bind file and the objects of its components, and gives the bound object and its print.
-fn read_bind<W: World>(
-    alloc: Global,
-    files: &BindFiles,
-    world: &mut W,
-) -> Result<Report, Status>
+fn read_bind<W: World>(alloc: Global, files: &BindFiles, world: &mut W) -> Result<Report, Status>
     ensures { Performs {may = writing} (bind_report files.now) result
         (W.seen world.old) (W.seen world.new) }
 {
@@ -244,11 +236,7 @@ fn read_bind<W: World>(
 
 /// `bind NAME`: binds the components of a bind file, writes the object, and then puts its print.
 #[tactic(auto, using(crate::proofs::ToolSteps::binds))]
-pub fn bind_objects<W: World>(
-    alloc: Global,
-    files: &BindFiles,
-    world: &mut W,
-) -> Result<(), Status>
+pub fn bind_objects<W: World>(alloc: Global, files: &BindFiles, world: &mut W) -> Result<(), Status>
     ensures { Performs (bind_program files.now) result (W.seen world.old) (W.seen world.new) }
 {
     match read_bind(alloc, files, world) {

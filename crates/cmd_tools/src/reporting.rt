@@ -58,11 +58,7 @@ pub fn write_files<W: World>(alloc: Global, files: &[Set], world: &mut W) -> Res
 }
 
 /// Writes the files of a report, and then puts its text.
-pub fn write_report<W: World>(
-    alloc: Global,
-    report: &Report,
-    world: &mut W,
-) -> Result<(), Status>
+pub fn write_report<W: World>(alloc: Global, report: &Report, world: &mut W) -> Result<(), Status>
     ensures { Performs (write_report report.now) result (W.seen world.old) (W.seen world.new) }
 {
     match write_files(alloc, report.files(), world) {

@@ -3,7 +3,6 @@ use Rattle.std.proofs.Common.{rules, refl, ap, get_or}
 use Rattle.m36_world.proofs.Following.{follow_logs}
 use Rattle.m36_told.specs.Told.{told_kind}
 use Rattle.m36_told.specs.Accesses.{user_reads}
-use Rattle.m36_program.specs.Early.{status_by}
 use Rattle.m36_program.specs.Objects.{objects}
 use Rattle.m36_program.proofs.Objects.{same_now, performs_over, does_over, untaken_over}
 use Rattle.cmd_tools.specs.ToolPrograms.{access_program}
@@ -35,10 +34,10 @@ returns-clause-does g c =
     let f = g.F.Folder in
     let l = g.L.Lines in
     let s = g.S.Sink in
-    does_over told_kind (user_reads c.args.user.now) (status_by c.print_access-outcome.result) c.status_by.result _ _ (objects f.asked f.wrote f.files f.read_faults f.write_faults l.given l.left l.faults s.taken s.written s.faults c.args.folder.now c.args.lines.now c.args.out.now) (objects f.asked f.wrote f.files f.read_faults f.write_faults l.given l.left l.faults s.taken s.written s.faults _ c.print_access-outcome.new.world.input.now _) c.status_by.ensures
+    does_over told_kind (user_reads c.args.user.now) (access_program c.args.user.now) c.print_access-outcome.result c.status_by.result _ _ (objects f.asked f.wrote f.files f.read_faults f.write_faults l.given l.left l.faults s.taken s.written s.faults c.args.folder.now c.args.lines.now c.args.out.now) (objects f.asked f.wrote f.files f.read_faults f.write_faults l.given l.left l.faults s.taken s.written s.faults _ c.print_access-outcome.new.world.input.now _) c.status_by.ensures
     (same_now f.asked f.wrote f.files f.read_faults f.write_faults l.given l.left l.faults s.taken s.written s.faults _ _ _ _ _ _ _ _ begun.folder begun.input begun.output)
     (same_now f.asked f.wrote f.files f.read_faults f.write_faults l.given l.left l.faults s.taken s.written s.faults _ _ _ _ _ _ _ _ (search rules) refl (search rules))
-    (access_does c.args.user.now c.print_access-outcome.result _ _ c.print_access-outcome.ensures)
+    c.print_access-outcome.ensures (λ seen seen' performs. access_does c.args.user.now c.print_access-outcome.result seen seen' performs)
 
 pub returns-clause-untaken : goal.returns-clause-untaken
 returns-clause-untaken g c =
