@@ -11,7 +11,7 @@ use Rattle.m36_reading.specs.declared.status.Status.{Status}
 use Rattle.m36_reading.specs.declared.status.Status.TheVariants as status
 use Rattle.m36_program.specs.Alike.{Alike}
 use Rattle.m36_program.specs.Early.{MayEnd, ends}
-use Rattle.m36_program.specs.Program.{Found, Content, Absent, TooLarge, quiet, Program, some}
+use Rattle.m36_program.specs.Program.{Found, Content, Absent, TooLarge, quiet, Program, puts_all, some}
 use Rattle.m36_program.specs.Readers.{refuses, bytes_found, file_bytes}
 use Rattle.m36_program.proofs.AlikeLaws.{alike_wants, alike_then, alike_puts, alike_one, performs_quiet_text, performs_written}
 use Rattle.m36_ran.specs.AuditText.{audit_pieces}
@@ -30,7 +30,7 @@ found_alike name (Content bytes) = refl
 found_alike name Absent = refl
 found_alike name TooLarge = refl
 
-bytes_alike : (name : List ℕ) → Alike {may = quiet} (file_bytes name) (file_bytes name)
+pub bytes_alike : (name : List ℕ) → Alike {may = quiet} (file_bytes name) (file_bytes name)
 unfolding Alike file_bytes
 bytes_alike name = (refl, λ found. found_alike name found)
 
@@ -51,7 +51,7 @@ unfolding image_state
 state_alike name =
     alike_then (file_bytes name) (file_bytes name) (decode name) (decode name) (bytes_alike name) (decode_alike name)
 
-ends_alike : (s : Status) (own : MayEnd s) → Alike {may = quiet} (ends s own) (ends s own)
+pub ends_alike : (s : Status) (own : MayEnd s) → Alike {may = quiet} (ends s own) (ends s own)
 unfolding Alike ends
 ends_alike status.Done own = refl
 ends_alike _ own = refl

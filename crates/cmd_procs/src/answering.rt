@@ -1,0 +1,150 @@
+//! The joint audit of processes, and their schedule.
+
+ghost use Rattle.std.specs.Prelude.{◌≡◌, ◌≤◌, [], IfOk, length};
+ghost use Rattle.m36_model.specs.JointAudit.{AreJointFindings, most_processes};
+ghost use Rattle.m36_audit.specs.Joints.{all_found};
+ghost use Rattle.m36_program.specs.Performs.{Performs};
+ghost use Rattle.m36_ran.specs.Ran.{is_run};
+ghost use Rattle.cmd_procs.specs.Scheduled.{dbrs_of, AreIsolated};
+ghost use Rattle.cmd_procs.specs.ProcsProgram.{audit_only, audit_and_run, by_found, on_procs, procs_program};
+
+use crate::findings::put_joint;
+use crate::reading::read_procs;
+use crate::running::run;
+use m36_audit::{Joint, JointFinding, joint};
+use m36_desc::Dbr;
+use m36_model::Regs;
+use m36_procs::Procs;
+use m36_reading::Status;
+use m36_word::NoMemory;
+use m36_world::World;
+use std::alloc::Global;
+
+/// Puts the audit's text, and then runs the schedule.
+#[tactic(auto, using(crate::proofs::ProcsSteps::audited))]
+fn run_audited<W: World>(
+    findings: &[JointFinding],
+    procs: &mut Procs,
+    world: &mut W,
+) -> Result<(), Status>
+    ensures { Performs (audit_and_run procs.old (all_found findings.now)) result
+        (W.seen world.old) (W.seen world.new) }
+{
+    match put_joint(findings, world) {
+        Ok(()) => run(procs, world),
+        Err(status) => Err(status),
+    }
+}
+
+/// Puts the audit's text alone.
+#[tactic(auto, using(crate::proofs::ProcsSteps::refusing))]
+fn refuse_run<W: World>(findings: &[JointFinding], world: &mut W) -> Result<(), Status>
+    ensures { Performs (audit_only (all_found findings.now)) result
+        (W.seen world.old) (W.seen world.new) }
+{
+    match put_joint(findings, world) {
+        Ok(()) => Err(Status::AuditNo),
+        Err(status) => Err(status),
+    }
+}
+
+// Whether the schedule is run.
+#[tactic(auto, using(crate::proofs::ProcsSteps::passing))]
+fn is_run(findings: &[JointFinding], unaudited: bool) -> bool
+    ensures { result ≡ is_run (all_found findings.now) unaudited }
+{
+    findings.is_empty() || unaudited
+}
+
+/// Does what the command says, by what the joint audit has found.
+fn answer_found<W: World>(
+    findings: &[JointFinding],
+    procs: &mut Procs,
+    unaudited: bool,
+    world: &mut W,
+) -> Result<(), Status>
+    ensures { Performs (by_found unaudited procs.old (all_found findings.now)) result
+        (W.seen world.old) (W.seen world.new) }
+{
+    if is_run(findings, unaudited) {
+        run_audited(findings, procs, world)
+    } else {
+        refuse_run(findings, world)
+    }
+}
+
+// The descriptor segment base register among registers.
+fn dbr_of(regs: &Regs) -> Dbr
+    ensures { result ≡ regs.now.dbr }
+{
+    regs.dbr
+}
+
+/// The descriptor segment base register of each process.
+fn dbrs_of(alloc: Global, procs: &Procs) -> Result<Vec<Dbr>, NoMemory>
+    ensures value { IfOk result (λ dbrs. dbrs.items ≡ dbrs_of procs.now.state) }
+    ensures some { IfOk result (λ dbrs. 1 ≤ length dbrs.items) }
+    ensures most { IfOk result (λ dbrs. length dbrs.items ≤ most_processes) }
+{
+    let count = procs.count();
+    let mut dbrs = Vec::with_capacity(alloc, count)?;
+    for i in 0..count {
+        dbrs.push(dbr_of(procs.regs(i)))?;
+    }
+    Ok(dbrs)
+}
+
+/// The joint audit of processes.
+fn audited(alloc: Global, procs: &Procs) -> Result<Joint, NoMemory>
+    ensures found { IfOk result (λ j. AreJointFindings procs.now.state.store
+        (dbrs_of procs.now.state) (all_found j.findings.items)) }
+    ensures isolated { IfOk result (λ j. all_found j.findings.items ≡ []
+        → AreIsolated procs.now.state) }
+{
+    let dbrs = dbrs_of(alloc, procs)?;
+    let verdict = joint(alloc, procs.core(), dbrs.as_slice())?;
+    Ok(verdict)
+}
+
+/// Audits processes, and does what the command says with them.
+#[tactic(auto, using(crate::proofs::ProcsSteps::found))]
+fn with_procs<W: World>(
+    alloc: Global,
+    mut procs: Procs,
+    unaudited: bool,
+    world: &mut W,
+) -> Result<(), Status>
+    ensures { Performs (on_procs unaudited procs) result (W.seen world.old) (W.seen world.new) }
+{
+    match audited(alloc, &procs) {
+        Ok(verdict) => {
+            let findings = verdict.findings.as_slice();
+            let answer = answer_found(findings, &mut procs, unaudited, world);
+            // Dropped by calls: so each drop is proved once for its type.
+            drop(verdict);
+            drop(procs);
+            answer
+        }
+        Err(_) => {
+            drop(procs);
+            Err(Status::NoMemory)
+        }
+    }
+}
+
+/// The command `procs FILE`, with or without `--unaudited`.
+#[tactic(auto, unfolding(crate::specs::ProcsProgram::procs_program), using(m36_program::proofs::Performing::performing))]
+pub fn procs_file<W: World>(
+    alloc: Global,
+    name: &[u8],
+    unaudited: bool,
+    world: &mut W,
+) -> Result<(), Status>
+    ensures { Performs (procs_program unaudited name.now) result
+        (W.seen world.old) (W.seen world.new) }
+{
+    match read_procs(alloc, name, world) {
+        Ok(procs) => with_procs(alloc, procs, unaudited, world),
+        Err(status) => Err(status),
+    }
+}

@@ -1,0 +1,5 @@
+pub mod Deciding
+pub mod FileReaders
+pub mod EachFile
+pub mod Catalogs
+pub mod Writing

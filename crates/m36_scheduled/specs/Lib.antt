@@ -1,3 +1,0 @@
-pub mod JointText
-pub mod Scheduled
-pub mod DueLaw
