@@ -1,3 +1,4 @@
 pub mod ReportLaws
 pub mod ToolSteps
 pub mod Bridge
+pub mod TextLaws

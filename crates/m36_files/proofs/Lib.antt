@@ -5,3 +5,4 @@ pub mod CatalogLaws
 pub mod OldReading
 pub mod OldReaders
 pub mod OldDoing
+pub mod AlikeReaders
