@@ -18,7 +18,7 @@ pub mod answering;
 pub mod command;
 pub mod ending;
 pub mod files;
-mod lines;
+pub mod lines;
 pub mod reading;
 pub mod running;
 
