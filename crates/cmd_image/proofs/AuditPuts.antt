@@ -24,7 +24,7 @@ all_put pieces = puts_all pieces (done tt)
 abbrev pub line_at : List Finding → ℕ → Finding → List ℕ
 line_at findings i d = as_line (finding_line ((get_or findings i d).condition, (get_or findings i d).place))
 
-put_more : (piece : List ℕ) (pieces : List (List ℕ)) → all_put (piece ∷ pieces) ≡ puts piece (all_put pieces)
+pub put_more : (piece : List ℕ) (pieces : List (List ℕ)) → all_put (piece ∷ pieces) ≡ puts piece (all_put pieces)
 unfolding puts_all
 put_more piece pieces = refl
 
@@ -75,7 +75,7 @@ pub ruleset findings_in_turn = (findings_start, finding_put, finding_unput, find
 
 -- ---- the whole text
 
-one_is : (piece : List ℕ) → put_one piece ≡ all_put (piece ∷ [])
+pub one_is : (piece : List ℕ) → put_one piece ≡ all_put (piece ∷ [])
 unfolding put_one
 one_is piece = sym (puts_one piece (done tt))
 

@@ -33,7 +33,7 @@ use Rattle.m36_program.proofs.ProgramLaws.{performs_cause, performs_files, perfo
 use Rattle.m36_ran.specs.Ran.{state_reads, state_answer, IsStateDue, state_kind}
 use Rattle.m36_ran.specs.declared.command.ImageCommand.{ImageCommand}
 use Rattle.cmd_image.specs.ImageProgram.{image_program}
-use Rattle.cmd_image.specs.Reading.{outside_by}
+use Rattle.m36_program.specs.Objects.{outside_by}
 use Rattle.cmd_image.proofs.ImageGoes.{Puts, ReadsAlone, ReadsPuts, How, Unread, Starved, Refused, Answered, program_how}
 
 -- what comes of reading the image, by what was asked
@@ -47,7 +47,7 @@ EndsWith command name events result old new =
 
 -- ---- one file was read, and nothing else passed
 
-one_read :
+pub one_read :
     (name : List ℕ) (answer : ReadAnswer) (events : List Event) (old new : Seen)
     → events ≡ FileRead name answer ∷ [] → Follow events old new → IsFileRead name answer old new
 unfolding Follow
@@ -55,7 +55,7 @@ one_read name answer events old new is follow =
     let all : Follow (FileRead name answer ∷ []) old new = subst (λ e. Follow e old new) is follow in
     subst (λ s. IsFileRead name answer old s) (sym all.goes_on) all.begins
 
-idle_read :
+pub idle_read :
     (name : List ℕ) (answer : ReadAnswer) (old new : Seen) → IsFileRead name answer old new
     → IsIdle (outside_by old) (outside_by new)
 idle_read name answer old new did = record {
@@ -76,31 +76,31 @@ comes_of name answer coming events is comes = subst (λ a. Comes (state_reads na
 
 -- ---- what was put
 
-all_set : (old new : Seen) → FilesKept old new → AllSet [] (outside_by old).folder (outside_by new).folder
+pub all_set : (old new : Seen) → FilesKept old new → AllSet [] (outside_by old).folder (outside_by new).folder
 all_set old new kept = record {
   files = kept.files;
   wrote = kept.writes ∙ sym (append-nil old.writes);
   write_faults = kept.faults;
 }
 
-none_set :
+pub none_set :
     (due : Answer) (old new : Seen) → due.sets ≡ [] → FilesKept old new
     → AllSet due.sets (outside_by old).folder (outside_by new).folder
 none_set due old new none kept =
     subst (λ sets. AllSet sets (outside_by old).folder (outside_by new).folder) (sym none) (all_set old new kept)
 
 -- the text of an answer is that of its pieces
-text_put :
+pub text_put :
     (due : Answer) (old new : Seen) → due.text ≡ joined due.pieces
     → PutsPieces Done due.pieces (output_of old) (output_of new) → PutsText Done due.text due.pieces (output_of old) (output_of new)
 text_put due old new is put = subst (λ t. PutsText Done t due.pieces (output_of old) (output_of new)) (sym is) put
 
-text_part :
+pub text_part :
     (due : Answer) (old new : Seen) → due.text ≡ joined due.pieces
     → PutsPieces Failed due.pieces (output_of old) (output_of new) → PutsText Failed due.text due.pieces (output_of old) (output_of new)
 text_part due old new is put = subst (λ t. PutsText Failed t due.pieces (output_of old) (output_of new)) (sym is) put
 
-whole_put :
+pub whole_put :
     (pieces : List (List ℕ)) (events : List Event) (old new : Seen) → events ≡ outputs pieces
     → PutsPieces (put_of events) (pieces_of events) (output_of old) (output_of new)
     → PutsPieces Done pieces (output_of old) (output_of new)
@@ -110,7 +110,7 @@ whole_put pieces events old new is put =
     subst (λ l. PutsPieces Done l (output_of old) (output_of new)) all
     (subst (λ a. PutsPieces a (pieces_of events) (output_of old) (output_of new)) (ap put_of as_is ∙ put_after pieces []) put)
 
-part_put :
+pub part_put :
     (pieces left : List (List ℕ)) (events : List Event) (old new : Seen) → pieces ≡ pieces_of events ++ left
     → put_of events ≡ Failed → PutsPieces (put_of events) (pieces_of events) (output_of old) (output_of new)
     → PutsPieces Failed pieces (output_of old) (output_of new)
@@ -121,7 +121,7 @@ part_put pieces left events old new is failed put =
 
 -- ---- counts of faults
 
-none_failed : (s : Status) (old new : Seen) → MayEnd s → HasCause (early s) old new → NoneFailed old new
+pub none_failed : (s : Status) (old new : Seen) → MayEnd s → HasCause (early s) old new → NoneFailed old new
 none_failed status.Done old new own cause = cause
 none_failed status.Usage old new own cause = absurd own
 none_failed status.ReadFault old new own cause = absurd own
@@ -135,7 +135,7 @@ none_failed status.NoMemory old new own cause = absurd own
 abbrev as_result : Status → Result (Unit {0}) Status
 as_result s = Err s
 
-cut_reads : (old new : Seen) → HasCause (as_result status.WriteFault) old new → new.read_faults ≡ old.read_faults
+pub cut_reads : (old new : Seen) → HasCause (as_result status.WriteFault) old new → new.read_faults ≡ old.read_faults
 cut_reads old new (inl failed) = failed.reads
 cut_reads old new (inr failed) = failed.reads
 

@@ -132,7 +132,7 @@ puts_reads (piece ∷ pieces) s own events result (inl goes) =
     ap reads_of goes.first ∙ puts_reads pieces s own goes.more result goes.rest
 puts_reads (piece ∷ pieces) s own events result (inr failed) = ap reads_of failed.only
 
-puts_with :
+pub puts_with :
     (pieces : List (List ℕ)) (s : Status) (own : MayEnd s) (events : List Event) (result : Result (Unit {0}) Status)
     → Goes {may = quiet} (puts_all pieces (ends s own)) events result → Puts (answer_with pieces s) events result
 puts_with pieces s own events result goes = record {
@@ -144,7 +144,7 @@ puts_with pieces s own events result goes = record {
 }
 
 -- Nothing passes, and memory ran out.
-abbrev NoneLeft : List Event → Result (Unit {0}) Status → Type 0
+abbrev pub NoneLeft : List Event → Result (Unit {0}) Status → Type 0
 NoneLeft events result = Ends (Err NoMemory) events result
 
 pub audit_puts :
@@ -233,7 +233,7 @@ alone name answer coming status more events result comes first ends = record {
 }
 
 -- a program that refuses a file, whatever follows it
-refuse_goes :
+pub refuse_goes :
     {A B : Type 0} (bad : Bad) (next : A → Program quiet B) (events : List Event) (result : Result B Status)
     → Goes (then_with (refuses {may = quiet} {A = A} bad) next) events result
     → Ends (Err (BadFile bad)) events result ⊎ Ends (Err NoMemory) events result

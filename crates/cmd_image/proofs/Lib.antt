@@ -4,4 +4,3 @@ pub mod ImageSteps
 pub mod TextLaws
 pub mod ImageGoes
 pub mod Bridge
-pub mod Objects

@@ -30,7 +30,7 @@ found_alike name (Content bytes) = refl
 found_alike name Absent = refl
 found_alike name TooLarge = refl
 
-bytes_alike : (name : List ℕ) → Alike {may = quiet} (file_bytes name) (file_bytes name)
+pub bytes_alike : (name : List ℕ) → Alike {may = quiet} (file_bytes name) (file_bytes name)
 unfolding Alike file_bytes
 bytes_alike name = (refl, λ found. found_alike name found)
 
@@ -51,7 +51,7 @@ unfolding image_state
 state_alike name =
     alike_then (file_bytes name) (file_bytes name) (decode name) (decode name) (bytes_alike name) (decode_alike name)
 
-ends_alike : (s : Status) (own : MayEnd s) → Alike {may = quiet} (ends s own) (ends s own)
+pub ends_alike : (s : Status) (own : MayEnd s) → Alike {may = quiet} (ends s own) (ends s own)
 unfolding Alike ends
 ends_alike status.Done own = refl
 ends_alike _ own = refl

@@ -6,7 +6,7 @@ ghost use Rattle.m36_program.specs.Early.{early};
 ghost use Rattle.m36_program.specs.Trail.{InputKept};
 ghost use Rattle.m36_ran.specs.Ran.{state_kind, state_reads};
 ghost use Rattle.cmd_image.specs.ImageProgram.{image_program};
-ghost use Rattle.cmd_image.specs.Objects.{objects, PerformsOver};
+ghost use Rattle.m36_program.specs.Objects.{objects, PerformsOver};
 
 use crate::answering::image_file;
 use m36_outside::{Folder, Lines, Sink};

@@ -15,8 +15,8 @@ use m36_ran::findings::finding_line;
 use m36_reading::Status;
 use m36_world::World;
 
-// Puts a line with its line feed, in one piece.
-fn put_line<W: World>(mut line: ArrayString<160>, world: &mut W) -> Result<(), Status>
+/// Puts a line with its line feed, in one piece.
+pub fn put_line<W: World>(mut line: ArrayString<160>, world: &mut W) -> Result<(), Status>
     requires { length line.bytes < 160 }
     ensures { Performs {may = quiet} (put_one (as_line line.bytes)) result
         (W.seen world.old) (W.seen world.new) }
@@ -48,8 +48,8 @@ fn put_findings<W: World>(findings: &[Finding], world: &mut W) -> Result<(), Sta
     Ok(())
 }
 
-// Puts the line `audit yes`.
-fn put_yes<W: World>(world: &mut W) -> Result<(), Status>
+/// Puts the line `audit yes`.
+pub fn put_yes<W: World>(world: &mut W) -> Result<(), Status>
     ensures { Performs {may = quiet} (put_one yes_line) result
         (W.seen world.old) (W.seen world.new) }
 {

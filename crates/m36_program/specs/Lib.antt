@@ -4,6 +4,7 @@ pub mod Found
 pub mod Gathered
 pub mod Goes
 pub mod Lives
+pub mod Objects
 pub mod Performs
 pub mod Program
 pub mod Readers

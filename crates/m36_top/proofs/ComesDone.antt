@@ -35,8 +35,8 @@ use Rattle.m36_ran.specs.declared.command.BareRun.{BareRun}
 use Rattle.m36_ran.specs.Run.{run, last_outcome}
 use Rattle.m36_ran.specs.Output.{status_after}
 use Rattle.m36_ran.specs.Ran.{run_answer, passes, behind, audit_answer, bare_by, state_answer, IsStateDue}
-use Rattle.m36_scheduled.specs.Scheduled.{procs_answer, dbrs_of, IsProcsDue}
-use Rattle.m36_scheduled.specs.Scheduled as scheduled
+use Rattle.cmd_procs.specs.Scheduled.{procs_answer, dbrs_of, IsProcsDue}
+use Rattle.cmd_procs.specs.Scheduled as scheduled
 use Rattle.m36_procs.specs.ProcsFields.{ProcsFields}
 use Rattle.m36_booted.specs.declared.command.FolderCommand.{FolderCommand}
 use Rattle.m36_booted.specs.declared.command.FolderCommand.TheVariants as folder

@@ -10,8 +10,8 @@ use Rattle.m36_told.specs.Told.{told_answer}
 use Rattle.m36_told.proofs.LineLaws.{lines_joined}
 use Rattle.m36_ran.proofs.DueLaws.{state_due_law}
 use Rattle.m36_ran.proofs.PiecesJoined.{state_joined}
-use Rattle.m36_scheduled.proofs.DueLaws.{procs_due_law}
-use Rattle.m36_scheduled.proofs.PiecesJoined.{procs_joined}
+use Rattle.cmd_procs.proofs.DueLaws.{procs_due_law}
+use Rattle.cmd_procs.proofs.PiecesJoined.{procs_joined}
 use Rattle.m36_booted.specs.declared.running.Finish.TheVariants.{Over}
 use Rattle.m36_booted.specs.Runs.{Whole}
 use Rattle.m36_booted.proofs.DueLaws.{AreJoined, folder_due_law, folder_joined, one_run_here}

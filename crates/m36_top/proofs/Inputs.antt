@@ -15,7 +15,7 @@ use Rattle.m36_told.specs.Accesses.{user_reads}
 use Rattle.m36_ran.specs.declared.command.BareRun.{BareRun}
 use Rattle.m36_ran.specs.declared.command.ImageCommand.TheVariants as image
 use Rattle.m36_ran.specs.Ran.{state_reads}
-use Rattle.m36_scheduled.specs.Scheduled.{procs_reads}
+use Rattle.cmd_procs.specs.Scheduled.{procs_reads}
 use Rattle.m36_booted.specs.declared.command.FolderCommand.{FolderCommand}
 use Rattle.m36_booted.specs.Folder.{folder_reads}
 use Rattle.m36_made.specs.Making.{make_reads}

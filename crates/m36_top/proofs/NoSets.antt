@@ -23,13 +23,13 @@ use Rattle.m36_ran.specs.declared.command.BareRun.{BareRun}
 use Rattle.m36_ran.specs.declared.command.ImageCommand.{ImageCommand}
 use Rattle.m36_ran.specs.declared.command.ImageCommand.TheVariants as image
 use Rattle.m36_ran.specs.Ran.{state_reads, run_answer, audit_answer, bare_by, state_answer}
-use Rattle.m36_scheduled.specs.Scheduled.{procs_reads}
+use Rattle.cmd_procs.specs.Scheduled.{procs_reads}
 use Rattle.m36_booted.specs.declared.command.FolderCommand.{FolderCommand}
 use Rattle.m36_booted.specs.Folder.{folder_reads}
 use Rattle.m36_booted.specs.Runs.{Whole, Begun}
 use Rattle.m36_booted.specs.Runs as runs
 use Rattle.m36_booted.proofs.DueLaws.{folder_sets}
-use Rattle.m36_scheduled.proofs.YesAnswers.{procs_sets}
+use Rattle.cmd_procs.proofs.YesAnswers.{procs_sets}
 use Rattle.m36_top.specs.declared.command.Command.{Command}
 use Rattle.m36_top.specs.declared.command.Command.TheVariants.{Bare, Audit, Booted, Procs, Access, Print, Alm, Bind, DebugFolder, DebugImage, Make}
 use Rattle.m36_made.specs.Made.{files_alone}

@@ -19,7 +19,7 @@ use Rattle.m36_ran.specs.declared.command.BareRun.{BareRun}
 use Rattle.m36_ran.specs.declared.command.ImageCommand.{ImageCommand}
 use Rattle.m36_ran.specs.declared.command.ImageCommand.TheVariants as image
 use Rattle.m36_ran.specs.Ran.{state_reads, state_kind}
-use Rattle.m36_scheduled.specs.Scheduled.{procs_reads, procs_kind}
+use Rattle.cmd_procs.specs.Scheduled.{procs_reads, procs_kind}
 use Rattle.m36_booted.specs.declared.command.FolderCommand.{FolderCommand}
 use Rattle.m36_booted.specs.Folder.{folder_reads}
 use Rattle.m36_booted.specs.Booted.{folder_kind}

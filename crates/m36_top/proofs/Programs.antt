@@ -10,7 +10,7 @@ use Rattle.m36_sessions.specs.Held.{Talk, IsUntaken}
 use Rattle.m36_ran.specs.declared.command.BareRun.{BareRun}
 use Rattle.m36_ran.specs.declared.command.ImageCommand.TheVariants as image
 use Rattle.cmd_image.specs.ImageProgram.{image_program}
-use Rattle.cmd_image.specs.Objects.{PerformsOver}
+use Rattle.m36_program.specs.Objects.{PerformsOver}
 use Rattle.m36_top.specs.declared.command.Command.{Command}
 use Rattle.m36_top.specs.declared.command.Command.TheVariants.{Bare, Audit, Booted, Procs, Access, Print, Alm, Bind, DebugFolder, DebugImage, Make}
 use Rattle.m36_top.specs.Commands.{takes_input}

@@ -13,7 +13,7 @@ use Rattle.m36_reading.specs.Ends.{End, Answered, Cut, Unread, Starved, Unasked,
 use Rattle.m36_reading.specs.Doing.{IsUnset, IsUnput, EndsBy, Does}
 use Rattle.m36_ran.specs.AuditText.{yes_line}
 use Rattle.m36_ran.proofs.YesAnswers.{yes_passes}
-use Rattle.m36_scheduled.proofs.YesAnswers.{yes_passes as procs_pass}
+use Rattle.cmd_procs.proofs.YesAnswers.{yes_passes as procs_pass}
 use Rattle.m36_booted.specs.Runs.{Whole, Begun}
 use Rattle.m36_booted.specs.Runs as runs
 use Rattle.m36_booted.proofs.YesAnswers.{yes_passes as folder_passes}

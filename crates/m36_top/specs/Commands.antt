@@ -5,7 +5,7 @@ use Rattle.m36_told.specs.Telling.{print_reads, alm_reads}
 use Rattle.m36_told.specs.Binding.{bind_reads}
 use Rattle.m36_told.specs.Accesses.{user_reads}
 use Rattle.m36_ran.specs.Ran.{state_reads}
-use Rattle.m36_scheduled.specs.Scheduled.{procs_reads}
+use Rattle.cmd_procs.specs.Scheduled.{procs_reads}
 use Rattle.m36_booted.specs.Folder.{folder_reads}
 use Rattle.m36_made.specs.Making.{make_reads}
 use Rattle.m36_ran.specs.declared.command.ImageCommand.TheVariants as image

@@ -34,7 +34,7 @@ use Rattle.m36_booted.specs.declared.running.Finish.TheVariants.{Over}
 use Rattle.m36_booted.specs.Folder.{FolderFields}
 use Rattle.m36_booted.specs.Runs.{Goes, Finishes}
 use Rattle.m36_procs.specs.ProcsFields.{ProcsFields}
-use Rattle.m36_scheduled.specs.Scheduled.{dbrs_of}
+use Rattle.cmd_procs.specs.Scheduled.{dbrs_of}
 use Rattle.m36_made.specs.Made.{boots_from}
 use Rattle.m36_made.specs.Summary.{run_limit}
 use Rattle.m36_debug.specs.LinesTaken.{whole_lines}

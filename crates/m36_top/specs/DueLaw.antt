@@ -7,7 +7,7 @@ use Rattle.m36_reading.specs.declared.status.Status.TheVariants.{Usage}
 use Rattle.m36_reading.specs.Reading.{Early, outcome_in}
 use Rattle.m36_reading.specs.Answers.{Answer, unwritten, IsDueBy}
 use Rattle.m36_ran.specs.DueLaw.{StateDueLaw}
-use Rattle.m36_scheduled.specs.DueLaw.{ProcsDueLaw}
+use Rattle.cmd_procs.specs.DueLaw.{ProcsDueLaw}
 use Rattle.m36_booted.specs.DueLaw.{FolderDueLaw}
 use Rattle.m36_made.specs.DueLaw.{MadeDueLaw}
 use Rattle.m36_top.specs.declared.command.Command.{Command}

@@ -5,7 +5,7 @@ use Rattle.m36_reading.specs.declared.status.Status.{Status}
 use Rattle.m36_program.specs.Early.{early}
 use Rattle.m36_ran.specs.declared.command.ImageCommand.TheVariants as image
 use Rattle.cmd_image.specs.ImageProgram.{image_program}
-use Rattle.cmd_image.specs.Objects.{PerformsOver}
+use Rattle.m36_program.specs.Objects.{PerformsOver}
 use Rattle.m36_top.specs.declared.command.Command.{Command}
 use Rattle.m36_top.specs.declared.command.Command.TheVariants.{Bare, Audit, Booted, Procs}
 use Rattle.m36_top.specs.declared.command.Command.TheVariants.{Access, Print, Alm, Bind}

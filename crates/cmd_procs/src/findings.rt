@@ -1,0 +1,100 @@
+//! The text of a joint audit.
+
+ghost use Rattle.std.specs.Prelude.{◌≡◌, ◌≤◌, ◌<◌, [], ◌∷◌, length};
+ghost use Rattle.m36_outside.specs.Passing.{TakesLines, joined};
+ghost use Rattle.m36_outside.specs.Put.{PutSays, PutHasCause};
+ghost use Rattle.m36_text.specs.Lines.{as_line};
+ghost use Rattle.m36_audit.specs.Joints.{found_of, all_found};
+ghost use Rattle.cmd_procs.specs.JointText.{process_line, between_line, found_line, found_pieces, joint_text, joint_pieces};
+
+use arrayvec::ArrayString;
+use m36_audit::JointFinding;
+use m36_outside::{Put, Sink};
+use m36_ran::findings::{place_text, put_yes};
+use m36_ran::running::put_line;
+use m36_text::{decimal, octal};
+
+/// The line of a finding of a process, without its line feed.
+#[tactic(auto, unfolding(crate::specs::JointText::process_line))]
+fn process_line(process: u8, condition: u8, place: u32) -> ArrayString<160>
+    ensures text { result.bytes ≡ process_line process condition place }
+    ensures len { length result.bytes ≤ 61 }
+{
+    let mut line = ArrayString::new();
+    line.push_str("audit no ");
+    line.push_str(decimal(process as u64).as_str());
+    line.push_str(" A");
+    line.push_str(decimal(condition as u64).as_str());
+    line.push_str(" ");
+    line.push_str(place_text(condition, place).as_str());
+    line
+}
+
+/// The line of a finding between processes, without its line feed.
+#[tactic(auto, unfolding(crate::specs::JointText::between_line), using(m36_ran::proofs::AuditTexts::word_digits))]
+fn between_line(condition: u8, place: u32) -> ArrayString<160>
+    ensures text { result.bytes ≡ between_line condition place }
+    ensures len { length result.bytes ≤ 61 }
+{
+    let mut line = ArrayString::new();
+    line.push_str("audit no J");
+    line.push_str(decimal(condition as u64).as_str());
+    line.push_str(" ");
+    line.push_str(octal(place as u64 % 0o100000000, 8).as_str());
+    line
+}
+
+/// The line of a finding, without its line feed.
+fn found_line(finding: &JointFinding) -> ArrayString<160>
+    ensures text { result.bytes ≡ found_line (found_of finding.now) }
+    ensures len { length result.bytes ≤ 61 }
+{
+    match finding.process {
+        Some(process) => process_line(process, finding.condition, finding.place),
+        None => between_line(finding.condition, finding.place),
+    }
+}
+
+// Puts the line of a finding.
+fn put_found<S: Sink>(finding: &JointFinding, out: &mut S) -> Put
+    ensures says { PutSays result (S.written out.old) (S.written out.new)
+        (as_line (found_line (found_of finding.now))) }
+    ensures through { TakesLines result (S.taken out.old) (S.taken out.new)
+        (as_line (found_line (found_of finding.now)) ∷ []) }
+    ensures cause { PutHasCause result (S.faults out.old) (S.faults out.new) }
+{
+    put_line(out, found_line(finding))
+}
+
+/// Puts a line for each finding.
+#[tactic(auto, using(crate::proofs::JointTexts::findings_in_turn))]
+fn put_all<S: Sink>(findings: &[JointFinding], out: &mut S) -> Put
+    ensures says { PutSays result (S.written out.old) (S.written out.new)
+        (joined (found_pieces (all_found findings.now))) }
+    ensures through { TakesLines result (S.taken out.old) (S.taken out.new)
+        (found_pieces (all_found findings.now)) }
+    ensures cause { PutHasCause result (S.faults out.old) (S.faults out.new) }
+{
+    for finding in findings {
+        match put_found(finding, out) {
+            Put::Done => {}
+            Put::Failed => return Put::Failed,
+        }
+    }
+    Put::Done
+}
+
+/// Puts the text of a joint audit, line by line.
+#[tactic(auto, using(crate::proofs::JointTexts::joint_texts))]
+pub(crate) fn put_joint<S: Sink>(findings: &[JointFinding], out: &mut S) -> Put
+    ensures says { PutSays result (S.written out.old) (S.written out.new)
+        (joint_text (all_found findings.now)) }
+    ensures through { TakesLines result (S.taken out.old) (S.taken out.new)
+        (joint_pieces (all_found findings.now)) }
+    ensures cause { PutHasCause result (S.faults out.old) (S.faults out.new) }
+{
+    if findings.is_empty() {
+        return put_yes(out);
+    }
+    put_all(findings, out)
+}

@@ -1,0 +1,49 @@
+-- A rule that is worked out performs its program.
+use Rattle.std.proofs.Common.{◌≡◌, List, [], Result, Ok, Err, refl, sym, subst, inl, inr}
+use Rattle.m36_world.specs.Seen.{Seen}
+use Rattle.m36_reading.specs.declared.refusal.Refusal.{Refusal}
+use Rattle.m36_reading.specs.declared.refusal.Refusal.TheVariants.{BadFile, ReadFault, NoMemory}
+use Rattle.m36_reading.specs.declared.status.Status.{Status}
+use Rattle.m36_reading.specs.declared.status.Status.TheVariants as status
+use Rattle.m36_reading.specs.Reading.{Early}
+use Rattle.m36_reading.specs.Asking.{Gives}
+use Rattle.m36_program.specs.Goes.{Goes}
+use Rattle.m36_program.specs.Performs.{Performs}
+use Rattle.m36_program.specs.Program.{May, Program, then_with}
+use Rattle.m36_program.proofs.Performing.{goes_done, goes_stops, performs_none, performs_then, performs_stop}
+use Rattle.m36_files.specs.Deciding.{decided, decides, by_refusal}
+
+pub goes_given :
+    (may : May) {A : Type 0} (given : Result A Refusal) (rule : Early A) → Gives given rule
+    → Goes {may = may} (decides rule) [] (by_refusal given)
+unfolding Goes decides
+goes_given may {A} (Ok a) rule is =
+    inl (subst (λ (e : Early A). Goes {may = may} (decided e) [] (Ok a)) (sym is) (goes_done may a))
+goes_given may {A} (Err (BadFile bad)) rule is =
+    inl (subst (λ (e : Early A). Goes {may = may} (decided e) [] (by_refusal {A = A} (Err (BadFile bad)))) (sym is)
+    (goes_stops may A (status.BadFile bad) tt))
+goes_given may (Err ReadFault) rule is = absurd is
+goes_given may (Err NoMemory) rule is = inr (record { none = refl; result_is = refl })
+
+-- the answer of a rule
+pub rule_given :
+    (may : May) {A : Type 0} (given : Result A Refusal) (rule : Early A) (result : Result A Status) (seen : Seen)
+    → Gives given rule → result ≡ by_refusal given → Performs {may = may} (decides rule) result seen seen
+rule_given may given rule result seen gives is =
+    performs_none (decides rule) result seen (subst (λ r. Goes {may = may} (decides rule) [] r) (sym is) (goes_given may given rule gives))
+
+-- a rule on what was read before
+pub rule_after :
+    (may : May) {A B : Type 0} (p : Program may A) (rule : A → Early B) (a read : A) (given : Result B Refusal) (result : Result B Status)
+    (old new : Seen)
+    → Performs p (Ok a) old new → read ≡ a → Gives given (rule read) → result ≡ by_refusal given
+    → Performs (then_with p (λ x. decides (rule x))) result old new
+rule_after may p rule a read given result old new performs same gives is =
+    performs_then p (λ x. decides (rule x)) a result old new new performs
+    (rule_given may given (rule a) result new (subst (λ x. Gives given (rule x)) same gives) is)
+
+-- nothing was read
+pub rule_never :
+    (may : May) {A B : Type 0} (p : Program may A) (rule : A → Early B) (s : Status) (old new : Seen)
+    → Performs p (Err s) old new → Performs (then_with p (λ x. decides (rule x))) (Err s) old new
+rule_never may p rule s old new performs = performs_stop p (λ x. decides (rule x)) s old new performs

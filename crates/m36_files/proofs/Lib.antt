@@ -1,0 +1,8 @@
+pub mod DecidingLaws
+pub mod FileLaws
+pub mod EachLaws
+pub mod CatalogLaws
+pub mod OldReading
+pub mod OldReaders
+pub mod OldDoing
+pub mod ThreeObjects

@@ -1,0 +1,120 @@
+-- A call over a world of three references is one over the three objects.
+use Rattle.std.proofs.Common.{◌≡◌, ℕ, List, [], ◌∷◌, ◌++◌, Option, Result, sym, ap, subst, ◌∙◌, refl, false}
+use Rattle.m36_outside.specs.Files.{Files}
+use Rattle.m36_outside.specs.FolderCalls.{Asked, Wrote}
+use Rattle.m36_world.specs.declared.event.Event.{Event}
+use Rattle.m36_world.specs.Follow.{Follow}
+use Rattle.m36_world.specs.Seen.{Seen}
+use Rattle.m36_world.proofs.Following.{follow_logs}
+use Rattle.m36_reading.specs.declared.status.Status.{Status}
+use Rattle.m36_reading.specs.Doing.{Kind, Does}
+use Rattle.m36_reading.specs.Reading.{Reading, Early}
+use Rattle.m36_program.specs.Early.{early, status_by}
+use Rattle.m36_program.specs.Goes.{Goes}
+use Rattle.m36_program.specs.Performs.{Performs}
+use Rattle.m36_program.specs.Program.{May, Program}
+use Rattle.m36_program.specs.Trail.{InputKept}
+use Rattle.m36_program.proofs.ProgramLaws.{early_given, performs_given, performs_input}
+use Rattle.m36_files.specs.Calling.{objects, PerformsOver, outside_by}
+
+-- What the objects recorded is the same.
+pub record SameObjects (seen other : Seen) : Type 0 where
+  pub reads : seen.reads ≡ other.reads
+  pub writes : seen.writes ≡ other.writes
+  pub outputs : seen.outputs ≡ other.outputs
+  pub inputs : seen.inputs ≡ other.inputs
+  pub files : seen.files ≡ other.files
+  pub written : seen.written ≡ other.written
+  pub left : seen.left ≡ other.left
+  pub read_faults : seen.read_faults ≡ other.read_faults
+  pub write_faults : seen.write_faults ≡ other.write_faults
+  pub output_faults : seen.output_faults ≡ other.output_faults
+  pub input_faults : seen.input_faults ≡ other.input_faults
+
+same_seen :
+    (seen other : Seen) → SameObjects seen other
+    → seen ≡ record other { events = seen.events; references = seen.references }
+same_seen seen other same =
+    let reads = same.reads in let writes = same.writes in let outputs = same.outputs in
+    let inputs = same.inputs in let files = same.files in let written = same.written in
+    let left = same.left in let read_faults = same.read_faults in let write_faults = same.write_faults in
+    let output_faults = same.output_faults in let input_faults = same.input_faults in
+    rw (sym reads, sym writes, sym outputs, sym inputs, sym files, sym written, sym left, sym read_faults, sym write_faults, sym output_faults, sym input_faults)
+    refl
+
+seen_at : (seen : Seen) (references : List ℕ) → seen.references ≡ references → seen ≡ record seen { references = references }
+seen_at seen references is = ap (λ (l : List ℕ). record seen { references = l }) is
+
+-- The objects are those of a world.
+pub same_now :
+    {F L S : Type 0} (asked : F → List Asked) (wrote : F → List Wrote) (files : F → Option Files)
+    (read_faults write_faults : F → ℕ) (given : L → List (List ℕ)) (left : L → Option (List ℕ)) (input_faults : L → ℕ)
+    (taken : S → List (List ℕ)) (written : S → Option (List ℕ)) (faults : S → ℕ)
+    (folder folder' : F) (lines lines' : L) (out out' : S) (events : List Event) (references : List ℕ)
+    → folder ≡ folder' → lines ≡ lines' → out ≡ out'
+    → SameObjects
+    (record (objects asked wrote files read_faults write_faults given left input_faults taken written faults folder lines out) { events = events; references = references })
+    (objects asked wrote files read_faults write_faults given left input_faults taken written faults folder' lines' out')
+same_now asked wrote files read_faults write_faults given left input_faults taken written faults folder folder' lines lines' out out' events references f l s = record {
+  reads = ap asked f;
+  writes = ap wrote f;
+  outputs = ap taken s;
+  inputs = ap given l;
+  files = ap files f;
+  written = ap written s;
+  left = ap left l;
+  read_faults = ap read_faults f;
+  write_faults = ap write_faults f;
+  output_faults = ap faults s;
+  input_faults = ap input_faults l;
+}
+
+pub performs_over :
+    {may : May} (p : Program may (Unit {0})) (result : Result (Unit {0}) Status) (status : Status) (old new old' new' : Seen)
+    → status ≡ status_by result → old.events ≡ old'.events → SameObjects old old' → SameObjects new new'
+    → Performs p result old new → PerformsOver p (early status) old' new'
+performs_over p result status old new old' new' status_is none same_old same_new performs =
+    let logs = follow_logs performs.events old new performs.follow in
+    let old_is : old ≡ record old' { references = old.references } =
+    same_seen old old' same_old ∙ ap (λ e. record old' { events = e; references = old.references }) none in
+    let new_is : new ≡ record new' { events = old'.events ++ performs.events; references = old.references } =
+    same_seen new new' same_new
+    ∙ ap (λ e. record new' { events = e; references = new.references }) (logs.all ∙ ap (λ e. e ++ performs.events) none)
+    ∙ ap (λ (l : List ℕ). record new' { events = old'.events ++ performs.events; references = l }) logs.references in
+    record {
+      events = performs.events;
+      references = old.references;
+      follow =
+          subst (λ s. Follow performs.events s (record new' { events = old'.events ++ performs.events; references = old.references })) old_is
+          (subst (λ s. Follow performs.events old s) new_is performs.follow);
+      goes =
+          subst (λ r. Goes p performs.events r)
+          (sym (ap early status_is ∙ early_given result (performs_given p result old new performs))) performs.goes;
+    }
+
+same_outside : (seen other : Seen) → SameObjects seen other → outside_by seen ≡ outside_by other
+same_outside seen other same = ap outside_by (same_seen seen other same)
+
+pub does_over :
+    {D : Type 0} (kind : Kind D) (p : Reading (Early D)) (result : Result (Unit {0}) Status) (status : Status) (old new old' new' : Seen)
+    → status ≡ status_by result → SameObjects old old' → SameObjects new new'
+    → Does kind p (status_by result) (outside_by old) (outside_by new) old.reads new.reads
+    → Does kind p status (outside_by old') (outside_by new') old'.reads new'.reads
+does_over kind p result status old new old' new' status_is same_old same_new does =
+    let s = status_by result in
+    subst (λ t. Does kind p t (outside_by old') (outside_by new') old'.reads new'.reads) (sym status_is)
+    (subst (λ r. Does kind p s (outside_by old') (outside_by new') old'.reads r) same_new.reads
+    (subst (λ r. Does kind p s (outside_by old') (outside_by new') r new.reads) same_old.reads
+    (subst (λ o. Does kind p s (outside_by old') o old.reads new.reads) (same_outside new new' same_new)
+    (subst (λ o. Does kind p s o (outside_by new) old.reads new.reads) (same_outside old old' same_old) does))))
+
+pub untaken_over :
+    {may : May} (p : Program may (Unit {0})) (result : Result (Unit {0}) Status) (old new old' new' : Seen)
+    → may.takes ≡ false → SameObjects old old' → SameObjects new new' → Performs p result old new
+    → InputKept old' new'
+untaken_over p result old new old' new' never same_old same_new performs =
+    let kept = performs_input p result old new never performs in record {
+      left = sym same_new.left ∙ kept.left ∙ same_old.left;
+      inputs = sym same_new.inputs ∙ kept.inputs ∙ same_old.inputs;
+      faults = sym same_new.input_faults ∙ kept.faults ∙ same_old.input_faults;
+    }

@@ -1,0 +1,17 @@
+-- The readers of one file, as programs: its words (T3, T4, F3), and its object (O1 to O8).
+use Rattle.std.specs.Prelude.{ℕ, List}
+use Rattle.m36_text.specs.Packing.{unpacked}
+use Rattle.obj36_parts.specs.PartsFields.{PartsFields}
+use Rattle.obj36.specs.ObjectOf.{object_of}
+use Rattle.m36_reading.specs.Readers.{words_by, object_by}
+use Rattle.m36_program.specs.Program.{May, Program, then_with}
+use Rattle.m36_program.specs.Readers.{file_bytes}
+use Rattle.m36_files.specs.Deciding.{decides}
+
+-- the words of a file
+unfoldable pub file_words : {may : May} → List ℕ → Program may (List ℕ)
+file_words name = then_with (file_bytes name) (λ bytes. decides (words_by name (unpacked bytes)))
+
+-- the object of a file
+unfoldable pub file_object : {may : May} → List ℕ → Program may PartsFields
+file_object name = then_with (file_words name) (λ words. decides (object_by name (object_of words)))

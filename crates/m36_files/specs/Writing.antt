@@ -1,0 +1,7 @@
+-- What a program may do that writes files.
+use Rattle.std.specs.Prelude.{true, false}
+use Rattle.m36_program.specs.Program.{May}
+
+-- write files, and take no input
+abbrev pub writing : May
+writing = record { writes = true; takes = false }

@@ -1,0 +1,183 @@
+//! The catalog of the boot text, and the access lists.
+
+ghost use Rattle.std.specs.Prelude.{◌≤◌, Ok, Some, length};
+ghost use Rattle.m36_outside.specs.ReadAnswer.{file_limit};
+ghost use Rattle.m36_dir.specs.Catalog.{catalog_of};
+ghost use Rattle.m36_acl.specs.AccessLists.{lists_of};
+ghost use Rattle.m36_acl.specs.Granted.{first_unknown};
+ghost use Rattle.m36_reading.specs.Asking.{Gives, Refuses};
+ghost use Rattle.m36_catalog.specs.Catalogs.{catalog_refused, catalog_by, acl_refused, lists_refused, known_by, lists_by, for_user};
+ghost use Rattle.m36_program.specs.Performs.{Performs};
+ghost use Rattle.m36_program.specs.Program.{May};
+ghost use Rattle.m36_files.specs.Catalogs.{boot_catalog, access_lists, with_rights, catalog_access};
+
+use crate::deciding::decide;
+use m36_acl::{Acl, AclFault, User};
+use m36_catalog::Access;
+use m36_catalog::reading::refuse_boot;
+use m36_dir::{Catalog, CatalogFault};
+use m36_program::read_bytes;
+use m36_reading::{Code, Refusal, Status, refuse};
+use m36_world::World;
+use std::alloc::Global;
+
+// D1 to D6: a text that writes out no catalog.
+fn refuse_catalog(alloc: Global, fault: CatalogFault) -> Refusal
+    ensures { Refuses result (catalog_refused fault) }
+{
+    match fault {
+        CatalogFault::D1(line) => refuse_boot(alloc, Code::D1, line),
+        CatalogFault::D2(line) => refuse_boot(alloc, Code::D2, line),
+        CatalogFault::D3(line) => refuse_boot(alloc, Code::D3, line),
+        CatalogFault::D4(line) => refuse_boot(alloc, Code::D4, line),
+        CatalogFault::D5(line) => refuse_boot(alloc, Code::D5, line),
+        CatalogFault::D6(line) => refuse_boot(alloc, Code::D6, line),
+        CatalogFault::NoMemory => Refusal::NoMemory,
+    }
+}
+
+// The catalog that the bytes of a boot text, of at most 16 MiB, write out.
+#[tactic(auto, using(m36_catalog::proofs::CatalogReads::catalogs))]
+fn catalog_in(alloc: Global, bytes: &[u8]) -> Result<Catalog, Refusal>
+    requires { length bytes.now ≤ file_limit }
+    ensures { Gives result (catalog_by (catalog_of bytes.now)) }
+{
+    match Catalog::read(alloc, bytes) {
+        Ok(catalog) => Ok(catalog),
+        Err(fault) => Err(refuse_catalog(alloc, fault)),
+    }
+}
+
+/// Reads the boot text, and gives its catalog.
+pub fn read_catalog<W: World>(alloc: Global, world: &mut W) -> Result<Catalog, Status>
+    ensures { (may : May) → Performs {may = may} boot_catalog result
+        (W.seen world.old) (W.seen world.new) }
+{
+    match read_bytes(alloc, b"boot", world) {
+        Ok(text) => {
+            let given = catalog_in(alloc, text.bytes());
+            drop(text);
+            decide(given)
+        }
+        Err(status) => Err(status),
+    }
+}
+
+// Refuses the access lists.
+fn refuse_acl(alloc: Global, code: Code, at: u32) -> Refusal
+    ensures { Refuses result (acl_refused code at) }
+{
+    refuse(alloc, b"acl", code, at)
+}
+
+// C1 and C2: a text that writes out no access lists.
+fn refuse_lists(alloc: Global, fault: AclFault) -> Refusal
+    ensures { Refuses result (lists_refused fault) }
+{
+    match fault {
+        AclFault::C1(line) => refuse_acl(alloc, Code::C1, line),
+        AclFault::C2(line) => refuse_acl(alloc, Code::C2, line),
+        AclFault::NoMemory => Refusal::NoMemory,
+    }
+}
+
+// C3: a segment that is not in the catalog.
+fn known(alloc: Global, catalog: &Catalog, lists: Acl) -> Result<Acl, Refusal>
+    ensures { Gives result (known_by lists (first_unknown catalog.now lists)) }
+{
+    match lists.first_unknown(catalog) {
+        None => Ok(lists),
+        Some(line) => Err(refuse_acl(alloc, Code::C3, line)),
+    }
+}
+
+// The access lists that the bytes of a text, of at most 16 MiB, write out for a catalog.
+#[tactic(auto, using(m36_catalog::proofs::CatalogReads::lists_said))]
+fn lists_in(alloc: Global, catalog: &Catalog, bytes: &[u8]) -> Result<Acl, Refusal>
+    requires { length bytes.now ≤ file_limit }
+    ensures { Gives result (lists_by catalog.now (lists_of bytes.now)) }
+{
+    match Acl::read(alloc, bytes) {
+        Ok(lists) => known(alloc, catalog, lists),
+        Err(fault) => Err(refuse_lists(alloc, fault)),
+    }
+}
+
+/// Reads the access lists for a catalog.
+pub fn read_lists<W: World>(
+    alloc: Global,
+    catalog: &Catalog,
+    world: &mut W,
+) -> Result<Acl, Status>
+    ensures { (may : May) → Performs {may = may} (access_lists catalog.now) result
+        (W.seen world.old) (W.seen world.new) }
+{
+    match read_bytes(alloc, b"acl", world) {
+        Ok(text) => {
+            let given = lists_in(alloc, catalog, text.bytes());
+            drop(text);
+            decide(given)
+        }
+        Err(status) => Err(status),
+    }
+}
+
+// The rights that lists give to a user.
+fn rights_of(alloc: Global, user: &User, catalog: Catalog, lists: &Acl) -> Result<Access, Refusal>
+    ensures { Gives result (Ok (for_user user.now catalog lists.now)) }
+{
+    Ok(Access::for_user(alloc, user, catalog, lists)?)
+}
+
+// Reads the access lists, and gives a catalog the rights of a user.
+fn read_for_user<W: World>(
+    alloc: Global,
+    user: &User,
+    catalog: Catalog,
+    world: &mut W,
+) -> Result<Access, Status>
+    ensures { (may : May) → Performs {may = may} (with_rights (Some user.now) catalog) result
+        (W.seen world.old) (W.seen world.new) }
+{
+    match read_lists(alloc, &catalog, world) {
+        Ok(lists) => {
+            let given = rights_of(alloc, user, catalog, &lists);
+            drop(lists);
+            decide(given)
+        }
+        Err(status) => Err(status),
+    }
+}
+
+// The rights of a catalog under a user, if there is one.
+#[tactic(auto, using(crate::proofs::CatalogLaws::rights))]
+fn read_rights<W: World>(
+    alloc: Global,
+    user: &Option<User>,
+    catalog: Catalog,
+    world: &mut W,
+) -> Result<Access, Status>
+    ensures { (may : May) → Performs {may = may} (with_rights user.now catalog) result
+        (W.seen world.old) (W.seen world.new) }
+{
+    match user {
+        Some(user) => read_for_user(alloc, user, catalog, world),
+        None => Ok(Access::as_given(alloc, catalog)),
+    }
+}
+
+/// Reads the boot text, and for a user the access lists.
+#[tactic(auto, using(crate::proofs::CatalogLaws::accesses))]
+pub fn read_access<W: World>(
+    alloc: Global,
+    user: &Option<User>,
+    world: &mut W,
+) -> Result<Access, Status>
+    ensures { (may : May) → Performs {may = may} (catalog_access user.now) result
+        (W.seen world.old) (W.seen world.new) }
+{
+    match read_catalog(alloc, world) {
+        Ok(catalog) => read_rights(alloc, user, catalog, world),
+        Err(status) => Err(status),
+    }
+}

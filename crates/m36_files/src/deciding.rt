@@ -1,0 +1,16 @@
+//! The result of a call by a rule.
+
+ghost use Rattle.std.specs.Prelude.{◌≡◌};
+ghost use Rattle.m36_files.specs.Deciding.{by_refusal};
+
+use m36_reading::{Refusal, Status};
+
+/// The value of a rule, or the status by its refusal.
+pub fn decide<T>(given: Result<T, Refusal>) -> Result<T, Status>
+    ensures { result ≡ by_refusal given }
+{
+    match given {
+        Ok(value) => Ok(value),
+        Err(refusal) => Err(refusal.status()),
+    }
+}

@@ -1,0 +1,33 @@
+//! Readers of files, as programs.
+//!
+//! A reader reads a file over any world, refuses it or goes on, and gives what the file says:
+//!
+//! | Reader | Program in `specs/` | It gives, or refuses with |
+//! |---|---|---|
+//! | [`read_words`] | `file_words` | the words of a file: F1, F2, then T3, T4, F3 |
+//! | [`read_object`] | `file_object` | its object: the same, and then O1 to O8 |
+//! | [`read_catalog`] | `boot_catalog` | the catalog of the boot text: F1, F2, D1 to D6 |
+//! | [`read_lists`] | `access_lists` | the access lists for a catalog: F1, F2, C1 to C3 |
+//! | [`read_access`] | `catalog_access` | the catalog with the rights of a user: both |
+//!
+//! Each has the clause `(may : May) → Performs {may = may} (..) result ..`, so that any command may
+//! use it, one that writes files too. `each_onto` (`specs/EachFile.antt`) is the program that reads
+//! something for each item of a list, one after another; `proofs/EachLaws.antt` has what a loop
+//! needs that performs it.
+//!
+//! What is worked out from the bytes of a file, without a read, is a rule: it gives a value or a
+//! refusal, and memory may run out for it (`decides`). [`decide`] makes the result of a call by it.
+//!
+//! `specs/Calling.antt` says what a call does that performs a program over a folder, an input and an
+//! output of the caller (`PerformsOver`). The older layer says the same call by a reading and by
+//! what is due (`Does`): `IsReader` (`proofs/OldReading.antt`) ties a reader to its reading, and
+//! `reader_does` (`proofs/OldDoing.antt`) a command that reads and then answers.
+#![tactic(auto)]
+
+pub mod catalogs;
+pub mod deciding;
+pub mod objects;
+
+pub use catalogs::{read_access, read_catalog, read_lists};
+pub use deciding::decide;
+pub use objects::{read_object, read_words};

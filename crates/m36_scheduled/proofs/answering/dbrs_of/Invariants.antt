@@ -1,7 +1,0 @@
-use Rattle.std.proofs.Common.{◌≡◌, ◌++◌, drop}
-use Rattle.m36_scheduled.proofs.Registers.{bases}
-use Rattle.m36_scheduled.proofs.answering.dbrs_of.Given as goal
-
--- Those of the processes before this one stand, and with those of the rest they are all.
-abbrev pub invariant-loop-i : goal.invariant-loop-i
-invariant-loop-i l = l.dbrs.items ++ bases (drop l.i l.procs.state.regs) ≡ bases l.procs.state.regs
