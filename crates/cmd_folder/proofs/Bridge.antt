@@ -28,7 +28,7 @@ use Rattle.m36_program.proofs.PieceLaws.{pieces_put, put_after, reads_of, PutsWh
 use Rattle.m36_program.proofs.ProgramLaws.{performs_cause, performs_files, performs_text}
 use Rattle.m36_catalog.specs.Catalogs.{access_reads}
 use Rattle.m36_catalog.specs.declared.access.Access.{Access}
-use Rattle.m36_files.specs.Calling.{outside_by}
+use Rattle.m36_program.specs.Objects.{outside_by}
 use Rattle.m36_files.specs.Catalogs.{catalog_access}
 use Rattle.m36_files.specs.Deciding.{decides}
 use Rattle.m36_files.specs.EachFile.{each_onto}

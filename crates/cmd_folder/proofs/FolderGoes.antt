@@ -16,6 +16,7 @@ use Rattle.m36_reading.specs.declared.status.Status.TheVariants.{NoMemory}
 use Rattle.m36_reading.specs.Answers.{Answer}
 use Rattle.m36_program.specs.Early.{MayEnd}
 use Rattle.m36_program.specs.Goes.{Ends, Chosen, Goes}
+use Rattle.m36_program.proofs.Answering.{puts_with}
 use Rattle.m36_program.proofs.PieceLaws.{reads_of, reads_after}
 use Rattle.m36_ran.specs.AuditText.{audit_pieces}
 use Rattle.m36_ran.specs.Ran.{is_run, passes, audit_status, audit_answer}
@@ -29,8 +30,7 @@ use Rattle.m36_booted.specs.Booted.{run_behind, IsRunAnswer, IsAuditAnswer, IsRu
 use Rattle.m36_booted.specs.Folder.{FolderFields}
 use Rattle.m36_booted.specs.RunText.{steps_in, pieces_from, end_pieces, run_answer, run_pieces, finish_status}
 use Rattle.m36_booted.specs.Runs.{Extent, Whole, Begun, Starved, Reaches}
-use Rattle.cmd_image.specs.ImageProgram.{audit_only}
-use Rattle.cmd_image.proofs.ImageGoes as image
+use Rattle.cmd_image.specs.ImageProgram.{audit_may_end, audit_only}
 use Rattle.cmd_folder.specs.OnFolder.{IsFound, audit_and_run, run_by, on_run, by_command, running, on_system, on_folder}
 use Rattle.cmd_folder.specs.RunProgram.{Running, finish_may_end, run_from}
 use Rattle.cmd_folder.proofs.PutsSplit.{PutsThen, PutsFirst, PutsAcross, PutsSplit, puts_split, PutIn, put_before, put_across}
@@ -73,8 +73,9 @@ put_more Is Is' events result more put = record {
 audit_put :
     (findings : List (ℕ × ℕ)) (events : List Event) (result : Result (Unit {0}) Status)
     → Goes (audit_only findings) events result → AnswerPut (λ extent. IsAuditAnswer extent findings) events result
+unfolding audit_only audit_answer
 audit_put findings events result goes =
-    let puts = image.audit_puts findings events result goes in
+    let puts = puts_with (audit_pieces findings) (audit_status (passes findings)) (audit_may_end (passes findings)) events result goes in
     elim puts.puts [
       | inl whole ↦ record {
         extent = Whole;

@@ -24,13 +24,13 @@ use Rattle.m36_reading.specs.declared.status.Status.TheVariants.{NoMemory}
 use Rattle.m36_program.specs.Early.{ends}
 use Rattle.m36_program.specs.Goes.{Ends, Goes}
 use Rattle.m36_program.specs.Program.{quiet, Program, puts_all}
-use Rattle.m36_program.proofs.PieceLaws.{reads_of, reads_after, PutsWhole, PutsPart, puts_ended}
+use Rattle.m36_program.proofs.PieceLaws.{reads_of, reads_after, PutsWhole, PutsPart}
 use Rattle.m36_booted.specs.declared.running.Finish.{Finish}
 use Rattle.m36_booted.specs.declared.running.Finish.TheVariants.{Over, Limit}
 use Rattle.m36_booted.specs.RunText.{steps_of, steps_in, pieces_of, pieces_from, end_pieces, finish_status}
 use Rattle.m36_booted.proofs.Serving.{IsStep, IsLink}
 use Rattle.m36_booted.specs.Runs.{IsEvent, StandsBehind, Finishes, AwaitsLink, Extent, Whole, Begun, Starved, Reaches}
-use Rattle.cmd_image.proofs.ImageGoes.{puts_reads}
+use Rattle.m36_program.proofs.Answering.{puts_with}
 use Rattle.cmd_folder.specs.RunProgram.{Running, Made, IsMade, IsServed, finish_may_end, run_ends, puts_turn, after_service, then_on, serve_by, serve, run_from}
 use Rattle.cmd_folder.proofs.PutsSplit.{PutsThen, PutsFirst, PutsAcross, PutsSplit, puts_split, PutIn, put_before, put_across}
 use Rattle.cmd_folder.proofs.Serving.{console_over, ended_pieces}
@@ -80,15 +80,15 @@ ends_here :
 unfolding run_ends
 ends_here run taken left b how events result finishes goes =
     let pieces = end_pieces run.denied (Some how) taken in
-    let status = finish_status (Some how) in
-    elim (puts_ended quiet pieces status (finish_may_end how) events result goes) [
+    let puts = puts_with pieces (finish_status (Some how)) (finish_may_end how) events result goes in
+    elim puts.puts [
       | inl whole ↦ record {
         extent = Whole;
         how = Some how;
         pieces = pieces;
         run_is = no_turns Whole run taken left b (Some how) finishes;
         put = whole;
-        alone = puts_reads pieces status (finish_may_end how) events result goes;
+        alone = puts.alone;
       }
       | inr part ↦ record {
         extent = Begun;
@@ -96,7 +96,7 @@ ends_here run taken left b how events result finishes goes =
         pieces = pieces;
         run_is = no_turns Begun run taken left b (Some how) finishes;
         put = part;
-        alone = puts_reads pieces status (finish_may_end how) events result goes;
+        alone = puts.alone;
       }
     ]
 

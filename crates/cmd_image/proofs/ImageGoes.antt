@@ -123,7 +123,7 @@ ends_reads WriteFault own events result goes = absurd own
 ends_reads NoMemory own events result goes = absurd own
 ends_reads _ own events result goes = ap reads_of goes.none
 
-pub puts_reads :
+puts_reads :
     (pieces : List (List ℕ)) (s : Status) (own : MayEnd s) (events : List Event) (result : Result (Unit {0}) Status)
     → Goes {may = quiet} (puts_all pieces (ends s own)) events result → reads_of events ≡ []
 unfolding Goes puts_all
@@ -147,7 +147,7 @@ puts_with pieces s own events result goes = record {
 abbrev pub NoneLeft : List Event → Result (Unit {0}) Status → Type 0
 NoneLeft events result = Ends (Err NoMemory) events result
 
-pub audit_puts :
+audit_puts :
     (findings : List (ℕ × ℕ)) (events : List Event) (result : Result (Unit {0}) Status)
     → Goes (audit_only findings) events result → Puts (audit_answer findings) events result
 unfolding audit_only audit_answer
