@@ -34,6 +34,7 @@ use Rattle.m36_ran.specs.Ran.{state_reads, state_answer, IsStateDue, state_kind}
 use Rattle.m36_ran.specs.declared.command.ImageCommand.{ImageCommand}
 use Rattle.cmd_image.specs.ImageProgram.{image_program}
 use Rattle.m36_program.specs.Objects.{outside_by}
+use Rattle.m36_program.proofs.Objects.{SameObjects, does_over}
 use Rattle.cmd_image.proofs.ImageGoes.{Puts, ReadsAlone, ReadsPuts, How, Unread, Starved, Refused, Answered, program_how}
 
 -- what comes of reading the image, by what was asked
@@ -258,3 +259,13 @@ performs_does command name result old new performs =
           (performs_text program result old new performs)
           (program_how command name performs.events result performs.goes);
     }
+
+-- the same of a call over three objects
+pub does_called :
+    (command : ImageCommand) (name : List ℕ) (result : Result (Unit {0}) Status) (status : Status) (old new old' new' : Seen)
+    → status ≡ status_by result → SameObjects old old' → SameObjects new new'
+    → Performs (image_program command name) result old new
+    → Does (state_kind command) (state_reads name) status (outside_by old') (outside_by new') old'.reads new'.reads
+does_called command name result status old new old' new' status_is same_old same_new performs =
+    does_over (state_kind command) (state_reads name) (status_by result) status old new old' new' status_is same_old same_new
+    (performs_does command name result old new performs)

@@ -22,6 +22,6 @@ pub mod lines;
 pub mod reading;
 pub mod running;
 
-pub use answering::{audited, folder_booted};
+pub use answering::audited;
 pub use command::{FolderCommand, FolderRun, RunOutput};
 pub use ending::{finish_line, finish_status};
