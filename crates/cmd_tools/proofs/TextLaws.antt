@@ -21,7 +21,7 @@ use Rattle.m36_files.specs.Deciding.{decides}
 use Rattle.m36_files.specs.EachFile.{each_onto}
 use Rattle.m36_files.specs.FileReaders.{file_object}
 use Rattle.m36_files.specs.Writing.{writing}
-use Rattle.m36_files.proofs.AlikeReaders.{bytes_alike, decides_alike, done_alike, rule_alike, object_alike, catalog_alike, lists_alike, each_alike}
+use Rattle.cmd_tools.proofs.AlikeReaders.{bytes_alike, decides_alike, done_alike, rule_alike, object_alike, catalog_alike, lists_alike, each_alike}
 use Rattle.cmd_tools.specs.Reporting.{writes_all, put_text, write_report}
 use Rattle.cmd_tools.specs.ToolPrograms.{print_report, print_program, lists_report, access_report, access_program}
 use Rattle.cmd_tools.specs.ToolPrograms.{alm_report, alm_program, components_report, text_report, bind_report, bind_program}

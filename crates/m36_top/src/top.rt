@@ -15,10 +15,10 @@ ghost use Rattle.m36_top.specs.TopCall.{Through, TopOutput, InputBy, InputSays, 
 
 use crate::command::Command;
 use crate::words::command_of;
+use cmd_folder::folder_command;
 use cmd_image::image_command;
 use cmd_procs::procs_command;
 use cmd_tools::{access_command, alm_command, bind_command, print_command};
-use m36_booted::folder_booted;
 use m36_made::make_folder;
 use m36_outside::{Folder, Lines, Sink, Text};
 use m36_ran::ImageCommand;
@@ -67,7 +67,9 @@ pub fn perform<F: Folder, L: Lines, S: Sink>(
         Command::Audit(file) => {
             image_command(alloc, file.bytes(), ImageCommand::Audit, folder, lines, out)
         }
-        Command::Booted(command, user) => folder_booted(alloc, *command, user, folder, out),
+        Command::Booted(command, user) => {
+            folder_command(alloc, *command, user, folder, lines, out)
+        }
         Command::Procs(file, unaudited) => {
             procs_command(alloc, file.bytes(), *unaudited, folder, lines, out)
         }
@@ -231,8 +233,8 @@ pub fn m36<F: Folder, L: Lines, S: Sink>(
         (talk_of L.left L.given L.faults lines.old lines.new)
         (F.asked folder.old) (F.asked folder.new) }
 
-    // `bare`, `audit FILE`, `procs`, `access`, `print`, `alm` and `bind` do what their programs say: all that the three
-    // objects record of the call, in one order.
+    // Every command but `debug` and `make` does what its program says: all that the three objects record of the call, in
+    // one order.
     ensures performs { TopPerforms (command_of words.now) result
         (objects F.asked F.wrote F.files F.read_faults F.write_faults L.given L.left L.faults
         S.taken S.written S.faults folder.old lines.old out.old)

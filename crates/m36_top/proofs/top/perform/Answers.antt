@@ -5,7 +5,7 @@ use Rattle.m36_ran.specs.declared.command.ImageCommand.TheVariants as image
 use Rattle.cmd_image.specs.ImageProgram.{image_program}
 use Rattle.cmd_procs.specs.ProcsProgram.{procs_program}
 use Rattle.cmd_tools.specs.ToolPrograms.{print_program}
-use Rattle.m36_top.specs.declared.command.Command.TheVariants.{Bare, Audit, Procs, Access, Print, Alm, Bind}
+use Rattle.m36_top.specs.declared.command.Command.TheVariants.{Bare, Audit, Booted, Procs, Access, Print, Alm, Bind}
 use Rattle.m36_top.proofs.Performing.{as_command, performs_bare, performs_audit, performs_booted, performs_procs, performs_access, performs_print, performs_alm, performs_bind, performs_debug_folder, performs_debug_image, takes_debug_folder, takes_debug_image, performs_make}
 use Rattle.m36_top.proofs.Programs.{as_performs, as_input, as_takes, named, same_input}
 use Rattle.m36_top.proofs.top.perform.Goals as goal
@@ -84,13 +84,33 @@ returns-in-Booted-clause-does g c =
     let s = g.S.Sink in
     let i = g.L.Lines in
     let at = outside_of f.files f.wrote f.read_faults f.write_faults s.written s.taken s.faults in
-    let talk = talk_of i.left i.given i.faults c.args.lines.now c.args.lines.now in
+    let talk = talk_of i.left i.given i.faults c.args.lines.now c.folder_command.new.lines in
     let old = at c.args.folder.now c.args.out.now in
-    let new = at c.folder_booted.new.folder c.folder_booted.new.out in
+    let new = at c.folder_command.new.folder c.folder_command.new.out in
     let before = f.asked c.args.folder.now in
-    let after = f.asked c.folder_booted.new.folder in
-    as_command talk c.args.command.now _ c.folder_booted.result old new before after c.in-Booted.is
-    (performs_booted talk c.in-Booted.command c.in-Booted.user c.folder_booted.result old new before after c.folder_booted.ensures)
+    let after = f.asked c.folder_command.new.folder in
+    as_command talk c.args.command.now _ c.folder_command.result old new before after c.in-Booted.is
+    (performs_booted talk c.in-Booted.command c.in-Booted.user c.folder_command.result old new before after c.folder_command.ensures.does)
+
+pub returns-in-Booted-clause-performs : goal.returns-in-Booted-clause-performs
+returns-in-Booted-clause-performs g c =
+    as_performs c.args.command.now (Booted c.in-Booted.command c.in-Booted.user) c.folder_command.result _ _ c.in-Booted.is
+    c.folder_command.ensures.performs
+
+pub returns-in-Booted-clause-input : goal.returns-in-Booted-clause-input
+returns-in-Booted-clause-input g c =
+    let i = g.L.Lines in
+    let kept = c.folder_command.ensures.untaken in
+    as_input (talk_of i.left i.given i.faults c.args.lines.now c.folder_command.new.lines) c.args.command.now (Booted c.in-Booted.command c.in-Booted.user) c.folder_command.result c.in-Booted.is
+    (same_input _ _ _ _ _ _ kept.left kept.inputs kept.faults)
+
+pub returns-in-Booted-clause-takes : goal.returns-in-Booted-clause-takes
+returns-in-Booted-clause-takes g c =
+    let f = g.F.Folder in
+    let i = g.L.Lines in
+    let kept = c.folder_command.ensures.untaken in
+    as_takes (talk_of i.left i.given i.faults c.args.lines.now c.folder_command.new.lines) c.args.command.now (Booted c.in-Booted.command c.in-Booted.user) c.folder_command.result (f.asked c.args.folder.now) (f.asked c.folder_command.new.folder) c.in-Booted.is
+    (same_input _ _ _ _ _ _ kept.left kept.inputs kept.faults)
 
 pub returns-in-Procs-clause-does : goal.returns-in-Procs-clause-does
 returns-in-Procs-clause-does g c =
