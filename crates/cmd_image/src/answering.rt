@@ -18,7 +18,7 @@ use std::alloc::Global;
 
 /// Puts the text of an audit. Fails with AuditNo if there are findings.
 #[tactic(auto, using(crate::proofs::ImageSteps::auditing))]
-fn answer_audit<W: World>(findings: &[Finding], world: &mut W) -> Result<(), Status>
+pub fn answer_audit<W: World>(findings: &[Finding], world: &mut W) -> Result<(), Status>
     ensures { Performs (audit_only (pairs findings.now)) result
         (W.seen world.old) (W.seen world.new) }
 {

@@ -166,7 +166,7 @@ reached_kept lib system now booted audited reached =
     turns_keep lib reached.turns (booted_of reached.system) now (start_unloaded lib reached.system reached.booted) reached.turns_are reached.unloaded
     (subst (λ (s : SuperFields). IsKept lib (booted_of s)) same start)
 
-passes_booted :
+pub passes_booted :
     (lib : Library) (system : SuperFields) → IsBooted lib system → IsAudited system.core booted_dbr → PassesBooted lib
 passes_booted lib system booted audited = record {
   conditions = λ now reached. (reached_kept lib system now booted audited reached).audited;

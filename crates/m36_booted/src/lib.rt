@@ -18,10 +18,10 @@ pub mod answering;
 pub mod command;
 pub mod ending;
 pub mod files;
-mod lines;
+pub mod lines;
 pub mod reading;
 pub mod running;
 
-pub use answering::{audited, folder_booted};
+pub use answering::audited;
 pub use command::{FolderCommand, FolderRun, RunOutput};
 pub use ending::{finish_line, finish_status};

@@ -210,8 +210,8 @@ fn line_of_segment(denied: &DeniedLines, seg: u16) -> Option<&[u8]>
     denied.line((seg - FIRST_SEGMENT) as usize)
 }
 
-// What stands behind the end line.
-fn denied_line(denied: &DeniedLines, how: Finish) -> Option<&[u8]>
+/// The line of the segment to which a right was wanted, where a run has ended so.
+pub fn denied_line(denied: &DeniedLines, how: Finish) -> Option<&[u8]>
     ensures { MatchOption result (line_for denied.now (denied_segment how) ≡ None) (λ line. line_for denied.now (denied_segment how) ≡ Some line.now) }
 {
     line_of_segment(denied, denied_segment(how)?)

@@ -32,8 +32,8 @@ pub struct BootedFolder {
     pub denied: DeniedLines,
 }
 
-// The files, and one more.
-fn with_file(mut files: SegmentFiles, words: Words) -> Result<SegmentFiles, Refusal>
+/// The files, and one more.
+pub fn with_file(mut files: SegmentFiles, words: Words) -> Result<SegmentFiles, Refusal>
     requires { length words ≤ segment_limit }
     ensures gives { Gives result
         (let more : Early (List (List ℕ)) = Ok (files ++ words ∷ []) in more) }
@@ -94,9 +94,9 @@ fn refuse_fault(alloc: Global, fault: BootFault) -> Refusal
     }
 }
 
-// The system that a catalog boots to with its files.
+/// The system that a catalog boots to with its files.
 #[tactic(auto, using(crate::proofs::FolderReads::booting))]
-fn boot_files(
+pub fn boot_files(
     alloc: Global,
     catalog: Catalog,
     denied: DeniedLines,

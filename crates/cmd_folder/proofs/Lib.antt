@@ -1,0 +1,9 @@
+pub mod BlockLaws
+pub mod TurnPieces
+pub mod Serving
+pub mod RunLoop
+pub mod FolderSteps
+pub mod PutsSplit
+pub mod RunGoes
+pub mod FolderGoes
+pub mod Bridge

@@ -1,0 +1,132 @@
+-- A run with a limit of steps, step by step: what is left of its program.
+use Rattle.std.proofs.Common.{◌≡◌, ℕ, suc, ◌+◌, ◌-◌, ◌<◌, List, [], ◌++◌, Some, Result, Err, refl, sym, ap, subst, ◌∙◌, arith}
+use Rattle.m36_world.specs.Seen.{Seen}
+use Rattle.m36_world.specs.Follow.{Follow, outputs}
+use Rattle.m36_model.specs.declared.endings.End.{End}
+use Rattle.m36_super.specs.Library.{Library}
+use Rattle.m36_super.specs.BootedRun.{Booted}
+use Rattle.m36_super.specs.SuperFields.{SuperFields, booted_of}
+use Rattle.m36_reading.specs.declared.status.Status.{Status}
+use Rattle.m36_reading.specs.declared.status.Status.TheVariants.{WriteFault}
+use Rattle.m36_program.specs.Early.{early, ends}
+use Rattle.m36_program.specs.Gathered.{Loses}
+use Rattle.m36_program.specs.Performs.{Performs, Leads}
+use Rattle.m36_program.specs.Program.{quiet, Program, puts_all}
+use Rattle.m36_program.proofs.LeadLaws.{leads_start, leads_as, leads_ends, leads_empty, leads_lost, leads_finished}
+use Rattle.m36_program.proofs.ProgramLaws.{goes_ends}
+use Rattle.m36_program.specs.Goes.{Goes}
+use Rattle.m36_booted.specs.declared.command.RunOutput.{RunOutput}
+use Rattle.m36_booted.specs.declared.running.Finish.{Finish}
+use Rattle.m36_booted.specs.declared.running.Finish.TheVariants.{Over, Limit}
+use Rattle.m36_booted.specs.RunText.{end_pieces, finish_status}
+use Rattle.cmd_folder.specs.RunProgram.{Running, finish_may_end, run_ends, run_from}
+use Rattle.cmd_folder.specs.RunSays.{run_of, from_step, GoesOn, IsOver, Fails}
+use Rattle.cmd_folder.proofs.BlockLaws.{leads_on}
+
+-- ---- the end
+
+-- the status of the end
+abbrev ended : Finish → Program quiet (Unit {0})
+ended how = ends (finish_status (Some how)) (finish_may_end how)
+
+all_left :
+    (block : List (List ℕ)) (run : Running) (taken : ℕ) (how : Finish) (denied : List (List ℕ)) (seen : Seen)
+    → run.denied ≡ denied
+    → Leads (puts_all block (puts_all (end_pieces denied (Some how) taken) (ended how))) (puts_all block (run_ends run taken how)) seen seen
+unfolding run_ends
+all_left block run taken how denied seen is =
+    subst (λ d. Leads (puts_all block (puts_all (end_pieces d (Some how) taken) (ended how))) (puts_all block (run_ends run taken how)) seen seen) is
+    (leads_start (puts_all block (run_ends run taken how)) seen)
+
+pub end_put :
+    (block : List (List ℕ)) (run : Running) (taken : ℕ) (how : Finish) (denied : List (List ℕ)) (status : Status) (result : Result (Unit {0}) Status) (old new : Seen)
+    → run.denied ≡ denied → Follow (outputs (block ++ end_pieces denied (Some how) taken)) old new
+    → status ≡ finish_status (Some how) → result ≡ early status
+    → Performs (puts_all block (run_ends run taken how)) result old new
+end_put block run taken how denied status result old new is put status_is result_is =
+    leads_finished block (end_pieces denied (Some how) taken) (ended how) (puts_all block (run_ends run taken how)) result old old new
+    (all_left block run taken how denied old is) put
+    (subst (λ r. Goes (ended how) [] r) (sym (result_is ∙ ap early status_is)) (goes_ends quiet (finish_status (Some how)) (finish_may_end how)))
+
+pub end_lost :
+    (block : List (List ℕ)) (run : Running) (taken : ℕ) (how : Finish) (denied : List (List ℕ)) (old new : Seen)
+    → run.denied ≡ denied → Loses (block ++ end_pieces denied (Some how) taken) old new
+    → Performs (puts_all block (run_ends run taken how)) (Err WriteFault) old new
+end_lost block run taken how denied old new is lost =
+    leads_lost block (end_pieces denied (Some how) taken) (ended how) (puts_all block (run_ends run taken how)) old old new
+    (all_left block run taken how denied old is) lost
+
+pub ruleset ending = (end_put, end_lost)
+
+-- ---- the steps
+
+-- What is left of a run, and what holds before each of its steps.
+abbrev pub Left : Running → ℕ → ℕ → SuperFields → List (List ℕ) → Program quiet (Unit {0}) → Seen → Seen → Type 0
+Left run taken left now block first old new = Leads (puts_all block (run_from run taken left (booted_of now))) first old new
+
+pub run_starts :
+    (run : Running) (steps : ℕ) (s : SuperFields) (block : List (List ℕ)) (seen : Seen)
+    → block ≡ [] → Left run 0 steps s block (run_from run 0 steps (booted_of s)) seen seen
+run_starts run steps s block seen none =
+    leads_empty block (run_from run 0 steps (booted_of s)) (run_from run 0 steps (booted_of s)) seen seen none
+    (leads_start (run_from run 0 steps (booted_of s)) seen)
+
+-- a step is left
+one_left :
+    (run : Running) (taken left : ℕ) (now : SuperFields) (block : List (List ℕ)) (first : Program quiet (Unit {0})) (old new : Seen)
+    → Left run taken left now block first old new → 0 < left → Left run taken (suc (left - 1)) now block first old new
+one_left run taken left now block first old new so_far more =
+    let e : left ≡ suc (left - 1) = omega arith in
+    subst (λ n. Left run taken n now block first old new) e so_far
+
+pub run_next :
+    (lib : Library) (output : RunOutput) (denied : List (List ℕ)) (taken left : ℕ) (now later : SuperFields) (block block' : List (List ℕ))
+    (first : Program quiet (Unit {0})) (old between new : Seen)
+    → Left (run_of lib output denied) taken left now block first old between → 0 < left → now.lib ≡ lib
+    → GoesOn now.lib output (from_step block taken (booted_of now)) (taken + 1) later block' between new
+    → Left (run_of lib output denied) (taken + 1) (left - 1) later block' first old new
+run_next lib output denied taken left now later block block' first old between new so_far more same goes =
+    let on = subst (λ l. GoesOn l output (from_step block taken (booted_of now)) (taken + 1) later block' between new) same goes in
+    leads_on _ _ first old between new (one_left (run_of lib output denied) taken left now block first old between so_far more) (on.leads denied (left - 1))
+
+pub run_over :
+    (e : End) (lib : Library) (output : RunOutput) (denied : List (List ℕ)) (taken left : ℕ) (now : SuperFields) (block block' : List (List ℕ))
+    (first : Program quiet (Unit {0})) (result : Result (Unit {0}) Status) (old between mid new : Seen)
+    → Left (run_of lib output denied) taken left now block first old between → 0 < left → now.lib ≡ lib
+    → IsOver e now.lib output (from_step block taken (booted_of now)) (taken + 1) block' between mid
+    → ((run : Running) → run.denied ≡ denied → Performs (puts_all block' (run_ends run (taken + 1) (Over e))) result mid new)
+    → Performs first result old new
+run_over e lib output denied taken left now block block' first result old between mid new so_far more same over performs =
+    let on = subst (λ l. IsOver e l output (from_step block taken (booted_of now)) (taken + 1) block' between mid) same over in
+    leads_ends _ first result old mid new
+    (leads_on _ _ first old between mid (one_left (run_of lib output denied) taken left now block first old between so_far more) (on.leads denied (left - 1)))
+    (performs (run_of lib output denied) refl)
+
+pub run_fails :
+    (status : Status) (lib : Library) (output : RunOutput) (denied : List (List ℕ)) (taken left : ℕ) (now : SuperFields) (block : List (List ℕ))
+    (first : Program quiet (Unit {0})) (old between new : Seen)
+    → Left (run_of lib output denied) taken left now block first old between → 0 < left → now.lib ≡ lib
+    → Fails status now.lib output (from_step block taken (booted_of now)) between new
+    → Performs first (Err status) old new
+run_fails status lib output denied taken left now block first old between new so_far more same fails =
+    let on = subst (λ l. Fails status l output (from_step block taken (booted_of now)) between new) same fails in
+    leads_ends _ first (Err status) old between new (one_left (run_of lib output denied) taken left now block first old between so_far more) (on.performs denied (left - 1))
+
+run_none :
+    (run : Running) (taken left : ℕ) (b : Booted) → left ≡ 0 → run_from run taken left b ≡ run_ends run taken Limit
+unfolding run_from
+run_none run taken left b none = ap (λ n. run_from run taken n b) none
+
+pub run_limit :
+    (lib : Library) (output : RunOutput) (denied : List (List ℕ)) (taken left : ℕ) (now : SuperFields) (block : List (List ℕ))
+    (first : Program quiet (Unit {0})) (result : Result (Unit {0}) Status) (old between new : Seen)
+    → Left (run_of lib output denied) taken left now block first old between → left ≡ 0
+    → ((run : Running) → run.denied ≡ denied → Performs (puts_all block (run_ends run taken Limit)) result between new)
+    → Performs first result old new
+run_limit lib output denied taken left now block first result old between new so_far none performs =
+    leads_ends _ first result old between new
+    (leads_as (puts_all block (run_from (run_of lib output denied) taken left (booted_of now))) _ first old between
+    (ap (puts_all block) (run_none (run_of lib output denied) taken left (booted_of now) none)) so_far)
+    (performs (run_of lib output denied) refl)
+
+pub ruleset running = (run_starts)

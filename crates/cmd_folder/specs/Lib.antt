@@ -1,0 +1,5 @@
+pub mod RunProgram
+pub mod OnFolder
+pub mod FolderProgram
+pub mod RunSays
+pub mod Systems

@@ -1,0 +1,96 @@
+-- What a run of a booted system does, as a program: turn by turn, each step and each service with
+-- what is written of it, and the end line.
+use Rattle.std.specs.Prelude.{ℕ, zero, suc, ◌≢◌, ◌+◌, List, Some}
+use Rattle.m36_step.specs.declared.turns.Turn.{Turn}
+use Rattle.m36_step.specs.declared.turns.Turn.TheVariants.{NoMemory}
+use Rattle.m36_super.specs.Library.{Library}
+use Rattle.m36_super.specs.declared.coming.Coming.{Coming}
+use Rattle.m36_super.specs.declared.coming.Coming.TheVariants.{Step, Link, Print}
+use Rattle.m36_super.specs.declared.coming.Coming.TheVariants as coming
+use Rattle.m36_super.specs.BootedRun.{Booted, IsTurn}
+use Rattle.m36_program.specs.Early.{MayEnd, ends}
+use Rattle.m36_program.specs.Program.{quiet, Program, puts_all, some, wants}
+use Rattle.m36_booted.specs.declared.command.RunOutput.{RunOutput}
+use Rattle.m36_booted.specs.declared.running.Finish.{Finish}
+use Rattle.m36_booted.specs.declared.running.Finish.TheVariants.{Over, Limit}
+use Rattle.m36_booted.specs.RunText.{pieces_of, end_pieces, finish_status}
+use Rattle.cmd_image.specs.ImageProgram.{may_end}
+
+-- A run: the library of its system, the line for each segment of the catalog that is written where
+-- the run ends for want of a right to it, and what is written of each turn.
+pub record Running : Type 0 where
+  pub lib : Library
+  pub denied : List (List ℕ)
+  pub output : RunOutput
+
+-- a turn, and the state after it
+pub record Made : Type 0 where
+  pub turn : Turn
+  pub after : Booted
+
+-- a turn of the booted run
+abbrev pub IsMade : Library → Booted → Made → Type 0
+IsMade lib before made = IsTurn lib before made.turn made.after
+
+-- one that finds memory
+pub record IsServed (lib : Library) (before : Booted) (made : Made) : Type 0 where
+  pub is : IsMade lib before made
+  pub found : made.turn ≢ NoMemory
+
+-- ---- the end
+
+-- The status of a run that has ended is one that a program may end with.
+abbrev pub finish_may_end : (how : Finish) → MayEnd (finish_status (Some how))
+finish_may_end (Over e) = may_end e
+finish_may_end Limit = tt
+
+-- the end line after so many steps, and the line of a denied segment
+unfoldable pub run_ends : Running → ℕ → Finish → Program quiet (Unit {0})
+run_ends run taken how =
+    puts_all (end_pieces run.denied (Some how) taken)
+    (ends (finish_status (Some how)) (finish_may_end how))
+
+-- ---- one turn
+
+-- what is written of a turn, before which so many steps were taken, and then what follows it
+abbrev pub puts_turn :
+    Running → ℕ → (Booted → Program quiet (Unit {0})) → Made → Program quiet (Unit {0})
+puts_turn run taken on made = puts_all (pieces_of run.output taken made.turn) (on made.after)
+
+-- what follows a service: a step, or the end of the run; a service follows no other
+abbrev pub after_service :
+    Coming → Running → ℕ → (Booted → Program quiet (Unit {0})) → Booted
+    → Program quiet (Unit {0})
+after_service Step run taken on b = on b
+after_service (Link at) run taken on b = on b
+after_service Print run taken on b = on b
+after_service (coming.Over e) run taken on b = run_ends run taken (Over e)
+
+abbrev pub then_on :
+    Running → ℕ → (Booted → Program quiet (Unit {0})) → Booted → Program quiet (Unit {0})
+then_on run taken on b = after_service b.coming run taken on b
+
+-- What follows a step: another one; a link service, for which memory may run out; a console
+-- service; or the end of the run.
+abbrev pub serve_by :
+    Coming → Running → ℕ → (Booted → Program quiet (Unit {0})) → Booted
+    → Program quiet (Unit {0})
+serve_by Step run taken on b = on b
+serve_by (Link at) run taken on b =
+    wants (some (IsServed run.lib b) (puts_turn run taken (then_on run taken on)))
+serve_by Print run taken on b =
+    some (IsMade run.lib b) (puts_turn run taken (then_on run taken on))
+serve_by (coming.Over e) run taken on b = run_ends run taken (Over e)
+
+unfoldable pub serve :
+    Running → ℕ → (Booted → Program quiet (Unit {0})) → Booted → Program quiet (Unit {0})
+serve run taken on b = serve_by b.coming run taken on b
+
+-- ---- the run
+
+-- At most so many more steps after those that were taken, each with its service.
+unfoldable pub run_from : Running → ℕ → ℕ → Booted → Program quiet (Unit {0})
+run_from run taken zero b = run_ends run taken Limit
+run_from run taken (suc left) b =
+    some (IsMade run.lib b)
+    (puts_turn run taken (serve run (taken + 1) (λ b. run_from run (taken + 1) left b)))

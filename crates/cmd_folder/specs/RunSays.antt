@@ -1,0 +1,87 @@
+-- What the parts of a booted run answer: what is left of its program after each.
+use Rattle.std.specs.Prelude.{ℕ, suc, ◌≡◌, ⊤, List, [], Err}
+use Rattle.m36_world.specs.Seen.{Seen}
+use Rattle.m36_model.specs.declared.endings.End.{End}
+use Rattle.m36_reading.specs.declared.status.Status.{Status}
+use Rattle.m36_reading.specs.declared.status.Status.TheVariants.{WriteFault, NoMemory}
+use Rattle.m36_super.specs.Library.{Library}
+use Rattle.m36_super.specs.declared.coming.Coming.{Coming}
+use Rattle.m36_super.specs.declared.coming.Coming.TheVariants.{Step}
+use Rattle.m36_super.specs.declared.coming.Coming.TheVariants as coming
+use Rattle.m36_super.specs.BootedRun.{Booted}
+use Rattle.m36_super.specs.SuperFields.{SuperFields, booted_of}
+use Rattle.m36_program.specs.Performs.{Performs, Leads}
+use Rattle.m36_program.specs.Program.{quiet, Program, puts_all}
+use Rattle.m36_booted.specs.declared.command.RunOutput.{RunOutput}
+use Rattle.m36_booted.specs.declared.command.RunOutput.TheVariants as output
+use Rattle.m36_booted.specs.declared.running.Finish.TheVariants.{Over}
+use Rattle.cmd_folder.specs.declared.running.AfterTurn.{AfterTurn}
+use Rattle.cmd_folder.specs.declared.running.AfterTurn.TheVariants as turn
+use Rattle.cmd_folder.specs.RunProgram.{Running, run_ends, run_from, serve}
+
+-- No text of the console is in the block: the output has all of it.
+abbrev pub IsShown : RunOutput → List (List ℕ) → Type 0
+IsShown output.Console block = block ≡ []
+IsShown output.Trace block = ⊤
+IsShown output.Nothing block = ⊤
+
+-- a run of a library; which lines for segments it has is left open
+abbrev pub run_of : Library → RunOutput → List (List ℕ) → Running
+run_of lib output denied = record { lib = lib; denied = denied; output = output }
+
+-- a run by the steps that are left, in front of which the pieces of a block are put
+abbrev pub Rest : Type 1
+Rest = Running → ℕ → Program quiet (Unit {0})
+
+-- before a step, before which so many were taken
+abbrev pub from_step : List (List ℕ) → ℕ → Booted → Rest
+from_step block taken b run left = puts_all block (run_from run taken (suc left) b)
+
+-- after a step, with a service or none
+abbrev pub from_service : List (List ℕ) → ℕ → Booted → Rest
+from_service block taken b run left =
+    puts_all block (serve run taken (λ b. run_from run taken left b) b)
+
+-- A step follows, and all that the console wrote has been put.
+pub record GoesOn (lib : Library) (output : RunOutput) (first : Rest) (taken : ℕ)
+    (after : SuperFields) (block : List (List ℕ)) (old new : Seen) : Type 0 where
+  pub leads :
+      (denied : List (List ℕ)) (left : ℕ)
+      → Leads (puts_all block (run_from (run_of lib output denied) taken left (booted_of after)))
+      (first (run_of lib output denied) left) old new
+  pub next : after.coming ≡ Step
+  pub same : after.lib ≡ lib
+  pub shown : IsShown output block
+
+-- The run has ended, and its end line is left.
+pub record IsOver (e : End) (lib : Library) (output : RunOutput) (first : Rest) (taken : ℕ)
+    (block : List (List ℕ)) (old new : Seen) : Type 0 where
+  pub leads :
+      (denied : List (List ℕ)) (left : ℕ)
+      → Leads (puts_all block (run_ends (run_of lib output denied) taken (Over e)))
+      (first (run_of lib output denied) left) old new
+
+-- The run can't go on: the output failed, or a link service found no memory.
+pub record Fails (status : Status) (lib : Library) (output : RunOutput) (first : Rest)
+    (old new : Seen) : Type 0 where
+  pub performs :
+      (denied : List (List ℕ)) (left : ℕ)
+      → Performs (first (run_of lib output denied) left) (Err status) old new
+
+abbrev pub TurnSays :
+    AfterTurn → Library → RunOutput → Rest → ℕ → SuperFields → List (List ℕ) → Seen → Seen → Type 0
+TurnSays turn.Next lib output first taken after block old new =
+    GoesOn lib output first taken after block old new
+TurnSays (turn.Ended e) lib output first taken after block old new =
+    IsOver e lib output first taken block old new
+TurnSays turn.WriteFailed lib output first taken after block old new =
+    Fails WriteFault lib output first old new
+TurnSays turn.NoMemory lib output first taken after block old new =
+    Fails NoMemory lib output first old new
+
+-- What follows a link service: a step, or the end of the run.
+abbrev pub LinkBefore : AfterTurn → Coming → Type 0
+LinkBefore turn.Next next = next ≡ Step
+LinkBefore (turn.Ended e) next = next ≡ coming.Over e
+LinkBefore turn.WriteFailed next = ⊥
+LinkBefore turn.NoMemory next = ⊥

@@ -1,0 +1,10 @@
+-- A system that was booted, as what is booted from its folder.
+use Rattle.std.specs.Prelude.{Result, Ok, Err}
+use Rattle.m36_reading.specs.declared.status.Status.{Status}
+use Rattle.m36_booted.specs.declared.reading.BootedFolder.{BootedFolder}
+use Rattle.m36_booted.specs.Folder.{FolderFields}
+use Rattle.m36_booted.specs.Systems.{given_by}
+
+abbrev pub given_in : Result BootedFolder Status → Result FolderFields Status
+given_in (Ok booted) = Ok (given_by booted)
+given_in (Err status) = Err status

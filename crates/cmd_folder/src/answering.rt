@@ -1,0 +1,142 @@
+//! The audit of a booted system, and its run.
+
+ghost use Rattle.std.specs.Prelude.{◌≡◌};
+ghost use Rattle.m36_audit.specs.Findings.{pairs};
+ghost use Rattle.m36_super.specs.declared.coming.Coming.TheVariants.{Step};
+ghost use Rattle.m36_super.specs.SuperFields.{booted_of};
+ghost use Rattle.m36_ran.specs.Ran.{is_run};
+ghost use Rattle.m36_program.specs.Performs.{Performs};
+ghost use Rattle.m36_booted.specs.Systems.{IsFresh};
+ghost use Rattle.cmd_folder.specs.OnFolder.{audit_and_run, run_by, by_command, on_folder};
+ghost use Rattle.cmd_folder.specs.FolderProgram.{folder_program};
+ghost use Rattle.cmd_folder.specs.RunSays.{run_of};
+
+use crate::reading::read_system;
+use crate::running::run;
+use cmd_image::answering::answer_audit;
+use cmd_image::findings::put_audit;
+use m36_acl::{DeniedLines, User};
+use m36_audit::Finding;
+use m36_booted::{FolderCommand, FolderRun, RunOutput, audited};
+use m36_reading::Status;
+use m36_super::Super;
+use m36_world::World;
+use std::alloc::Global;
+
+// Puts the audit's text, and then runs the system.
+#[tactic(auto, using(crate::proofs::FolderSteps::runs))]
+fn run_audited<W: World>(
+    system: &mut Super,
+    findings: &[Finding],
+    steps: u32,
+    output: RunOutput,
+    denied: &DeniedLines,
+    world: &mut W,
+) -> Result<(), Status>
+    requires { system.old.coming ≡ Step }
+    ensures { Performs (audit_and_run (run_of system.old.lib output denied.now) steps
+        (booted_of system.old) (pairs findings.now)) result (W.seen world.old) (W.seen world.new) }
+{
+    match put_audit(findings, world) {
+        Ok(()) => run(system, steps, output, denied, world),
+        Err(status) => Err(status),
+    }
+}
+
+// Whether the system is run.
+#[tactic(auto, using(m36_ran::proofs::AuditAnswers::passing))]
+fn is_run(findings: &[Finding], run: FolderRun) -> bool
+    ensures { result ≡ is_run (pairs findings.now) run.unaudited }
+{
+    findings.is_empty() || run.unaudited
+}
+
+// The commands `run` and `trace`, by what the audit has found.
+fn answer_run<W: World>(
+    system: &mut Super,
+    findings: &[Finding],
+    run: FolderRun,
+    output: RunOutput,
+    denied: &DeniedLines,
+    world: &mut W,
+) -> Result<(), Status>
+    requires { system.old.coming ≡ Step }
+    ensures { Performs (run_by (is_run (pairs findings.now) run.unaudited)
+        (run_of system.old.lib output denied.now) run.steps (booted_of system.old)
+        (pairs findings.now)) result (W.seen world.old) (W.seen world.new) }
+{
+    if is_run(findings, run) {
+        run_audited(system, findings, run.steps, output, denied, world)
+    } else {
+        answer_audit(findings, world)
+    }
+}
+
+// Does what a command says with a booted system, by what the audit of its core has found.
+fn answer_found<W: World>(
+    command: FolderCommand,
+    system: &mut Super,
+    denied: &DeniedLines,
+    findings: &[Finding],
+    world: &mut W,
+) -> Result<(), Status>
+    requires { system.old.coming ≡ Step }
+    ensures { Performs (by_command command
+        record { lib = system.old.lib; denied = denied.now } (booted_of system.old)
+        (pairs findings.now)) result (W.seen world.old) (W.seen world.new) }
+{
+    match command {
+        FolderCommand::Audit => answer_audit(findings, world),
+        FolderCommand::Run(run) => {
+            answer_run(system, findings, run, RunOutput::Console, denied, world)
+        }
+        FolderCommand::Trace(run) => {
+            answer_run(system, findings, run, RunOutput::Trace, denied, world)
+        }
+    }
+}
+
+// Audits a booted system, and does what a command says with it.
+#[tactic(auto, using(crate::proofs::FolderSteps::found))]
+fn with_system<W: World>(
+    alloc: Global,
+    command: FolderCommand,
+    mut system: Super,
+    denied: &DeniedLines,
+    world: &mut W,
+) -> Result<(), Status>
+    requires { IsFresh system }
+    ensures { Performs (on_folder command record { lib = system.lib; denied = denied.now }) result
+        (W.seen world.old) (W.seen world.new) }
+{
+    match audited(alloc, &system) {
+        Ok(verdict) => {
+            let findings = verdict.findings.as_slice();
+            let answer = answer_found(command, &mut system, denied, findings, world);
+            // Dropped by a call: so the drop is proved once for its type.
+            drop(verdict);
+            drop(system);
+            answer
+        }
+        Err(_) => {
+            drop(system);
+            Err(Status::NoMemory)
+        }
+    }
+}
+
+/// `audit`, `run` and `trace` of a folder, with the rights of a user if there is one.
+pub fn folder_booted<W: World>(
+    alloc: Global,
+    command: FolderCommand,
+    user: &Option<User>,
+    world: &mut W,
+) -> Result<(), Status>
+    ensures { Performs (folder_program command user.now) result
+        (W.seen world.old) (W.seen world.new) }
+{
+    match read_system(alloc, user, world) {
+        Ok(booted) => with_system(alloc, command, booted.system, &booted.denied, world),
+        Err(status) => Err(status),
+    }
+}

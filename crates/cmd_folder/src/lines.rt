@@ -1,0 +1,215 @@
+//! What is added to a block for a turn: a line, the characters of the console, or nothing; and what
+//! is put at the end of a run.
+
+ghost use Rattle.std.specs.Prelude.{◌≡◌, ◌<◌, ◌+◌, [], ◌∷◌, ◌++◌, length, Some};
+ghost use Rattle.m36_outside.specs.Put.{OnFailed};
+ghost use Rattle.m36_text.specs.Lines.{as_line};
+ghost use Rattle.m36_trace.specs.TraceLine.{line_of};
+ghost use Rattle.m36_step.specs.declared.turns.Turn.TheVariants as turn;
+ghost use Rattle.m36_program.specs.Gathered.{Adds, Puts};
+ghost use Rattle.m36_booted.specs.RunText.{characters, pieces_of, denied_pieces, end_pieces};
+ghost use Rattle.cmd_folder.specs.RunSays.{IsShown};
+
+use arrayvec::{ArrayString, ArrayVec};
+use m36_acl::DeniedLines;
+use m36_booted::lines::denied_line;
+use m36_booted::running::Finish;
+use m36_booted::{RunOutput, finish_line};
+use m36_model::{Shown, StepRecord};
+use m36_outside::{Block, Put};
+use m36_program::{add_piece, hand_over};
+use m36_step::{ConsoleNote, LinkNote};
+use m36_trace::{TraceText, line, push_shown};
+use m36_turns::{console_line, link_line};
+use m36_world::World;
+
+// Adds a line with its line feed to a block, as one piece.
+fn add_text<W: World>(block: &mut Block, mut text: ArrayString<160>, world: &mut W) -> Put
+    requires { length text.bytes < 160 }
+    ensures adds { Adds result block.old block.new (as_line text.bytes ∷ [])
+        (W.seen world.old) (W.seen world.new) }
+{
+    text.push_str("\n");
+    add_piece(block, text.as_str().as_bytes(), world)
+}
+
+// The same of bytes.
+fn add_bytes<W: World, const N: usize>(
+    block: &mut Block,
+    mut text: ArrayVec<u8, N>,
+    world: &mut W,
+) -> Put
+    requires { length text.items < N }
+    ensures adds { Adds result block.old block.new (as_line text.entry.items ∷ [])
+        (W.seen world.old) (W.seen world.new) }
+{
+    text.push(b'\n');
+    add_piece(block, text.as_slice(), world)
+}
+
+// Adds the line of step n where no part of an earlier line serves for it, or the block is full.
+#[inline(never)]
+fn add_whole<W: World>(n: u64, told: &StepRecord, block: &mut Block, world: &mut W) -> Put
+    ensures adds { Adds result block.old block.new (as_line (line_of n told.now) ∷ [])
+        (W.seen world.old) (W.seen world.new) }
+{
+    add_text(block, line(n, told), world)
+}
+
+// Adds the line of step n. Of it only what is not that of an earlier line is spelled.
+#[tactic(auto, using(m36_program::proofs::Gathered::gathering))]
+fn add_trace<W: World>(
+    n: u64,
+    told: &StepRecord,
+    text: &mut TraceText,
+    block: &mut Block,
+    world: &mut W,
+) -> Put
+    ensures adds { Adds result block.old block.new (as_line (line_of n told.now) ∷ [])
+        (W.seen world.old) (W.seen world.new) }
+{
+    let shown = Shown {
+        word: told.word,
+        at: told.at,
+        outcome: told.outcome,
+        ppr: told.ppr,
+    };
+    if push_shown(text, n, &shown, &told.after, block) {
+        return Put::Done;
+    }
+    add_whole(n, told, block, world)
+}
+
+// Puts the characters of a console service, as they are; nothing where there are none. They do not
+// wait in the block.
+#[tactic(auto, using(crate::proofs::TurnPieces::showing))]
+fn show_characters<W: World>(note: &ConsoleNote, block: &mut Block, world: &mut W) -> Put
+    requires { block.old ≡ [] }
+    ensures adds { Adds result block.old block.new (characters note.now)
+        (W.seen world.old) (W.seen world.new) }
+    ensures shown { block.new ≡ [] }
+{
+    let bytes = note.bytes.as_slice();
+    if bytes.is_empty() {
+        Put::Done
+    } else {
+        world.put(bytes)
+    }
+}
+
+/// Adds the line of a step before which so many were taken, to a trace.
+#[tactic(auto, using(crate::proofs::TurnPieces::adding))]
+pub(crate) fn add_step<W: World>(
+    output: RunOutput,
+    taken: u32,
+    told: &StepRecord,
+    text: &mut TraceText,
+    block: &mut Block,
+    world: &mut W,
+) -> Put
+    requires { IsShown output block.old }
+    ensures adds { Adds result block.old block.new (pieces_of output taken (turn.Stepped told.now))
+        (W.seen world.old) (W.seen world.new) }
+    ensures shown { IsShown output block.new }
+{
+    match output {
+        RunOutput::Console => Put::Done,
+        RunOutput::Trace => add_trace(taken as u64 + 1, told, text, block, world),
+        RunOutput::Nothing => Put::Done,
+    }
+}
+
+/// Adds the line of a link service to a trace.
+#[tactic(auto, using(crate::proofs::TurnPieces::adding))]
+pub(crate) fn add_linked<W: World>(
+    output: RunOutput,
+    taken: u32,
+    note: &LinkNote,
+    block: &mut Block,
+    world: &mut W,
+) -> Put
+    requires { IsShown output block.old }
+    ensures adds { Adds result block.old block.new (pieces_of output taken (turn.Linked note.now))
+        (W.seen world.old) (W.seen world.new) }
+    ensures shown { IsShown output block.new }
+{
+    match output {
+        RunOutput::Console => Put::Done,
+        RunOutput::Trace => add_bytes(block, link_line(note), world),
+        RunOutput::Nothing => Put::Done,
+    }
+}
+
+/// Puts the characters of a console service, or adds its line to a trace.
+#[tactic(auto, using(crate::proofs::TurnPieces::adding))]
+pub(crate) fn add_printed<W: World>(
+    output: RunOutput,
+    taken: u32,
+    note: &ConsoleNote,
+    block: &mut Block,
+    world: &mut W,
+) -> Put
+    requires { IsShown output block.old }
+    ensures adds { Adds result block.old block.new (pieces_of output taken (turn.Console note.now))
+        (W.seen world.old) (W.seen world.new) }
+    ensures shown { IsShown output block.new }
+{
+    match output {
+        RunOutput::Console => show_characters(note, block, world),
+        RunOutput::Trace => add_bytes(block, console_line(note), world),
+        RunOutput::Nothing => Put::Done,
+    }
+}
+
+// Adds the line of a denied segment, where the run has ended for want of a right to one.
+#[tactic(auto, using(crate::proofs::TurnPieces::adding), unfolding(m36_booted::specs::RunText::denied_pieces))]
+fn add_denied<W: World>(
+    denied: &DeniedLines,
+    how: Finish,
+    block: &mut Block,
+    world: &mut W,
+) -> Put
+    ensures adds { Adds result block.old block.new (denied_pieces denied.now how)
+        (W.seen world.old) (W.seen world.new) }
+{
+    match denied_line(denied, how) {
+        Some(line) => add_piece(block, line, world),
+        None => Put::Done,
+    }
+}
+
+// Adds the end line of a run of so many steps, and the line of a denied segment.
+fn add_finish<W: World>(
+    how: &Finish,
+    steps: u32,
+    denied: &DeniedLines,
+    block: &mut Block,
+    world: &mut W,
+) -> Put
+    ensures adds { Adds result block.old block.new (end_pieces denied.now (Some how.now) steps)
+        (W.seen world.old) (W.seen world.new) }
+{
+    match add_text(block, finish_line(*how, steps), world) {
+        Put::Done => add_denied(denied, *how, block, world),
+        Put::Failed => Put::Failed,
+    }
+}
+
+/// Puts what is in a block, then the end line of a run of so many steps and the line of a denied
+/// segment.
+#[tactic(auto, using(m36_program::proofs::Gathered::finishing))]
+pub(crate) fn put_finish<W: World>(
+    how: &Finish,
+    steps: u32,
+    denied: &DeniedLines,
+    block: &mut Block,
+    world: &mut W,
+) -> Put
+    ensures puts { Puts result (block.old ++ end_pieces denied.now (Some how.now) steps)
+        (W.seen world.old) (W.seen world.new) }
+{
+    match add_finish(how, steps, denied, block, world) {
+        Put::Done => hand_over(block, world),
+        Put::Failed => Put::Failed,
+    }
+}

@@ -1,0 +1,216 @@
+//! A run of a booted system. The lines of a trace are gathered in a block, which is handed over when
+//! it is full and at the end; what the console writes is put before the next turn.
+
+ghost use Rattle.std.specs.Prelude.{◌≡◌, ◌<◌, ◌+◌, ◌^◌, ◌++◌, Some, [], ◌∷◌};
+ghost use Rattle.m36_super.specs.declared.coming.Coming.TheVariants.{Step, Link, Print};
+ghost use Rattle.m36_super.specs.SuperFields.{booted_of};
+ghost use Rattle.m36_super.specs.SuperTurn.{IsQuiet};
+ghost use Rattle.m36_program.specs.Performs.{Performs};
+ghost use Rattle.m36_program.specs.Program.{puts_all};
+ghost use Rattle.cmd_folder.specs.RunProgram.{Running, run_ends, run_from};
+ghost use Rattle.cmd_folder.specs.RunSays.{IsShown, run_of, from_step, from_service, TurnSays, LinkBefore};
+
+use crate::lines::{add_linked, add_printed, add_step, put_finish};
+use m36_acl::DeniedLines;
+use m36_booted::running::Finish;
+use m36_booted::{RunOutput, finish_status};
+use m36_model::{At, End, StepRecord};
+use m36_outside::{Block, Put};
+use m36_program::{early, hand_over};
+use m36_reading::Status;
+use m36_step::{Stepper, Turn};
+use m36_super::{Coming, Super};
+use m36_trace::TraceText;
+use m36_world::World;
+
+/// What follows a step with its service, or a service alone.
+#[derive(Clone, Copy)]
+pub enum AfterTurn {
+    /// A step follows.
+    Next,
+    /// The run has ended.
+    Ended(End),
+    /// The output failed.
+    WriteFailed,
+    /// The link service found no memory. All lines before it have been put.
+    NoMemory,
+}
+
+// What follows a link service: a step, or the end where the link was refused.
+fn after_link(system: &Super) -> AfterTurn
+    requires { IsQuiet system.now.coming }
+    ensures { LinkBefore result system.now.coming }
+{
+    match system.coming() {
+        Coming::Step => AfterTurn::Next,
+        Coming::Over(end) => AfterTurn::Ended(end),
+        Coming::Link(_) | Coming::Print => unreachable!(),
+    }
+}
+
+// Makes a link service.
+#[tactic(auto, using(crate::proofs::Serving::services))]
+fn link<W: World>(
+    system: &mut Super,
+    at: At,
+    taken: u32,
+    output: RunOutput,
+    block: &mut Block,
+    world: &mut W,
+) -> AfterTurn
+    requires coming { system.old.coming ≡ Link at }
+    requires shown { IsShown output block.old }
+    ensures { TurnSays result system.old.lib output
+        (from_service block.old taken (booted_of system.old)) taken system.new block.new
+        (W.seen world.old) (W.seen world.new) }
+{
+    match system.turn() {
+        Turn::Linked(note) => match add_linked(output, taken, &note, block, world) {
+            Put::Failed => AfterTurn::WriteFailed,
+            Put::Done => after_link(system),
+        },
+        Turn::NoMemory => match hand_over(block, world) {
+            Put::Failed => AfterTurn::WriteFailed,
+            Put::Done => AfterTurn::NoMemory,
+        },
+        _ => unreachable!(),
+    }
+}
+
+// Makes a console service.
+#[tactic(auto, using(crate::proofs::Serving::services))]
+fn print<W: World>(
+    system: &mut Super,
+    taken: u32,
+    output: RunOutput,
+    block: &mut Block,
+    world: &mut W,
+) -> AfterTurn
+    requires coming { system.old.coming ≡ Print }
+    requires shown { IsShown output block.old }
+    ensures { TurnSays result system.old.lib output
+        (from_service block.old taken (booted_of system.old)) taken system.new block.new
+        (W.seen world.old) (W.seen world.new) }
+{
+    match system.turn() {
+        Turn::Console(note) => match add_printed(output, taken, &note, block, world) {
+            Put::Failed => AfterTurn::WriteFailed,
+            Put::Done => AfterTurn::Next,
+        },
+        Turn::Ended(end) => AfterTurn::Ended(end),
+        _ => unreachable!(),
+    }
+}
+
+// Makes the service that comes next, if one does.
+#[tactic(auto, using(crate::proofs::Serving::services))]
+fn serve<W: World>(
+    system: &mut Super,
+    taken: u32,
+    output: RunOutput,
+    block: &mut Block,
+    world: &mut W,
+) -> AfterTurn
+    requires { IsShown output block.old }
+    ensures { TurnSays result system.old.lib output
+        (from_service block.old taken (booted_of system.old)) taken system.new block.new
+        (W.seen world.old) (W.seen world.new) }
+{
+    match system.coming() {
+        Coming::Step => AfterTurn::Next,
+        Coming::Link(at) => link(system, at, taken, output, block, world),
+        Coming::Print => print(system, taken, output, block, world),
+        Coming::Over(end) => AfterTurn::Ended(end),
+    }
+}
+
+// Takes a step before which so many were taken, with its service. All that the console wrote before
+// it has been put. The step is told in a record that an earlier one may have filled, and of its line
+// only what is not that of an earlier one is spelled.
+#[tactic(auto, using(crate::proofs::Serving::stepping))]
+fn take_step<W: World>(
+    system: &mut Super,
+    taken: u32,
+    output: RunOutput,
+    told: &mut StepRecord,
+    text: &mut TraceText,
+    block: &mut Block,
+    world: &mut W,
+) -> AfterTurn
+    requires step { system.old.coming ≡ Step }
+    requires few { taken + 1 < 2 ^ 32 }
+    requires shown { IsShown output block.old }
+    ensures { TurnSays result system.old.lib output
+        (from_step block.old taken (booted_of system.old)) (taken + 1) system.new block.new
+        (W.seen world.old) (W.seen world.new) }
+{
+    system.step_told(told);
+    match add_step(output, taken, told, text, block, world) {
+        Put::Failed => AfterTurn::WriteFailed,
+        Put::Done => serve(system, taken + 1, output, block, world),
+    }
+}
+
+// Puts what is in the block, and the end of a run of so many steps.
+#[tactic(auto, using(crate::proofs::RunLoop::ending))]
+fn end_run<W: World>(
+    how: Finish,
+    taken: u32,
+    denied: &DeniedLines,
+    block: &mut Block,
+    world: &mut W,
+) -> Result<(), Status>
+    ensures { (run : Running) → run.denied ≡ denied.now
+        → Performs (puts_all block.old (run_ends run taken how)) result
+        (W.seen world.old) (W.seen world.new) }
+{
+    match put_finish(&how, taken, denied, block, world) {
+        Put::Done => early(finish_status(how)),
+        Put::Failed => Err(Status::WriteFault),
+    }
+}
+
+/// Runs a system for at most so many steps, and puts what is written of each turn, the end line, and
+/// after it the line of a segment to which a right was wanted.
+#[tactic(auto, using(crate::proofs::RunLoop::running))]
+pub fn run<W: World>(
+    system: &mut Super,
+    steps: u32,
+    output: RunOutput,
+    denied: &DeniedLines,
+    world: &mut W,
+) -> Result<(), Status>
+    requires { system.old.coming ≡ Step }
+    ensures { Performs (run_from (run_of system.old.lib output denied.now) 0 steps
+        (booted_of system.old)) result (W.seen world.old) (W.seen world.new) }
+{
+    let mut block = Block::new();
+    let mut told = system.untold();
+    let mut text = TraceText::new();
+    let mut taken: u32 = 0;
+    let mut left = steps;
+    'steps: while left > 0 {
+        match take_step(system, taken, output, &mut told, &mut text, &mut block, world) {
+            AfterTurn::Next => {}
+            AfterTurn::Ended(end) => {
+                let ended = end_run(Finish::Over(end), taken + 1, denied, &mut block, world);
+                // Dropped by a call: so the drop is proved once for its type.
+                drop(block);
+                return ended;
+            }
+            AfterTurn::WriteFailed => {
+                drop(block);
+                return Err(Status::WriteFault);
+            }
+            AfterTurn::NoMemory => {
+                drop(block);
+                return Err(Status::NoMemory);
+            }
+        }
+        taken += 1;
+        left -= 1;
+    }
+    let ended = end_run(Finish::Limit, taken, denied, &mut block, world);
+    drop(block);
+    ended
+}
