@@ -17,9 +17,9 @@ use m36_tables::{descriptor_place, directory_at, page_at, segment_count, wrapped
 fn mark_descriptor(marks: &mut TableMarks, core: &Core, dbr: Dbr, seg: u16)
     requires seg { seg < 2 ^ 15 }
     requires before { AreMarked (SoFar core.now dbr seg seg (pages_of_segment * seg)) (length core.now)
-        marks.old.tables.items marks.old.least }
+        marks.old.tables marks.old.least }
     ensures { AreMarked (SoFar core.now dbr (seg + 1) seg (pages_of_segment * seg)) (length core.now)
-        marks.new.tables.items marks.new.least }
+        marks.new.tables marks.new.least }
 {
     match descriptor_place(core, dbr, seg) {
         Ok(even) => {
@@ -35,9 +35,9 @@ fn mark_directory(marks: &mut TableMarks, core: &Core, dbr: Dbr, seg: u16)
     requires seg { seg < 2 ^ 15 }
     requires bounds { in_bounds dbr seg ≡ true }
     requires before { AreMarked (SoFar core.now dbr (seg + 1) seg (pages_of_segment * seg)) (length core.now)
-        marks.old.tables.items marks.old.least }
+        marks.old.tables marks.old.least }
     ensures { AreMarked (SoFar core.now dbr (seg + 1) (seg + 1) (pages_of_segment * seg)) (length core.now)
-        marks.new.tables.items marks.new.least }
+        marks.new.tables marks.new.least }
 {
     if !dbr.unpaged {
         marks.mark(DIRECTORY, directory_at(dbr, seg));
@@ -50,9 +50,9 @@ fn mark_page_table(marks: &mut TableMarks, core: &Core, dbr: Dbr, seg: u16, sdw:
     requires live { core_sdw core.now dbr seg ≡ Ok sdw.now }
     requires paged { sdw.now.unpaged ≡ false }
     requires before { AreMarked (SoFar core.now dbr (seg + 1) (seg + 1) (pages_of_segment * seg))
-        (length core.now) marks.old.tables.items marks.old.least }
+        (length core.now) marks.old.tables marks.old.least }
     ensures { AreMarked (SoFar core.now dbr (seg + 1) (seg + 1) (pages_of_segment * (seg + 1))) (length core.now)
-        marks.new.tables.items marks.new.least }
+        marks.new.tables marks.new.least }
 {
     let pages = sdw.bound as u32 / 64 + 1;
     for page in 0..pages {
@@ -64,9 +64,9 @@ fn mark_page_table(marks: &mut TableMarks, core: &Core, dbr: Dbr, seg: u16, sdw:
 fn mark_pages(marks: &mut TableMarks, core: &Core, dbr: Dbr, seg: u16)
     requires seg { seg < 2 ^ 15 }
     requires before { AreMarked (SoFar core.now dbr (seg + 1) (seg + 1) (pages_of_segment * seg))
-        (length core.now) marks.old.tables.items marks.old.least }
+        (length core.now) marks.old.tables marks.old.least }
     ensures { AreMarked (SoFar core.now dbr (seg + 1) (seg + 1) (pages_of_segment * (seg + 1))) (length core.now)
-        marks.new.tables.items marks.new.least }
+        marks.new.tables marks.new.least }
 {
     match live(core, dbr, seg) {
         Some(sdw) => {
@@ -80,9 +80,9 @@ fn mark_pages(marks: &mut TableMarks, core: &Core, dbr: Dbr, seg: u16)
 
 /// Marks every table word. No word has a mark before.
 pub(crate) fn mark_tables(marks: &mut TableMarks, core: &Core, dbr: Dbr)
-    requires before { AreMarked (SoFar core.now dbr 0 0 0) (length core.now) marks.old.tables.items
+    requires before { AreMarked (SoFar core.now dbr 0 0 0) (length core.now) marks.old.tables
         marks.old.least }
-    ensures { AreMarked (IsOf core.now dbr) (length core.now) marks.new.tables.items
+    ensures { AreMarked (IsOf core.now dbr) (length core.now) marks.new.tables
         marks.new.least }
 {
     for seg in 0..segment_count(dbr) {
