@@ -24,10 +24,13 @@
 //! and then the least core word that breaks each condition between processes. Where there is none, every schedule of the
 //! processes is isolated in each ring from 1.
 //!
-//! What `audit` costs: memory for a mark and two counts for each core word, and work that grows with the words of core, of the
-//! descriptors and of the page tables, and not with the words of the segments. Each table word is marked with the table it
-//! belongs to. Segment words are never looked at one by one: a page or an unpaged segment is a run of core words, for each
-//! core word it is counted how many runs begin and end there, and one pass over core keeps how many are open.
+//! What `audit` costs: room for a mark and two counts for each core word. Only those up to the last
+//! word of a table are written, and those up to the last word at which a run begins or ends; so work
+//! grows with these words, with the descriptors and with the page tables, and not with the words of
+//! the segments nor with the rest of core. Each table word is marked with the table it belongs to.
+//! Segment words are never looked at one by one: a page or an unpaged segment is a run of core
+//! words, for each core word it is counted how many runs begin and end there, and one pass keeps how
+//! many are open. It ends at the last word at which a run begins, since after it no more are open.
 //!
 //! What `joint` costs: three numbers more for each core word, and one for each descriptor. The marks and the counts are used
 //! again for each process. Of each core word it is told, each as none, one or several, which processes have a table word
