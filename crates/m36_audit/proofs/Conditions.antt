@@ -3,7 +3,7 @@ use Rattle.std.proofs.Common.{◌≡◌, ◌≢◌, ℕ, zero, suc, ◌+◌, ◌
 use Rattle.std.specs.Bool.{Decides}
 use Rattle.std.specs.Prelude.{◌⊎◌, Bool, true, false, not, ◌==◌, ◌&&◌, nat_lt, nat_le, List, length, slice_index, Option, Some, None, Result, Ok, Err}
 use Rattle.std.specs.Result.{result_ok}
-use Rattle.std.proofs.lemmas.Bool.{ltb-true, lt-ltb, leb-true, le-leb, and_parts, and_from, eq-eqb, ne_eqb, cases_eq}
+use Rattle.std.proofs.lemmas.Bool.{ltb-true, lt-ltb, leb-true, le-leb, and_parts, and_from, eq-eqb, ne_eqb, cases_eq, cases_lt}
 use Rattle.m36_desc.specs.Fields.{SdwFields, DbrFields}
 use Rattle.m36_desc.specs.Access.{in_order}
 use Rattle.m36_desc.specs.Widths.{IsSdw}
@@ -12,9 +12,10 @@ use Rattle.m36_model.specs.Audit.{IsSegmentWord, IsOf, IsInTwoTables, IsTableAnd
 use Rattle.m36_model.specs.declared.outcome.Refusal.{Refusal}
 use Rattle.m36_audit.specs.TableMarks.{AreMarked}
 use Rattle.m36_audit.specs.declared.run.Run.{Run}
-use Rattle.m36_audit.specs.Runs.{words, whole_run, frame_run, page_run_by, run_by, run_ordered, run_of, run, covers, coverage, InOrder}
+use Rattle.m36_audit.specs.Runs.{words, whole_run, frame_run, page_run_by, run_by, run_ordered, run_of, run, covers, coverage, InOrder, AreCounted, AreOpen}
 use Rattle.m36_audit.proofs.Bounds.{live_fits, live_in_bounds}
 use Rattle.m36_audit.proofs.Counting.{PassTwice, one, two, at_least_one, at_least_two}
+use Rattle.m36_audit.proofs.Covering.{open_on}
 use Rattle.m36_audit.proofs.RunWords.{Covers}
 use Rattle.m36_audit.proofs.SegmentWords.{number_of, WordOf, word_covered, word_inside, word_once, word_number, word_live, covered_word}
 
@@ -169,13 +170,35 @@ on_segment_decides core dbr a n inside e = (
       lt-ltb 1 n (omega arith),
 )
 
--- if no word below the size of core breaks a condition that only words in core can break, no word
--- does
+-- where no word below breaks the third condition, and no word from there on has a mark, none breaks it
+pub none_marked : (core : List ℕ) (dbr : DbrFields) (tables : List ℕ) (least : Option ℕ) (n m : ℕ) → AreMarked (IsOf core dbr) (length core) tables least → ((a : ℕ) → n ≤ a → slice_index tables a ≡ 0) → n ≤ m
+    → ((a : ℕ) → a < m → IsTableAndSegment core dbr a → ⊥) → Finds (IsTableAndSegment core dbr) None
+none_marked core dbr tables least n m marked unmarked le below = λ a k. at a k (cases_lt a m)
+  where
+    at : (a : ℕ) → IsTableAndSegment core dbr a → (a < m) ⊎ (m ≤ a) → ⊥
+    at a k (inl lt) = below a lt k
+    at a k (inr far) = table_counted core dbr tables least a marked k (unmarked a (omega arith))
+
+-- where a word does not break the fourth condition, at most one run is open there
+pub few_open : (core : List ℕ) (dbr : DbrFields) (a n : ℕ) → a < length core → n ≡ coverage core dbr a → (IsInTwoSegments core dbr a → ⊥) → n ≤ 1
+few_open core dbr a n inside e h = at (cases_lt 1 n)
+  where
+    at : (1 < n) ⊎ (n ≤ 1) → n ≤ 1
+    at (inl more) = absurd (h (counted_two core dbr a inside (omega arith)))
+    at (inr few) = few
+
+-- where no word below breaks the fourth condition, and from there on no run begins, none breaks it
+pub none_begun : (core : List ℕ) (dbr : DbrFields) (starts stops : List ℕ) (n m open_runs : ℕ) → AreCounted (run core dbr) (2 ^ 23) (length core) starts stops → AreOpen (run core dbr) (2 ^ 23) m open_runs → open_runs ≤ 1
+    → ((a : ℕ) → n ≤ a → slice_index starts a ≡ 0) → n ≤ m → ((a : ℕ) → a < m → IsInTwoSegments core dbr a → ⊥) → Finds (IsInTwoSegments core dbr) None
+none_begun core dbr starts stops n m open_runs counted opened few none le below = λ a k. at a k (cases_lt a m)
+  where
+    at : (a : ℕ) → IsInTwoSegments core dbr a → (a < m) ⊎ (m ≤ a) → ⊥
+    at a k (inl lt) = below a lt k
+    at a k (inr far) =
+        let two = two_counted core dbr a k in
+        let one = open_on (run core dbr) (2 ^ 23) (length core) starts stops counted (runs_in_order core dbr) m open_runs opened (λ q past. none q (omega arith)) a far (word_inside core dbr k.seg k.w a k.word) in
+        omega arith
+
+-- where no word of core breaks a condition that speaks of words in core, none does
 pub none_inside : (Breaks : ℕ → Type 0) (size n m : ℕ) → n ≡ size → n ≤ m → ((a : ℕ) → Breaks a → a < size) → ((a : ℕ) → a < m → Breaks a → ⊥) → Finds Breaks None
 none_inside Breaks size n m e le inside below = λ a k. let lt = inside a k in below a (omega arith) k
-
-pub third_inside : (core : List ℕ) (dbr : DbrFields) (a : ℕ) → IsTableAndSegment core dbr a → a < length core
-third_inside core dbr a k = word_inside core dbr k.seg k.w a k.word
-
-pub fourth_inside : (core : List ℕ) (dbr : DbrFields) (a : ℕ) → IsInTwoSegments core dbr a → a < length core
-fourth_inside core dbr a k = word_inside core dbr k.seg k.w a k.word

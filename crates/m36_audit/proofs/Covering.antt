@@ -1,5 +1,5 @@
--- Counts of the runs that begin and end at each word, and the number of runs that cover a word.
-use Rattle.std.proofs.Common.{◌≡◌, ℕ, ◌+◌, ◌-◌, ◌<◌, ◌≤◌, length, refl, sym, ◌∙◌, ap, subst, inl, inr, arith}
+-- Counts of the runs that begin and end at each word, and how many runs cover a word.
+use Rattle.std.proofs.Common.{◌≡◌, ℕ, zero, suc, ◌+◌, ◌-◌, ◌<◌, ◌≤◌, length, refl, sym, ◌∙◌, ap, subst, inl, inr, arith}
 use Rattle.std.specs.Prelude.{◌⊎◌, Bool, false, nat_lt, nat_le, ◌==◌, ◌&&◌, List, Option, Some, None, slice_index}
 use Rattle.std.proofs.lemmas.Bool.{cases_eq, cases_lt, lt-ltb, le-ltb, le-leb, lt-leb, eq-eqb, ne_eqb}
 use Rattle.std.proofs.lemmas.List.{get_or-set_same, get_or-set_other, length-set}
@@ -148,7 +148,34 @@ module _ (runs : ℕ → Option Run) (n : ℕ) where
       late None = refl
       late (Some r) = le-ltb r.end 0 (omega arith)
 
-  -- the number of open runs at the next word
+  -- from a word on at which no more runs begin, no more are open
+  begun_on : (size : ℕ) (starts stops : List ℕ) → AreCounted runs n size starts stops → (a open_runs : ℕ) → AreOpen runs n a open_runs → ((q : ℕ) → a ≤ q → slice_index starts q ≡ 0)
+      → (more b : ℕ) → b ≡ a + more → b ≤ size → count_below (λ i. begins_before b (runs i)) n ≤ open_runs + count_below (λ i. ends_before b (runs i)) n
+  begun_on size starts stops c a open_runs k none zero b e inside =
+      let sum = k.sum in
+      let here : b ≡ a = omega arith in
+      let begun = ap (λ (x : ℕ). count_below (λ i. begins_before x (runs i)) n) here in
+      let ended = ap (λ (x : ℕ). count_below (λ i. ends_before x (runs i)) n) here in
+      omega arith
+  begun_on size starts stops c a open_runs k none (suc more) b e inside =
+      let before = begun_on size starts stops c a open_runs k none more (a + more) refl (omega arith) in
+      let begin = c.begin (a + more) (omega arith) in
+      let nothing = none (a + more) (omega arith) in
+      let next = next_begun (a + more) in
+      let next_too = next_ended (a + more) in
+      let here : b ≡ a + more + 1 = omega arith in
+      let begun = ap (λ (x : ℕ). count_below (λ i. begins_before x (runs i)) n) here in
+      let ended = ap (λ (x : ℕ). count_below (λ i. ends_before x (runs i)) n) here in
+      omega arith
+
+  pub open_on : (size : ℕ) (starts stops : List ℕ) → AreCounted runs n size starts stops → InOrder runs → (a open_runs : ℕ) → AreOpen runs n a open_runs → ((q : ℕ) → a ≤ q → slice_index starts q ≡ 0)
+      → (p : ℕ) → a ≤ p → p < size → count_below (λ i. covers p (runs i)) n ≤ open_runs
+  open_on size starts stops c order a open_runs k none p past inside =
+      let begun = begun_on size starts stops c a open_runs k none ((p + 1) - a) (p + 1) (omega arith) (omega arith) in
+      let all = covered order p in
+      omega arith
+
+  -- what a step from a word to the next does to the number of open runs
   module _ (size : ℕ) (starts stops : List ℕ) (c : AreCounted runs n size starts stops) (order : InOrder runs) (a open_runs : ℕ) (k : AreOpen runs n a open_runs) (inside : a < size) where
     pub open_most : open_runs + slice_index starts a ≤ n
     open_most =

@@ -24,10 +24,10 @@ use std::alloc::Global;
 
 /// The findings, from the marks and the counts: each condition in order.
 pub(crate) fn found(marks: &TableMarks, counts: &RunCounts, core: &Core, dbr: Dbr) -> Verdict
-    requires marked { AreMarked (IsOf core.now dbr) (length core.now) marks.now.tables.items
+    requires marked { AreMarked (IsOf core.now dbr) (length core.now) marks.now.tables
         marks.now.least }
     requires counted { AreCounted (run core.now dbr) runs_of_process (length core.now)
-        counts.now.starts.items counts.now.stops.items }
+        counts.now.starts counts.now.stops }
     ensures { AreFindings core.now dbr (pairs result.findings.items) }
 {
     let first = first_segment(Condition::Brackets, core, dbr);
@@ -48,10 +48,10 @@ pub(crate) fn found(marks: &TableMarks, counts: &RunCounts, core: &Core, dbr: Db
 
 /// The findings. `marks` and `counts` have an entry for each core word, all of them zero.
 fn judged(marks: &mut TableMarks, counts: &mut RunCounts, core: &Core, dbr: Dbr) -> Verdict
-    requires tables { marks.old.tables.items ≡ replicate (length core.now) 0 }
+    requires tables { marks.old.tables ≡ replicate (length core.now) 0 }
     requires least { marks.old.least ≡ None }
-    requires starts { counts.old.starts.items ≡ replicate (length core.now) 0 }
-    requires stops { counts.old.stops.items ≡ replicate (length core.now) 0 }
+    requires starts { counts.old.starts ≡ replicate (length core.now) 0 }
+    requires stops { counts.old.stops ≡ replicate (length core.now) 0 }
     ensures { AreFindings core.now dbr (pairs result.findings.items) }
 {
     mark_tables(marks, core, dbr);

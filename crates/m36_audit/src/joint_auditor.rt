@@ -72,17 +72,16 @@ fn judged(
 ) -> Verdict
     requires few { length dbrs.now ≤ most_processes }
     requires process { k < length dbrs.now }
-    requires marks_len { length marks.old.tables.items ≡ length core.now }
-    requires starts_len { length counts.old.starts.items ≡ length core.now }
-    requires stops_len { length counts.old.stops.items ≡ length core.now }
-    requires classes { AreClasses core.now dbrs.now (descriptors_of_process * length dbrs.now)
-        firsts.now.items }
+    requires marks_len { length marks.old.tables ≡ length core.now }
+    requires starts_len { length counts.old.starts ≡ length core.now }
+    requires stops_len { length counts.old.stops ≡ length core.now }
+    requires classes { AreClasses core.now dbrs.now (descriptors_of_process * length dbrs.now) firsts.now.items }
     requires before { AreShares core.now dbrs.now firsts.now.items k
         shares.old.tables.values.items shares.old.segments.values.items
         shares.old.identities.values.items }
-    ensures marks_len { length marks.new.tables.items ≡ length core.now }
-    ensures starts_len { length counts.new.starts.items ≡ length core.now }
-    ensures stops_len { length counts.new.stops.items ≡ length core.now }
+    ensures marks_len { length marks.new.tables ≡ length core.now }
+    ensures starts_len { length counts.new.starts ≡ length core.now }
+    ensures stops_len { length counts.new.stops ≡ length core.now }
     ensures findings { (dbr : DbrFields) → slice_get dbrs.now k ≡ Some dbr
         → AreFindings core.now dbr (pairs result.findings.items) }
     ensures after { AreShares core.now dbrs.now firsts.now.items (k + 1)
@@ -118,16 +117,15 @@ fn judged_all(
     firsts: &Vec<u32>,
 ) -> ArrayVec<JointFinding, 50>
     requires few { length dbrs.now ≤ most_processes }
-    requires marks_len { length marks.old.tables.items ≡ length core.now }
-    requires starts_len { length counts.old.starts.items ≡ length core.now }
-    requires stops_len { length counts.old.stops.items ≡ length core.now }
-    requires classes { AreClasses core.now dbrs.now (descriptors_of_process * length dbrs.now)
-        firsts.now.items }
+    requires marks_len { length marks.old.tables ≡ length core.now }
+    requires starts_len { length counts.old.starts ≡ length core.now }
+    requires stops_len { length counts.old.stops ≡ length core.now }
+    requires classes { AreClasses core.now dbrs.now (descriptors_of_process * length dbrs.now) firsts.now.items }
     requires before { AreShares core.now dbrs.now firsts.now.items 0
         shares.old.tables.values.items shares.old.segments.values.items
         shares.old.identities.values.items }
-    ensures starts_len { length counts.new.starts.items ≡ length core.now }
-    ensures stops_len { length counts.new.stops.items ≡ length core.now }
+    ensures starts_len { length counts.new.starts ≡ length core.now }
+    ensures stops_len { length counts.new.stops ≡ length core.now }
     ensures findings { AreFindingsFrom 0 core.now dbrs.now (all_found result.items) }
     ensures room { array_vec_len result ≤ 48 }
     ensures after { AreShares core.now dbrs.now firsts.now.items (length dbrs.now)
@@ -152,11 +150,10 @@ fn jointly_judged(
     firsts: &Vec<u32>,
 ) -> Joint
     requires few { length dbrs.now ≤ most_processes }
-    requires marks_len { length marks.old.tables.items ≡ length core.now }
-    requires starts_len { length counts.old.starts.items ≡ length core.now }
-    requires stops_len { length counts.old.stops.items ≡ length core.now }
-    requires classes { AreClasses core.now dbrs.now (descriptors_of_process * length dbrs.now)
-        firsts.now.items }
+    requires marks_len { length marks.old.tables ≡ length core.now }
+    requires starts_len { length counts.old.starts ≡ length core.now }
+    requires stops_len { length counts.old.stops ≡ length core.now }
+    requires classes { AreClasses core.now dbrs.now (descriptors_of_process * length dbrs.now) firsts.now.items }
     requires before { AreShares core.now dbrs.now firsts.now.items 0
         shares.old.tables.values.items shares.old.segments.values.items
         shares.old.identities.values.items }

@@ -46,12 +46,12 @@ fn piece_run(core: &Core, sdw: &Sdw, piece: u32) -> Option<Run>
 /// Counts one run of a segment, if there is one with this number.
 fn count_piece(counts: &mut RunCounts, core: &Core, sdw: &Sdw, piece: u32)
     requires piece { piece < piece_count sdw.now }
-    requires room { HasRoom counts.old.starts.items }
-    requires room_at_end { HasRoom counts.old.stops.items }
-    ensures starts { counts.new.starts.items
-        ≡ starts_with (run_by sdw.now.unpaged core.now sdw.now piece) counts.old.starts.items }
-    ensures stops { counts.new.stops.items
-        ≡ stops_with (run_by sdw.now.unpaged core.now sdw.now piece) counts.old.stops.items }
+    requires room { HasRoom counts.old.starts }
+    requires room_at_end { HasRoom counts.old.stops }
+    ensures starts { counts.new.starts
+        ≡ starts_with (run_by sdw.now.unpaged core.now sdw.now piece) counts.old.starts }
+    ensures stops { counts.new.stops
+        ≡ stops_with (run_by sdw.now.unpaged core.now sdw.now piece) counts.old.stops }
 {
     match piece_run(core, sdw, piece) {
         Some(run) => counts.add(run),
@@ -73,12 +73,10 @@ fn count_pieces(
     requires runs { (piece : ℕ) → piece < runs_of_segment
         → joint_run core.now dbrs.now firsts.now.items (runs_of_segment * number + piece)
         ≡ run_by sdw.now.unpaged core.now sdw.now piece }
-    requires before { AreCounted (joint_run core.now dbrs.now firsts.now.items)
-        (runs_of_segment * number) (length core.now) counts.old.starts.items
-        counts.old.stops.items }
-    ensures { AreCounted (joint_run core.now dbrs.now firsts.now.items)
-        (runs_of_segment * (number + 1)) (length core.now) counts.new.starts.items
-        counts.new.stops.items }
+    requires before { AreCounted (joint_run core.now dbrs.now firsts.now.items) (runs_of_segment * number)
+        (length core.now) counts.old.starts counts.old.stops }
+    ensures { AreCounted (joint_run core.now dbrs.now firsts.now.items) (runs_of_segment * (number + 1))
+        (length core.now) counts.new.starts counts.new.stops }
 {
     for piece in 0..pieces(sdw) {
         count_piece(counts, core, sdw, piece);
@@ -100,11 +98,11 @@ fn count_first(
     requires seg { seg < 2 ^ 15 }
     requires there { length firsts.now.items ≡ descriptors_of_process * length dbrs.now }
     requires before { AreCounted (joint_run core.now dbrs.now firsts.now.items)
-        (runs_of_segment * (descriptors_of_process * k + seg)) (length core.now)
-        counts.old.starts.items counts.old.stops.items }
+        (runs_of_segment * (descriptors_of_process * k + seg)) (length core.now) counts.old.starts
+        counts.old.stops }
     ensures { AreCounted (joint_run core.now dbrs.now firsts.now.items)
-        (runs_of_segment * (descriptors_of_process * k + seg + 1)) (length core.now)
-        counts.new.starts.items counts.new.stops.items }
+        (runs_of_segment * (descriptors_of_process * k + seg + 1)) (length core.now) counts.new.starts
+        counts.new.stops }
 {
     let number = (1 << 15) * k as u32 + seg as u32;
     if firsts[number as usize] != number {
@@ -126,11 +124,11 @@ fn count_process(counts: &mut RunCounts, core: &Core, dbrs: &[Dbr], firsts: &Vec
     requires process { k < length dbrs.now }
     requires there { length firsts.now.items ≡ descriptors_of_process * length dbrs.now }
     requires before { AreCounted (joint_run core.now dbrs.now firsts.now.items)
-        (runs_of_segment * (descriptors_of_process * k)) (length core.now) counts.old.starts.items
-        counts.old.stops.items }
+        (runs_of_segment * (descriptors_of_process * k)) (length core.now) counts.old.starts
+        counts.old.stops }
     ensures { AreCounted (joint_run core.now dbrs.now firsts.now.items)
-        (runs_of_segment * (descriptors_of_process * (k + 1))) (length core.now)
-        counts.new.starts.items counts.new.stops.items }
+        (runs_of_segment * (descriptors_of_process * (k + 1))) (length core.now) counts.new.starts
+        counts.new.stops }
 {
     for seg in 0..segment_count(dbrs[k]) {
         count_first(counts, core, dbrs, firsts, k, seg);
@@ -142,10 +140,10 @@ pub(crate) fn count_processes(counts: &mut RunCounts, core: &Core, dbrs: &[Dbr],
     requires few { length dbrs.now ≤ most_processes }
     requires there { length firsts.now.items ≡ descriptors_of_process * length dbrs.now }
     requires before { AreCounted (joint_run core.now dbrs.now firsts.now.items) 0 (length core.now)
-        counts.old.starts.items counts.old.stops.items }
+        counts.old.starts counts.old.stops }
     ensures { AreCounted (joint_run core.now dbrs.now firsts.now.items)
-        (runs_of_process * length dbrs.now) (length core.now) counts.new.starts.items
-        counts.new.stops.items }
+        (runs_of_process * length dbrs.now) (length core.now) counts.new.starts
+        counts.new.stops }
 {
     for k in 0..dbrs.len() {
         count_process(counts, core, dbrs, firsts, k);

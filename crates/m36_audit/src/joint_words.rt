@@ -13,7 +13,6 @@ ghost use Rattle.m36_audit.specs.Shares.{joint_run, Below, Identified, TableOwne
 
 use crate::run::RunCounts;
 use crate::told::{SEVERAL, Told};
-use crate::words::count_at;
 use m36_core::Core;
 use m36_desc::Dbr;
 
@@ -67,8 +66,8 @@ fn open_joint(
 ) -> u32
     requires few { length dbrs.now ≤ most_processes }
     requires counted { AreCounted (joint_run core.now dbrs.now firsts.now.items)
-        (runs_of_process * length dbrs.now) (length core.now) counts.now.starts.items
-        counts.now.stops.items }
+        (runs_of_process * length dbrs.now) (length core.now) counts.now.starts
+        counts.now.stops }
     requires before { AreOpen (joint_run core.now dbrs.now firsts.now.items)
         (runs_of_process * length dbrs.now) a open_runs }
     requires inside { a < length core.now }
@@ -76,8 +75,8 @@ fn open_joint(
     ensures after { AreOpen (joint_run core.now dbrs.now firsts.now.items)
         (runs_of_process * length dbrs.now) (a + 1) result }
 {
-    let begin = count_at(&counts.starts, a);
-    let end = count_at(&counts.stops, a);
+    let begin = counts.starts.at(a);
+    let end = counts.stops.at(a);
     open_runs + begin - end
 }
 
@@ -103,8 +102,8 @@ pub(crate) fn on_joint_segment(
     requires segments { AreTold (Below (SegmentOwned core.now dbrs.now) (length dbrs.now))
         (length core.now) segments.now.values.items }
     requires counted { AreCounted (joint_run core.now dbrs.now firsts.now.items)
-        (runs_of_process * length dbrs.now) (length core.now) counts.now.starts.items
-        counts.now.stops.items }
+        (runs_of_process * length dbrs.now) (length core.now) counts.now.starts
+        counts.now.stops }
     ensures { Finds (IsJointSegment core.now dbrs.now) result }
 {
     let mut open_runs = 0;

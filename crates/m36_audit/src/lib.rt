@@ -28,12 +28,14 @@
 //! then the least core word that breaks each condition between processes. If there are none, every
 //! schedule of the processes is isolated in each ring from 1 to 7.
 //!
-//! Cost of `audit`: memory for one mark and two counts for each core word, and time that grows with
-//! the words of core, of the descriptors and of the page tables, but not with the words of the
-//! segments. Each table word is marked with its table. Segment words are not visited one by one: a
-//! page or an unpaged segment is a run of core words. For each core word, the auditor counts the
-//! runs that begin and end there. One pass over core then knows how many runs are open at each
-//! word.
+//! Cost of `audit`: memory for one mark and two counts for each core word. Marks are written only up
+//! to the last word of a table, and counts up to the last word at which a run begins or ends. So the
+//! time grows with these words, with the descriptors and with the page tables, but not with the
+//! words of the segments nor with the rest of core. Each table word is marked with its table.
+//! Segment words are not visited one by one: a page or an unpaged segment is a run of core words.
+//! For each core word, the auditor counts the runs that begin and end there. One pass over core then
+//! knows how many runs are open at each word. It ends at the last word at which a run begins, since
+//! after it the number of open runs does not grow.
 //!
 //! Cost of `joint`: three more numbers for each core word, and one for each descriptor. The marks
 //! and counts are used again for each process. Three values are recorded for each core word, each

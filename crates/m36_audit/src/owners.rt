@@ -11,7 +11,7 @@ ghost use Rattle.m36_audit.specs.Shares.{owned_at, AreOwned};
 use crate::run::RunCounts;
 use crate::tables::TableMarks;
 use crate::told::Told;
-use crate::words::{mark_at, open_at};
+use crate::words::open_at;
 use m36_core::Core;
 use m36_desc::Dbr;
 
@@ -36,12 +36,12 @@ pub(crate) fn tell_owners(
     k: u32,
 )
     requires process { k < most_processes }
-    requires marked { length marks.now.tables.items ≡ length core.now }
+    requires marked { length marks.now.tables ≡ length core.now }
     requires counted { AreCounted (run core.now dbr) runs_of_process (length core.now)
-        counts.now.starts.items counts.now.stops.items }
+        counts.now.starts counts.now.stops }
     requires tables_len { length tables.old.values.items ≡ length core.now }
     requires segments_len { length segments.old.values.items ≡ length core.now }
-    ensures tables { AreOwned (λ q. not (slice_index marks.now.tables.items q == 0)) (k + 1)
+    ensures tables { AreOwned (λ q. not (slice_index marks.now.tables q == 0)) (k + 1)
         (length core.now) tables.old.values.items tables.new.values.items }
     ensures segments { AreOwned (λ q. nat_lt 0 (coverage core.now dbr q)) (k + 1)
         (length core.now) segments.old.values.items segments.new.values.items }
@@ -49,7 +49,7 @@ pub(crate) fn tell_owners(
     let mut open_runs = 0;
     for a in 0..core.len() {
         open_runs = open_at(counts, core, dbr, a, open_runs);
-        tell_owner(tables, a, mark_at(marks, a) != 0, k + 1);
+        tell_owner(tables, a, marks.tables.at(a) != 0, k + 1);
         tell_owner(segments, a, open_runs > 0, k + 1);
     }
 }

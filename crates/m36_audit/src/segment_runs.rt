@@ -67,9 +67,9 @@ fn count_whole(counts: &mut RunCounts, core: &Core, dbr: Dbr, seg: u16, sdw: &Sd
     requires order { in_order sdw.now ≡ true }
     requires whole { sdw.now.unpaged ≡ true }
     requires before { AreCounted (run core.now dbr) (runs_of_segment * seg) (length core.now)
-        counts.old.starts.items counts.old.stops.items }
+        counts.old.starts counts.old.stops }
     ensures { AreCounted (run core.now dbr) (runs_of_segment * (seg + 1)) (length core.now)
-        counts.new.starts.items counts.new.stops.items }
+        counts.new.starts counts.new.stops }
 {
     counts.add(first_run(sdw));
     counts.add(second_run(sdw));
@@ -84,9 +84,9 @@ fn count_page(counts: &mut RunCounts, core: &Core, dbr: Dbr, seg: u16, sdw: &Sdw
     requires page { page ≤ last_page sdw.now }
     requires few { page < runs_of_segment }
     requires before { AreCounted (run core.now dbr) (runs_of_segment * seg + page) (length core.now)
-        counts.old.starts.items counts.old.stops.items }
+        counts.old.starts counts.old.stops }
     ensures { AreCounted (run core.now dbr) (runs_of_segment * seg + page + 1) (length core.now)
-        counts.new.starts.items counts.new.stops.items }
+        counts.new.starts counts.new.stops }
 {
     match page_run(core, sdw, page) {
         Some(run) => counts.add(run),
@@ -101,9 +101,9 @@ fn count_pages(counts: &mut RunCounts, core: &Core, dbr: Dbr, seg: u16, sdw: &Sd
     requires order { in_order sdw.now ≡ true }
     requires paged { sdw.now.unpaged ≡ false }
     requires before { AreCounted (run core.now dbr) (runs_of_segment * seg) (length core.now)
-        counts.old.starts.items counts.old.stops.items }
+        counts.old.starts counts.old.stops }
     ensures { AreCounted (run core.now dbr) (runs_of_segment * (seg + 1)) (length core.now)
-        counts.new.starts.items counts.new.stops.items }
+        counts.new.starts counts.new.stops }
 {
     let pages = sdw.bound as u32 / 64 + 1;
     for page in 0..pages {
@@ -115,9 +115,9 @@ fn count_pages(counts: &mut RunCounts, core: &Core, dbr: Dbr, seg: u16, sdw: &Sd
 fn count_segment(counts: &mut RunCounts, core: &Core, dbr: Dbr, seg: u16)
     requires seg { seg < 2 ^ 15 }
     requires before { AreCounted (run core.now dbr) (runs_of_segment * seg) (length core.now)
-        counts.old.starts.items counts.old.stops.items }
+        counts.old.starts counts.old.stops }
     ensures { AreCounted (run core.now dbr) (runs_of_segment * (seg + 1)) (length core.now)
-        counts.new.starts.items counts.new.stops.items }
+        counts.new.starts counts.new.stops }
 {
     match live(core, dbr, seg) {
         Some(sdw) => {
@@ -135,10 +135,10 @@ fn count_segment(counts: &mut RunCounts, core: &Core, dbr: Dbr, seg: u16)
 
 /// Counts the runs of all segments. No run is counted before.
 pub(crate) fn count_segments(counts: &mut RunCounts, core: &Core, dbr: Dbr)
-    requires before { AreCounted (run core.now dbr) 0 (length core.now) counts.old.starts.items
-        counts.old.stops.items }
-    ensures { AreCounted (run core.now dbr) runs_of_process (length core.now)
-        counts.new.starts.items counts.new.stops.items }
+    requires before { AreCounted (run core.now dbr) 0 (length core.now) counts.old.starts
+        counts.old.stops }
+    ensures { AreCounted (run core.now dbr) runs_of_process (length core.now) counts.new.starts
+        counts.new.stops }
 {
     for seg in 0..segment_count(dbr) {
         count_segment(counts, core, dbr, seg);

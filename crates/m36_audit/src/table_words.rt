@@ -16,10 +16,10 @@ use m36_tables::{descriptor_place, directory_at, page_at, segment_count, wrapped
 /// Marks the two words of a segment's descriptor.
 fn mark_descriptor(marks: &mut TableMarks, core: &Core, dbr: Dbr, seg: u16)
     requires seg { seg < 2 ^ 15 }
-    requires before { AreMarked (SoFar core.now dbr seg seg (pages_of_segment * seg))
-        (length core.now) marks.old.tables.items marks.old.least }
-    ensures { AreMarked (SoFar core.now dbr (seg + 1) seg (pages_of_segment * seg))
-        (length core.now) marks.new.tables.items marks.new.least }
+    requires before { AreMarked (SoFar core.now dbr seg seg (pages_of_segment * seg)) (length core.now)
+        marks.old.tables marks.old.least }
+    ensures { AreMarked (SoFar core.now dbr (seg + 1) seg (pages_of_segment * seg)) (length core.now)
+        marks.new.tables marks.new.least }
 {
     match descriptor_place(core, dbr, seg) {
         Ok(even) => {
@@ -35,10 +35,10 @@ fn mark_descriptor(marks: &mut TableMarks, core: &Core, dbr: Dbr, seg: u16)
 fn mark_directory(marks: &mut TableMarks, core: &Core, dbr: Dbr, seg: u16)
     requires seg { seg < 2 ^ 15 }
     requires bounds { in_bounds dbr seg ≡ true }
-    requires before { AreMarked (SoFar core.now dbr (seg + 1) seg (pages_of_segment * seg))
-        (length core.now) marks.old.tables.items marks.old.least }
-    ensures { AreMarked (SoFar core.now dbr (seg + 1) (seg + 1) (pages_of_segment * seg))
-        (length core.now) marks.new.tables.items marks.new.least }
+    requires before { AreMarked (SoFar core.now dbr (seg + 1) seg (pages_of_segment * seg)) (length core.now)
+        marks.old.tables marks.old.least }
+    ensures { AreMarked (SoFar core.now dbr (seg + 1) (seg + 1) (pages_of_segment * seg)) (length core.now)
+        marks.new.tables marks.new.least }
 {
     if !dbr.unpaged {
         marks.mark(DIRECTORY, directory_at(dbr, seg));
@@ -51,9 +51,9 @@ fn mark_page_table(marks: &mut TableMarks, core: &Core, dbr: Dbr, seg: u16, sdw:
     requires live { core_sdw core.now dbr seg ≡ Ok sdw.now }
     requires paged { sdw.now.unpaged ≡ false }
     requires before { AreMarked (SoFar core.now dbr (seg + 1) (seg + 1) (pages_of_segment * seg))
-        (length core.now) marks.old.tables.items marks.old.least }
-    ensures { AreMarked (SoFar core.now dbr (seg + 1) (seg + 1) (pages_of_segment * (seg + 1)))
-        (length core.now) marks.new.tables.items marks.new.least }
+        (length core.now) marks.old.tables marks.old.least }
+    ensures { AreMarked (SoFar core.now dbr (seg + 1) (seg + 1) (pages_of_segment * (seg + 1))) (length core.now)
+        marks.new.tables marks.new.least }
 {
     let pages = sdw.bound as u32 / 64 + 1;
     for page in 0..pages {
@@ -65,9 +65,9 @@ fn mark_page_table(marks: &mut TableMarks, core: &Core, dbr: Dbr, seg: u16, sdw:
 fn mark_pages(marks: &mut TableMarks, core: &Core, dbr: Dbr, seg: u16)
     requires seg { seg < 2 ^ 15 }
     requires before { AreMarked (SoFar core.now dbr (seg + 1) (seg + 1) (pages_of_segment * seg))
-        (length core.now) marks.old.tables.items marks.old.least }
-    ensures { AreMarked (SoFar core.now dbr (seg + 1) (seg + 1) (pages_of_segment * (seg + 1)))
-        (length core.now) marks.new.tables.items marks.new.least }
+        (length core.now) marks.old.tables marks.old.least }
+    ensures { AreMarked (SoFar core.now dbr (seg + 1) (seg + 1) (pages_of_segment * (seg + 1))) (length core.now)
+        marks.new.tables marks.new.least }
 {
     match live(core, dbr, seg) {
         Some(sdw) => {
@@ -81,9 +81,9 @@ fn mark_pages(marks: &mut TableMarks, core: &Core, dbr: Dbr, seg: u16)
 
 /// Marks all table words. No word has a mark before.
 pub(crate) fn mark_tables(marks: &mut TableMarks, core: &Core, dbr: Dbr)
-    requires before { AreMarked (SoFar core.now dbr 0 0 0) (length core.now) marks.old.tables.items
+    requires before { AreMarked (SoFar core.now dbr 0 0 0) (length core.now) marks.old.tables
         marks.old.least }
-    ensures { AreMarked (IsOf core.now dbr) (length core.now) marks.new.tables.items
+    ensures { AreMarked (IsOf core.now dbr) (length core.now) marks.new.tables
         marks.new.least }
 {
     for seg in 0..segment_count(dbr) {

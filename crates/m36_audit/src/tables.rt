@@ -1,10 +1,11 @@
 //! The table of each core word: the second condition.
 
-ghost use Rattle.std.specs.Prelude.{ℕ, ◌≡◌, IfOk, None, length, replicate};
+ghost use Rattle.std.specs.Prelude.{ℕ, ◌≡◌, ◌+◌, ◌-◌, ◌<◌, ◌≤◌, ◌++◌, IfOk, None, length, replicate, slice_index, slice_set, vec_capacity};
 ghost use Rattle.m36_audit.specs.TableMarks.{tables_marked, least_marked, lesser};
 
 use m36_word::NoMemory;
 use std::alloc::Global;
+use std::marker::Model;
 
 /// The mark of descriptor words.
 pub(crate) const SDWS: u16 = 1;
@@ -13,16 +14,100 @@ pub(crate) const DIRECTORY: u16 = 2;
 /// The mark of words of the page table of segment 0. That of segment n is `PAGES + n`.
 pub(crate) const PAGES: u16 = 3;
 
-/// For each core word the first table that was recorded for it, and the least word for which a
-/// second one was.
+/// A mark for each core word, and 0 for none, seen as the list of them. There is room for all of them
+/// from the start, but only those up to the last word that was marked are written: those after it
+/// are zero, and take no time.
+#[derive(Drop)]
+pub(crate) struct Marks {
+    written: Vec<u16>,
+    size: u32,
+}
+
+impl Model for Marks {
+    ghost use Rattle.std.specs.Prelude.{ℕ, List, ◌++◌, ◌-◌, ◌≤◌, length, replicate, vec_capacity};
+
+    ghost Value = { List ℕ };
+
+    ghost view = { λ m. m.written.items ++ replicate (m.size - length m.written.items) 0 };
+
+    ghost invariant = { λ m. (length m.written.items ≤ m.size) × (m.size ≤ vec_capacity m.written) };
+}
+
+/// For each core word the first table that it was seen to belong to, and the least word at which a second one was seen.
 #[derive(Drop)]
 pub(crate) struct TableMarks {
-    /// The mark of each core word, or 0 if it has none.
-    pub(crate) tables: Vec<u16>,
+    pub(crate) tables: Marks,
     pub(crate) least: Option<u32>,
 }
 
-/// The lesser of two addresses; the first may be absent.
+/// Writes marks up to a word, zeros after those that are written.
+fn write_up_to(written: &mut Vec<u16>, end: usize)
+    requires { end ≤ vec_capacity written.old }
+    ensures items { written.new.items ≡ written.old.items ++ replicate (end - length written.old.items) 0 }
+    ensures capacity { vec_capacity written.old ≤ vec_capacity written.new }
+{
+    if written.len() < end {
+        match written.resize(end, 0) {
+            Ok(()) => {}
+            Err(_) => unreachable!(),
+        }
+    }
+}
+
+impl Marks {
+    /// No word has a mark.
+    pub(crate) fn new(alloc: Global, size: u32) -> Result<Marks, NoMemory>
+        ensures { IfOk result (λ m. m ≡ replicate size 0) }
+    {
+        let written = Vec::with_capacity(alloc, size as usize)?;
+        Ok(Marks { written, size })
+    }
+
+    /// Takes all marks away.
+    pub(crate) fn clear(&mut self)
+        ensures { self.new ≡ replicate (length self.old) 0 }
+    {
+        self.written.clear();
+    }
+
+    /// How many words have a place.
+    pub(crate) fn len(&self) -> u32
+        ensures { result ≡ length self.now }
+    {
+        self.size
+    }
+
+    /// The mark at a word.
+    pub(crate) fn at(&self, a: u32) -> u16
+        ensures { result ≡ slice_index self.now a }
+    {
+        match self.written.get(a as usize) {
+            Some(mark) => *mark,
+            None => 0,
+        }
+    }
+
+    /// The first word from which on none was marked.
+    pub(crate) fn end(&self) -> u32
+        ensures inside { result ≤ length self.now }
+        ensures zeros { (a : ℕ) → result ≤ a → slice_index self.now a ≡ 0 }
+    {
+        let _size = self.size;
+        self.written.len() as u32
+    }
+
+    /// Marks a word.
+    fn put(&mut self, a: u32, mark: u16)
+        requires { a < length self.old }
+        ensures { self.new ≡ slice_set self.old a mark }
+    {
+        let index = a as usize;
+        write_up_to(&mut self.written, index + 1);
+        self.written[index] = mark;
+    }
+}
+
+/// The lesser of two places, of which the first may be none.
 fn lesser(least: Option<u32>, a: u32) -> u32
     ensures { Some result ≡ lesser least a }
 {
@@ -35,12 +120,10 @@ fn lesser(least: Option<u32>, a: u32) -> u32
 impl TableMarks {
     /// No word has a mark. Fails only if memory runs out.
     pub(crate) fn new(alloc: Global, size: u32) -> Result<TableMarks, NoMemory>
-        ensures tables { IfOk result (λ m. m.tables.items ≡ replicate size 0) }
+        ensures tables { IfOk result (λ m. m.tables ≡ replicate size 0) }
         ensures least { IfOk result (λ m. m.least ≡ None) }
     {
-        let count = size as usize;
-        let mut tables = Vec::with_capacity(alloc, count)?;
-        tables.resize(count, 0)?;
+        let tables = Marks::new(alloc, size)?;
         Ok(TableMarks {
             tables,
             least: None,
@@ -49,26 +132,25 @@ impl TableMarks {
 
     /// Removes all marks.
     pub(crate) fn clear(&mut self)
-        ensures tables { self.new.tables.items ≡ replicate (length self.old.tables.items) 0 }
+        ensures tables { self.new.tables ≡ replicate (length self.old.tables) 0 }
         ensures least { self.new.least ≡ None }
     {
-        self.tables.fill(0);
+        self.tables.clear();
         self.least = None;
     }
 
     /// Marks a core word as a word of a table. A word past the end of core is ignored.
     #[tactic(auto, unfolding(crate::specs::TableMarks::tables_marked, crate::specs::TableMarks::least_marked))]
     pub(crate) fn mark(&mut self, table: u16, a: u32)
-        ensures tables { self.new.tables.items ≡ tables_marked self.old.tables.items table a }
-        ensures least { self.new.least ≡ least_marked self.old.tables.items self.old.least table a }
+        ensures tables { self.new.tables ≡ tables_marked self.old.tables table a }
+        ensures least { self.new.least ≡ least_marked self.old.tables self.old.least table a }
     {
-        let a_index = a as usize;
-        if a_index >= self.tables.len() {
+        if a >= self.tables.len() {
             return;
         }
-        let seen = self.tables[a_index];
+        let seen = self.tables.at(a);
         if seen == 0 {
-            self.tables[a_index] = table;
+            self.tables.put(a, table);
         } else if seen != table {
             self.least = Some(lesser(self.least, a));
         }

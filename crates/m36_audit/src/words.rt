@@ -1,7 +1,7 @@
 //! The third and the fourth condition: no core word is both a table word and a segment word, and
 //! none is two segment words. One pass over core each, which counts the open runs.
 
-ghost use Rattle.std.specs.Prelude.{ℕ, ◌≡◌, ◌<◌, ◌^◌, ◌+◌, ◌==◌, ◌&&◌, not, nat_lt, length, slice_index, vec_len};
+ghost use Rattle.std.specs.Prelude.{ℕ, ◌≡◌, ◌<◌, ◌^◌, ◌+◌, ◌==◌, ◌&&◌, not, nat_lt, length, slice_index};
 ghost use Rattle.std.specs.Bool.{Decides};
 ghost use Rattle.m36_model.specs.Audit.{Finds, IsOf, IsTableAndSegment, IsInTwoSegments};
 ghost use Rattle.m36_audit.specs.TableMarks.{AreMarked};
@@ -12,33 +12,17 @@ use crate::tables::TableMarks;
 use m36_core::Core;
 use m36_desc::Dbr;
 
-/// The count of a word.
-pub(crate) fn count_at(counts: &Vec<u32>, a: u32) -> u32
-    requires { a < vec_len counts.now }
-    ensures { result ≡ slice_index counts.now.items a }
-{
-    counts[a as usize]
-}
-
-/// The mark of a word.
-pub(crate) fn mark_at(marks: &TableMarks, a: u32) -> u16
-    requires { a < vec_len marks.now.tables }
-    ensures { result ≡ slice_index marks.now.tables.items a }
-{
-    marks.tables[a as usize]
-}
-
-/// The number of runs that cover word `a`, from the number that were open before it.
+/// How many runs cover a word, from how many were open before it.
 pub(crate) fn open_at(counts: &RunCounts, core: &Core, dbr: Dbr, a: u32, open_runs: u32) -> u32
     requires counted { AreCounted (run core.now dbr) runs_of_process (length core.now)
-        counts.now.starts.items counts.now.stops.items }
+        counts.now.starts counts.now.stops }
     requires before { AreOpen (run core.now dbr) runs_of_process a open_runs }
     requires inside { a < length core.now }
     ensures value { result ≡ coverage core.now dbr a }
     ensures after { AreOpen (run core.now dbr) runs_of_process (a + 1) result }
 {
-    let begin = count_at(&counts.starts, a);
-    let end = count_at(&counts.stops, a);
+    let begin = counts.starts.at(a);
+    let end = counts.stops.at(a);
     open_runs + begin - end
 }
 
@@ -52,13 +36,13 @@ fn shared(open_runs: u32, mark: u16) -> bool
 
 /// Whether a word breaks the third condition.
 fn is_on_table(marks: &TableMarks, core: &Core, dbr: Dbr, a: u32, open_runs: u32) -> bool
-    requires marked { AreMarked (IsOf core.now dbr) (length core.now) marks.now.tables.items
+    requires marked { AreMarked (IsOf core.now dbr) (length core.now) marks.now.tables
         marks.now.least }
     requires inside { a < length core.now }
     requires covered { open_runs ≡ coverage core.now dbr a }
     ensures { Decides result (IsTableAndSegment core.now dbr a) }
 {
-    shared(open_runs, mark_at(marks, a))
+    shared(open_runs, marks.tables.at(a))
 }
 
 /// Whether a word breaks the fourth condition.
@@ -72,14 +56,14 @@ fn is_on_segment(core: &Core, dbr: Dbr, a: u32, open_runs: u32) -> bool
 
 /// The first core word that is both a segment word and a table word.
 pub(crate) fn on_table(marks: &TableMarks, counts: &RunCounts, core: &Core, dbr: Dbr) -> Option<u32>
-    requires marked { AreMarked (IsOf core.now dbr) (length core.now) marks.now.tables.items
+    requires marked { AreMarked (IsOf core.now dbr) (length core.now) marks.now.tables
         marks.now.least }
     requires counted { AreCounted (run core.now dbr) runs_of_process (length core.now)
-        counts.now.starts.items counts.now.stops.items }
+        counts.now.starts counts.now.stops }
     ensures { Finds (IsTableAndSegment core.now dbr) result }
 {
     let mut open_runs = 0;
-    for a in 0..core.len() {
+    for a in 0..marks.tables.end() {
         open_runs = open_at(counts, core, dbr, a, open_runs);
         if is_on_table(marks, core, dbr, a, open_runs) {
             return Some(a);
@@ -91,11 +75,11 @@ pub(crate) fn on_table(marks: &TableMarks, counts: &RunCounts, core: &Core, dbr:
 /// The first core word that is two segment words.
 pub(crate) fn on_segment(counts: &RunCounts, core: &Core, dbr: Dbr) -> Option<u32>
     requires counted { AreCounted (run core.now dbr) runs_of_process (length core.now)
-        counts.now.starts.items counts.now.stops.items }
+        counts.now.starts counts.now.stops }
     ensures { Finds (IsInTwoSegments core.now dbr) result }
 {
     let mut open_runs = 0;
-    for a in 0..core.len() {
+    for a in 0..counts.starts.end() {
         open_runs = open_at(counts, core, dbr, a, open_runs);
         if is_on_segment(core, dbr, a, open_runs) {
             return Some(a);

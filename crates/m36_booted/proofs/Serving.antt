@@ -95,29 +95,12 @@ turn_steps before after turn is turns =
     step_is before.loaded before.lib.catalog.frames (booted_of before) turn (booted_of after)
     (by_coming before.lib before after turn Step is turns.0)
 
-pub turn_links :
-    (before after : SuperFields) (turn : Turn) (at : AtFields)
-    → before.coming ≡ Link at → SuperTurns before turn after → IsLink turn
-turn_links before after turn at is turns =
-    link_is _ before.lib.catalog.frames at (booted_of before) turn (booted_of after)
-    (by_coming before.lib before after turn (Link at) is turns.0)
-
 pub turn_prints :
     (before after : SuperFields) (turn : Turn)
     → before.coming ≡ Print → SuperTurns before turn after → IsPrint turn
 turn_prints before after turn is turns =
     print_is _ _ (booted_of before) turn (booted_of after)
     (by_coming before.lib before after turn Print is turns.0)
-
--- a link service is told, or wants memory
-pub only_linked :
-    (turn : Turn) → IsLink turn → ((note : LinkNoteFields) → turn ≡ Linked note → ⊥) → (turn ≡ NoMemory → ⊥) → ⊥
-only_linked (Stepped told) is untold unwanting = is
-only_linked (Linked note) is untold unwanting = untold note refl
-only_linked (Console text) is untold unwanting = is
-only_linked (Ended e) is untold unwanting = is
-only_linked Full is untold unwanting = is
-only_linked NoMemory is untold unwanting = unwanting refl
 
 -- ---- what comes behind them
 
@@ -284,7 +267,7 @@ print_ends output taken before after e k turns = record {
   behind = turns.0;
 }
 
-pub ruleset services = (turn_links, turn_prints, link_behind, serve_none, serve_over, link_starves, link_cut, link_goes, print_cut, print_goes, print_ends)
+pub ruleset services = (turn_prints, link_behind, serve_none, serve_over, link_starves, link_cut, link_goes, print_cut, print_goes, print_ends)
 
 -- ---- a step, and then a service
 

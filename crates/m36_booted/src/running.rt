@@ -15,6 +15,7 @@ use m36_outside::{Block, Put, Sink};
 use m36_step::{Stepper, Turn};
 use m36_super::{Coming, Super};
 use m36_trace::TraceText;
+use m36_word::NoMemory;
 
 /// How a run has come to its end.
 #[derive(Clone, Copy)]
@@ -77,13 +78,12 @@ fn link<S: Sink>(
         (block_of block.old (sink_of S.written S.taken S.faults out.old))
         (block_of block.new (sink_of S.written S.taken S.faults out.new)) }
 {
-    match system.turn() {
-        Turn::Linked(note) => match add_linked(output, taken, &note, block, out) {
+    match system.serve_link(at) {
+        Ok(note) => match add_linked(output, taken, &note, block, out) {
             Put::Failed => Progress::Cut,
             Put::Done => behind_link(system),
         },
-        Turn::NoMemory => Progress::Starved,
-        _ => unreachable!(),
+        Err(NoMemory) => Progress::Starved,
     }
 }
 

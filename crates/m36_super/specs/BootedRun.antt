@@ -21,6 +21,7 @@ use Rattle.m36_isol.specs.PageServices.{pages_of_an_instruction}
 use Rattle.m36_link.specs.Fields.{KnownFields, SnapFields}
 use Rattle.m36_link.specs.Snap.{RefusedFields, snap_of}
 use Rattle.m36_link.specs.Accepted.{accepted}
+use Rattle.m36_step.specs.LinkNoteFields.{LinkNoteFields}
 use Rattle.m36_step.specs.declared.turns.Turn.{Turn}
 use Rattle.m36_step.specs.declared.turns.Turn.TheVariants.{Stepped, Linked, Console, Ended}
 use Rattle.m36_step.specs.declared.turns.Turn.TheVariants.{NoMemory}
@@ -106,6 +107,11 @@ IsLinkTurn (Ok s) frames at before turn after = IsLinked frames at s before turn
 IsLinkTurn (Err why) frames at before turn after =
     (turn ≡ Linked (note_refused at why))
     × (after ≡ record before { coming = Over (end.Link why.code) })
+
+-- the turn that a link service is, by what it did; none is want of memory
+abbrev pub link_turn : {E : Type 0} → Result LinkNoteFields E → Turn
+link_turn (Ok note) = Linked note
+link_turn (Err cause) = NoMemory
 
 -- the console service
 abbrev pub IsConsoleTurn : Bool → Result (List ℕ) Fault → Booted → Turn → Booted → Type 0

@@ -3,21 +3,22 @@
 ghost use Rattle.std.specs.Prelude.{◌≡◌, ◌<◌, length, false};
 ghost use Rattle.m36_link.specs.Laws.{IsMade};
 ghost use Rattle.m36_step.specs.Ended.{untold_record};
+ghost use Rattle.m36_super.specs.BootedRun.{link_turn};
 ghost use Rattle.m36_super.specs.SuperFields.{IsRunning, IsDue};
 ghost use Rattle.m36_super.specs.SuperTurn.{SuperTurns};
 
 use crate::coming::Coming;
 use crate::console::print;
 use crate::content::flat_content;
-use crate::linking::link;
+use crate::linking::{link, link_turn};
 use crate::stepping::step_told;
 use m36_core::Core;
 use m36_dir::Catalog;
 use m36_link::{File, Known};
 use m36_model::{At, Regs, StepRecord};
 use m36_page::Pager;
-use m36_step::{BackAnswer, Machine, Stepper, Turn};
-use m36_word::Word;
+use m36_step::{BackAnswer, LinkNote, Machine, Stepper, Turn};
+use m36_word::{NoMemory, Word};
 use std::alloc::Global;
 use std::marker::Model;
 
@@ -156,12 +157,23 @@ impl Super {
         Turn::Stepped(told)
     }
 
+    /// Takes the turn that is the service of a link at a place: returns its note. Fails only with
+    /// `NoMemory`.
+    #[tactic(auto, using(crate::proofs::SystemTurns::due_at))]
+    pub fn serve_link(&mut self, at: At) -> Result<LinkNote, NoMemory>
+        requires { self.old.coming ≡ Coming.Link at }
+        ensures { SuperTurns self.old (link_turn result) self.new }
+    {
+        let _coming = self.coming();
+        self.link(at)
+    }
+
     // Takes a turn that is a link service.
     #[tactic(auto, using(crate::proofs::SystemTurns::link_is_turn))]
-    fn link(&mut self, at: At) -> Turn
+    fn link(&mut self, at: At) -> Result<LinkNote, NoMemory>
         requires coming { self.old.coming ≡ Coming.Link at }
         requires runs { self.old.loaded ≡ false }
-        ensures { SuperTurns self.old result self.new }
+        ensures { SuperTurns self.old (link_turn result) self.new }
     {
         let Super {
             machine,
@@ -201,7 +213,7 @@ impl Super {
     {
         match coming {
             Coming::Step => self.step(),
-            Coming::Link(at) => self.link(at),
+            Coming::Link(at) => link_turn(self.link(at)),
             Coming::Print => self.print(),
             Coming::Over(end) => Turn::Ended(end),
         }

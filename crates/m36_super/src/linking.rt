@@ -6,7 +6,7 @@ ghost use Rattle.m36_link.specs.Known.{linkage_segment};
 ghost use Rattle.m36_link.specs.Snap.{snap_of};
 ghost use Rattle.m36_link.specs.Accepted.{accepted, MayBeLaid};
 ghost use Rattle.m36_link.specs.Laws.{IsMade};
-ghost use Rattle.m36_super.specs.BootedRun.{IsLinkTurn};
+ghost use Rattle.m36_super.specs.BootedRun.{IsLinkTurn, link_turn};
 ghost use Rattle.m36_super.specs.Laying.{written_from, laying};
 ghost use Rattle.m36_super.specs.Services.{link_changes, note_snapped, note_of};
 ghost use Rattle.m36_super.specs.SuperFields.{run_of, IsManaged, IsRunning};
@@ -142,14 +142,14 @@ fn snapped(
     coming: &mut Coming,
     at: At,
     snap: &Snap,
-) -> Turn
+) -> Result<LinkNote, NoMemory>
     requires runs { IsRunning (length pager.old.holders) machine.old.state.regs
         machine.old.state.store pager.old }
     requires may { MayBeLaid known.old snap.now.lay }
     requires seg { at.seg ≡ linkage_segment at.ring }
     requires even { at.word + 1 < 2 ^ 18 }
     ensures turn { (loaded : Bool) → IsLinkTurn (Ok snap.now) (length pager.old.holders) at
-        (run_of machine.old.state pager.old known.old coming.old loaded) result
+        (run_of machine.old.state pager.old known.old coming.old loaded) (link_turn result)
         (run_of machine.new.state pager.new known.new coming.new loaded) }
     ensures frames { length pager.new.holders ≡ length pager.old.holders }
     ensures runs { IsRunning (length pager.new.holders) machine.new.state.regs
@@ -160,9 +160,9 @@ fn snapped(
         Ok(()) => {
             write_changes(machine, pager, at, snap);
             *coming = Coming::Step;
-            Turn::Linked(note_snapped(at, snap))
+            Ok(note_snapped(at, snap))
         }
-        Err(NoMemory) => Turn::NoMemory,
+        Err(NoMemory) => Err(NoMemory),
     }
 }
 
@@ -177,13 +177,13 @@ pub(crate) fn link(
     known: &mut Known,
     coming: &mut Coming,
     at: At,
-) -> Turn
+) -> Result<LinkNote, NoMemory>
     requires runs { IsRunning (length pager.old.holders) machine.old.state.regs
         machine.old.state.store pager.old }
     requires made { IsMade catalog.now files.now known.old }
     ensures turn { (loaded : Bool) → IsLinkTurn (snap_of known.old catalog.now files.now at)
         (length pager.old.holders) at
-        (run_of machine.old.state pager.old known.old coming.old loaded) result
+        (run_of machine.old.state pager.old known.old coming.old loaded) (link_turn result)
         (run_of machine.new.state pager.new known.new coming.new loaded) }
     ensures frames { length pager.new.holders ≡ length pager.old.holders }
     ensures runs { IsRunning (length pager.new.holders) machine.new.state.regs
@@ -195,8 +195,18 @@ pub(crate) fn link(
         Ok(snap) => snapped(machine, pager, known, coming, at, &snap),
         Err(LinkFault::Refused(code, link)) => {
             *coming = Coming::Over(End::Link(code));
-            Turn::Linked(note_refused(at, code, link.as_ref()))
+            Ok(note_refused(at, code, link.as_ref()))
         }
-        Err(LinkFault::NoMemory) => Turn::NoMemory,
+        Err(LinkFault::NoMemory) => Err(NoMemory),
+    }
+}
+
+/// The turn that a link service is, by its answer.
+pub(crate) fn link_turn(answer: Result<LinkNote, NoMemory>) -> Turn
+    ensures { result ≡ link_turn answer }
+{
+    match answer {
+        Ok(note) => Turn::Linked(note),
+        Err(NoMemory) => Turn::NoMemory,
     }
 }

@@ -5,5 +5,5 @@ use Rattle.m36_audit.proofs.auditor.judged.Goals as goal
 
 pub count_segments-requires : goal.count_segments-requires
 count_segments-requires c = record {
-  before = nothing_counted (run c.args.core.now c.args.dbr) (length c.args.core.now) c.args.counts.now.starts.items c.args.counts.now.stops.items c.requires.starts c.requires.stops;
+  before = nothing_counted (run c.args.core.now c.args.dbr) (length c.args.core.now) c.args.counts.now.starts c.args.counts.now.stops c.requires.starts c.requires.stops;
 }

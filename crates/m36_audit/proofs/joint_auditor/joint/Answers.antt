@@ -4,15 +4,15 @@ use Rattle.m36_audit.proofs.joint_auditor.joint.Goals as goal
 
 pub jointly_judged-requires-clause-marks_len : goal.jointly_judged-requires-clause-marks_len
 jointly_judged-requires-clause-marks_len c =
-    zeros_len c.len-size.result c.in_ok-marks.marks.tables.items (length c.args.core.now) c.in_ok-marks.ensures.tables c.len-size.ensures.value
+    zeros_len c.len-size.result c.in_ok-marks.marks.tables (length c.args.core.now) c.in_ok-marks.ensures.tables c.len-size.ensures.value
 
 pub jointly_judged-requires-clause-starts_len : goal.jointly_judged-requires-clause-starts_len
 jointly_judged-requires-clause-starts_len c =
-    zeros_len c.len-size.result c.in_ok-counts.counts.starts.items (length c.args.core.now) c.in_ok-counts.ensures.starts c.len-size.ensures.value
+    zeros_len c.len-size.result c.in_ok-counts.counts.starts (length c.args.core.now) c.in_ok-counts.ensures.starts c.len-size.ensures.value
 
 pub jointly_judged-requires-clause-stops_len : goal.jointly_judged-requires-clause-stops_len
 jointly_judged-requires-clause-stops_len c =
-    zeros_len c.len-size.result c.in_ok-counts.counts.stops.items (length c.args.core.now) c.in_ok-counts.ensures.stops c.len-size.ensures.value
+    zeros_len c.len-size.result c.in_ok-counts.counts.stops (length c.args.core.now) c.in_ok-counts.ensures.stops c.len-size.ensures.value
 
 pub jointly_judged-requires-clause-before : goal.jointly_judged-requires-clause-before
 jointly_judged-requires-clause-before c =

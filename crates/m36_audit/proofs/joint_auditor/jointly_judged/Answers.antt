@@ -6,6 +6,6 @@ use Rattle.m36_audit.proofs.joint_auditor.jointly_judged.Goals as goal
 
 pub count_processes-requires-clause-before : goal.count_processes-requires-clause-before
 count_processes-requires-clause-before c =
-    nothing_counted (joint_run c.args.core.now c.args.dbrs.now c.args.firsts.now.items) (length c.args.core.now) c.clear.new.self.starts.items c.clear.new.self.stops.items
+    nothing_counted (joint_run c.args.core.now c.args.dbrs.now c.args.firsts.now.items) (length c.args.core.now) c.clear.new.self.starts c.clear.new.self.stops
     (c.clear.ensures.starts ∙ ap (λ (n : ℕ). replicate n 0) c.judged_all-findings.ensures.starts_len)
     (c.clear.ensures.stops ∙ ap (λ (n : ℕ). replicate n 0) c.judged_all-findings.ensures.stops_len)

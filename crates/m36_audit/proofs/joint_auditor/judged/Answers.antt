@@ -13,7 +13,7 @@ use Rattle.m36_audit.proofs.joint_auditor.judged.Goals as goal
 
 pub count_segments-requires : goal.count_segments-requires
 count_segments-requires c = record {
-  before = nothing_counted (run c.args.core.now c.index-dbrs-k.result) (length c.args.core.now) c.clear-2.new.self.starts.items c.clear-2.new.self.stops.items
+  before = nothing_counted (run c.args.core.now c.index-dbrs-k.result) (length c.args.core.now) c.clear-2.new.self.starts c.clear-2.new.self.stops
       (c.clear-2.ensures.starts ∙ ap (λ (n : ℕ). replicate n 0) c.requires.starts_len)
       (c.clear-2.ensures.stops ∙ ap (λ (n : ℕ). replicate n 0) c.requires.stops_len);
 }
@@ -33,7 +33,7 @@ returns-clause-after c =
     let at = dbr_at c.args.dbrs.now c.args.k c.index-dbrs-k.result c.requires.process c.index-dbrs-k.is in
     let told = c.tell_tables.ensures in
     record {
-      of_tables = tables_owned c.args.core.now c.args.dbrs.now c.index-dbrs-k.result c.args.k few at c.mark_tables.new.marks.tables.items c.mark_tables.new.marks.least c.mark_tables.ensures c.args.shares.now.tables.values.items c.tell_owners.new.tables.values.items c.tell_owners.ensures.tables c.requires.before.of_tables;
+      of_tables = tables_owned c.args.core.now c.args.dbrs.now c.index-dbrs-k.result c.args.k few at c.mark_tables.new.marks.tables c.mark_tables.new.marks.least c.mark_tables.ensures c.args.shares.now.tables.values.items c.tell_owners.new.tables.values.items c.tell_owners.ensures.tables c.requires.before.of_tables;
       of_segments = segments_owned c.args.core.now c.args.dbrs.now c.index-dbrs-k.result c.args.k few at c.args.shares.now.segments.values.items c.tell_owners.new.segments.values.items c.tell_owners.ensures.segments c.requires.before.of_segments;
       of_identities = process_told c.args.core.now c.args.dbrs.now c.args.firsts.now.items c.requires.classes.below c.args.k few (length c.args.core.now) c.index-dbrs-k.result told.0 told.1 at c.args.shares.now.identities.values.items c.tell_tables.new.told.values.items told.2 c.requires.before.of_identities;
     }

@@ -12,7 +12,7 @@ returns-then-index-number c =
     let lt : 2 ^ 15 * c.args.k + c.args.seg < length c.args.firsts.now.items = omega arith in
     let is = value_at c.args.firsts.now.items (2 ^ 15 * c.args.k + c.args.seg) c.index.result.now lt c.index.ensures in
     let dbr = dbr_of c.args.dbrs.now c.args.k c.requires.process in
-    not_first c.args.core.now c.args.dbrs.now c.args.firsts.now.items c.args.k dbr.0 dbr.1 c.args.seg c.requires.seg (λ e. c.if-index-number.true (is ∙ e)) (length c.args.core.now) c.args.counts.now.starts.items c.args.counts.now.stops.items c.requires.before
+    not_first c.args.core.now c.args.dbrs.now c.args.firsts.now.items c.args.k dbr.0 dbr.1 c.args.seg c.requires.seg (λ e. c.if-index-number.true (is ∙ e)) (length c.args.core.now) c.args.counts.now.starts c.args.counts.now.stops c.requires.before
 
 pub count_pieces-requires-clause-runs : goal.count_pieces-requires-clause-runs
 count_pieces-requires-clause-runs c =
@@ -27,10 +27,10 @@ pub returns-else-in_order : goal.returns-else-in_order
 returns-else-in_order c =
     no_words c.args.core.now c.args.dbrs.now c.args.firsts.now.items c.args.k c.index-dbrs-k.result (dbr_at c.args.dbrs.now c.args.k c.index-dbrs-k.result c.requires.process c.index-dbrs-k.is) c.args.seg c.requires.seg
     (disorder_at c.args.core.now c.index-dbrs-k.result c.args.seg c.in-Some.sdw c.in-Some.ensures (sym c.in_order.ensures ∙ c.if-in_order.false))
-    (length c.args.core.now) c.args.counts.now.starts.items c.args.counts.now.stops.items c.requires.before
+    (length c.args.core.now) c.args.counts.now.starts c.args.counts.now.stops c.requires.before
 
 pub returns-in-None : goal.returns-in-None
 returns-in-None c =
     no_words c.args.core.now c.args.dbrs.now c.args.firsts.now.items c.args.k c.index-dbrs-k.result (dbr_at c.args.dbrs.now c.args.k c.index-dbrs-k.result c.requires.process c.index-dbrs-k.is) c.args.seg c.requires.seg
     (λ d live. absurd (c.in-None.ensures d live))
-    (length c.args.core.now) c.args.counts.now.starts.items c.args.counts.now.stops.items c.requires.before
+    (length c.args.core.now) c.args.counts.now.starts c.args.counts.now.stops c.requires.before

@@ -6,4 +6,4 @@ use Rattle.m36_audit.proofs.joint_runs.count_process.Given as goal
 -- The runs of the segments before this one are counted.
 abbrev pub invariant-loop-seg : goal.invariant-loop-seg
 invariant-loop-seg l =
-    AreCounted (joint_run l.core l.dbrs l.firsts.items) (256 * (2 ^ 15 * l.k + l.seg)) (length l.core) l.counts.starts.items l.counts.stops.items
+    AreCounted (joint_run l.core l.dbrs l.firsts.items) (256 * (2 ^ 15 * l.k + l.seg)) (length l.core) l.counts.starts l.counts.stops

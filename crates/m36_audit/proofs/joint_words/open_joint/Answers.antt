@@ -6,27 +6,27 @@ use Rattle.m36_audit.proofs.joint_words.open_joint.Goals as goal
 
 pub overflow_add-result : goal.overflow_add-result
 overflow_add-result c =
-    let most = open_most (joint_run c.args.core.now c.args.dbrs.now c.args.firsts.now.items) (2 ^ 23 * length c.args.dbrs.now) (length c.args.core.now) c.args.counts.now.starts.items c.args.counts.now.stops.items c.requires.counted (joint_in_order c.args.core.now c.args.dbrs.now c.args.firsts.now.items) c.args.a c.args.open_runs c.requires.before c.requires.inside in
-    let begin = c.count_at-begin.ensures in
+    let most = open_most (joint_run c.args.core.now c.args.dbrs.now c.args.firsts.now.items) (2 ^ 23 * length c.args.dbrs.now) (length c.args.core.now) c.args.counts.now.starts c.args.counts.now.stops c.requires.counted (joint_in_order c.args.core.now c.args.dbrs.now c.args.firsts.now.items) c.args.a c.args.open_runs c.requires.before c.requires.inside in
+    let begin = c.at-begin.ensures in
     omega arith
 
 pub overflow_sub-result : goal.overflow_sub-result
 overflow_sub-result c =
-    let enough = open_enough (joint_run c.args.core.now c.args.dbrs.now c.args.firsts.now.items) (2 ^ 23 * length c.args.dbrs.now) (length c.args.core.now) c.args.counts.now.starts.items c.args.counts.now.stops.items c.requires.counted (joint_in_order c.args.core.now c.args.dbrs.now c.args.firsts.now.items) c.args.a c.args.open_runs c.requires.before c.requires.inside in
-    let begin = c.count_at-begin.ensures in
-    let end = c.count_at-end.ensures in
+    let enough = open_enough (joint_run c.args.core.now c.args.dbrs.now c.args.firsts.now.items) (2 ^ 23 * length c.args.dbrs.now) (length c.args.core.now) c.args.counts.now.starts c.args.counts.now.stops c.requires.counted (joint_in_order c.args.core.now c.args.dbrs.now c.args.firsts.now.items) c.args.a c.args.open_runs c.requires.before c.requires.inside in
+    let begin = c.at-begin.ensures in
+    let end = c.at-end.ensures in
     omega arith
 
 pub returns-clause-value : goal.returns-clause-value
 returns-clause-value c =
-    let covers = open_covers (joint_run c.args.core.now c.args.dbrs.now c.args.firsts.now.items) (2 ^ 23 * length c.args.dbrs.now) (length c.args.core.now) c.args.counts.now.starts.items c.args.counts.now.stops.items c.requires.counted (joint_in_order c.args.core.now c.args.dbrs.now c.args.firsts.now.items) c.args.a c.args.open_runs c.requires.before c.requires.inside in
-    let begin = c.count_at-begin.ensures in
-    let end = c.count_at-end.ensures in
+    let covers = open_covers (joint_run c.args.core.now c.args.dbrs.now c.args.firsts.now.items) (2 ^ 23 * length c.args.dbrs.now) (length c.args.core.now) c.args.counts.now.starts c.args.counts.now.stops c.requires.counted (joint_in_order c.args.core.now c.args.dbrs.now c.args.firsts.now.items) c.args.a c.args.open_runs c.requires.before c.requires.inside in
+    let begin = c.at-begin.ensures in
+    let end = c.at-end.ensures in
     rw (begin, end) covers
 
 pub returns-clause-after : goal.returns-clause-after
 returns-clause-after c =
-    let next = open_next (joint_run c.args.core.now c.args.dbrs.now c.args.firsts.now.items) (2 ^ 23 * length c.args.dbrs.now) (length c.args.core.now) c.args.counts.now.starts.items c.args.counts.now.stops.items c.requires.counted (joint_in_order c.args.core.now c.args.dbrs.now c.args.firsts.now.items) c.args.a c.args.open_runs c.requires.before c.requires.inside in
-    let begin = c.count_at-begin.ensures in
-    let end = c.count_at-end.ensures in
+    let next = open_next (joint_run c.args.core.now c.args.dbrs.now c.args.firsts.now.items) (2 ^ 23 * length c.args.dbrs.now) (length c.args.core.now) c.args.counts.now.starts c.args.counts.now.stops c.requires.counted (joint_in_order c.args.core.now c.args.dbrs.now c.args.firsts.now.items) c.args.a c.args.open_runs c.requires.before c.requires.inside in
+    let begin = c.at-begin.ensures in
+    let end = c.at-end.ensures in
     rw (begin, end) next

@@ -15,6 +15,6 @@ loop-a-preserved c =
     let segments_len = c.requires.segments_len in
     record {
       opened = c.open_at-open_runs.ensures.after;
-      of_tables = owned_next (λ q. not (slice_index c.args.marks.now.tables.items q == 0)) (c.args.k + 1) c.loop-a.a (not (c.mark_at.result == 0)) c.args.tables.now.values.items c.loop-a.tables.values.items c.tell_owner.new.told.values.items (ap (λ (n : ℕ). not (n == 0)) c.mark_at.ensures) (omega arith) c.tell_owner.ensures c.loop-a.invariant.of_tables;
+      of_tables = owned_next (λ q. not (slice_index c.args.marks.now.tables q == 0)) (c.args.k + 1) c.loop-a.a (not (c.at.result == 0)) c.args.tables.now.values.items c.loop-a.tables.values.items c.tell_owner.new.told.values.items (ap (λ (n : ℕ). not (n == 0)) c.at.ensures) (omega arith) c.tell_owner.ensures c.loop-a.invariant.of_tables;
       of_segments = owned_next (λ q. nat_lt 0 (coverage c.args.core.now c.args.dbr q)) (c.args.k + 1) c.loop-a.a (nat_lt 0 c.open_at-open_runs.result) c.args.segments.now.values.items c.loop-a.segments.values.items c.tell_owner-in-loop-a.new.told.values.items (ap (nat_lt 0) c.open_at-open_runs.ensures.value) (omega arith) c.tell_owner-in-loop-a.ensures c.loop-a.invariant.of_segments;
     }

@@ -8,6 +8,6 @@ use Rattle.m36_audit.proofs.owners.tell_owners.Given as goal
 abbrev pub invariant-loop-a : goal.invariant-loop-a
 invariant-loop-a l = record {
   opened : AreOpen (run l.core l.dbr) (2 ^ 23) l.a l.open_runs;
-  of_tables : AreOwned (λ q. not (slice_index l.marks.tables.items q == 0)) (l.k + 1) l.a l.fn.tables.values.items l.tables.values.items;
+  of_tables : AreOwned (λ q. not (slice_index l.marks.tables q == 0)) (l.k + 1) l.a l.fn.tables.values.items l.tables.values.items;
   of_segments : AreOwned (λ q. nat_lt 0 (coverage l.core l.dbr q)) (l.k + 1) l.a l.fn.segments.values.items l.segments.values.items;
 }

@@ -5,4 +5,4 @@ use Rattle.m36_audit.proofs.segment_runs.count_pages.Given as goal
 -- The pages before this one are counted.
 abbrev pub invariant-loop-page : goal.invariant-loop-page
 invariant-loop-page l =
-    AreCounted (run l.core l.dbr) (256 * l.seg + l.page) (length l.core) l.counts.starts.items l.counts.stops.items
+    AreCounted (run l.core l.dbr) (256 * l.seg + l.page) (length l.core) l.counts.starts l.counts.stops

@@ -6,10 +6,10 @@ pub returns-else-in_order : goal.returns-else-in_order
 returns-else-in_order c =
     no_runs c.args.core.now c.args.dbr c.args.seg
     (disorder_at c.args.core.now c.args.dbr c.args.seg c.in-Some.sdw c.in-Some.ensures (sym c.in_order.ensures ∙ c.if-in_order.false))
-    (length c.args.core.now) c.args.counts.now.starts.items c.args.counts.now.stops.items c.requires.before
+    (length c.args.core.now) c.args.counts.now.starts c.args.counts.now.stops c.requires.before
 
 pub returns-in-None : goal.returns-in-None
 returns-in-None c =
     no_runs c.args.core.now c.args.dbr c.args.seg
     (λ d live. absurd (c.in-None.ensures d live))
-    (length c.args.core.now) c.args.counts.now.starts.items c.args.counts.now.stops.items c.requires.before
+    (length c.args.core.now) c.args.counts.now.starts c.args.counts.now.stops c.requires.before

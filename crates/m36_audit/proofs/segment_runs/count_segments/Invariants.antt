@@ -5,4 +5,4 @@ use Rattle.m36_audit.proofs.segment_runs.count_segments.Given as goal
 -- The runs of the segments before this one are counted.
 abbrev pub invariant-loop-seg : goal.invariant-loop-seg
 invariant-loop-seg l =
-    AreCounted (run l.core l.dbr) (256 * l.seg) (length l.core) l.counts.starts.items l.counts.stops.items
+    AreCounted (run l.core l.dbr) (256 * l.seg) (length l.core) l.counts.starts l.counts.stops

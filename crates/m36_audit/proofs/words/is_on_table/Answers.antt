@@ -8,4 +8,4 @@ use Rattle.m36_audit.proofs.words.is_on_table.Goals as goal
 pub returns : goal.returns
 returns c =
     subst (λ (b : Bool). Decides b (IsTableAndSegment c.args.core.now c.args.dbr c.args.a)) (sym c.shared.ensures)
-    (on_table_decides c.args.core.now c.args.dbr c.args.marks.now.tables.items c.args.marks.now.least c.args.a c.args.open_runs c.mark_at.result c.requires.marked c.requires.inside c.requires.covered c.mark_at.ensures)
+    (on_table_decides c.args.core.now c.args.dbr c.args.marks.now.tables c.args.marks.now.least c.args.a c.args.open_runs c.at.result c.requires.marked c.requires.inside c.requires.covered c.at.ensures)

@@ -1,7 +1,7 @@
-use Rattle.std.proofs.Common.{below_more, length}
+use Rattle.std.proofs.Common.{below_more, arith}
 use Rattle.m36_model.specs.Audit.{IsInTwoSegments}
 use Rattle.m36_audit.proofs.Segments.{found_first, not_broken}
-use Rattle.m36_audit.proofs.Conditions.{none_inside, fourth_inside}
+use Rattle.m36_audit.proofs.Conditions.{none_begun, few_open}
 use Rattle.m36_audit.proofs.words.on_segment.Goals as goal
 
 pub returns-then-is_on_segment : goal.returns-then-is_on_segment
@@ -10,10 +10,16 @@ returns-then-is_on_segment c =
 
 pub returns : goal.returns
 returns c =
-    none_inside (IsInTwoSegments c.args.core.now c.args.dbr) (length c.args.core.now) c.len-a-end.result c.loop-a.a c.len-a-end.ensures.value c.loop-a-test.false (fourth_inside c.args.core.now c.args.dbr) c.loop-a.invariant.none
+    none_begun c.args.core.now c.args.dbr c.args.counts.now.starts c.args.counts.now.stops c.end-a-end.result c.loop-a.a c.loop-a.open_runs c.requires.counted c.loop-a.invariant.opened c.loop-a.invariant.few c.end-a-end.ensures.zeros c.loop-a-test.false c.loop-a.invariant.none
 
 pub loop-a-preserved : goal.loop-a-preserved
-loop-a-preserved c = record {
-  opened = c.open_at-open_runs.ensures.after;
-  none = below_more _ _ c.loop-a.invariant.none (not_broken (IsInTwoSegments c.args.core.now c.args.dbr c.loop-a.a) c.is_on_segment.result c.is_on_segment.ensures c.if-is_on_segment.false);
-}
+loop-a-preserved c =
+    let unbroken = not_broken (IsInTwoSegments c.args.core.now c.args.dbr c.loop-a.a) c.is_on_segment.result c.is_on_segment.ensures c.if-is_on_segment.false in
+    let near = c.loop-a-test.true in
+    let most = c.end-a-end.ensures.inside in
+    let len = c.requires.counted.starts_len in
+    record {
+      opened = c.open_at-open_runs.ensures.after;
+      few = few_open c.args.core.now c.args.dbr c.loop-a.a c.open_at-open_runs.result (omega arith) c.open_at-open_runs.ensures.value unbroken;
+      none = below_more _ _ c.loop-a.invariant.none unbroken;
+    }

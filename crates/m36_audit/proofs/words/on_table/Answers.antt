@@ -1,7 +1,7 @@
-use Rattle.std.proofs.Common.{below_more, length}
+use Rattle.std.proofs.Common.{below_more}
 use Rattle.m36_model.specs.Audit.{IsTableAndSegment}
 use Rattle.m36_audit.proofs.Segments.{found_first, not_broken}
-use Rattle.m36_audit.proofs.Conditions.{none_inside, third_inside}
+use Rattle.m36_audit.proofs.Conditions.{none_marked}
 use Rattle.m36_audit.proofs.words.on_table.Goals as goal
 
 pub returns-then-is_on_table : goal.returns-then-is_on_table
@@ -10,7 +10,7 @@ returns-then-is_on_table c =
 
 pub returns : goal.returns
 returns c =
-    none_inside (IsTableAndSegment c.args.core.now c.args.dbr) (length c.args.core.now) c.len-a-end.result c.loop-a.a c.len-a-end.ensures.value c.loop-a-test.false (third_inside c.args.core.now c.args.dbr) c.loop-a.invariant.none
+    none_marked c.args.core.now c.args.dbr c.args.marks.now.tables c.args.marks.now.least c.end-a-end.result c.loop-a.a c.requires.marked c.end-a-end.ensures.zeros c.loop-a-test.false c.loop-a.invariant.none
 
 pub loop-a-preserved : goal.loop-a-preserved
 loop-a-preserved c = record {

@@ -6,27 +6,27 @@ use Rattle.m36_audit.proofs.words.open_at.Goals as goal
 
 pub overflow_add-result : goal.overflow_add-result
 overflow_add-result c =
-    let most = open_most (run c.args.core.now c.args.dbr) (2 ^ 23) (length c.args.core.now) c.args.counts.now.starts.items c.args.counts.now.stops.items c.requires.counted (runs_in_order c.args.core.now c.args.dbr) c.args.a c.args.open_runs c.requires.before c.requires.inside in
-    let begin = c.count_at-begin.ensures in
+    let most = open_most (run c.args.core.now c.args.dbr) (2 ^ 23) (length c.args.core.now) c.args.counts.now.starts c.args.counts.now.stops c.requires.counted (runs_in_order c.args.core.now c.args.dbr) c.args.a c.args.open_runs c.requires.before c.requires.inside in
+    let begin = c.at-begin.ensures in
     omega arith
 
 pub overflow_sub-result : goal.overflow_sub-result
 overflow_sub-result c =
-    let enough = open_enough (run c.args.core.now c.args.dbr) (2 ^ 23) (length c.args.core.now) c.args.counts.now.starts.items c.args.counts.now.stops.items c.requires.counted (runs_in_order c.args.core.now c.args.dbr) c.args.a c.args.open_runs c.requires.before c.requires.inside in
-    let begin = c.count_at-begin.ensures in
-    let end = c.count_at-end.ensures in
+    let enough = open_enough (run c.args.core.now c.args.dbr) (2 ^ 23) (length c.args.core.now) c.args.counts.now.starts c.args.counts.now.stops c.requires.counted (runs_in_order c.args.core.now c.args.dbr) c.args.a c.args.open_runs c.requires.before c.requires.inside in
+    let begin = c.at-begin.ensures in
+    let end = c.at-end.ensures in
     omega arith
 
 pub returns-clause-value : goal.returns-clause-value
 returns-clause-value c =
-    let covers = open_covers (run c.args.core.now c.args.dbr) (2 ^ 23) (length c.args.core.now) c.args.counts.now.starts.items c.args.counts.now.stops.items c.requires.counted (runs_in_order c.args.core.now c.args.dbr) c.args.a c.args.open_runs c.requires.before c.requires.inside in
-    let begin = c.count_at-begin.ensures in
-    let end = c.count_at-end.ensures in
+    let covers = open_covers (run c.args.core.now c.args.dbr) (2 ^ 23) (length c.args.core.now) c.args.counts.now.starts c.args.counts.now.stops c.requires.counted (runs_in_order c.args.core.now c.args.dbr) c.args.a c.args.open_runs c.requires.before c.requires.inside in
+    let begin = c.at-begin.ensures in
+    let end = c.at-end.ensures in
     rw (begin, end) covers
 
 pub returns-clause-after : goal.returns-clause-after
 returns-clause-after c =
-    let next = open_next (run c.args.core.now c.args.dbr) (2 ^ 23) (length c.args.core.now) c.args.counts.now.starts.items c.args.counts.now.stops.items c.requires.counted (runs_in_order c.args.core.now c.args.dbr) c.args.a c.args.open_runs c.requires.before c.requires.inside in
-    let begin = c.count_at-begin.ensures in
-    let end = c.count_at-end.ensures in
+    let next = open_next (run c.args.core.now c.args.dbr) (2 ^ 23) (length c.args.core.now) c.args.counts.now.starts c.args.counts.now.stops c.requires.counted (runs_in_order c.args.core.now c.args.dbr) c.args.a c.args.open_runs c.requires.before c.requires.inside in
+    let begin = c.at-begin.ensures in
+    let end = c.at-end.ensures in
     rw (begin, end) next

@@ -1,5 +1,6 @@
 use Rattle.std.proofs.Common.{refl}
 use Rattle.m36_super.specs.contracts.booted.Super.{the_view}
+use Rattle.m36_super.specs.BootedRun.{link_turn}
 use Rattle.m36_super.proofs.SystemTurns.{link_turns}
 use Rattle.m36_super.proofs.booted.Super.link.Goals as goal
 
@@ -14,4 +15,4 @@ returns c =
       coming = c.link.new.coming;
       loaded = c.self.inside.loaded;
       alloc = c.self.inside.alloc;
-    })) c.link.result c.args.at _ _ c.self.view_is c.requires.coming c.self.invariant.frames c.deref.ensures.value refl (c.link.ensures.turn c.self.inside.loaded)
+    })) (link_turn c.link.result) c.args.at _ _ c.self.view_is c.requires.coming c.self.invariant.frames c.deref.ensures.value refl (c.link.ensures.turn c.self.inside.loaded)
