@@ -21,6 +21,7 @@ use m36_reading::Status;
 use m36_step::{Stepper, Turn};
 use m36_super::{Coming, Super};
 use m36_trace::TraceText;
+use m36_word::NoMemory;
 use m36_world::World;
 
 /// What follows a step with its service, or a service alone.
@@ -64,16 +65,15 @@ fn link<W: World>(
         (from_service block.old taken (booted_of system.old)) taken system.new block.new
         (W.seen world.old) (W.seen world.new) }
 {
-    match system.turn() {
-        Turn::Linked(note) => match add_linked(output, taken, &note, block, world) {
+    match system.serve_link(at) {
+        Ok(note) => match add_linked(output, taken, &note, block, world) {
             Put::Failed => AfterTurn::WriteFailed,
             Put::Done => after_link(system),
         },
-        Turn::NoMemory => match hand_over(block, world) {
+        Err(NoMemory) => match hand_over(block, world) {
             Put::Failed => AfterTurn::WriteFailed,
             Put::Done => AfterTurn::NoMemory,
         },
-        _ => unreachable!(),
     }
 }
 
@@ -190,7 +190,9 @@ pub fn run<W: World>(
     let mut taken: u32 = 0;
     let mut left = steps;
     'steps: while left > 0 {
-        match take_step(system, taken, output, &mut told, &mut text, &mut block, world) {
+        match take_step(
+            system, taken, output, &mut told, &mut text, &mut block, world,
+        ) {
             AfterTurn::Next => {}
             AfterTurn::Ended(end) => {
                 let ended = end_run(Finish::Over(end), taken + 1, denied, &mut block, world);
