@@ -93,6 +93,7 @@ AreInOrder b [] = Unit {0}
 AreInOrder b (p ∷ all) =
     (p.bases ≡ b) × (p.shape ≡ shape_of p.parts) × AreInOrder (bases_behind b p.parts) all
 
+-- where the text of a component begins, or its static words
 abbrev pub start_in : Bool → BasesFields → ℕ
 start_in statics b = if statics then b.statics else b.text
 
