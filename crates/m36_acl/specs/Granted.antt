@@ -18,7 +18,7 @@ name_of s = unwrap_or (slice_get s.names 0) []
 
 -- ---- C3: a `segment` line that names no segment of the catalog
 
--- whether the list is that of this segment of the catalog
+-- whether an access list is that of this segment of the catalog
 abbrev pub names : CatalogFields → AclSegmentFields → SegmentFields → Bool
 names catalog given s =
     is_entry (entry given.dir given.name) (entry (directory_in catalog.directories s) (name_of s))

@@ -119,7 +119,7 @@ WordsStand bound p statics =
 
 -- ---- relocations
 
--- The same part of the same word, as an offset in the same section.
+-- The new relocation is that of the same part of the same word, with the same target.
 pub record IsMovedRelocation (bound : PartsFields) (p : PlacedFields)
     (old new : RelocFields) : Type 0 where
   pub place : NamesImage bound p old.section old.offset new.section new.offset

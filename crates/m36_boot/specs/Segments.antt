@@ -44,7 +44,7 @@ linkage_pages = table_words
 abbrev pub is_short : List ℕ → Bool
 is_short words = nat_le (length words) segment_limit
 
--- the same for each of several files
+-- no file has more words than a segment can have
 abbrev pub AreShort : List (List ℕ) → Type 0
 AreShort files = All (λ w. length w ≤ segment_limit) files
 

@@ -124,7 +124,7 @@ abbrev pub is_in_directory : List ℕ → BootLine → Bool
 is_in_directory dir (line.Segment given) = is_text dir given.dir
 is_in_directory dir _ = false
 
--- the same for a line that may have no form
+-- whether a line has a form and puts a segment into a directory
 abbrev pub is_given_in_directory : List ℕ → Option BootLine → Bool
 is_given_in_directory dir (Some next) = is_in_directory dir next
 is_given_in_directory dir None = false

@@ -98,13 +98,15 @@ conduct Transfer = record { reads = false; touches = false; claims = false; targ
 conduct Call = record { reads = false; touches = false; claims = false; target = true }
 conduct Locate = record { reads = false; touches = false; claims = false; target = false }
 
+-- whether a reference of this kind reads words
 abbrev pub reads : RequestKind → Bool
 reads kind = (conduct kind).reads
 
+-- whether a reference of this kind sets marks, and is among the completed references of the step
 abbrev pub touches : RequestKind → Bool
 touches kind = (conduct kind).touches
 
--- whether a reference of this kind claims its words
+-- whether a reference of this kind claims its words, to be written
 abbrev pub claims_words : RequestKind → Bool
 claims_words kind = (conduct kind).claims
 
