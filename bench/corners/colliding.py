@@ -28,7 +28,7 @@ DIGITS = "0123456789abcdefghijklmnopqrstuvwxyz"
 
 
 def groups_of(count):
-    """The groups of slots of a table with so many entries."""
+    """The groups of slots of a table with this number of entries."""
     groups = 1
     while GROUP_LOAD * groups < count:
         groups *= 2

@@ -7,8 +7,8 @@ import time
 
 from . import crates, running
 
-# A check takes about so many seconds, and so many for each line, on one processor of 2026. The
-# second is replaced by what this run measures.
+# A check takes about OF_EACH seconds, and OF_A_LINE more for each line, on one processor of 2026.
+# OF_A_LINE is replaced by what this run measures.
 OF_EACH, OF_A_LINE = 6.0, 0.03
 # The compilation of the proved program.
 OF_BUILD = 90.0

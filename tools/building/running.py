@@ -11,7 +11,7 @@ ENDING = (signal.SIGHUP, signal.SIGINT, signal.SIGTERM)
 
 
 class Ended(SystemExit):
-    """The tool was told to end by a signal; its status is 128 and the number."""
+    """A signal ended the tool; its status is 128 and the number of the signal."""
 
 
 def end_by_signal():

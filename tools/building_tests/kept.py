@@ -68,5 +68,5 @@ def case_overflow(folder):
 
 
 CASES = (case_checks, case_traps)
-# These build the program once more, and are not in the gate.
+# These build the program once more, and are not part of `.ci/run`.
 PLANTED_CASES = (case_overflow,)

@@ -85,8 +85,8 @@ def sentences_of_end(program, folder, image, limit):
 
 
 def last_turns(program, folder, image, taken):
-    """The last step, after so many others, and what follows it. Where there are many, the quick way
-    is tried first."""
+    """The last step, after `taken` others, and what follows it. If these are many, the quick way is
+    tried first."""
     ways = (False,) if taken <= MOST_WORKED_OUT else (True, False)
     for quick in ways:
         with Recorder(program, folder, image) as recorder:

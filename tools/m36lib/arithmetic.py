@@ -1,4 +1,4 @@
-"""Arithmetic on numbers of so many bits (docs/MANUAL.md, section 9)."""
+"""Arithmetic on numbers of 18, 36 or 72 bits (docs/MANUAL.md, section 9)."""
 
 from typing import NamedTuple
 

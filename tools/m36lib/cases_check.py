@@ -37,8 +37,8 @@ class Watched(Machine):
 
 
 def images(folder, seed, count, more=0):
-    """Writes so many images that are drawn from a seed, and as long as they have not reached all
-    goals some more: their cases."""
+    """Writes `count` images drawn from a seed, and up to `more` others until all goals are reached.
+    Gives their cases."""
     counts = Counter()
     for number in range(count + more):
         if number >= count and all(counts[goal] for goal in IMAGE_GOALS):
@@ -50,8 +50,8 @@ def images(folder, seed, count, more=0):
 
 
 def folders(program, folder, seed, count, first=0):
-    """Writes so many folders that are drawn from a seed, from a number on: their cases. Their ends
-    follow each other."""
+    """Writes `count` folders drawn from a seed, numbered from `first` on. Gives their cases. Their
+    ends follow each other."""
     ends = list(ENDS)
     for number in range(first, first + count):
         place = folder / f"folder{number}"

@@ -349,8 +349,7 @@ def check_conditions_back(program, work):
 
 
 def place_at(step):
-    """Where the endless program is after so many steps: one instruction, and then three again and
-    again."""
+    """Where the endless program is after a step: one instruction, and then three in a loop."""
     return f"00100|{1 + (step - 1) % 3 if step else 0:06o}"
 
 

@@ -11,7 +11,7 @@ from .folder import Folder, FolderNames, Sources
 from .made_folders import FOLDERS
 from .recorder import Recorder
 
-# The ends of examples as the guide tells them, worked out by hand: the example, the words of the
+# The ends of examples as the guide has them, worked out by hand: the example, the words of the
 # run, and a part of each sentence in order.
 ENDS = (
     (

@@ -131,7 +131,7 @@ def positions(case, wanted):
 
 
 def press_through(tab, key):
-    """The positions that a key comes to, until it moves no more."""
+    """The positions that a key reaches, until it moves no further."""
     found = [state(tab)["position"]]
     while True:
         tab.press(key)
@@ -315,7 +315,7 @@ def example_checks(browser, program, work):
 
 
 def run_checks(checks, words=("",), show=partial(print, flush=True)):
-    """Makes the checks that have one of these words in their names. The number of those that fail."""
+    """Makes the checks with one of these words in their names. The number of those that fail."""
     wrong = made = 0
     for name, check in checks:
         if not any(word in name for word in words):

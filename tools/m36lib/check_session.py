@@ -71,7 +71,7 @@ def described(session):
 
 
 def differs(session, facts, step):
-    """Whether a session is not where the run is after so many steps."""
+    """Whether a session is not where the run is after this number of steps."""
     return described(session) != (step, facts.registers[step], facts.places[step])
 
 
@@ -121,7 +121,7 @@ def check_jumps(session, facts):
 
 
 def positions(session, move, most):
-    """The positions at which a move stops, until it comes to an end of the run."""
+    """The positions at which a move stops, until it reaches an end of the run."""
     found = []
     for _ in range(most):
         stop = move()

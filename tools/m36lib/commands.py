@@ -1,9 +1,9 @@
 """The command line of m36 as one table: commands, operands, options with defaults, statuses.
 
-The program reads its words by its own table (`m36_top:Words`). This table restates it, for whoever
-says which word is wrong and for the check that compares the help, the manual page, the completion
-and COMMANDS.md. `tools/speak-check` compares it with the program: each list of words that it
-generates must be a command here exactly where the program does not answer Usage.
+The program reads its words by its own table (`m36_top:Words`). This table restates it, for the
+tool that says which word is wrong and for the check that compares the help, the manual page, the
+completion and COMMANDS.md. `tools/speak-check` compares it with the program: each list of words
+that it generates must be a command here exactly if the program does not answer Usage.
 """
 
 import re

@@ -12,8 +12,8 @@ def fields_of(trace):
 
 
 def trace_differences(account, trace):
-    """Where the trace line is not what the account comes to: the instruction, the final address and
-    the outcome."""
+    """Where the trace line differs from the account: the instruction, the final address and the
+    outcome."""
     if account.outcome.kind == UNKNOWN:
         return []
     fields = fields_of(trace)

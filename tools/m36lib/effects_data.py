@@ -65,7 +65,7 @@ def with_indicators(registers, indicators):
 
 
 def becomes(given, value, text):
-    """The register becomes a value, of which zero and negative tell."""
+    """The register becomes a value, which zero and negative describe."""
     indicators = tested(given.registers.indicators, width_of(given), value)
     return Effect(with_indicators(given.becoming(value), indicators), text)
 

@@ -90,7 +90,7 @@ def decimal(name, least, most):
 
 
 def octal(name, digits):
-    """A field for exactly so many octal digits."""
+    """A field for exactly this number of octal digits."""
     return Field(name, f"[0-7]{{{digits}}}", f"{digits} octal digits")
 
 

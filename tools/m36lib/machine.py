@@ -102,7 +102,7 @@ class Machine:
 
     `taken` is how many steps the run has taken, or None after `go`. `sure` is false once the run
     has executed ABSA or LDBR over a folder: what it then does depends on frames, so that going back
-    is not sure to come to the same place."""
+    is not sure to reach the same place."""
 
     def __init__(self, program, folder, image=None, most_input=MOST_INPUT):
         self.program = os.path.abspath(program)
@@ -183,7 +183,7 @@ class Machine:
         self.go_to(self.count())
 
     def go_to(self, taken, quick=False):
-        """A new session that has taken so many steps. A quick one does not look at each step, so
+        """A new session that has taken `taken` steps. A quick one does not look at each step, so
         that `sure` stays as it is."""
         self.begin()
         while quick and taken - self.taken > STEPS_OF_GO:
@@ -216,7 +216,7 @@ class Machine:
         self.renew()
 
     def back(self, count=1):
-        """Goes back so many steps, and says where the machine is as `where` does. None where fewer
+        """Goes back `count` steps, and says where the machine is as `where` does. None if fewer
         steps have been taken."""
         taken = self.count()
         if count > taken:

@@ -108,8 +108,8 @@ class Recorder:
         return Spot(ring, segment, word, self.names.word(segment, word), file, line)
 
     def go_to(self, taken, quick=False):
-        """Goes from the start to where the run has taken so many steps, of which nothing is
-        recorded.
+        """Goes from the start to where the run has taken `taken` steps, and records nothing of
+        them.
 
         Over an image the steps are worked out by the account, since core is not to be seen whole. A
         quick way is there where the audit passes, so that tables stay: core is then as the machine
@@ -127,7 +127,7 @@ class Recorder:
         self.registers = self.read_registers()
 
     def work_out(self, taken):
-        """Makes so many steps of an image by the account alone."""
+        """Makes this number of steps of an image by the account alone."""
         for _ in range(taken):
             account = explain(self.registers, self.memory, self.names)
             self.memory.commit(account.commits)
@@ -137,7 +137,7 @@ class Recorder:
     # Turns.
 
     def turns(self, steps=2000):
-        """The turns of at most so many steps, and at last the end."""
+        """The turns of at most this number of steps, and then the end."""
         for number in range(self.number + 1, self.number + steps + 1):
             ended = yield from self.step(number)
             if ended:

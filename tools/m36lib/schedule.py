@@ -112,7 +112,7 @@ class Schedule:
         })
 
     def turns(self, steps):
-        """The turns of at most so many events, and at last the end."""
+        """The turns of at most this number of events, and then the end."""
         for number in range(1, steps + 2):
             line = self.process.stdout.readline().rstrip("\n")
             if line.startswith("end "):

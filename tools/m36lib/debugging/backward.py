@@ -10,10 +10,10 @@ AT_START = "This is the start of the run."
 
 
 class Backward:
-    """The moves of a session that go back. Each returns the Stop that it comes to."""
+    """The moves of a session that go back. Each returns the Stop that it reaches."""
 
     def back(self, count=1):
-        """Goes back so many steps; to the start if there are fewer."""
+        """Goes back this number of steps, or to the start if there are fewer."""
         return self.go_back_to(max(0, self.step - count))
 
     def back_over(self):

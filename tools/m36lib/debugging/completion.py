@@ -18,7 +18,7 @@ OF_NUMBERS = {"delete", "enable", "disable", "condition"}
 
 
 def choices(session, line, word):
-    """The words that begin as this one does and may stand at the end of the line."""
+    """The words that begin as this one does and may be the last of the line."""
     before = line[: len(line) - len(word)].split()
     if not before:
         found = [name for each in command_table.COMMANDS

@@ -11,7 +11,7 @@ SECOND_COLUMN = re.compile(r" *(?:\S(?:[^ ]| (?! ))* {2,})?")
 
 
 def cut(line, width):
-    """A line of at most so many characters: a longer one ends with a mark. Colours take no room."""
+    """A line of at most this width: a longer one ends with a mark. Colours take no room."""
     if len(ESCAPE.sub("", line)) <= width:
         return line
     room, parts = width - len(CUT_MARK), []
@@ -25,7 +25,7 @@ def cut(line, width):
 
 
 def wrapped(line, width, column=None):
-    """A line in several, parted between words; those after the first begin at a column, or are
+    """A line as several, broken between words; those after the first begin at a column, or are
     indented."""
     if len(line) <= width:
         return [line]

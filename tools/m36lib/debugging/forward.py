@@ -16,10 +16,10 @@ REASONS = {
 
 
 class Forward:
-    """The moves of a session that go forward. Each returns the Stop that it comes to."""
+    """The moves of a session that go forward. Each returns the Stop that it reaches."""
 
     def forward(self, count=1):
-        """Takes so many steps. Breakpoints and watchpoints stop it, after one step at least."""
+        """Takes `count` steps. Breakpoints and watchpoints stop it, after one step at least."""
         return self.go_forward(count)
 
     def go(self, most=MOST_OF_GO):
@@ -52,7 +52,7 @@ class Forward:
         return self.to_depth(depth - 1, "return") if depth else None
 
     def to_depth(self, depth, reason):
-        """Goes on until the run is in at most so many calls."""
+        """Goes on until the run is in at most this number of calls."""
         return self.go_forward(
             MOST_OF_GO, lambda _, call: depth_of(call) <= depth, reason, limit="limit"
         )
@@ -104,7 +104,7 @@ class Forward:
         return stop, stop.step if stop else run.step
 
     def traced(self, position, count, watches):
-        """Up to so many steps from a position, with what is watched; and the process."""
+        """Up to this number of steps from a position, with what is watched; and the process."""
         run = self.runs.at(position)
         watched = None
         if watches:

@@ -53,7 +53,7 @@ class Front(Looking):
     # Moving.
 
     def stopped(self, stop):
-        """Shows where a move has come to."""
+        """Shows where a move has stopped."""
         self.listed_to = None
         self.frame_number = 0
         if not self.session.is_sure() and self.was_sure:
@@ -231,7 +231,7 @@ class Front(Looking):
         self.leaves = True
 
     def serve(self, _, line):
-        """Shows a line of the linker, or what the console writes, as the run comes to it."""
+        """Shows a line of the linker, or what the console writes, when the run reaches it."""
         written = show.console_written([line])
         if written is None:
             self.write(line)

@@ -116,7 +116,7 @@ class Piece:
 
 
 def piece_size(position, count):
-    """How many of so many steps after a position have numbers with as many digits as the first."""
+    """How many of the next steps after a position have numbers with as many digits as the first."""
     return min(count, 10 ** len(str(position + 1)) - 1 - position)
 
 

@@ -28,7 +28,7 @@ class Run(Session):
         self.expected = 0
 
     def trace(self, count):
-        """Takes up to so many steps. The lines that the program prints, and that of `where`."""
+        """Takes up to `count` steps. The lines that the program prints, and that of `where`."""
         lines, (where,) = self.ask([f"step {count}", "where"])
         self.see_end(lines, self.step + count)
         return lines, where
@@ -41,7 +41,7 @@ class Run(Session):
         self.step = step
 
     def watch(self, count, lines):
-        """Takes up to so many steps, and has these lines answered after each. All lines that the
+        """Takes up to `count` steps, and has these lines answered after each. All lines that the
         program prints. The count is at most what `watched_at_once` says."""
         answer = self.ask_block(["step", *lines] * count)
         ends = [line for line in answer if line.startswith("end ")]
@@ -91,7 +91,7 @@ class Run(Session):
             self.skip(step - self.step)
 
     def skip(self, count):
-        """Takes up to so many steps, without keeping what the program prints of them."""
+        """Takes up to this number of steps, and drops what the program prints of them."""
         self.send(f"step {count}\n~\n")
         tail = b""
         while not (tail == END or tail.endswith(b"\n" + END)):

@@ -60,8 +60,8 @@ class Screen:
         self.before = session.registers
 
     def lines(self, spare=0):
-        """The lines of a stop, fitted to the window; so many of its lines are left for others. In a
-        small one what comes next and the source are kept, and of the rest what there is room
+        """The lines of a stop, fitted to the window; `spare` of its lines are left for others. In a
+        small window what comes next and the source are kept, and of the rest what there is room
         for."""
         size = shutil.get_terminal_size((100, LEAST_HEIGHT))
         width, room = size.columns, max(LEAST_ROOM, size.lines - LINES_OF_PROMPT - spare)
@@ -90,7 +90,7 @@ class Screen:
         }
 
     def fitted(self, name, lines, height, width):
-        """The lines of a pane for so many lines of height, its heading among them."""
+        """The lines of a pane of this height in lines, its heading among them."""
         count = height - (name != POINTERS)
         if count <= 0:
             return []

@@ -171,7 +171,7 @@ def source_lines(session, segment, word, count, marks=frozenset()):
 
 
 def first_line(source, line, count):
-    """The first of so many lines around a line."""
+    """The first of this number of lines around a line."""
     return max(1, min(line - count // 2, last_line(source) - count + 1))
 
 
@@ -217,7 +217,7 @@ def listing(session, segment, word, count, marks=frozenset()):
 
 
 def first_word(word, count):
-    """The first of so many words around a word."""
+    """The first of this number of words around a word."""
     return max(0, word - count // 3)
 
 

@@ -63,8 +63,8 @@ def is_to_go_on(session):
 
 
 def repeated(line):
-    """What an empty line after this one stands for: the same again, or the words or lines that
-    follow those that were shown."""
+    """What an empty line after this one means: the same again, or the words or lines that follow
+    those that were shown."""
     try:
         command = command_table.find(line.split()[0].partition("/")[0])
     except command_table.Unknown:

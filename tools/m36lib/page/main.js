@@ -124,8 +124,8 @@ class Page {
     return turn;
   }
 
-  /* Goes to a turn; while predicting past the pages that a step brings in, which would tell to what
-     it refers. */
+  /* Goes to a turn. While predicting it skips the pages that a step brings in, since they would
+     show what the step refers to. */
   go(turn) {
     let wanted = Math.max(0, Math.min(turn, this.run.count - 1));
     while (this.predicts && this.isPage(wanted) && wanted < this.run.count - 1) wanted += 1;

@@ -1,5 +1,5 @@
-/* Stays: turns in a row in one ring and one segment. Loops are folded, within a stay and of
-   stays. */
+/* A stay is a series of turns in one ring and one segment. Loops are folded: loops within a stay,
+   and loops of several stays. */
 
 const LONGEST_LOOP = 12;
 const LEAST_REPEATS = 3;
@@ -33,7 +33,7 @@ function sameStay(one, other) {
   return one.ring === other.ring && one.segment === other.segment && one.process === other.process;
 }
 
-/* How often the stays from `at` on repeat in periods of so many. */
+/* How many times in a row the `period` stays from `at` on occur. */
 function repeatsFrom(stays, at, period) {
   let same = 0;
   while (at + period + same < stays.length
@@ -43,7 +43,8 @@ function repeatsFrom(stays, at, period) {
   return 1 + Math.floor(same / period);
 }
 
-/* The loop of stays that begins at a stay: its period and how often it is gone through; or null. */
+/* The loop of stays that begins at a stay: its period and how often it is taken; null if there is
+   none. */
 function loopAt(stays, at) {
   let best = null;
   for (let period = 2; period <= LONGEST_LOOP; period++) {
@@ -55,8 +56,8 @@ function loopAt(stays, at) {
   return best;
 }
 
-/* The boxes of the ladder: a stay each, or the stays of a loop that are drawn once. Each stay gets
-   its box. */
+/* The boxes of the ladder. A box is one stay, or the stays at one place of a loop, which is drawn
+   once. Sets the box of each stay. */
 function boxesOf(stays, folds) {
   const boxes = [];
   for (let at = 0; at < stays.length;) {
@@ -81,7 +82,7 @@ function boxesOf(stays, folds) {
   return boxes;
 }
 
-/* The stays by turns: which stay a turn is in. */
+/* The stay that a turn is in, or null if there are no stays. */
 function stayOfTurn(stays, turn) {
   let low = 0, high = stays.length - 1;
   while (low < high) {
@@ -91,8 +92,8 @@ function stayOfTurn(stays, turn) {
   return stays[low] || null;
 }
 
-/* The first turn after the loop that a step is in, or -1. A loop comes back to the step's word in
-   no more than twice the time that it took before. */
+/* The first turn after the loop that a step is in, or -1 if it is in none. The loop has ended when
+   the run does not reach the step's word again within twice as many turns as the first time. */
 function afterLoop(run, turn) {
   const key = (at) => `${run.processOf(at)} ${run.spots[at]}`;
   const start = key(turn), inside = new Set();
