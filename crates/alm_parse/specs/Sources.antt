@@ -71,7 +71,7 @@ Refuses (E6 line column) definition = definition ≡ Err (E6 line column)
 Refuses (E7 line column) definition = definition ≡ Err (E7 line column)
 Refuses (E8 line column) definition = definition ≡ Err (E8 line column)
 
--- What the result of a call implies, where the definition gives this.
+-- The result of a call is that of the definition, or `NoMemory`.
 abbrev pub ParseSays : {A : Type 0} → Result A AlmFault → Result A AlmFault → Type 0
 ParseSays (Ok value) definition = definition ≡ Ok value
 ParseSays (Err fault) definition = Refuses fault definition

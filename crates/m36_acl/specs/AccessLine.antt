@@ -22,7 +22,7 @@ pub data Line : Type 0 where
 
 -- ---- modes
 
--- a mode without the right to be privileged
+-- a mode, unless it has the right to be privileged
 abbrev pub unprivileged : Mode → Option Mode
 unprivileged mode = if mode.privileged then None else Some mode
 

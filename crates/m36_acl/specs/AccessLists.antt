@@ -101,7 +101,7 @@ abbrev pub Told : AclFault → Read → Type 0
 Told fault.NoMemory definition = Unit {0}
 Told told definition = definition ≡ Err told
 
--- the result of a call that parses a text with these lists or this fault
+-- The result of a call is that of the definition, or `NoMemory`.
 abbrev pub ReadSays : Read → Read → Type 0
 ReadSays (Ok lists) definition = definition ≡ Ok lists
 ReadSays (Err told) definition = Told told definition

@@ -98,7 +98,7 @@ in_order above (Some next) = if is_in_order_behind above next then Some next els
 
 -- ---- B1
 
--- continues with a line, if it has a form
+-- continues with a line, or gives `otherwise` if the line has no form
 abbrev pub read_on : Result (List BindLine) BindFault → (BindLine
     → Result (List BindLine) BindFault) → Option BindLine → Result (List BindLine) BindFault
 read_on otherwise next None = otherwise
@@ -169,7 +169,7 @@ abbrev pub Refuses : {A : Type 0} → BindFault → Result A BindFault → Type 
 Refuses fault.NoMemory definition = Unit {0}
 Refuses told definition = definition ≡ Err told
 
--- What the result of a call implies, where the definition gives this.
+-- The result of a call is that of the definition, or `NoMemory`.
 abbrev pub BindSays : {A : Type 0} → Result A BindFault → Result A BindFault → Type 0
 BindSays (Ok value) definition = definition ≡ Ok value
 BindSays (Err told) definition = Refuses told definition

@@ -7,7 +7,7 @@ use Rattle.m36_desc.specs.Descriptors.{dbr_even, dbr_odd, ptr_of, ptr_even, ptr_
 use Rattle.m36_desc.specs.Descriptors.{its_even, its_odd, its_tag, itp_of, itp_even, itp_odd, itp_tag}
 use Rattle.m36_desc.specs.Descriptors.{tag_of, packed_of, packed_word}
 
--- An SDW that is written to words is read back unchanged.
+-- An SDW whose fields are within their widths is written to words and read back unchanged.
 abbrev pub SdwComesBack : Type 0
 SdwComesBack = (s : SdwFields) → IsSdw s → sdw_of (sdw_even s) (sdw_odd s) ≡ s
 

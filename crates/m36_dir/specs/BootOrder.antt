@@ -164,7 +164,7 @@ abbrev pub names_with : ℕ → BootLine → ℕ
 names_with n (line.Name name) = n + 1
 names_with n _ = 0
 
--- the number of `name` lines at the end of some lines, where n of them are above
+-- the number of `name` lines at the end of these lines, of which n more are directly above them
 unfoldable pub names_at_end : ℕ → List BootLine → ℕ
 names_at_end n [] = n
 names_at_end n (next ∷ lines) = names_at_end (names_with n next) lines

@@ -149,7 +149,7 @@ abbrev pub Told : CatalogFault → Result CatalogFields CatalogFault → Type 0
 Told fault.NoMemory definition = Unit {0}
 Told told definition = definition ≡ Err told
 
--- the result of reading a boot text with this catalog or fault
+-- The result of a call is that of the definition, or `NoMemory`.
 abbrev pub ReadSays : Result CatalogFields CatalogFault → Result CatalogFields CatalogFault → Type 0
 ReadSays (Ok catalog) definition = definition ≡ Ok catalog
 ReadSays (Err told) definition = Told told definition

@@ -64,7 +64,7 @@ fn parts_of_last(d: &[Word], at: u64) -> u64
     parts_kept(word_at(d, at + length / 4), length % 4)
 }
 
-// The name at an offset, as the words that are compared.
+// The name at an offset, by the words and numbers in which equal names agree.
 fn spelled_at(d: &[Word], at: u64) -> Spelling<'_>
     requires at { at < 2 ^ 18 }
     ensures whole { result.whole.now ≡ whole_words d.now at }
