@@ -59,9 +59,8 @@ fn finished(alloc: Global, reader: Reader) -> Result<Procs, NoMemory>
 }
 
 impl Procs {
-    /// Parses processes with their schedule. A text is refused exactly if a line has a code: with
-    /// the first such line and its least code. The only other error is `NoMemory`. All memory is
-    /// allocated here.
+    /// Parses processes with their schedule. The error is the first line that has a code, with the
+    /// least code of that line, or `NoMemory`. All memory is allocated here.
     #[tactic(auto, using(crate::proofs::Accepting::accepting))]
     pub fn read(alloc: Global, text: &[u8]) -> Result<Procs, ProcsFault>
         requires { length text.now ≤ 2 ^ 31 }
