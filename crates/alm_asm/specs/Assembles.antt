@@ -45,6 +45,7 @@ pub record StandsBehind (count : ℕ) (part words : List ℕ) : Type 0 where
 abbrev pub spot_below : Source → List Line36 → Spot
 spot_below source above = end_of source.text start above
 
+-- the lines of a source are those above a line, the line, and the others
 abbrev pub IsSplit : Source → List Line36 → Line36 → List Line36 → Type 0
 IsSplit source above line others = source.lines ≡ above ++ line ∷ others
 
@@ -57,7 +58,7 @@ abbrev pub words_placed : Source → List Line36 → Line36 → List ℕ
 words_placed source above line =
     words_by source.text (meaning_of source) (spot_below source above) line.args line.deed
 
--- whether a line is `use static`
+-- whether the operation is `use` and this section, to which it changes, is the static one
 abbrev pub enters_static : Deed → Section → Bool
 enters_static deed.Nothing section = false
 enters_static (deed.Instruction code bit27) section = false
@@ -71,11 +72,12 @@ enters_static deed.Block section = false
 enters_static deed.Even section = false
 enters_static deed.Bound section = false
 
+-- whether a line is `use static`
 unfoldable pub is_use_static : List ℕ → Line36 → Bool
 is_use_static text line =
     enters_static line.deed (section_in text (symbol_in (first_arg line.args)))
 
--- whether a line is `entrybound`
+-- whether an operation is `entrybound`
 abbrev pub is_bound : Deed → Bool
 is_bound deed.Nothing = false
 is_bound (deed.Instruction code bit27) = false
@@ -89,6 +91,7 @@ is_bound deed.Block = false
 is_bound deed.Even = false
 is_bound deed.Bound = true
 
+-- whether a line is `entrybound`
 unfoldable pub is_entrybound : Line36 → Bool
 is_entrybound line = is_bound line.deed
 
@@ -110,25 +113,27 @@ PlacesIn source section words =
     → StandsBehind (count_in section (spot_below source above)) (words_placed source above line)
     words
 
--- This holds for the text.
+-- `PlacesIn` holds of the text.
 abbrev pub PlacesText : Source → PartsFields → Type 0
 PlacesText source parts = PlacesIn source Text parts.text
 
--- This holds for the static words.
+-- `PlacesIn` holds of the static words, in the section that has them.
 abbrev pub PlacesStatics : Source → PartsFields → Type 0
 PlacesStatics source parts =
     PlacesIn source (static_section (meaning_of source).uses_outer) parts.statics
 
--- There are no other words, except that in version 1 one zero word follows an odd number of static
--- words.
+-- The number of static words of an object, of which lines place n. In version 1, which is false
+-- here, it is rounded up to an even number.
 abbrev pub evened_count : Bool → ℕ → ℕ
 evened_count true n = n
 evened_count false n = evened n
 
+-- the words after the n static words that lines place: in version 1 a zero word if n is odd
 abbrev pub evening_words : Bool → ℕ → List ℕ
 evening_words true n = []
 evening_words false n = replicate (n % 2) 0
 
+-- the number of static words that the lines place
 abbrev pub static_count : Source → ℕ
 static_count source =
     count_in (static_section (meaning_of source).uses_outer) (spot_below source source.lines)
@@ -141,12 +146,14 @@ LabelsMean source =
     → sum_named (name_at source.text span) (meaning_of source).symbols
     ≡ Some (here (spot_below source above))
 
--- The sum of the symbol of each `equ` is its number by the symbols above, and that of each `bss` is
--- its place.
+-- the symbols that are defined above the operation of a line: those of the lines above, and its
+-- labels
 abbrev pub above_line : Source → List Line36 → Line36 → List (List ℕ × Sum)
 above_line source above line =
     labelled source.text (symbols_from source.text [] start above) (spot_below source above) line
 
+-- The sum of the symbol of each `equ` is its number by the symbols above, and that of each `bss` is
+-- its place.
 abbrev pub OwnMean : Source → Type 0
 OwnMean source =
     (above : List Line36) (line : Line36) (others : List Line36) → IsSplit source above line others

@@ -35,6 +35,7 @@ use Rattle.alm_lines.specs.declared.refusal.Refusal.{Refusal}
 abbrev pub first_link : Spot → ℕ
 first_link ending = first_link_by ending.uses_outer (even_number ending.inner)
 
+-- the symbols of all lines with their sums, the links, and where the links and the static words are
 unfoldable pub tables_of : List ℕ → List Line36 → Tables
 tables_of text lines =
     record {
@@ -60,6 +61,7 @@ bound_by spot bound deed.Block = bound
 bound_by spot bound deed.Even = bound
 bound_by spot bound deed.Bound = spot.text % 2 ^ 18
 
+-- the entry bound of the lines, which is `bound` if none of them is an `entrybound` line
 unfoldable pub bound_from : List ℕ → ℕ → Spot → List Line36 → ℕ
 bound_from text bound spot [] = bound
 bound_from text bound spot (line ∷ lines) =
@@ -72,7 +74,8 @@ abbrev pub static_section : Bool → Section
 static_section true = Static
 static_section false = Linkage
 
--- In version 1 one zero word follows an odd number of static words.
+-- The static words of the object, for those that lines place. In version 1, which is false here, a
+-- zero word follows an odd number of words.
 abbrev pub evened : Bool → List ℕ → List ℕ
 evened true words = words
 evened false words = evened_words words
@@ -83,6 +86,7 @@ relocations_of text tables lines =
     marks_from text tables.symbols (static_section tables.uses_outer)
     (marks_from text tables.symbols Text [] start lines) start lines
 
+-- the parts of the object of lines, given the tables of these lines
 unfoldable pub parts_with : List ℕ → Tables → List Line36 → PartsFields
 parts_with text tables lines =
     parts_by tables
@@ -97,6 +101,7 @@ parts_with text tables lines =
     })
     (bound_from text 0 start lines)
 
+-- the parts of the object of a source, if it is not refused
 abbrev pub parts_of : Source → PartsFields
 parts_of source = parts_with source.text (tables_of source.text source.lines) source.lines
 
@@ -112,6 +117,7 @@ refusal_in text lines =
     (lines_refusal text tables [] start lines))
     (growth_refusal text tables.symbols at_first start lines)
 
+-- the first refusal of a source in the order of the text, if there is one
 unfoldable pub refusal_of : Source → Option Refusal
 refusal_of source = refusal_in source.text source.lines
 
@@ -130,10 +136,12 @@ abbrev pub made : PartsFields → ℕ → Bool → Result PartsFields AlmFault
 made parts number true = Ok parts
 made parts number false = Err (E8 number 1)
 
+-- the parts of a source, or its refusal
 abbrev pub assembled_by : Source → Option Refusal → Result PartsFields AlmFault
 assembled_by source (Some refusal) = Err (fault_of refusal)
 assembled_by source None =
     made (parts_of source) (last_line 1 source.lines) (is_well_formed (parts_of source))
 
+-- the parts of the object of a source, or the refusal
 unfoldable pub assembled : Source → Result PartsFields AlmFault
 assembled source = assembled_by source (refusal_of source)

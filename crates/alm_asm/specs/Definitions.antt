@@ -25,6 +25,8 @@ use Rattle.alm_lines.specs.declared.refusal.Room.TheVariants.{Half}
 
 -- ---- the definitions
 
+-- The section of a definition. A symbol that is not a place of a section is no label; its
+-- definition is refused.
 abbrev pub section_of : Kind → Section
 section_of Absolute = Text
 section_of (Moved section) = section
@@ -43,6 +45,7 @@ named text symbols is_entry span =
       };
     }
 
+-- the definition that an argument gives; only a symbol gives one
 abbrev pub named_by : List ℕ → List (List ℕ × Sum) → Bool → Arg → List Named
 named_by text symbols is_entry (arg.Symbol span) = named text symbols is_entry span ∷ []
 named_by text symbols is_entry (arg.Number word) = []
@@ -50,6 +53,7 @@ named_by text symbols is_entry (arg.Chars words) = []
 named_by text symbols is_entry (arg.Plain terms) = []
 named_by text symbols is_entry (arg.Operand pr segment entry terms tag) = []
 
+-- the definitions `done`, with those of the arguments
 unfoldable pub with_names : List ℕ → List (List ℕ × Sum) → Bool → List Named → List Arg → List Named
 with_names text symbols is_entry done [] = done
 with_names text symbols is_entry done (arg ∷ arguments) =
@@ -90,6 +94,7 @@ definitions_from text symbols done (line ∷ lines) =
 
 -- ---- refusals of definitions
 
+-- whether a name has a definition already
 unfoldable pub is_taken : List Named → List ℕ → Bool
 is_taken done name = has_definition name done
 
@@ -102,6 +107,7 @@ is_label_kind is_entry (Moved Symbol) = not is_entry
 is_label_kind is_entry (Moved Static) = not is_entry
 is_label_kind is_entry Unsaid = false
 
+-- whether a sum is a label that may be defined, and its value fits a half
 unfoldable pub is_label : Bool → Sum → Bool
 is_label is_entry sum = has_room Half sum.value && is_label_kind is_entry (kind_of sum)
 
@@ -146,6 +152,7 @@ names_refused text symbols line is_entry done first (arg ∷ arguments) =
     names_refused text symbols line is_entry (done ++ named_by text symbols is_entry arg)
     (sooner first (arg_refusal text symbols line is_entry done arg)) arguments
 
+-- As `names_refused`, for a line that may define no names. Then only `first` can refuse it.
 abbrev pub definitions_refused : List ℕ → List (List ℕ × Sum) → Line36 → List Named → Option Refusal
     → List Arg → Option Bool → Option Refusal
 definitions_refused text symbols line done first arguments None = first

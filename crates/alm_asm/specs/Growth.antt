@@ -74,6 +74,7 @@ abbrev pub with_unrefused : Option Refusal → Growth → List ℕ → Growth
 with_unrefused (Some refusal) g name = g
 with_unrefused None g name = with_definition g name
 
+-- the sizes with the definition of an argument; only a symbol gives one
 abbrev pub with_arg : List ℕ → List (List ℕ × Sum) → Line36 → Bool → Growth → Arg → Growth
 with_arg text symbols line is_entry g (arg.Symbol span) =
     with_unrefused (sum_refusal line span.from is_entry (sum_named (name_at text span) symbols)) g
@@ -83,11 +84,13 @@ with_arg text symbols line is_entry g (arg.Chars words) = g
 with_arg text symbols line is_entry g (arg.Plain terms) = g
 with_arg text symbols line is_entry g (arg.Operand pr segment entry terms tag) = g
 
+-- the sizes with the definitions of the arguments
 unfoldable pub with_args : List ℕ → List (List ℕ × Sum) → Line36 → Bool → Growth → List Arg → Growth
 with_args text symbols line is_entry g [] = g
 with_args text symbols line is_entry g (arg ∷ arguments) =
     with_args text symbols line is_entry (with_arg text symbols line is_entry g arg) arguments
 
+-- the sizes with the definitions of a line, if it gives any
 abbrev pub with_definitions : List ℕ → List (List ℕ × Sum) → Line36 → Growth → Option Bool → Growth
 with_definitions text symbols line g None = g
 with_definitions text symbols line g (Some is_entry) =
@@ -102,6 +105,7 @@ with_new_link g link =
     with_names (record g { links = g.links ++ link ∷ []; definition = g.definition + 2 })
     (link_names link)
 
+-- the sizes with a link, unless it was counted before
 unfoldable pub with_link_once : Growth → LinkFields → Growth
 with_link_once g link = if has_link link g.links then g else with_new_link g link
 
@@ -118,16 +122,18 @@ mark_count valued Absolute = 0
 mark_count valued (Moved section) = if valued then 1 else 0
 mark_count valued Unsaid = 0
 
--- The field that an expression must fit; whether it may be a place of a section. After an external
--- name it must be a number.
+-- The field that the expression of an operand must fit. After an external name it is a half.
 abbrev pub operand_room : Option ℕ → Option Span → Room
 operand_room pr (Some segment) = Half
 operand_room pr None = own_room pr
 
+-- Whether the expression of an operand may be a place of a section. After an external name it must
+-- be a number.
 abbrev pub is_own : Option Span → Bool
 is_own (Some segment) = false
 is_own None = true
 
+-- the number of relocations of the operand of an instruction: 0 or 1
 abbrev pub operand_count : List ℕ → List (List ℕ × Sum) → Spot → Option Arg → ℕ
 operand_count text symbols spot (Some (arg.Symbol span)) = 0
 operand_count text symbols spot (Some (arg.Number word)) = 0
@@ -139,11 +145,13 @@ operand_count text symbols spot (Some (arg.Operand pr segment entry terms tag)) 
     (operand_kind segment (sum_of text symbols spot terms))
 operand_count text symbols spot None = 0
 
+-- the number of relocations of an expression that is a half of a word: 0 or 1
 abbrev pub half_count : List ℕ → List (List ℕ × Sum) → Spot → List Term → ℕ
 half_count text symbols spot terms =
     mark_count (has_value text symbols spot terms Half true)
     (kind_of (sum_of text symbols spot terms))
 
+-- the number of relocations of the words that a line places
 abbrev pub marks_count : List ℕ → List (List ℕ × Sum) → Spot → List Arg → Deed → ℕ
 marks_count text symbols spot arguments deed.Nothing = 0
 marks_count text symbols spot arguments (deed.Instruction code bit27) =
@@ -160,12 +168,14 @@ marks_count text symbols spot arguments deed.Block = 0
 marks_count text symbols spot arguments deed.Even = 0
 marks_count text symbols spot arguments deed.Bound = 0
 
+-- the sizes with the relocations of a line
 unfoldable pub with_marks : List ℕ → List (List ℕ × Sum) → Spot → Line36 → Growth → Growth
 with_marks text symbols spot line g =
     record g { symbol = g.symbol + marks_count text symbols spot line.args line.deed }
 
 -- ---- lines
 
+-- the sizes with the definitions, the link and the relocations of a line
 unfoldable pub grown_by : List ℕ → List (List ℕ × Sum) → Spot → Growth → Line36 → Growth
 grown_by text symbols spot g line =
     with_marks text symbols spot line

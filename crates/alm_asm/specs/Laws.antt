@@ -107,17 +107,19 @@ pub record PartsAreMarked : Type 0 where
 
 -- ---- which objects are too long
 
--- Whether the names that lines use can be names in an object. Those of a source that was parsed
--- can.
+-- Whether the segment of an operand is a section of the source itself, or can be a name in an
+-- object. That of a source that was parsed always is one of these.
 abbrev pub segment_is_named : List ℕ → Option Span → Bool
 segment_is_named text (Some segment) =
     is_some (own_section (slice_of text segment)) || is_name (name_at text segment)
 segment_is_named text None = true
 
+-- whether the entry of an operand can be a name in an object
 abbrev pub entry_is_named : List ℕ → Option Span → Bool
 entry_is_named text (Some entry) = is_name (name_at text entry)
 entry_is_named text None = true
 
+-- whether the names in an argument can be names in an object
 abbrev pub arg_is_named : List ℕ → Arg → Bool
 arg_is_named text (arg.Symbol span) = is_name (name_at text span)
 arg_is_named text (arg.Number word) = true
@@ -126,10 +128,13 @@ arg_is_named text (arg.Plain terms) = true
 arg_is_named text (arg.Operand pr segment entry terms tag) =
     segment_is_named text segment && entry_is_named text entry
 
+-- whether the names in all arguments can be names in an object
 unfoldable pub args_are_named : List ℕ → List Arg → Bool
 args_are_named text [] = true
 args_are_named text (given ∷ more) = arg_is_named text given && args_are_named text more
 
+-- Whether all names that lines use can be names in an object. Those of a source that was parsed
+-- can.
 unfoldable pub lines_are_named : List ℕ → List Line36 → Bool
 lines_are_named text [] = true
 lines_are_named text (line ∷ lines) = args_are_named text line.args && lines_are_named text lines

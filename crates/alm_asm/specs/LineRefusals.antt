@@ -127,28 +127,32 @@ operand_refusal text tables spot line None = None
 
 -- ---- operations
 
--- The static words of a source are of one kind.
+-- Whether a `use` line may change to a section: the static words of a source are in one section.
 abbrev pub may_enter : Spot → Section → Bool
 may_enter spot Text = true
 may_enter spot Linkage = not spot.uses_outer
 may_enter spot Symbol = true
 may_enter spot Static = not spot.uses_inner
 
+-- The refusal of an instruction: E7 at the operation outside the text, and those of its operand.
 abbrev pub instruction_refusal : List ℕ → Tables → Spot → Line36 → Option Refusal
 instruction_refusal text tables spot line =
     sooner (unless (is_text_section spot.section) (refusal_at line (op_place line.op) E7))
     (operand_refusal text tables spot line (first_arg line.args))
 
+-- the refusal of a `use` line: E7 at the operation, if the static words are in the other section
 abbrev pub use_refusal : List ℕ → Spot → Line36 → Option Refusal
 use_refusal text spot line =
     unless (may_enter spot (section_in text (symbol_in (first_arg line.args))))
     (refusal_at line (op_place line.op) E7)
 
+-- the first refusal of the two expressions of a `zero` line
 abbrev pub halves_refusal : List ℕ → Tables → Spot → Line36 → Option Refusal
 halves_refusal text tables spot line =
     sooner (own_operand text tables spot line Half (terms_in (first_arg line.args)))
     (own_operand text tables spot line Half (terms_in (second_arg line.args)))
 
+-- the refusal of the operation of a line, without those of definitions and of symbols
 abbrev pub refusal_of_deed : List ℕ → Tables → Spot → Line36 → Deed → Option Refusal
 refusal_of_deed text tables spot line deed.Nothing = None
 refusal_of_deed text tables spot line (deed.Instruction code bit27) =
@@ -169,6 +173,7 @@ refusal_of_deed text tables spot line deed.Bound = None
 abbrev pub with_links : Tables → List LinkFields → Tables
 with_links tables links = record tables { links = links }
 
+-- the first refusal of a line: of its definitions or of its operation
 unfoldable pub line_refusal : List ℕ → Tables → List Named → Spot → Line36 → Option Refusal
 line_refusal text tables done spot line =
     sooner

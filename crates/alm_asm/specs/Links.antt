@@ -28,24 +28,30 @@ use Rattle.alm_parse.specs.declared.deed.Deed.TheVariants as deed
 
 -- ---- a link
 
+-- the type of a link: to a section of the object itself or to another segment, with an entry or
+-- without
 abbrev pub link_kind : Option Section → Option Span → ℕ
 link_kind (Some section) None = to_section
 link_kind (Some section) (Some entry) = to_own_entry
 link_kind None None = to_segment
 link_kind None (Some entry) = to_entry
 
+-- the section of a link to the object itself; otherwise the text, which has no meaning
 abbrev pub link_section : Option Section → Section
 link_section (Some section) = section
 link_section None = Text
 
+-- the name of the segment of a link; a link to the object itself has none
 abbrev pub link_name : Option Section → List ℕ → List ℕ
 link_name (Some section) name = []
 link_name None name = name
 
+-- the name of the entry of a link; empty if it has none
 abbrev pub entry_name : List ℕ → Option Span → List ℕ
 entry_name text (Some span) = name_at text span
 entry_name text None = []
 
+-- the link of an external operand
 unfoldable pub link_of : List ℕ → List (List ℕ × Sum) → Spot → Span → Option Span → List Term → ℕ
     → LinkFields
 link_of text symbols spot segment entry terms tag =
@@ -83,6 +89,7 @@ link_by text symbols spot (Some segment) entry terms tag =
     else None
 link_by text symbols spot None entry terms tag = None
 
+-- the link of an operand, if it is external and its expression has a value
 abbrev pub link_in : List ℕ → List (List ℕ × Sum) → Spot → Option Arg → Option LinkFields
 link_in text symbols spot (Some (arg.Symbol span)) = None
 link_in text symbols spot (Some (arg.Number word)) = None
@@ -97,6 +104,7 @@ abbrev pub with_link : List LinkFields → Option LinkFields → List LinkFields
 with_link links None = links
 with_link links (Some link) = with_unless (has_link link links) links link
 
+-- the links with that of a line
 unfoldable pub links_after : List ℕ → List (List ℕ × Sum) → List LinkFields → Spot → Line36
     → List LinkFields
 links_after text symbols links spot line =

@@ -19,6 +19,7 @@ abbrev pub place_in : List LinkFields → Option LinkFields → Option ℕ
 place_in links None = None
 place_in links (Some link) = position (same_link link) links
 
+-- the value of the first argument of a line, and the index of its link
 unfoldable pub seen_of : List ℕ → List (List ℕ × Sum) → List LinkFields → Spot → Line36 → Seen
 seen_of text symbols links spot line =
     record {
@@ -27,15 +28,18 @@ seen_of text symbols links spot line =
           (link_in text symbols spot (first_arg (operand_args line.deed line.args)));
     }
 
--- Only lines with arguments have an entry. The others have no value and no link.
+-- The entry of a line, before those of later lines. Only a line with arguments has an entry; any
+-- other has no value and no link.
 unfoldable pub seen_with : List Arg → Seen → List Seen → List Seen
 seen_with [] seen later = later
 seen_with (argument ∷ arguments) seen later = seen ∷ later
 
+-- the entries of earlier lines, with that of a line if it has arguments
 unfoldable pub with_seen : List Seen → List Arg → Seen → List Seen
 with_seen before [] seen = before
 with_seen before (argument ∷ arguments) seen = before ++ seen ∷ []
 
+-- the entries of these lines, in order
 unfoldable pub seen_from : List ℕ → List (List ℕ × Sum) → List LinkFields → Spot → List Line36
     → List Seen
 seen_from text symbols links spot [] = []

@@ -24,7 +24,7 @@ use Rattle.alm_parse.specs.declared.deed.Deed.TheVariants as deed
 
 -- ---- instructions
 
--- an instruction with an address; one with an offset after a pointer register
+-- the fields of an instruction with an address
 abbrev pub plain_inst : ℕ → Bool → ℕ → ℕ → InstFields
 plain_inst code bit27 y tag =
     record {
@@ -36,6 +36,7 @@ plain_inst code bit27 y tag =
       tag = tag % 2 ^ 6;
     }
 
+-- the fields of an instruction with an offset after a pointer register
 abbrev pub pointed_inst : ℕ → Bool → ℕ → ℕ → ℕ → InstFields
 pointed_inst code bit27 pr offset tag =
     record {
@@ -47,11 +48,12 @@ pointed_inst code bit27 pr offset tag =
       tag = tag % 2 ^ 6;
     }
 
+-- the fields of an instruction whose operand is an expression, after a pointer register or not
 abbrev pub own_inst : ℕ → Bool → Option ℕ → ℕ → ℕ → ℕ → InstFields
 own_inst code bit27 (Some pr) y offset tag = pointed_inst code bit27 pr offset tag
 own_inst code bit27 None y offset tag = plain_inst code bit27 y tag
 
--- An external operand is `pr4|link,*`.
+-- The fields of an instruction with this operand. An external operand is `pr4|link,*`.
 abbrev pub inst_by : List ℕ → Tables → Spot → ℕ → Bool → Option ℕ → Option Span → Option Span
     → List Term → ℕ → InstFields
 inst_by text tables spot code bit27 pr (Some segment) entry terms tag =
@@ -62,6 +64,7 @@ inst_by text tables spot code bit27 pr None entry terms tag =
     own_inst code bit27 pr (half_of (sum_of text tables.symbols spot terms).value)
     (offset_of (sum_of text tables.symbols spot terms).value) tag
 
+-- The fields of an instruction with this argument. Without an operand its address and tag are 0.
 abbrev pub inst_in : List ℕ → Tables → Spot → ℕ → Bool → Option Arg → InstFields
 inst_in text tables spot code bit27 (Some (arg.Symbol span)) = plain_inst code bit27 0 0
 inst_in text tables spot code bit27 (Some (arg.Number word)) = plain_inst code bit27 0 0
@@ -73,15 +76,18 @@ inst_in text tables spot code bit27 None = plain_inst code bit27 0 0
 
 -- ---- the words of a line
 
+-- the word of an instruction
 unfoldable pub instruction_word : List ℕ → Tables → Spot → ℕ → Bool → List Arg → ℕ
 instruction_word text tables spot code bit27 arguments =
     inst_word (inst_in text tables spot code bit27 (first_arg arguments))
 
+-- the word of a `zero` line: the values of its two expressions
 unfoldable pub halves_word : List ℕ → Tables → Spot → List Arg → ℕ
 halves_word text tables spot arguments =
     half_of (sum_of text tables.symbols spot (terms_in (first_arg arguments))).value * 2 ^ 18
     + half_of (sum_of text tables.symbols spot (terms_in (second_arg arguments))).value
 
+-- the words that a line places, by its operation
 abbrev pub words_by : List ℕ → Tables → Spot → List Arg → Deed → List ℕ
 words_by text tables spot arguments deed.Nothing = []
 words_by text tables spot arguments (deed.Instruction code bit27) =

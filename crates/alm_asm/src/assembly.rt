@@ -57,6 +57,7 @@ struct Linked {
     seen: SeenLines,
 }
 
+// The links of the lines, and for each line with arguments the value and the link.
 fn linked_in(
     alloc: Global,
     text: &[u8],
@@ -80,6 +81,7 @@ fn linked_in(
     }
 }
 
+// The tables of the lines, and for each line with arguments the value and the link.
 #[tactic(auto, unfolding(crate::specs::Assembly::tables_of))]
 fn found_in(alloc: Global, text: &[u8], lines: &[Line36]) -> Result<Found, NoMemory>
     requires { length lines.now < 2 ^ 32 }

@@ -44,6 +44,7 @@ fn named(text: &[u8], symbols: &Symbols, is_entry: bool, span: Span) -> Named
     }
 }
 
+// Adds the definition that an argument gives, if it gives one.
 fn push_named(
     text: &[u8],
     symbols: &Symbols,
@@ -155,6 +156,8 @@ fn arg_refusal(
     }
 }
 
+// Adds the definitions of the arguments of a line. Returns the first in the text of `refused` and
+// the refusals of these names.
 #[tactic(auto, unfolding(crate::specs::Definitions::with_names, crate::specs::Definitions::names_refused))]
 fn push_names(
     text: &[u8],

@@ -48,6 +48,7 @@ pub struct Growth {
 }
 
 impl Growth {
+    // The sizes before the first line.
     fn start(alloc: Global, seed: HashSeed) -> Growth
         ensures { result ≡ at_first }
     {
@@ -60,6 +61,7 @@ impl Growth {
         }
     }
 
+    // Counts the words of a name, unless they were counted before.
     #[tactic(auto, unfolding(crate::specs::Growth::with_name, obj36_parts::specs::Names::name_length))]
     fn add_name(&mut self, name: Name) -> Result<(), NoMemory>
         requires { self.old.definition ≤ 2 ^ 80 }
@@ -73,6 +75,7 @@ impl Growth {
         self.names.define(name, absolute(0))
     }
 
+    // Counts a name that a link uses.
     #[tactic(auto, unfolding(crate::specs::Growth::with_names))]
     fn add_use(&mut self, is_used: bool, name: Name) -> Result<(), NoMemory>
         requires { self.old.definition ≤ 2 ^ 80 }
@@ -86,6 +89,7 @@ impl Growth {
         Ok(())
     }
 
+    // Counts a definition and its name, unless the name was defined before.
     #[tactic(auto, unfolding(crate::specs::Growth::with_definition))]
     fn add_definition(&mut self, name: Name) -> Result<(), NoMemory>
         requires { self.old.definition ≤ 2 ^ 79 }
@@ -100,6 +104,7 @@ impl Growth {
         self.add_name(name)
     }
 
+    // Counts a link and its names.
     #[tactic(auto, using(crate::proofs::GrowthLaws::names_then), unfolding(crate::specs::Growth::with_new_link, obj36_parts::specs::ObjectSegment::link_names, obj36_parts::specs::ObjectSegment::name_used, obj36_parts::specs::ObjectSegment::entry_used))]
     fn add_new_link(&mut self, link: Link) -> Result<(), NoMemory>
         requires { self.old.definition ≤ 2 ^ 79 }
@@ -115,6 +120,7 @@ impl Growth {
         self.add_use(has_its_entry(kind), entry)
     }
 
+    // Counts a link and its names, unless the link was counted before.
     #[tactic(auto, unfolding(crate::specs::Growth::with_link_once))]
     fn add_link(&mut self, link: Link) -> Result<(), NoMemory>
         requires { self.old.definition ≤ 2 ^ 79 }
@@ -139,6 +145,7 @@ impl Growth {
     }
 }
 
+// Counts the definition that an argument gives, unless it is refused.
 fn take_arg(
     text: &[u8],
     symbols: &Symbols,
@@ -186,6 +193,7 @@ fn take_args(
     Ok(())
 }
 
+// Counts the definitions of a line.
 fn take_definitions(
     text: &[u8],
     symbols: &Symbols,
@@ -214,6 +222,7 @@ fn is_noted(place: Option<u64>, count: usize) -> bool
     }
 }
 
+// Counts the link of an external operand.
 #[tactic(auto, using(crate::proofs::SeenLaws::noted_is), unfolding(crate::specs::Growth::with_link_once))]
 fn take_external(
     text: &[u8],
@@ -250,6 +259,7 @@ fn take_external(
     growth.add_link(link)
 }
 
+// Counts the link of an operand, if it has one.
 fn take_operand(
     text: &[u8],
     symbols: &Symbols,
@@ -290,6 +300,7 @@ fn take_operand(
     }
 }
 
+// Counts the link of a line, if it has one.
 fn take_link(
     text: &[u8],
     symbols: &Symbols,
@@ -422,6 +433,7 @@ fn marks_count(text: &[u8], symbols: &Symbols, spot: Spot, line: &Line36, value:
     }
 }
 
+// Counts the relocations of a line.
 #[tactic(auto, unfolding(crate::specs::Growth::with_marks))]
 fn take_marks(
     text: &[u8],

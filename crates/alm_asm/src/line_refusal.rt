@@ -85,6 +85,7 @@ pub fn own_room(pr: Option<u8>) -> Room
     }
 }
 
+// The refusal of the expression after an external name.
 fn link_expression_refusal(
     text: &[u8],
     symbols: &Symbols,
@@ -174,6 +175,7 @@ fn external_refusal(
     sooner(sooner(expression, unless(reached, at)), unless(named, at))
 }
 
+// The refusal of an operand that is an expression.
 fn own_operand_refusal(
     text: &[u8],
     tables: &Tables,

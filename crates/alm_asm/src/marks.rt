@@ -24,6 +24,7 @@ use m36_word::NoMemory;
 use obj36::{Reloc, Relocs, Section};
 use std::alloc::Global;
 
+// Adds the relocation of a part of a word, if the kind of its value needs one.
 fn push_mark(marks: &mut Relocs, spot: Spot, part: u8, kind: Kind) -> Result<(), NoMemory>
     ensures { OnOk result (marks.new ≡ marks.old ++ mark spot part kind) }
 {
@@ -61,6 +62,7 @@ pub fn kind_given(segment: Option<Span>, kind: Kind) -> Kind
     }
 }
 
+// Adds the relocation of the operand of an instruction, if it has one.
 fn push_operand(
     text: &[u8],
     symbols: &Symbols,
@@ -91,6 +93,7 @@ fn push_operand(
     }
 }
 
+// Adds the relocations of a `zero` line.
 fn push_halves(
     text: &[u8],
     symbols: &Symbols,
@@ -111,6 +114,7 @@ fn push_halves(
     push_mark(marks, spot, 1, right)
 }
 
+// Adds the relocations of a line with this operation.
 fn push_marks(
     text: &[u8],
     symbols: &Symbols,

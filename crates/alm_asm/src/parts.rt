@@ -41,6 +41,7 @@ fn bound_by(spot: Spot, bound: u32, deed: Deed) -> u32
     }
 }
 
+// The entry bound of the lines.
 #[tactic(auto, using(alm_lines::proofs::Rooms::rooms), unfolding(crate::specs::Assembly::bound_from))]
 fn bound_of(alloc: Global, text: &[u8], lines: &[Line36]) -> Result<u32, NoMemory>
     requires { length lines.now < 2 ^ 32 }
@@ -68,6 +69,7 @@ fn static_section(uses_outer: bool) -> Section
     }
 }
 
+// In version 1 adds a zero word to an odd number of static words.
 fn even_out(uses_outer: bool, words: &mut Words) -> Result<(), NoMemory>
     ensures { OnOk result (words.new ≡ evened uses_outer words.old) }
 {
@@ -77,6 +79,7 @@ fn even_out(uses_outer: bool, words: &mut Words) -> Result<(), NoMemory>
     push_evening(words)
 }
 
+// The static words of the object of the lines.
 fn statics_of(
     alloc: Global,
     text: &[u8],
@@ -125,6 +128,7 @@ struct Placed {
     statics: Words,
 }
 
+// The text and the static words of the object of the lines.
 fn placed_in(
     alloc: Global,
     text: &[u8],
@@ -158,6 +162,7 @@ struct Noted {
     relocations: Relocs,
 }
 
+// The definitions and the relocations of the object of the lines.
 fn noted_in(
     alloc: Global,
     text: &[u8],
@@ -205,6 +210,7 @@ fn parts_of(tables: Tables, contents: Contents) -> Parts
     }
 }
 
+// The parts of the object of the lines, given their tables.
 #[tactic(auto, unfolding(crate::specs::Assembly::parts_with))]
 fn contents_of(
     alloc: Global,

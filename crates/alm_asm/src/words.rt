@@ -71,6 +71,7 @@ fn own_inst(operation: Operation, pr: Option<u8>, value: Value, tag: u8) -> Inst
     }
 }
 
+// The offset of the link of an external operand in the linkage section.
 #[tactic(auto, using(crate::proofs::SeenLaws::by_place))]
 fn external_offset(
     text: &[u8],
@@ -99,6 +100,7 @@ fn external_offset(
     link_place(&tables.links, tables.first_link, &link)
 }
 
+// The instruction with an external operand: `pr4|link,*`.
 fn external_inst(
     text: &[u8],
     tables: &Tables,
@@ -123,6 +125,7 @@ fn external_inst(
     pointed_inst(operation, 4, (offset % (1 << 15)) as u64, 16)
 }
 
+// The instruction with an operand that is an expression.
 #[tactic(auto, unfolding(alm_lines::specs::Values::evaluated))]
 fn own_operand(
     _text: &[u8],
@@ -222,6 +225,7 @@ fn halves_word(text: &[u8], tables: &Tables, spot: Spot, args: &[Arg], value: Va
     )
 }
 
+// Adds the words of a line with this operation.
 fn push_words(
     alloc: Global,
     text: &[u8],

@@ -22,6 +22,7 @@ first_arg arguments = slice_get arguments 0
 abbrev pub second_arg : List Arg → Option Arg
 second_arg arguments = slice_get arguments 1
 
+-- the symbol that an argument is, if it is one
 abbrev pub symbol_in : Option Arg → Option Span
 symbol_in (Some (Symbol span)) = Some span
 symbol_in (Some (Number word)) = None
@@ -30,6 +31,7 @@ symbol_in (Some (Plain terms)) = None
 symbol_in (Some (Operand pr seg entry terms tag)) = None
 symbol_in None = None
 
+-- the terms of the expression in an argument; none if it has no expression
 abbrev pub terms_in : Option Arg → List Term
 terms_in (Some (Symbol span)) = []
 terms_in (Some (Number word)) = []
@@ -38,6 +40,7 @@ terms_in (Some (Plain terms)) = terms
 terms_in (Some (Operand pr seg entry terms tag)) = terms
 terms_in None = []
 
+-- the number that an argument is; 0 if it is none
 abbrev pub number_in : Option Arg → ℕ
 number_in (Some (Symbol span)) = 0
 number_in (Some (Number word)) = word
@@ -46,7 +49,7 @@ number_in (Some (Plain terms)) = 0
 number_in (Some (Operand pr seg entry terms tag)) = 0
 number_in None = 0
 
--- the words of the arguments of `dec`, `oct` and `aci`, after the words so far
+-- the words of an argument of `dec`, `oct` or `aci`
 abbrev pub words_of_arg : Arg → List ℕ
 words_of_arg (Symbol span) = []
 words_of_arg (Number word) = word ∷ []
@@ -54,6 +57,7 @@ words_of_arg (Chars words) = words
 words_of_arg (Plain terms) = []
 words_of_arg (Operand pr seg entry terms tag) = []
 
+-- the words of the arguments of `dec`, `oct` or `aci`, after the words so far
 unfoldable pub words_of_args : List ℕ → List Arg → List ℕ
 words_of_args words [] = words
 words_of_args words (arg ∷ more) = words_of_args (words ++ words_of_arg arg) more
@@ -62,6 +66,7 @@ words_of_args words (arg ∷ more) = words_of_args (words ++ words_of_arg arg) m
 abbrev pub section_named : List ℕ → Section
 section_named name = unwrap_or (used_section name) Text
 
+-- the section that a `use` line selects; the text if its operand is no symbol
 abbrev pub section_in : List ℕ → Option Span → Section
 section_in text (Some span) = section_named (slice_of text span)
 section_in text None = Text

@@ -17,11 +17,13 @@ use Rattle.alm_lines.specs.SpotFields.{Spot}
 unfoldable pub symbol_sum : List ℕ → List (List ℕ × Sum) → Span → Sum
 symbol_sum text symbols span = unwrap_or (sum_named (name_at text span) symbols) no_sum
 
+-- the sum of a term without its sign
 abbrev pub atom_sum : List ℕ → List (List ℕ × Sum) → Spot → Span → Atom → Sum
 atom_sum text symbols spot span (Number n) = absolute n
 atom_sum text symbols spot span Symbol = symbol_sum text symbols span
 atom_sum text symbols spot span Here = here spot
 
+-- the sum of a term
 unfoldable pub term_sum : List ℕ → List (List ℕ × Sum) → Spot → Term → Sum
 term_sum text symbols spot term =
     let sum = atom_sum text symbols spot term.span term.what in
@@ -33,6 +35,7 @@ added text symbols spot sum [] = sum
 added text symbols spot sum (term ∷ terms) =
     added text symbols spot (sum_plus sum (term_sum text symbols spot term)) terms
 
+-- the sum of an expression
 abbrev pub sum_of : List ℕ → List (List ℕ × Sum) → Spot → List Term → Sum
 sum_of text symbols spot terms = added text symbols spot no_sum terms
 

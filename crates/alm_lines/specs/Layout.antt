@@ -32,6 +32,7 @@ with_labels text sum symbols [] = symbols
 with_labels text sum symbols (span ∷ spans) =
     with_labels text sum (with_symbol symbols (name_at text span) sum) spans
 
+-- the first in the text of `first` and the refusals of labels that are defined already
 unfoldable pub labels_refused : List ℕ → Line36 → Sum → List (List ℕ × Sum) → Option Refusal
     → List Span → Option Refusal
 labels_refused text line sum symbols first [] = first
@@ -61,6 +62,7 @@ value_refusal text symbols spot line =
     number_refusal text symbols spot line (terms_in (second_arg line.args))
     (expression_place (terms_in (second_arg line.args)))
 
+-- the refusal of the symbol that an operation defines, as far as it is not defined already
 abbrev pub own_refusal : List ℕ → List (List ℕ × Sum) → Spot → Line36 → Deed → Option Refusal
 own_refusal text symbols spot line deed.Nothing = None
 own_refusal text symbols spot line (deed.Instruction code bit27) = None
@@ -74,8 +76,7 @@ own_refusal text symbols spot line deed.Block = None
 own_refusal text symbols spot line deed.Even = None
 own_refusal text symbols spot line deed.Bound = None
 
--- The sum of the symbol that an operation defines: the number of an `equ`, or the place of the
--- line. The number of an `equ` is unknown if it is refused or depends on one that is.
+-- the sum that is the number of this sum, and the place of no section
 abbrev pub number_of : Sum → Sum
 number_of sum =
     record {
@@ -86,15 +87,19 @@ number_of sum =
       unknown = false;
     }
 
+-- the sum of the symbol of an `equ`, which is unknown if the expression is not a number
 abbrev pub value_by : Bool → Sum → Sum
 value_by true sum = number_of sum
 value_by false sum = unknown_sum
 
+-- the sum of the symbol of an `equ`: the number of its expression, unknown if it is refused or
+-- depends on an unknown one
 unfoldable pub value_of : List ℕ → List (List ℕ × Sum) → Spot → Line36 → Sum
 value_of text symbols spot line =
     value_by (has_number text symbols spot (terms_in (second_arg line.args)))
     (sum_of text symbols spot (terms_in (second_arg line.args)))
 
+-- the sum of the symbol that an operation defines: the number of an `equ`, or the place of the line
 abbrev pub own_sum : List ℕ → List (List ℕ × Sum) → Spot → Line36 → Deed → Sum
 own_sum text symbols spot line deed.Nothing = here spot
 own_sum text symbols spot line (deed.Instruction code bit27) = here spot
@@ -108,20 +113,23 @@ own_sum text symbols spot line deed.Block = here spot
 own_sum text symbols spot line deed.Even = here spot
 own_sum text symbols spot line deed.Bound = here spot
 
+-- symbols with the symbol of an operation, if it defines one
 abbrev pub with_own : List ℕ → List (List ℕ × Sum) → Option Span → Sum → List (List ℕ × Sum)
 with_own text symbols None sum = symbols
 with_own text symbols (Some span) sum = with_symbol symbols (name_at text span) sum
 
+-- the refusal of the symbol of an operation that is defined already
 abbrev pub own_again : List ℕ → Line36 → List (List ℕ × Sum) → Option Span → Option Refusal
 own_again text line symbols None = None
 own_again text line symbols (Some span) = again text line symbols span
 
--- the symbols with that of an operation; the refusal of its definition
+-- the symbols with that of an operation
 unfoldable pub symbols_with : List ℕ → List (List ℕ × Sum) → Spot → Line36 → Deed
     → List (List ℕ × Sum)
 symbols_with text symbols spot line deed =
     with_own text symbols (own_symbol deed line.args) (own_sum text symbols spot line deed)
 
+-- the refusal of the symbol that an operation defines
 unfoldable pub refused_with : List ℕ → List (List ℕ × Sum) → Spot → Line36 → Deed → Option Refusal
 refused_with text symbols spot line deed =
     sooner (own_again text line symbols (own_symbol deed line.args))
@@ -133,13 +141,17 @@ refused_with text symbols spot line deed =
 unfoldable pub over : Line36 → Spot → Option Refusal
 over line spot = if is_over_limit (count spot) then Some (refusal_at line line.start E8) else None
 
+-- the symbols with the labels of a line
 abbrev pub labelled : List ℕ → List (List ℕ × Sum) → Spot → Line36 → List (List ℕ × Sum)
 labelled text symbols spot line = with_labels text (here spot) symbols line.labels
 
+-- the symbols with those that a line defines
 unfoldable pub symbols_after : List ℕ → List (List ℕ × Sum) → Spot → Line36 → List (List ℕ × Sum)
 symbols_after text symbols spot line =
     symbols_with text (labelled text symbols spot line) spot line line.deed
 
+-- the first in the text of `first`, the refusals of the symbols of a line, and that of a section
+-- that it makes too long
 unfoldable pub refused_after : List ℕ → Option Refusal → List (List ℕ × Sum) → Spot → Line36
     → Option Refusal
 refused_after text first symbols spot line =

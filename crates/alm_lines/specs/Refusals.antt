@@ -21,6 +21,7 @@ use Rattle.alm_lines.specs.declared.refusal.Refusal.{Refusal}
 use Rattle.alm_lines.specs.declared.refusal.Room.{Room}
 use Rattle.alm_lines.specs.declared.refusal.Room.TheVariants.{Half, Offset}
 
+-- the number of a code
 abbrev pub code_number : Code → ℕ
 code_number E5 = 5
 code_number E6 = 6
@@ -40,19 +41,22 @@ sooner None b = b
 sooner (Some a) None = Some a
 sooner (Some a) (Some b) = Some (if precedes b a then b else a)
 
+-- the refusal with this code at an index of a line
 abbrev pub refusal_at : Line36 → ℕ → Code → Refusal
 refusal_at line at code = record { place = at; start = line.start; line = line.line; code = code }
 
--- the fault of a refusal, with the number of its line and its column
+-- the column of a refusal, counted from 1
 abbrev pub column_of : Refusal → ℕ
 column_of refusal = column_at refusal.start refusal.place % 2 ^ 32
 
+-- the fault with this code at a line and a column
 abbrev pub fault_by : Code → ℕ → ℕ → AlmFault
 fault_by E5 line column = fault.E5 line column
 fault_by E6 line column = fault.E6 line column
 fault_by E7 line column = fault.E7 line column
 fault_by E8 line column = fault.E8 line column
 
+-- the fault of a refusal, with the number of its line and its column
 unfoldable pub fault_of : Refusal → AlmFault
 fault_of refusal = fault_by refusal.code refusal.line (column_of refusal)
 
@@ -69,9 +73,11 @@ may_stand may_move Absolute = true
 may_stand may_move (Moved section) = may_move
 may_stand may_move Unsaid = false
 
+-- whether a sum fits a field and an object can express it there
 unfoldable pub is_said : Room → Bool → Sum → Bool
 is_said room may_move sum = has_room room sum.value && may_stand may_move (kind_of sum)
 
+-- E6 at the first symbol that is not defined; else E7 at the expression, unless it can be expressed
 abbrev pub refusal_by : Line36 → Option ℕ → ℕ → Bool → Option Refusal
 refusal_by line (Some at) place said = Some (refusal_at line at E6)
 refusal_by line None place true = None
@@ -101,6 +107,7 @@ abbrev pub number_refusal : List ℕ → List (List ℕ × Sum) → Spot → Lin
 number_refusal text symbols spot line terms place =
     expression_refusal text symbols spot line terms place Half false
 
+-- whether an expression has a value and is a number that fits half a word
 abbrev pub has_number : List ℕ → List (List ℕ × Sum) → Spot → List Term → Bool
 has_number text symbols spot terms = has_value text symbols spot terms Half false
 

@@ -3,6 +3,8 @@
 use Rattle.std.specs.Prelude.{ℕ, Bool}
 use Rattle.obj36_parts.specs.declared.section.Section.{Section}
 
+-- The place of a line. `inner` counts the static words of the linkage section, `outer` those of a
+-- static section.
 pub record Spot : Type 0 where
   pub text : ℕ
   pub inner : ℕ

@@ -13,6 +13,7 @@ use Rattle.alm_parse.specs.declared.deed.Deed.{Deed}
 use Rattle.alm_parse.specs.declared.deed.Deed.TheVariants as deed
 use Rattle.alm_lines.specs.SpotFields.{Spot}
 
+-- the place of the first line
 abbrev pub start : Spot
 start =
     record {
@@ -31,6 +32,7 @@ count_in Linkage spot = spot.inner
 count_in Symbol spot = 0
 count_in Static spot = spot.outer
 
+-- the number of words that the lines above place in the section of a line
 abbrev pub count : Spot → ℕ
 count spot = count_in spot.section spot
 
@@ -41,6 +43,7 @@ place_in Linkage spot = spot.inner + head_words
 place_in Symbol spot = 0
 place_in Static spot = spot.outer
 
+-- the offset of a line in its section
 abbrev pub place : Spot → ℕ
 place spot = place_in spot.section spot
 
@@ -72,6 +75,7 @@ here_in Static spot =
       unknown = false;
     }
 
+-- the sum of the place of a line
 abbrev pub here : Spot → Sum
 here spot = here_in spot.section spot
 
@@ -82,6 +86,7 @@ grown_in Linkage spot n = record spot { inner = spot.inner + n }
 grown_in Symbol spot n = spot
 grown_in Static spot n = record spot { outer = spot.outer + n }
 
+-- the place after n more words of the section of a line
 abbrev pub grown : Spot → ℕ → Spot
 grown spot n = grown_in spot.section spot n
 
@@ -122,6 +127,7 @@ moved_by text deed.Block arguments spot = grown spot (size_of deed.Block argumen
 moved_by text deed.Even arguments spot = grown spot (size_of deed.Even arguments (place spot))
 moved_by text deed.Bound arguments spot = spot
 
+-- the place of the line after this one
 unfoldable pub below : List ℕ → Spot → Line36 → Spot
 below text spot line = moved_by text line.deed line.args spot
 

@@ -9,21 +9,27 @@ use Rattle.alm_lines.specs.declared.sum.Kind.TheVariants.{Absolute, Moved, Unsai
 
 -- ---- integers, as differences of natural numbers
 
+-- the integer `up` - `down`
 abbrev pub balance : ℕ → ℕ → Balance
 balance up down = record { up = up; down = down }
 
+-- the integer 0
 abbrev pub nothing : Balance
 nothing = record { up = 0; down = 0 }
 
+-- the sum of two integers
 abbrev pub balance_plus : Balance → Balance → Balance
 balance_plus a b = record { up = a.up + b.up; down = a.down + b.down }
 
+-- the negative of an integer
 abbrev pub turned : Balance → Balance
 turned b = record { up = b.down; down = b.up }
 
+-- the integer is 0
 abbrev pub is_even : Balance → Bool
 is_even b = nat_eq b.up b.down
 
+-- the integer is 1
 abbrev pub is_one : Balance → Bool
 is_one b = nat_lt b.down b.up && nat_eq (b.up - b.down) 1
 
@@ -35,9 +41,11 @@ is_within low high b = nat_le (b.down - b.up) low && nat_le (b.up - b.down) high
 abbrev pub balance_modulo : ℕ → Balance → ℕ
 balance_modulo m b = (b.up % m + (m - b.down % m)) % m
 
+-- the integer modulo 2^18
 unfoldable pub half_of : Balance → ℕ
 half_of b = balance_modulo (2 ^ 18) b
 
+-- the integer modulo 2^15
 unfoldable pub offset_of : Balance → ℕ
 offset_of b = balance_modulo (2 ^ 15) b
 
@@ -47,6 +55,7 @@ settled b = record { up = b.up - b.down; down = b.down - b.up }
 
 -- ---- sums
 
+-- the sum that is the number n
 abbrev pub absolute : ℕ → Sum
 absolute n =
     record {
@@ -57,6 +66,7 @@ absolute n =
       unknown = false;
     }
 
+-- the sum that is 0
 abbrev pub no_sum : Sum
 no_sum = absolute 0
 
@@ -64,6 +74,7 @@ no_sum = absolute 0
 abbrev pub unknown_sum : Sum
 unknown_sum = record no_sum { unknown = true }
 
+-- two sums together
 unfoldable pub sum_plus : Sum → Sum → Sum
 sum_plus a b =
     record {
@@ -74,6 +85,7 @@ sum_plus a b =
       unknown = a.unknown || b.unknown;
     }
 
+-- the negative of a sum
 unfoldable pub sum_turned : Sum → Sum
 sum_turned a =
     record {

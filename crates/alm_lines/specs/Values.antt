@@ -25,15 +25,17 @@ value_by sum undefined =
       unknown = sum.unknown;
     }
 
+-- the value of an expression
 unfoldable pub evaluated : List ℕ → List (List ℕ × Sum) → Spot → List Term → ValueFields
 evaluated text symbols spot terms =
     value_by (sum_of text symbols spot terms) (place_undefined text symbols terms)
 
--- whether a value fits a field; whether an object can express it there
+-- whether a value fits a field
 abbrev pub fits : Room → ValueFields → Bool
 fits Half value = value.fits_half
 fits Offset value = value.fits_offset
 
+-- whether a value fits a field and an object can express it there
 abbrev pub value_is_said : Room → Bool → ValueFields → Bool
 value_is_said room may_move value = fits room value && may_stand may_move value.kind
 

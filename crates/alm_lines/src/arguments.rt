@@ -81,6 +81,7 @@ pub fn second_number(args: &[Arg]) -> u64
     }
 }
 
+// Adds the words of an argument of `dec`, `oct` or `aci`.
 fn push_arg(words: &mut Words, arg: &Arg) -> Result<(), NoMemory>
     ensures { OnOk result (words.new ≡ words.old ++ words_of_arg arg.now) }
 {

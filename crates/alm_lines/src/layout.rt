@@ -38,6 +38,7 @@ fn again(text: &[u8], line: &Line36, symbols: &Symbols, span: Span) -> Option<Re
     }
 }
 
+// Defines the symbol in a span, unless it is defined already.
 fn define(text: &[u8], symbols: &mut Symbols, span: Span, sum: Sum) -> Result<(), NoMemory>
     requires { IsTerm sum }
     ensures { OnOk result (symbols.new ≡ with_symbol symbols.old (name_at text.now span) sum) }
@@ -45,6 +46,8 @@ fn define(text: &[u8], symbols: &mut Symbols, span: Span, sum: Sum) -> Result<()
     symbols.define(name_at(text, span), sum)
 }
 
+// Defines the labels of a line. Returns the first in the text of `refused` and the refusals of
+// those that are defined already.
 #[tactic(auto, unfolding(crate::specs::Layout::with_labels, crate::specs::Layout::labels_refused))]
 fn define_labels(
     text: &[u8],
@@ -177,6 +180,7 @@ fn own_again(text: &[u8], line: &Line36, symbols: &Symbols, own: Option<Span>) -
     }
 }
 
+// Defines the symbol of an operation, if it has one.
 fn define_own(
     text: &[u8],
     symbols: &mut Symbols,
@@ -207,6 +211,7 @@ fn refused_with(
     sooner(own_again(text, line, symbols, own), refused)
 }
 
+// Defines the symbol that a line with this operation defines, if any.
 #[tactic(auto, unfolding(crate::specs::Layout::symbols_with))]
 fn define_with(
     text: &[u8],

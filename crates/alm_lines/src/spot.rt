@@ -60,6 +60,7 @@ impl Model for Spot {
 /// The number 1: a section that counts once.
 const ONCE: Balance = Balance { up: 1, down: 0 };
 
+// A number as an integer.
 fn up(place: u128) -> Balance
     ensures { result ≡ balance place 0 }
 {
@@ -204,6 +205,7 @@ pub fn size_of(alloc: Global, deed: Deed, args: &[Arg], at: u128) -> Result<u64,
     }
 }
 
+// The place after the words of a line with this operation.
 fn grown_by(alloc: Global, spot: Spot, deed: Deed, args: &[Arg]) -> Result<Spot, NoMemory>
     requires { HasRoom 1 spot }
     ensures value { IfOk result (λ after.

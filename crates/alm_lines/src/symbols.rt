@@ -69,6 +69,7 @@ impl Symbols {
     }
 }
 
+// The sum of a symbol in the table.
 #[tactic(auto, unfolding(crate::specs::Symbols::sum_named))]
 fn found(sums: &IndexMap<Name, Sum, HashSeed>, name: &Name) -> Option<Sum>
     ensures { result ≡ sum_named name.now sums.now.entries }

@@ -104,6 +104,7 @@ fn seek_symbol(text: &[u8], symbols: &Symbols, span: Span) -> Sought
     }
 }
 
+// The sum of a term without its sign, and where it is a symbol that is not defined.
 #[tactic(auto, using(crate::proofs::ValueLaws::undefined_alone))]
 fn seek_atom(text: &[u8], symbols: &Symbols, spot: Spot, term: Term) -> Sought
     ensures sum { result.sum ≡ atom_sum text.now symbols.now spot term.span term.what }
@@ -123,6 +124,7 @@ fn seek_atom(text: &[u8], symbols: &Symbols, spot: Spot, term: Term) -> Sought
     }
 }
 
+// The sum of a term, and where it is a symbol that is not defined.
 #[tactic(auto, using(crate::proofs::ValueLaws::sum_alone), unfolding(crate::specs::Expressions::term_sum))]
 fn seek_term(text: &[u8], symbols: &Symbols, spot: Spot, term: Term) -> Sought
     ensures sum { result.sum ≡ sum_of text.now symbols.now spot (term ∷ []) }
@@ -219,6 +221,7 @@ pub fn is_valued(
     is_value(room, may_move, value)
 }
 
+// The refusal of an expression with this value, if the field may not have it.
 fn refused_by(line: &Line36, value: Value, wanted: Wanted) -> Option<Refusal>
     ensures { result ≡ value_refused line.now value wanted.place wanted.room wanted.may_move }
 {

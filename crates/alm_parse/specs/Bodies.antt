@@ -24,33 +24,38 @@ use Rattle.alm_tokens.specs.Bytes.{is_sign}
 unfoldable pub place_of : List ℕ → Span → ℕ → Option ℕ
 place_of text span byte = first_in (λ b. b == byte) text span
 
--- the index after the bytes at the beginning of a span that can be part of a symbol
+-- the index of a byte in the text, given that in its span; the end of the span if there is none
 abbrev pub end_by : Option ℕ → ℕ → ℕ → ℕ
 end_by (Some i) from count = from + i
 end_by None from count = from + count
 
+-- the index after the bytes at the beginning of a span that can be part of a symbol
 unfoldable pub symbol_end : List ℕ → Span → ℕ
 symbol_end text span =
     end_by (position (λ b. not (is_name_character b)) (slice_of text span)) span.from
     (length (slice_of text span))
 
--- the parts of the operand
+-- an external operand, given the indexes of the dollar sign and of the end of the entry
 abbrev pub external_by : Span → ℕ → ℕ → Body
 external_by whole dollar end =
     External (span_at whole.from dollar) (span_at (dollar + 1) end) (span_at end whole.to)
 
+-- an external operand, given the index of the dollar sign
 abbrev pub external : List ℕ → Span → ℕ → Body
 external text whole dollar =
     external_by whole dollar (symbol_end text (span_at (dollar + 1) whole.to))
 
+-- an operand without a bar, given the index of its dollar sign, if it has one
 abbrev pub body_without_bar : List ℕ → Span → Option ℕ → Body
 body_without_bar text whole (Some dollar) = external text whole dollar
 body_without_bar text whole None = Plain whole
 
+-- an operand, given the index of its bar, if it has one
 abbrev pub body_by : List ℕ → Span → Option ℕ → Body
 body_by text whole (Some bar) = Through (span_at whole.from bar) (span_at (bar + 1) whole.to)
 body_by text whole None = body_without_bar text whole (place_of text whole 36)
 
+-- the parts of an operand without its modifier
 unfoldable pub body_of : List ℕ → Span → Body
 body_of text whole = body_by text whole (place_of text whole 124)
 
@@ -67,16 +72,19 @@ section_by named name =
 unfoldable pub own_section : List ℕ → Option Section
 own_section name = section_by own_name name
 
--- whether the parts have their forms
+-- whether this can be the segment of an external operand
 abbrev pub is_segment : List ℕ → Bool
 is_segment bytes = is_symbol bytes || is_some (own_section bytes)
 
+-- whether this can be the entry of an external operand: a symbol, or nothing
 abbrev pub is_entry : List ℕ → Bool
 is_entry bytes = (length bytes == 0) || is_symbol bytes
 
+-- whether this can follow the entry: a sign and more, or nothing
 abbrev pub is_tail : List ℕ → Bool
 is_tail bytes = (length bytes == 0) || is_sign (slice_index bytes 0)
 
+-- whether the parts of an operand have their forms, except for expressions
 abbrev pub is_body : List ℕ → Body → Bool
 is_body text (Through pr offset) = is_some (pr_number (slice_of text pr))
 is_body text (External segment entry tail) =
@@ -84,7 +92,7 @@ is_body text (External segment entry tail) =
     && is_tail (slice_of text tail)
 is_body text (Plain whole) = true
 
--- The terms. After an external name, the sign belongs to the first term.
+-- the terms after an external name, whose sign belongs to the first of them
 unfoldable pub tail_pieces : List ℕ → Span → List Piece
 tail_pieces text tail =
     if length (slice_of text tail) == 0
@@ -92,6 +100,7 @@ tail_pieces text tail =
     else expression_pieces text
     (piece_at (is_negative (slice_of text tail)) (tail.from + 1) tail.to)
 
+-- the terms of the expression of an operand
 abbrev pub body_pieces : List ℕ → Body → List Piece
 body_pieces text (Through pr offset) =
     expression_pieces text (record { span = offset; minus = false })

@@ -33,11 +33,12 @@ first_word bytes =
     of_quarters (slice_index bytes 0) (slice_index bytes 1) (slice_index bytes 2)
     (slice_index bytes 3)
 
--- only blanks, and perhaps a comment, are after the closing delimiter
+-- whether the first byte that is not blank, if there is one, begins a comment
 abbrev pub ended_by : Option ℕ → Bool
 ended_by None = true
 ended_by (Some b) = begins_comment b
 
+-- whether only blanks, and perhaps a comment, are after the closing delimiter
 abbrev pub is_ended : List ℕ → Bool
 is_ended bytes = ended_by (find (λ b. not (is_blank b)) bytes)
 
@@ -45,14 +46,17 @@ is_ended bytes = ended_by (find (λ b. not (is_blank b)) bytes)
 unfoldable pub place_bad : List ℕ → Span → Option ℕ
 place_bad text span = first_in (λ b. not (is_character b)) text span
 
+-- the characters of a span, or E1 at the first byte that cannot be placed
 abbrev pub characters_by : List ℕ → Span → Option ℕ → Result (List Arg) Refusal
 characters_by text span (Some place) = Err (record { place = place; code = E1 })
 characters_by text span None = Ok (Chars (packed (slice_of text span)) ∷ [])
 
+-- the characters, or the refusal of the operand if more text is after the closing delimiter
 abbrev pub characters_ended : List ℕ → Span → Span → Bool → Result (List Arg) Refusal
 characters_ended text rest span true = characters_by text span (place_bad text span)
 characters_ended text rest span false = Err (record { place = rest.from; code = E2 })
 
+-- the characters, or E2 at the operand if there is no closing delimiter
 abbrev pub characters_closed : List ℕ → Span → Option ℕ → Result (List Arg) Refusal
 characters_closed text rest (Some close) =
     characters_ended text rest (span_at (rest.from + 1) close)
@@ -66,5 +70,6 @@ characters_from text rest delimiter =
     then characters_closed text rest (place_of text (span_at (rest.from + 1) rest.to) delimiter)
     else Err (record { place = rest.from; code = E1 })
 
+-- the argument of an `aci` line
 unfoldable pub characters_given : List ℕ → Span → Result (List Arg) Refusal
 characters_given text rest = characters_from text rest (slice_index text rest.from)

@@ -56,6 +56,8 @@ args_with Block text operand = block_given text operand
 args_with Bare text operand = Err (told text operand.from E2)
 args_with End text operand = Ok []
 
+-- the operand of an operation in the text after it; for characters, a quotation mark can be a part
+-- of it
 abbrev pub operand_for : Operation → List ℕ → Span → Option Span
 operand_for Instruction text rest = operand_in text rest
 operand_for Names text rest = operand_in text rest
@@ -69,17 +71,21 @@ operand_for Block text rest = operand_in text rest
 operand_for Bare text rest = operand_in text rest
 operand_for End text rest = operand_in text rest
 
+-- the arguments in an operand, or the refusal of one that is missing
 abbrev pub args_by : Operation → List ℕ → ℕ → Option Span → Result (List Arg) Refusal
 args_by operation text op (Some operand) = args_with operation text operand
 args_by operation text op None = unless (missing operation op) []
 
+-- the arguments of an operation, given the text after it
 unfoldable pub args_of : Operation → List ℕ → ℕ → Span → Result (List Arg) Refusal
 args_of operation text op rest = args_by operation text op (operand_for operation text rest)
 
--- the refusal of the first label that is not a symbol
+-- whether a label is not a symbol
 abbrev pub is_no_symbol : List ℕ → Span → Bool
 is_no_symbol text span = not (is_symbol (slice_of text span))
 
+-- the refusal of the first label that is not a symbol: E2, or E1 if it begins with a byte that no
+-- source can have
 unfoldable pub label_refusal : List ℕ → List Span → Option Refusal
 label_refusal text marks =
     option_map (λ mark. told text mark.from E2) (find (is_no_symbol text) marks)
@@ -96,24 +102,31 @@ line_of text row head arguments =
       line = row.number;
     }
 
+-- the line with these arguments, or their refusal
 abbrev pub line_with : List ℕ → Row → Head → Result (List Arg) Refusal → Result Line36 Refusal
 line_with text row head given = and_then given (λ arguments. Ok (line_of text row head arguments))
 
+-- the line with this operation, or its refusal if there is none of this name: E3, or E1 if it
+-- begins with a byte that no source can have
 abbrev pub line_by : List ℕ → Row → Head → Span → Option Operation → Result Line36 Refusal
 line_by text row head op (Some operation) =
     line_with text row head (args_of operation text op.from (span_at op.to row.span.to))
 line_by text row head op None = Err (told text op.from E3)
 
+-- the line with this operation, if it has one, given its labels
 abbrev pub line_from : List ℕ → Row → Head → Option Span → Result Line36 Refusal
 line_from text row head (Some op) = line_by text row head op (operation_of (slice_of text op))
 line_from text row head None = Ok (line_of text row head [])
 
+-- the line, unless a label is refused
 abbrev pub line_unless : Option Refusal → List ℕ → Row → Head → Result Line36 Refusal
 line_unless (Some refusal) text row head = Err refusal
 line_unless None text row head = line_from text row head head.op
 
+-- the line with this head, or its refusal
 abbrev pub line_headed : List ℕ → Row → Head → Result Line36 Refusal
 line_headed text row head = line_unless (label_refusal text head.labels) text row head
 
+-- a line parsed by itself, or its refusal
 unfoldable pub line_given : List ℕ → Row → Result Line36 Refusal
 line_given text row = line_headed text row (head_of text row.span)

@@ -13,17 +13,22 @@ use Rattle.alm_tokens.specs.Numerals.{word_as}
 use Rattle.m36_text.specs.Results.{unless}
 use Rattle.alm_parse.specs.Refusals.{refused}
 
+-- the argument that is the symbol of a member
 abbrev pub symbol_arg : Piece → Arg
 symbol_arg member = Symbol member.span
 
+-- the arguments of a list of symbols, or its refusal
 unfoldable pub symbols_given : List ℕ → Span → Result (List Arg) Refusal
 symbols_given text operand =
     unless (refused text operand.from (list_all (is_symbol_at text) (members text operand)) None)
     (map symbol_arg (members text operand))
 
+-- the argument that is the word of the number of a member
 abbrev pub number_arg : Numeral → List ℕ → Piece → Arg
 number_arg numeral text member = Number (word_as numeral (slice_of text member.span))
 
+-- the numbers of members, or the refusal of the operand at index `at` or of a number out of its
+-- range
 abbrev pub numbers_by : Numeral → List ℕ → ℕ → List Piece → Result (List Arg) Refusal
 numbers_by numeral text at pieces =
     unless
@@ -31,5 +36,6 @@ numbers_by numeral text at pieces =
     (place_out numeral text pieces))
     (map (number_arg numeral text) pieces)
 
+-- the arguments of a list of numbers, or its refusal
 unfoldable pub numbers_given : Numeral → List ℕ → Span → Result (List Arg) Refusal
 numbers_given numeral text operand = numbers_by numeral text operand.from (members text operand)

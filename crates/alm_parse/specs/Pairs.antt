@@ -27,21 +27,23 @@ abbrev pub by_two :
 by_two read text at (first ∷ second ∷ []) = read first second
 by_two read text at _ = Err (told text at E2)
 
--- a symbol and an expression
+-- the arguments of an `equ` line, from its two members
 abbrev pub value_by : List ℕ → ℕ → Piece → List Piece → Result (List Arg) Refusal
 value_by text at name pieces =
     unless
     (refused text at (is_symbol_at text name && list_all (is_term_at text) pieces)
     (place_out Small text pieces)) (Symbol name.span ∷ Plain (map (term_of text) pieces) ∷ [])
 
+-- the arguments of an `equ` line, from the members of its operand
 abbrev pub value_of_members : List ℕ → ℕ → List Piece → Result (List Arg) Refusal
 value_of_members text at pieces =
     by_two (λ name value. value_by text at name (expression_pieces text value)) text at pieces
 
+-- the arguments of an `equ` line, or its refusal
 unfoldable pub value_given : List ℕ → Span → Result (List Arg) Refusal
 value_given text operand = value_of_members text operand.from (members text operand)
 
--- two expressions
+-- the arguments of a `zero` line, from the terms of its two expressions
 abbrev pub halves_by : List ℕ → ℕ → List Piece → List Piece → Result (List Arg) Refusal
 halves_by text at left right =
     unless
@@ -49,25 +51,29 @@ halves_by text at left right =
     (option_or (place_out Small text left) (place_out Small text right)))
     (Plain (map (term_of text) left) ∷ Plain (map (term_of text) right) ∷ [])
 
+-- the arguments of a `zero` line, from the members of its operand
 abbrev pub halves_of_members : List ℕ → ℕ → List Piece → Result (List Arg) Refusal
 halves_of_members text at pieces =
     by_two
     (λ left right. halves_by text at (expression_pieces text left) (expression_pieces text right))
     text at pieces
 
+-- the arguments of a `zero` line, or its refusal
 unfoldable pub halves_given : List ℕ → Span → Result (List Arg) Refusal
 halves_given text operand = halves_of_members text operand.from (members text operand)
 
--- a symbol and a number
+-- the arguments of a `bss` line, from its two members
 abbrev pub block_by : List ℕ → ℕ → Piece → Piece → Result (List Arg) Refusal
 block_by text at name count =
     unless
     (refused text at (is_symbol_at text name && is_written_at Small text count)
     (place_out Small text (count ∷ []))) (Symbol name.span ∷ number_arg Small text count ∷ [])
 
+-- the arguments of a `bss` line, from the members of its operand
 abbrev pub block_of_members : List ℕ → ℕ → List Piece → Result (List Arg) Refusal
 block_of_members text at pieces = by_two (block_by text at) text at pieces
 
+-- the arguments of a `bss` line, or its refusal
 unfoldable pub block_given : List ℕ → Span → Result (List Arg) Refusal
 block_given text operand = block_of_members text operand.from (members text operand)
 
@@ -79,6 +85,7 @@ used_section name = section_by section_name name
 abbrev pub is_section : List ℕ → Bool
 is_section name = is_some (used_section name)
 
+-- the argument of a `use` line, or its refusal
 unfoldable pub section_given : List ℕ → Span → Result (List Arg) Refusal
 section_given text operand =
     unless (refused text operand.from (is_section (slice_of text operand)) None)

@@ -31,6 +31,7 @@ Reads (Err NoMemory) definition = ⊤
 abbrev pub IsInside : ℕ → Refusal → Type 0
 IsInside count refusal = refusal.place < count
 
+-- the same for a halt, if it is a refusal
 abbrev pub HaltsInside : ℕ → Halt → Type 0
 HaltsInside count (Refused refusal) = IsInside count refusal
 HaltsInside count NoMemory = ⊤

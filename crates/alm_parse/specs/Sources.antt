@@ -28,6 +28,7 @@ fault_by code.E2 line column = E2 line column
 fault_by code.E3 line column = E3 line column
 fault_by code.E4 line column = E4 line column
 
+-- the fault of a refusal in a line
 abbrev pub fault_of : Row → Refusal → AlmFault
 fault_of row refusal = fault_by refusal.code row.number (column_at row.span.from refusal.place)
 
@@ -44,14 +45,17 @@ continued text row before further (Ok line) =
     if names_end text line.op then Ok (before ++ line ∷ []) else further (before ++ line ∷ [])
 continued text row before further (Err refusal) = Err (fault_of row refusal)
 
+-- the lines of a text, after those before them, or the first refusal
 unfoldable pub read_lines : List ℕ → List Line36 → List Row → Result (List Line36) AlmFault
 read_lines text before [] = Ok before
 read_lines text before (row ∷ rows) =
     continued text row before (λ more. read_lines text more rows) (line_given text row)
 
+-- the source with these lines
 abbrev pub with_text : List ℕ → Result (List Line36) AlmFault → Result Source AlmFault
 with_text text read = and_then read (λ lines. Ok (record { text = text; lines = lines }))
 
+-- the lines of a text, or its first refusal
 unfoldable pub parsed : List ℕ → Result Source AlmFault
 parsed text = with_text text (read_lines text [] (rows_of text))
 
@@ -67,6 +71,7 @@ Refuses (E6 line column) definition = definition ≡ Err (E6 line column)
 Refuses (E7 line column) definition = definition ≡ Err (E7 line column)
 Refuses (E8 line column) definition = definition ≡ Err (E8 line column)
 
+-- The result of a call is that of the definition, or `NoMemory`.
 abbrev pub ParseSays : {A : Type 0} → Result A AlmFault → Result A AlmFault → Type 0
 ParseSays (Ok value) definition = definition ≡ Ok value
 ParseSays (Err fault) definition = Refuses fault definition

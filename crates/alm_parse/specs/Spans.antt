@@ -8,10 +8,12 @@ use Rattle.alm_parse.specs.declared.args.Arg.TheVariants.{Symbol, Number, Chars,
 use Rattle.alm_parse.specs.declared.line.Line36.{Line36}
 use Rattle.alm_tokens.specs.Expressions.{IsSmall}
 
+-- a span is within the text, and does not end before it begins
 pub record IsSpan (count : ℕ) (span : Span) : Type 0 where
   pub ordered : span.from ≤ span.to
   pub inside : span.to ≤ count
 
+-- a term is within the text, and a number in it is within its range
 pub record TermIn (count : ℕ) (term : Term) : Type 0 where
   pub place : IsSpan count term.span
   pub number : IsSmall term.what
@@ -25,6 +27,7 @@ pub record OperandIn (count : ℕ) (register : Option ℕ) (seg name : Option Sp
   pub entry : IfSome name (IsSpan count)
   pub terms : All (TermIn count) parts
 
+-- an argument is within the text, and its numbers are within their ranges
 abbrev pub ArgIn : ℕ → Arg → Type 0
 ArgIn count (Symbol span) = IsSpan count span
 ArgIn count (Number word) = ⊤
@@ -32,6 +35,7 @@ ArgIn count (Chars words) = ⊤
 ArgIn count (Plain terms) = All (TermIn count) terms
 ArgIn count (Operand pr segment entry terms tag) = OperandIn count pr segment entry terms tag
 
+-- a line is within the text, and its numbers are within their ranges
 pub record LineIn (count : ℕ) (line : Line36) : Type 0 where
   pub labels : All (IsSpan count) line.labels
   pub op : IfSome line.op (IsSpan count)

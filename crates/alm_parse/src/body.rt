@@ -111,6 +111,7 @@ pub fn body_of(text: &[u8], whole: Span) -> Body
     }
 }
 
+// The section of the own object with this name, if there is one.
 #[tactic(auto, using(crate::proofs::OwnSections::no_star), unfolding(crate::specs::Bodies::own_section))]
 fn section_named(bytes: &[u8]) -> Option<Section>
     ensures { result ≡ own_section bytes.now }

@@ -15,6 +15,7 @@ use alm_tokens::span::{Span, bytes_of};
 use m36_word::{NoMemory, Word, Words};
 use std::alloc::Global;
 
+// The byte at an index; 0 past the end.
 fn byte_or_zero(bytes: &[u8], place: usize) -> u64
     ensures value { result ≡ slice_index bytes.now place }
     ensures below { result < 256 }
@@ -26,6 +27,7 @@ fn byte_or_zero(bytes: &[u8], place: usize) -> u64
     }
 }
 
+// The word of the first four characters; missing ones are 0.
 #[tactic(auto, unfolding(crate::specs::Characters::first_word))]
 fn word_of_four(bytes: &[u8]) -> Word
     ensures { result ≡ first_word bytes.now }
@@ -43,6 +45,7 @@ fn first_word(bytes: &[u8]) -> Word
     word_of_four(bytes)
 }
 
+// The characters after the first four.
 fn behind_four(bytes: &[u8]) -> &[u8]
     ensures value { result.now ≡ drop 4 bytes.now }
     ensures shorter { 0 < length bytes.now → length result.now < length bytes.now }
@@ -66,6 +69,7 @@ fn packed(alloc: Global, bytes: &[u8]) -> Result<Words, NoMemory>
     Ok(words)
 }
 
+// The first byte that is neither a space nor a tab.
 fn first_no_blank(bytes: &[u8]) -> Option<&u8>
     ensures { option_copied result ≡ find (λ b. not (is_blank b)) bytes.now }
 {
@@ -81,6 +85,7 @@ fn is_ended(bytes: &[u8]) -> bool
     }
 }
 
+// The index of the first byte that cannot be placed.
 fn first_no_character(bytes: &[u8]) -> Option<usize>
     ensures value { result ≡ position (λ b. not (is_character b)) bytes.now }
     ensures within { IfSome result (λ i. i < length bytes.now) }

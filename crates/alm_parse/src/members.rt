@@ -16,6 +16,7 @@ use alm_tokens::span::{Span, bytes_of};
 use m36_word::NoMemory;
 use std::alloc::Global;
 
+// The arguments that are the symbols of these members.
 fn symbol_args(alloc: Global, members: &[Piece]) -> Result<Args, NoMemory>
     ensures { IfOk result (λ args. args ≡ map symbol_arg members.now) }
 {
@@ -63,6 +64,7 @@ pub fn number_arg(numeral: Numeral, text: &[u8], member: &Piece) -> Arg
     Arg::Number(word_as(numeral, bytes_of(text, member.span)))
 }
 
+// The arguments that are the words of the numbers of these members.
 fn number_args(
     alloc: Global,
     numeral: Numeral,

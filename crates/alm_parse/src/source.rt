@@ -123,6 +123,7 @@ fn read_lines(alloc: Global, text: &[u8], rows: &[Row]) -> Result<Lines, AlmFaul
     Ok(lines)
 }
 
+// The lines of a text, with the text, or its first refusal.
 #[tactic(auto, using(crate::proofs::SourceLaws::refuses_all), unfolding(crate::specs::Sources::parsed))]
 fn read_source(alloc: Global, text: &[u8]) -> Result<Lines36, AlmFault>
     requires { length text.now < 2 ^ 32 }

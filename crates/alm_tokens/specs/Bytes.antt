@@ -6,10 +6,11 @@ use Rattle.m36_text.specs.Texts.{is_letter, is_name_character}
 abbrev pub is_blank : ℕ → Bool
 is_blank b = (b == 32) || (b == 9)
 
--- A symbol begins with a letter or _. The rest of it are characters of names.
+-- A symbol begins with a letter or `_`.
 abbrev pub begins_symbol : ℕ → Bool
 begins_symbol b = is_letter b || (b == 95)
 
+-- whether a byte is a minus
 abbrev pub is_minus : ℕ → Bool
 is_minus b = b == 45
 

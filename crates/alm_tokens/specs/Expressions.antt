@@ -11,33 +11,37 @@ use Rattle.alm_tokens.specs.Tokens.{most_number}
 use Rattle.alm_tokens.specs.Numerals.{is_number, is_negative}
 use Rattle.alm_tokens.specs.Pieces.{pieces_of, piece_at}
 
--- A term is a number, a symbol, or *, which is the current place.
+-- whether a term is `*`, the current place
 abbrev pub is_here : List ℕ → Bool
 is_here bytes = is_text (codes "*") bytes
 
+-- A term is a number, a symbol, or `*`.
 unfoldable pub is_term : List ℕ → Bool
 is_term bytes = is_here bytes || is_number bytes || is_symbol bytes
 
+-- whether a piece is a term
 abbrev pub is_term_at : List ℕ → Piece → Bool
 is_term_at text piece = is_term (slice_of text piece.span)
 
--- The terms, as pieces. A minus at the beginning of the expression negates the first term.
+-- the piece of a whole expression without the minus at its beginning, which negates the first term
 unfoldable pub signed_start : List ℕ → Piece → Piece
 signed_start text whole =
     if is_negative (slice_of text whole.span)
     then piece_at (not whole.minus) (whole.span.from + 1) whole.span.to
     else whole
 
+-- the terms of an expression, as pieces
 unfoldable pub expression_pieces : List ℕ → Piece → List Piece
 expression_pieces text whole = pieces_of Sign text (signed_start text whole)
 
--- the term in a piece
+-- the kind of a term, with its number if it is one
 unfoldable pub atom_of : List ℕ → Atom
 atom_of bytes =
     if is_here bytes
     then Here
     else (if is_number bytes then Number (value_of (small_read bytes)) else Symbol)
 
+-- the term in a piece, with its sign
 abbrev pub term_of : List ℕ → Piece → Term
 term_of text piece =
     record { what = atom_of (slice_of text piece.span); span = piece.span; minus = piece.minus }

@@ -19,9 +19,11 @@ turn_of b fresh =
     then (if fresh then Skip else Stop)
     else (if begins_comment b then Stop else Go))
 
+-- the token between two indexes, if it has a byte
 abbrev pub token : ℕ → ℕ → Option Span
 token from to = if from == to then None else Some (span_at from to)
 
+-- the head of a line whose operation begins at `from` and ends before `at`
 abbrev pub head_at : List Span → ℕ → ℕ → Head
 head_at marks from at = record { labels = marks; op = token from at }
 
@@ -42,6 +44,7 @@ head_from marks from at (b ∷ rest) =
     (head_from marks (at + 1) (at + 1) rest) (head_at marks from at)
     (head_from marks from (at + 1) rest)
 
+-- the labels and the operation of a line
 unfoldable pub head_of : List ℕ → Span → Head
 head_of text line = head_from [] line.from line.from (slice_of text line)
 
@@ -55,13 +58,16 @@ end_from end at [] = end
 end_from end at (b ∷ rest) =
     if begins_comment b then end else end_from (if is_blank b then end else at + 1) (at + 1) rest
 
+-- the index after the operand, given the text after the operation
 abbrev pub operand_end : List ℕ → Span → ℕ
 operand_end text rest = end_from rest.from rest.from (slice_of text rest)
 
+-- the operand that begins at `from`, if there is one
 abbrev pub operand_by : List ℕ → Span → Option ℕ → Option Span
 operand_by text rest None = None
 operand_by text rest (Some from) = token from (operand_end text (span_at from rest.to))
 
+-- the operand in the text after the operation, if there is one
 unfoldable pub operand_in : List ℕ → Span → Option Span
 operand_in text rest = operand_by text rest (operand_start text rest)
 
@@ -71,6 +77,7 @@ abbrev pub delimited_by : Span → Option ℕ → Option Span
 delimited_by rest None = None
 delimited_by rest (Some from) = Some (span_at from rest.to)
 
+-- the operand of delimited characters in the text after the operation, if there is one
 unfoldable pub delimited_in : List ℕ → Span → Option Span
 delimited_in text rest =
     if begins_comment (slice_index (slice_of text rest) 0)

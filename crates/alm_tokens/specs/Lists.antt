@@ -9,19 +9,23 @@ use Rattle.alm_tokens.specs.Tokens.{slice_of, is_symbol, is_over}
 use Rattle.alm_tokens.specs.Pieces.{pieces_of}
 use Rattle.alm_tokens.specs.Numerals.{read_as, is_written}
 
+-- the members of an operand, which commas separate
 unfoldable pub members : List ℕ → Span → List Piece
 members text operand = pieces_of Comma text (record { span = operand; minus = false })
 
+-- whether a member is a symbol
 abbrev pub is_symbol_at : List ℕ → Piece → Bool
 is_symbol_at text member = is_symbol (slice_of text member.span)
 
+-- whether a member is a number of this notation
 abbrev pub is_written_at : Numeral → List ℕ → Piece → Bool
 is_written_at numeral text member = is_written numeral (slice_of text member.span)
 
--- the place of the first number that is out of its range
+-- whether a member is a number out of its range
 abbrev pub is_out_at : Numeral → List ℕ → Piece → Bool
 is_out_at numeral text member = is_over (read_as numeral (slice_of text member.span))
 
+-- the index of the first number that is out of its range
 unfoldable pub place_out : Numeral → List ℕ → List Piece → Option ℕ
 place_out numeral text pieces =
     option_map (λ member. member.span.from) (find (is_out_at numeral text) pieces)

@@ -14,6 +14,7 @@ pub record NumberedName : Type 0 where
   pub name : List ℕ
   pub number : ℕ
 
+-- a name with this number
 abbrev pub numbered : List ℕ → ℕ → NumberedName
 numbered name number = record { name = name; number = number }
 
@@ -28,6 +29,7 @@ abbrev pub after_x : List ℕ → List ℕ
 after_x [] = []
 after_x (b ∷ rest) = if b == 120 then rest else b ∷ rest
 
+-- the registers by which an address is modified, with their tags
 abbrev pub registers : List NumberedName
 registers =
     numbered (codes "n") 0
@@ -40,6 +42,7 @@ registers =
     ∷ numbered (codes "dl") 7
     ∷ []
 
+-- the tag of a register: 0 to 7 by its name, or 8 to 15 for X0 to X7
 unfoldable pub register_of : List ℕ → Option ℕ
 register_of bytes =
     option_or (number_beside registers bytes) (option_map (λ n. 8 + n) (octal_in 1 (after_x bytes)))
@@ -89,15 +92,17 @@ single_tags =
     ∷ numbered (codes "id") 0x2e
     ∷ []
 
+-- the tag of `*` or a tally modifier
 unfoldable pub single_tag : List ℕ → Option ℕ
 single_tag bytes = number_beside single_tags bytes
 
--- * before a register; * after a register
+-- the tag of `*` before a register
 abbrev pub indirect_first : List ℕ → Option ℕ
 indirect_first [] = None
 indirect_first (b ∷ rest) =
     if b == 42 then option_map (λ n. first_tag + n) (register_of rest) else None
 
+-- the tag of `*` after a register
 abbrev pub indirect_last : List ℕ → Option ℕ
 indirect_last bytes =
     if slice_index bytes (length bytes - 1) == 42

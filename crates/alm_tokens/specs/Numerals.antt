@@ -9,9 +9,11 @@ use Rattle.alm_tokens.specs.declared.numerals.Numeral.TheVariants.{Decimal, Octa
 use Rattle.alm_tokens.specs.Tokens.{has_digits, has_no_leading_zero, value_of, small_read}
 use Rattle.alm_tokens.specs.Bytes.{is_minus, is_sign}
 
+-- whether a number begins with a minus
 abbrev pub is_negative : List ℕ → Bool
 is_negative bytes = is_minus (slice_index bytes 0)
 
+-- a number without its sign
 abbrev pub unsigned : List ℕ → List ℕ
 unsigned [] = []
 unsigned (b ∷ rest) = if is_sign b then rest else b ∷ rest
@@ -36,6 +38,7 @@ has_its_zeros Decimal bytes = has_no_leading_zero (unsigned bytes)
 has_its_zeros Octal bytes = true
 has_its_zeros Small bytes = has_no_leading_zero bytes
 
+-- whether a text is a number of this notation, of any size
 abbrev pub is_written : Numeral → List ℕ → Bool
 is_written numeral bytes = has_digits (read_as numeral bytes) && has_its_zeros numeral bytes
 
@@ -47,6 +50,7 @@ is_number bytes = is_written Small bytes
 abbrev pub signed_word : Bool → ℕ → ℕ
 signed_word negative magnitude = (if negative then 2 ^ 36 - magnitude else magnitude) % 2 ^ 36
 
+-- the word of a number in this notation
 abbrev pub word_as : Numeral → List ℕ → ℕ
 word_as Decimal bytes = signed_word (is_negative bytes) (value_of (read_as Decimal bytes))
 word_as Octal bytes = signed_word false (value_of (read_as Octal bytes))

@@ -4,6 +4,7 @@ use Rattle.std.specs.Prelude.{ℕ, ◌+◌, ◌==◌, List, [], ◌∷◌, if◌
 use Rattle.alm_tokens.specs.declared.rows.Row.{Row}
 use Rattle.alm_tokens.specs.Tokens.{span_at}
 
+-- the line between two indexes, with its number
 abbrev pub row_at : ℕ → ℕ → ℕ → Row
 row_at number from at = record { span = span_at from at; number = number }
 
@@ -16,5 +17,6 @@ rows_from number from at (b ∷ rest) =
     then row_at number from at ∷ rows_from (number + 1) (at + 1) (at + 1) rest
     else rows_from number from (at + 1) rest
 
+-- the lines of a text, numbered from 1
 unfoldable pub rows_of : List ℕ → List Row
 rows_of text = rows_from 1 0 0 text

@@ -12,6 +12,7 @@ pub use Rattle.m36_text.specs.Numbers.{has_no_leading_zero}
 use Rattle.alm_tokens.specs.declared.span.Span.{Span}
 use Rattle.alm_tokens.specs.Bytes.{begins_symbol}
 
+-- the span between two indexes
 abbrev pub span_at : ℕ → ℕ → Span
 span_at from to = record { from = from; to = to }
 
@@ -27,18 +28,19 @@ first_in is_so text span = option_map (λ i. span.from + i) (position is_so (sli
 unfoldable pub is_symbol : List ℕ → Bool
 is_symbol bytes = is_name bytes && begins_symbol (slice_index bytes 0)
 
--- The result of parsing a text as a number: whether it has only digits, whether it is over the
--- limit, and the number.
+-- whether a text has only digits, by the result of parsing it as a number
 abbrev pub has_digits : Result ℕ NumberFault → Bool
 has_digits (Ok v) = true
 has_digits (Err T2) = true
 has_digits (Err (T1 place)) = false
 
+-- whether it is a number over the limit
 abbrev pub is_over : Result ℕ NumberFault → Bool
 is_over (Ok v) = false
 is_over (Err T2) = true
 is_over (Err (T1 place)) = false
 
+-- its number; 0 if it is none within the limit
 abbrev pub value_of : Result ℕ NumberFault → ℕ
 value_of read = result_unwrap_or read 0
 
@@ -46,5 +48,6 @@ value_of read = result_unwrap_or read 0
 abbrev pub most_number : ℕ
 most_number = 262143
 
+-- a text parsed as a number of an expression, or as the number of words of `bss`
 abbrev pub small_read : List ℕ → Result ℕ NumberFault
 small_read bytes = number_read 10 bytes most_number

@@ -87,6 +87,7 @@ pub fn head_of(alloc: Global, text: &[u8], line: Span) -> Result<Head, NoMemory>
     Ok(Head { labels, op })
 }
 
+// The index of the first byte that is neither a space nor a tab.
 fn first_no_blank(bytes: &[u8]) -> Option<usize>
     ensures value { result ≡ position (λ b. not (is_blank b)) bytes.now }
     ensures within { IfSome result (λ i. i < length bytes.now) }

@@ -61,6 +61,7 @@ fn is_out_at(numeral: Numeral, text: &[u8], member: &Piece) -> bool
     is_out(numeral, bytes_of(text, member.span))
 }
 
+// The first member that is a number out of its range.
 fn first_out<'a>(numeral: Numeral, text: &[u8], members: &'a [Piece]) -> Option<&'a Piece>
     ensures { option_copied result ≡ find (is_out_at numeral text.now) members.now }
 {

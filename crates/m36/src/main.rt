@@ -53,6 +53,7 @@ fn tell(rt: &HostRuntime, status: &Status) -> io::Result<()> {
     }
 }
 
+// Prints the line of a status in pieces, which need no memory.
 fn tell_in_pieces(rt: &HostRuntime, status: &Status) -> io::Result<()> {
     let mut to = rt.stderr();
     to.write_all(b"m36: ")?;

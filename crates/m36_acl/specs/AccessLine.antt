@@ -15,20 +15,24 @@ use Rattle.m36_dir.specs.BootOrder.{Entry, entry}
 use Rattle.m36_acl.specs.Fields.{TermFields}
 use Rattle.m36_acl.specs.Users.{is_term}
 
+-- a parsed line
 pub data Line : Type 0 where
   Segment : Entry → Line
   Term : TermFields → Line
 
 -- ---- modes
 
+-- a mode, unless it has the right to be privileged
 abbrev pub unprivileged : Mode → Option Mode
 unprivileged mode = if mode.privileged then None else Some mode
 
+-- the rights that a word spells
 unfoldable pub rights_of : List ℕ → Option Mode
 rights_of word = option_and_then unprivileged (mode_of word)
 
 -- ---- the words after the first word of a line
 
+-- a directory and a name, if both could be read
 abbrev pub entry_read : Option (List ℕ) → Option (List ℕ) → Option Entry
 entry_read (Some dir) (Some name) = Some (entry dir name)
 entry_read _ _ = None
@@ -38,6 +42,7 @@ abbrev pub entry_of : List (List ℕ) → Option Entry
 entry_of (dir ∷ name ∷ []) = entry_read (directory_of dir) (name_of name)
 entry_of _ = None
 
+-- a term with these rights
 abbrev pub term_with : List ℕ → Mode → TermFields
 term_with text mode =
     record {
@@ -47,6 +52,7 @@ term_with text mode =
       writable = mode.writable;
     }
 
+-- a term with its rights, if both are of their form
 abbrev pub term_read : List ℕ → Option Mode → Option TermFields
 term_read text None = None
 term_read text (Some mode) = if is_term text then Some (term_with text mode) else None
@@ -58,14 +64,17 @@ term_of _ = None
 
 -- ---- lines
 
+-- the line with this first word and these words after it; None if it has no form
 abbrev pub line_named : List ℕ → List (List ℕ) → Option Line
 line_named word given =
     if is_text (codes "segment") word then option_map Segment (entry_of given)
     else if is_text (codes "term") word then option_map Term (term_of given)
     else None
 
+-- the line with these words; None if it has no form
 abbrev pub line_of_words : List (List ℕ) → Option Line
 line_of_words words = by_first_word line_named words
 
+-- a line parsed by itself; None if it has no form or lacks its line feed
 unfoldable pub line_given : Option (List ℕ) → Option Line
 line_given line = by_words line_of_words None line

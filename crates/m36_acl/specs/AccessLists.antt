@@ -19,6 +19,7 @@ use Rattle.m36_acl.specs.declared.fault.AclFault.TheVariants as fault
 use Rattle.m36_acl.specs.Fields.{TermFields, AclSegmentFields}
 use Rattle.m36_acl.specs.AccessLine.{Line, Segment, Term, line_given}
 
+-- the lists of segments, in the order of their lines
 abbrev pub Lists : Type 0
 Lists = List AclSegmentFields
 
@@ -28,9 +29,11 @@ Read = Result (List AclSegmentFields) AclFault
 
 -- ---- a `segment` line
 
+-- whether a list is that of this directory and name
 abbrev pub is_of : Entry → AclSegmentFields → Bool
 is_of given segment = is_entry given (entry segment.dir segment.name)
 
+-- whether a segment has a list
 abbrev pub has_segment : Lists → Entry → Bool
 has_segment lists given = list_any (is_of given) lists
 
@@ -38,9 +41,11 @@ has_segment lists given = list_any (is_of given) lists
 abbrev pub places_of : Lists → List Entry
 places_of lists = map (λ s. entry s.dir s.name) lists
 
+-- the empty list of the segment of a line
 abbrev pub begun : ℕ → Entry → AclSegmentFields
 begun line given = record { line = line; dir = given.dir; name = given.name; terms = [] }
 
+-- the lists after a `segment` line, or its fault
 abbrev pub segment_behind : ℕ → Lists → Entry → Read
 segment_behind line above given =
     if has_segment above given then Err (fault.C2 line) else Ok (above ++ begun line given ∷ [])
@@ -51,12 +56,15 @@ segment_behind line above given =
 abbrev pub most_terms : ℕ
 most_terms = 16
 
+-- whether a list has a term, whatever its rights are
 abbrev pub has_term : List TermFields → List ℕ → Bool
 has_term terms text = list_any (λ t. is_text text t.text) terms
 
+-- the list of a segment with one more term
 abbrev pub with_term : AclSegmentFields → TermFields → AclSegmentFields
 with_term segment term = record segment { terms = segment.terms ++ term ∷ [] }
 
+-- the lists after a `term` line, or its fault; `last` is the list of the segment above it
 abbrev pub term_behind : ℕ → Lists → Option AclSegmentFields → TermFields → Read
 term_behind line above None term = Err (fault.C1 line)
 term_behind line above (Some last) term =
@@ -66,6 +74,7 @@ term_behind line above (Some last) term =
 
 -- ---- the lines in turn
 
+-- the lists after a line, or its fault
 abbrev pub line_behind : ℕ → Lists → Option Line → Read
 line_behind line above None = Err (fault.C1 line)
 line_behind line above (Some (Segment given)) = segment_behind line above given
@@ -77,9 +86,11 @@ lists_from line above [] = Ok above
 lists_from line above (given ∷ lines) =
     and_then (line_behind line above given) (λ next. lists_from (line + 1) next lines)
 
+-- each line parsed by itself
 unfoldable pub lines_given : List ℕ → List (Option Line)
 lines_given text = map line_given (lines_of text)
 
+-- the lists that a text describes, or the fault of its first line with a code
 unfoldable pub lists_of : List ℕ → Read
 lists_of text = lists_from 1 [] (lines_given text)
 
@@ -90,6 +101,7 @@ abbrev pub Told : AclFault → Read → Type 0
 Told fault.NoMemory definition = Unit {0}
 Told told definition = definition ≡ Err told
 
+-- The result of a call is that of the definition, or `NoMemory`.
 abbrev pub ReadSays : Read → Read → Type 0
 ReadSays (Ok lists) definition = definition ≡ Ok lists
 ReadSays (Err told) definition = Told told definition
@@ -101,6 +113,7 @@ Takes new (Err told) definition = Told told definition
 
 -- ---- a law
 
+-- two terms are the same, whatever their rights are
 abbrev pub same_term : TermFields → TermFields → Bool
 same_term a b = is_text a.text b.text
 

@@ -27,6 +27,7 @@ mode_text true false true = codes "rw"
 mode_text false true true = codes "ew"
 mode_text true true true = codes "rew"
 
+-- the mode of a decision
 abbrev pub mode_of : Decision → List ℕ
 mode_of d = mode_text d.readable d.executable d.writable
 
@@ -44,17 +45,21 @@ ModesComeBack =
 
 -- ---- the term that decides
 
+-- a term, or `none`
 abbrev pub text_of : Option TermFields → List ℕ
 text_of None = codes "none"
 text_of (Some term) = term.text
 
+-- the term at an index, or `none`
 abbrev pub term_at : List TermFields → Option ℕ → List ℕ
 term_at terms None = text_of None
 term_at terms (Some place) = text_of (slice_get terms place)
 
+-- the term that decides what a user may do, by the list of a segment
 unfoldable pub deciding_in : List TermFields → List ℕ → List ℕ
 deciding_in terms user = term_at terms (decided terms user).term
 
+-- the term that decides what a user may do with a segment of the catalog
 abbrev pub deciding : Lists → List ℕ → List (List ℕ) → SegmentFields → List ℕ
 deciding lists user directories s =
     deciding_in (terms_of lists (directory_in directories s) (name_of s)) user
@@ -65,6 +70,7 @@ deciding lists user directories s =
 abbrev pub and_then : List ℕ → List ℕ → List ℕ
 and_then text word = (text ++ codes " ") ++ word
 
+-- the line of a segment: its directory, its name, what the user may do, and the term that decides
 unfoldable pub access_line : Lists → List ℕ → List (List ℕ) → SegmentFields → List ℕ
 access_line lists user directories s =
     as_line
@@ -72,6 +78,7 @@ access_line lists user directories s =
     (mode_of (decision_on lists user directories s)))
     (deciding lists user directories s))
 
+-- the line of a segment that a user may not use, with the term that decides
 unfoldable pub denied_line : Lists → List ℕ → List (List ℕ) → SegmentFields → List ℕ
 denied_line lists user directories s =
     as_line
@@ -80,14 +87,17 @@ denied_line lists user directories s =
 
 -- ---- for all segments, in their order
 
+-- the lines of segments, in order
 unfoldable pub access_from : Lists → List ℕ → List (List ℕ) → List SegmentFields → List ℕ
 access_from lists user directories [] = []
 access_from lists user directories (s ∷ segments) =
     access_line lists user directories s ++ access_from lists user directories segments
 
+-- the lines of all segments of a catalog
 unfoldable pub access_text : Lists → List ℕ → CatalogFields → List ℕ
 access_text lists user catalog = access_from lists user catalog.directories catalog.segments
 
+-- the line for each segment of a catalog, if the user may not use it
 unfoldable pub denied_lines : Lists → List ℕ → CatalogFields → List (List ℕ)
 denied_lines lists user catalog =
     map (denied_line lists user catalog.directories) catalog.segments

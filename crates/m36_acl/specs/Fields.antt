@@ -1,6 +1,7 @@
 -- The fields of a term, and of a segment with its terms.
 use Rattle.std.specs.Prelude.{ℕ, Bool, List}
 
+-- the fields of a term
 pub record TermFields : Type 0 where
   pub text : List ℕ
   pub readable : Bool

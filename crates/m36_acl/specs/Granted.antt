@@ -18,10 +18,12 @@ name_of s = unwrap_or (slice_get s.names 0) []
 
 -- ---- C3: a `segment` line that names no segment of the catalog
 
+-- whether an access list is that of this segment of the catalog
 abbrev pub names : CatalogFields → AclSegmentFields → SegmentFields → Bool
 names catalog given s =
     is_entry (entry given.dir given.name) (entry (directory_in catalog.directories s) (name_of s))
 
+-- whether the list is that of a segment of the catalog
 abbrev pub is_known : CatalogFields → AclSegmentFields → Bool
 is_known catalog given = list_any (names catalog given) catalog.segments
 
@@ -36,6 +38,7 @@ first_unknown catalog lists =
 unfoldable pub decision_on : Lists → List ℕ → List (List ℕ) → SegmentFields → Decision
 decision_on lists user directories s = policy lists (directory_in directories s) (name_of s) user
 
+-- a segment with the rights of a decision
 abbrev pub by_decision : SegmentFields → Decision → SegmentFields
 by_decision s d = with_rights s d.readable d.executable d.writable
 
@@ -45,6 +48,7 @@ by_decision s d = with_rights s d.readable d.executable d.writable
 abbrev pub granted_to : Lists → List ℕ → List (List ℕ) → SegmentFields → SegmentFields
 granted_to lists user directories s = by_decision s (decision_on lists user directories s)
 
+-- the catalog in which each segment has the rights that the lists give to a user
 unfoldable pub granted : Lists → List ℕ → CatalogFields → CatalogFields
 granted lists user catalog =
     record catalog {

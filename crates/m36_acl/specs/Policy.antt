@@ -9,6 +9,7 @@ use Rattle.m36_acl.specs.AccessLists.{Lists, is_of}
 
 -- ---- the list of a segment
 
+-- the terms of a list, or none if there is no list
 abbrev pub terms_in : Option AclSegmentFields → List TermFields
 terms_in None = []
 terms_in (Some segment) = segment.terms
@@ -19,6 +20,7 @@ terms_of lists dir name = terms_in (find (is_of (entry dir name)) lists)
 
 -- ---- the first term that matches
 
+-- no right, and no term
 abbrev pub nothing : Decision
 nothing = record { readable = false; executable = false; writable = false; term = None }
 
@@ -33,6 +35,7 @@ rights_by place (Some term) =
       term = Some place;
     }
 
+-- the decision by the term at an index
 abbrev pub decided_at : List TermFields → Option ℕ → Decision
 decided_at terms None = nothing
 decided_at terms (Some place) = rights_by place (slice_get terms place)
@@ -42,11 +45,13 @@ decided_at terms (Some place) = rights_by place (slice_get terms place)
 unfoldable pub decided : List TermFields → List ℕ → Decision
 decided terms user = decided_at terms (position (λ term. matches term.text user) terms)
 
+-- what a user may do with a segment, by the lists
 unfoldable pub policy : Lists → List ℕ → List ℕ → List ℕ → Decision
 policy lists dir name user = decided (terms_of lists dir name) user
 
 -- ---- laws
 
+-- no term matches the user
 abbrev pub NoneMatches : List TermFields → List ℕ → Type 0
 NoneMatches terms user = All (λ term. matches term.text user ≡ false) terms
 
@@ -59,6 +64,7 @@ pub record IsFirst
   pub earlier : NoneMatches (take place terms) user
   pub rights : d ≡ rights_by place (Some term)
 
+-- a decision by the term at an index, which is the first that matches; or by none, if none matches
 abbrev pub IsRight : List TermFields → List ℕ → Decision → Option ℕ → Type 0
 IsRight terms user d None = NoneMatches terms user × (d ≡ nothing)
 IsRight terms user d (Some place) = IsFirst terms user d place

@@ -11,6 +11,7 @@ use Rattle.m36_text.specs.Texts.{is_text, is_small_letter, is_word_character, is
 
 -- ---- components
 
+-- the three components of a user or a term
 pub record Components : Type 0 where
   pub person : List ℕ
   pub project : List ℕ
@@ -20,11 +21,13 @@ pub record Components : Type 0 where
 abbrev pub parts_of : List ℕ → List (List ℕ)
 parts_of text = slice_split (λ c. c == 46) text
 
+-- the three components, if there are exactly three parts
 abbrev pub three_of : List (List ℕ) → Option Components
 three_of (person ∷ project ∷ tag ∷ []) =
     Some (record { person = person; project = project; tag = tag })
 three_of _ = None
 
+-- the components of a text
 unfoldable pub components_of : List ℕ → Option Components
 components_of text = three_of (parts_of text)
 
@@ -38,15 +41,18 @@ is_component_character c = is_word_character c
 abbrev pub component_limit : ℕ
 component_limit = 32
 
+-- whether this can be a person or a project
 abbrev pub is_component : List ℕ → Bool
 is_component text = is_run_of is_component_character component_limit text
 
 abbrev pub is_tag_character : ℕ → Bool
 is_tag_character c = is_small_letter c
 
+-- whether this can be a tag: one small letter
 abbrev pub is_tag : List ℕ → Bool
 is_tag text = is_run_of is_tag_character 1 text
 
+-- whether a component of a term is `*`
 abbrev pub is_any : List ℕ → Bool
 is_any text = is_text (codes "*") text
 
@@ -54,6 +60,7 @@ is_any text = is_text (codes "*") text
 abbrev pub are_of_user : Components → Bool
 are_of_user u = is_component u.person && is_component u.project && is_tag u.tag
 
+-- whether there are components, and they are those of a user
 abbrev pub have_form_of_user : Option Components → Bool
 have_form_of_user None = false
 have_form_of_user (Some u) = are_of_user u
@@ -62,13 +69,15 @@ have_form_of_user (Some u) = are_of_user u
 abbrev pub user_limit : ℕ
 user_limit = 2 * component_limit + 3
 
+-- whether a text is a user
 unfoldable pub is_user : List ℕ → Bool
 is_user text = have_form_of_user (components_of text)
 
--- in a term, each component may be `*`
+-- whether this can be a person or a project in a term, where it may be `*`
 abbrev pub may_be_component : List ℕ → Bool
 may_be_component text = is_any text || is_component text
 
+-- whether this can be a tag in a term, where it may be `*`
 abbrev pub may_be_tag : List ℕ → Bool
 may_be_tag text = is_any text || is_tag text
 
@@ -76,10 +85,12 @@ may_be_tag text = is_any text || is_tag text
 abbrev pub are_of_term : Components → Bool
 are_of_term t = may_be_component t.person && may_be_component t.project && may_be_tag t.tag
 
+-- whether there are components, and they are those of a term
 abbrev pub have_form_of_term : Option Components → Bool
 have_form_of_term None = false
 have_form_of_term (Some t) = are_of_term t
 
+-- whether a text is a term
 unfoldable pub is_term : List ℕ → Bool
 is_term text = have_form_of_term (components_of text)
 
@@ -93,6 +104,7 @@ user_of text = if is_user text then Some text else None
 abbrev pub admits : List ℕ → List ℕ → Bool
 admits component given = is_any component || is_text component given
 
+-- whether each component of a term admits that of a user
 abbrev pub all_admit : Option Components → Option Components → Bool
 all_admit (Some t) (Some u) =
     admits t.person u.person && admits t.project u.project && admits t.tag u.tag

@@ -12,6 +12,7 @@ use m36_word::Word;
 #[derive(Clone, Copy, PartialEq, Eq)]
 pub struct DivideCheck;
 
+// Whether the divisor is 0, or the quotient does not fit into a word.
 #[tactic(auto, unfolding(m36_model::specs::Arithmetic::is_divide_check))]
 fn is_refused(q: Word, y: Word) -> bool
     ensures value { result ≡ is_divide_check q y }

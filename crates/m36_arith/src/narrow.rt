@@ -15,6 +15,7 @@ pub fn of_bit(on: bool) -> u64
     if on { 1 } else { 0 }
 }
 
+// A signed number, raised by `half` so that it is not negative.
 fn biased(half: u64, v: u64) -> u64
     requires half { half ≤ 2 ^ 35 }
     requires number { v < 2 * half }
@@ -25,6 +26,7 @@ fn biased(half: u64, v: u64) -> u64
     if v < half { v + half } else { v - half }
 }
 
+// Whether the sum of two numbers that were raised by `half` is out of range.
 fn is_outside(half: u64, total: u64) -> bool
     requires { half ≤ 2 ^ 35 }
     ensures { result ≡ not (nat_le half total && nat_lt total (3 * half)) }

@@ -29,6 +29,7 @@ pub fn wide_of_bit(on: bool) -> u128
     if on { 1 } else { 0 }
 }
 
+// A signed number of 72 bits, raised by 2^71 so that it is not negative.
 fn biased(v: u128) -> u128
     requires { v < 2 ^ 72 }
     ensures low { v < 2 ^ 71 → result ≡ v + 2 ^ 71 }
@@ -38,6 +39,7 @@ fn biased(v: u128) -> u128
     if v < HALF { v + HALF } else { v - HALF }
 }
 
+// Whether the sum of two numbers that were raised by 2^71 is out of range.
 fn is_outside(total: u128) -> bool
     ensures { result ≡ not (nat_le (2 ^ 71) total && nat_lt total (3 * 2 ^ 71)) }
 {

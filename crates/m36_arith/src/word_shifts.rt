@@ -24,6 +24,7 @@ fn ones(count: u32) -> u64
     (1 << count) - 1
 }
 
+// Whether some of these bits are 1 and some are 0.
 fn is_mixed(bits: u64, ones: u64) -> bool
     ensures { result ≡ (not (bits == 0) && not (bits == ones)) }
 {

@@ -6,5 +6,6 @@ use Rattle.m36_audit.specs.declared.verdict.Finding.{Finding}
 abbrev pub pair_of : Finding → ℕ × ℕ
 pair_of f = (f.condition, f.place)
 
+-- findings, each as the number of its condition and its place
 abbrev pub pairs : List Finding → List (ℕ × ℕ)
 pairs findings = map pair_of findings

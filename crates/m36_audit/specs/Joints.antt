@@ -6,9 +6,11 @@ use Rattle.m36_audit.specs.Told.{AreTold}
 use Rattle.m36_audit.specs.Shares.{Below, TableOwned, SegmentOwned, Identified}
 use Rattle.m36_audit.specs.declared.joint_verdict.JointFinding.{JointFinding}
 
+-- a finding of a joint audit, in the form that `m36_model` uses
 abbrev pub found_of : JointFinding → JointFound
 found_of f = record { process = f.process; condition = f.condition; place = f.place }
 
+-- findings of a joint audit, in that form
 abbrev pub all_found : List JointFinding → List JointFound
 all_found findings = map found_of findings
 

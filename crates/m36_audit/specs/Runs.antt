@@ -33,9 +33,11 @@ page_run_by false core d page = None
 page_run_by true core d page =
     frame_run (result_ok (page_frame core d page)) (words d - 1024 * page)
 
+-- the run of a page, if it is one of the segment
 abbrev pub page_run : List ℕ → SdwFields → ℕ → Option Run
 page_run core d page = page_run_by (nat_le page (last_page d)) core d page
 
+-- run `piece` of a segment: of its core words if it is unpaged (true), and otherwise of a page
 abbrev pub run_by : Bool → List ℕ → SdwFields → ℕ → Option Run
 run_by true core d piece = whole_run d piece
 run_by false core d piece = page_run core d piece
@@ -45,6 +47,7 @@ abbrev pub run_ordered : Bool → List ℕ → SdwFields → ℕ → Option Run
 run_ordered false core d piece = None
 run_ordered true core d piece = run_by d.unpaged core d piece
 
+-- as `run_ordered`, for a segment that may not be live
 abbrev pub run_of : List ℕ → Result SdwFields Refusal → ℕ → Option Run
 run_of core (Err e) piece = None
 run_of core (Ok d) piece = run_ordered (in_order d) core d piece
@@ -72,10 +75,12 @@ unfoldable pub count_below : (ℕ → Bool) → ℕ → ℕ
 count_below test zero = 0
 count_below test (suc n) = count_below test n + of_bit (test n)
 
+-- whether there is a run, and it begins at a core word
 abbrev pub begins_at : ℕ → Option Run → Bool
 begins_at a None = false
 begins_at a (Some r) = r.first == a
 
+-- whether there is a run, and it ends at a core word
 abbrev pub ends_at : ℕ → Option Run → Bool
 ends_at a None = false
 ends_at a (Some r) = r.end == a
@@ -96,10 +101,12 @@ pub record AreCounted (runs : ℕ → Option Run) (n size : ℕ) (starts stops :
   pub begin : (a : ℕ) → a < size → slice_index starts a ≡ count_below (λ i. begins_at a (runs i)) n
   pub end : (a : ℕ) → a < size → slice_index stops a ≡ count_below (λ i. ends_at a (runs i)) n
 
+-- whether there is a run, and it begins before a core word
 abbrev pub begins_before : ℕ → Option Run → Bool
 begins_before a None = false
 begins_before a (Some r) = nat_lt r.first a
 
+-- whether there is a run, and it ends before a core word
 abbrev pub ends_before : ℕ → Option Run → Bool
 ends_before a None = false
 ends_before a (Some r) = nat_lt r.end a

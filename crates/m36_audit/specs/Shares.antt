@@ -106,6 +106,7 @@ abbrev pub first_run : Bool → Option Run → Option Run
 first_run true r = r
 first_run false r = None
 
+-- run n of a process, if there is one with this DBR
 abbrev pub run_of_process : List ℕ → Option DbrFields → ℕ → Option Run
 run_of_process core None n = None
 run_of_process core (Some dbr) n = run core dbr n

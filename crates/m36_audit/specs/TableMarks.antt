@@ -21,6 +21,7 @@ tables_by false tables table a = tables
 unfoldable pub tables_marked : List ℕ → ℕ → ℕ → List ℕ
 tables_marked tables table a = tables_by (slice_index tables a == 0) tables table a
 
+-- the lesser of two numbers, of which the first may be absent
 abbrev pub lesser : Option ℕ → ℕ → Option ℕ
 lesser None a = Some a
 lesser (Some p) a = Some (min p a)

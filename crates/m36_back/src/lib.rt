@@ -1,4 +1,4 @@
-//! Stepping back.
+//! Stepping back: makes a machine that can be copied a machine that can return to earlier states.
 //!
 //! A [`Past`] is a machine that can go back. Its model is its first state and the count of steps
 //! that were taken from there and not taken back; it is in the state of its history with that

@@ -32,10 +32,12 @@ use Rattle.m36_relocate.specs.declared.layout.Moving.{Moving}
 abbrev pub is_newer_component : PlacedFields → Bool
 is_newer_component p = p.shape.newer
 
+-- the number of static words of the bound object; n if there are no components
 unfoldable pub statics_end : ℕ → List PlacedFields → ℕ
 statics_end n [] = n
 statics_end n (p ∷ all) = statics_end (p.bases.statics + p.shape.statics) all
 
+-- the number of links of the bound object; n if there are no components
 unfoldable pub links_end : ℕ → List PlacedFields → ℕ
 links_end n [] = n
 links_end n (p ∷ all) = links_end (p.bases.links + p.shape.links) all
@@ -44,6 +46,7 @@ links_end n (p ∷ all) = links_end (p.bases.links + p.shape.links) all
 abbrev pub is_newer_bound : Bool → List PlacedFields → Bool
 is_newer_bound asked all = asked || list_any is_newer_component all
 
+-- the version of the bound object, and the numbers of its static words and links
 unfoldable pub frame_of : Bool → List PlacedFields → ShapeFields
 frame_of asked all =
     record {
@@ -54,10 +57,12 @@ frame_of asked all =
 
 -- ---- words: those of each component from an even word on
 
+-- the words of a component, relocated: its text, or its static words
 abbrev pub component_words : ShapeFields → Bool → PlacedFields → List ℕ
 component_words frame statics p =
     words_moved (moving frame p) statics p.parts.relocations (words_in statics p.parts)
 
+-- the words, and after them those of components, each from an even word on
 unfoldable pub laid_from : ShapeFields → Bool → List ℕ → List PlacedFields → List ℕ
 laid_from frame statics words [] = words
 laid_from frame statics words (p ∷ all) =
@@ -65,21 +70,25 @@ laid_from frame statics words (p ∷ all) =
 
 -- ---- relocations: each of the relocated word, with the same part and target
 
+-- the relocation of the same word in the bound object
 abbrev pub relocation_moved : Moving → RelocFields → RelocFields
 relocation_moved m r =
     let s = spot_moved m r.section r.offset in
     record { section = s.section; offset = s.offset; part = r.part; target = r.target }
 
+-- the relocations so far, with one of the static words, or of the text, as `statics` says
 abbrev pub with_relocation : Moving → Bool → List RelocFields → RelocFields → List RelocFields
 with_relocation m statics done r =
     if stands_in statics r then done ++ relocation_moved m r ∷ [] else done
 
+-- the relocations so far, with those of a component
 unfoldable pub relocations_onto : Moving → Bool → List RelocFields → List RelocFields
     → List RelocFields
 relocations_onto m statics done [] = done
 relocations_onto m statics done (r ∷ rs) =
     relocations_onto m statics (with_relocation m statics done r) rs
 
+-- the relocations so far, with those of components
 unfoldable pub relocations_from : ShapeFields → Bool → List RelocFields → List PlacedFields
     → List RelocFields
 relocations_from frame statics done [] = done
@@ -89,10 +98,12 @@ relocations_from frame statics done (p ∷ all) =
 
 -- ---- the parts
 
+-- the entry bound of the first component
 abbrev pub first_bound : List PlacedFields → ℕ
 first_bound [] = 0
 first_bound (p ∷ all) = p.parts.entry_bound
 
+-- the parts of the bound object, given its definitions
 unfoldable pub bound_parts : ShapeFields → List PlacedFields → List Named → PartsFields
 bound_parts frame all kept =
     record {
@@ -107,32 +118,39 @@ bound_parts frame all kept =
 
 -- ---- B4
 
+-- whether the relocated parts of all words of a component fit
 abbrev pub component_fits : ShapeFields → PlacedFields → Bool
 component_fits frame p =
     all_fit (moving frame p) false p.parts.text p.parts.relocations
     && all_fit (moving frame p) true p.parts.statics p.parts.relocations
 
+-- whether the relocated parts of all components fit
 unfoldable pub components_fit : ShapeFields → List PlacedFields → Bool
 components_fit frame [] = true
 components_fit frame (p ∷ all) = if component_fits frame p then components_fit frame all else false
 
+-- the parts, or B4 if a section is too long
 abbrev pub fitting : PartsFields → Result PartsFields BindFault
 fitting parts = if sections_fit parts then Ok parts else Err (fault.B4 0)
 
+-- the parts, or B4 if no object has them
 abbrev pub made : PartsFields → Result PartsFields BindFault
 made parts = if is_well_formed parts then fitting parts else Err (fault.B4 0)
 
+-- the parts of the bound object, given its definitions, or B4
 abbrev pub made_of : ShapeFields → List PlacedFields → List Named → Result PartsFields BindFault
 made_of frame all kept =
     if components_fit frame all then made (bound_parts frame all kept) else Err (fault.B4 0)
 
 -- ---- the whole
 
+-- the parts of the bound object, or the first of B3, B5 and B4
 abbrev pub bound_of_components : ShapeFields → List PlacedFields → List BindLine
     → Result PartsFields BindFault
 bound_of_components frame all lines =
     and_then (kept_from (exports_from frame [] all) [] 1 lines) (λ kept. made_of frame all kept)
 
+-- the parts of the bound object of a bind file, or its first refusal
 abbrev pub bound_of_lines : GivenFields → List BindLine → Result PartsFields BindFault
 bound_of_lines given lines =
     and_then (picked_of given lines)

@@ -32,6 +32,7 @@ pub record PlacedFields : Type 0 where
   pub bases : BasesFields
   pub entries : List (List ℕ × Export)
 
+-- the component with this name, these parts and definitions, which begins there
 abbrev pub component : List ℕ → PartsFields → BasesFields → List (List ℕ × Export) → PlacedFields
 component name p b table =
     record { name = name; parts = p; shape = shape_of p; bases = b; entries = table }
@@ -45,24 +46,29 @@ pub record AllFields : Type 0 where
   pub placed : List PlacedFields
   pub next : BasesFields
 
+-- no components; the first one begins at word 0
 abbrev pub no_components : AllFields
 no_components = record { placed = []; next = first_bases }
 
+-- the names of components
 abbrev pub names_of : List PlacedFields → List (List ℕ)
 names_of all = map (λ p. p.name) all
 
+-- the components, with one more after them
 abbrev pub with_component : AllFields → PlacedFields → AllFields
 with_component all p =
     record { placed = all.placed ++ p ∷ []; next = bases_behind all.next p.parts }
 
 -- ---- the component of a name
 
+-- the component with this name, if there is one
 unfoldable pub component_named : List ℕ → List PlacedFields → Option PlacedFields
 component_named name all =
     option_and_then (slice_get all) (position (same name) (names_of all))
 
 -- ---- the lines in order
 
+-- the components with the object that line n names, or the refusal of the line
 abbrev pub picked_one : AllFields → ℕ → List ℕ → Option PartsFields → Result AllFields BindFault
 picked_one all n name None = Err (fault.B2 n)
 picked_one all n name (Some p) =
@@ -88,6 +94,7 @@ abbrev pub Changes : {A B : Type 0} → A → Result B BindFault → Result A Bi
 Changes new (Ok done) definition = definition ≡ Ok new
 Changes new (Err told) definition = Refuses told definition
 
+-- the components alone
 abbrev pub placed_in : AllFields → List PlacedFields
 placed_in all = all.placed
 

@@ -23,6 +23,7 @@ exports_from frame table [] = table
 exports_from frame table (p ∷ all) =
     exports_from frame (moved_from (moving frame p) table p.parts.definitions) all
 
+-- the definitions so far with that of the name that line n retains, or the refusal of the line
 abbrev pub kept_one : List Named → ℕ → List ℕ → Option Export → Result (List Named) BindFault
 kept_one kept n name None = Err (fault.B5 n)
 kept_one kept n name (Some e) =

@@ -39,6 +39,7 @@ entry_link frame l p None = l
 entry_link frame l p (Some e) =
     own_link l (farther (spot_moved (moving frame p) e.def.section e.def.value) l.expr)
 
+-- what a link to another segment becomes; it is unchanged if that is not a component
 abbrev pub outer_link : ShapeFields → LinkFields → Option PlacedFields → LinkFields
 outer_link frame l None = l
 outer_link frame l (Some p) = entry_link frame l p (export_named l.entry p.entries)

@@ -93,6 +93,7 @@ AreInOrder b [] = Unit {0}
 AreInOrder b (p ∷ all) =
     (p.bases ≡ b) × (p.shape ≡ shape_of p.parts) × AreInOrder (bases_behind b p.parts) all
 
+-- where the text of a component begins, or its static words
 abbrev pub start_in : Bool → BasesFields → ℕ
 start_in statics b = if statics then b.statics else b.text
 
@@ -118,7 +119,7 @@ WordsStand bound p statics =
 
 -- ---- relocations
 
--- The same part of the same word, as an offset in the same section.
+-- The new relocation is that of the same part of the same word, with the same target.
 pub record IsMovedRelocation (bound : PartsFields) (p : PlacedFields)
     (old new : RelocFields) : Type 0 where
   pub place : NamesImage bound p old.section old.offset new.section new.offset

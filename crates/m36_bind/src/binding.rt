@@ -114,6 +114,7 @@ fn bound_of_components(
     made_of(alloc, frame, all, kept)
 }
 
+// The bound object of a bind file, or its first refusal.
 #[tactic(auto, using(crate::proofs::BindingLaws::of_lines))]
 fn bound_of_lines(alloc: Global, lines: &[BindLine], given: &Given<'_>) -> Result<Object, BindFault>
     requires { length lines.now < 2 ^ 32 }

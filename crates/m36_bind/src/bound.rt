@@ -105,6 +105,7 @@ fn words_in<'a>(statics: bool, parts: &'a Parts) -> &'a [Word]
     }
 }
 
+// The words of a component, relocated.
 fn moved_words(
     alloc: Global,
     m: &Moving,
@@ -139,6 +140,7 @@ fn component_words(
     )
 }
 
+// Adds the words of a component, from an even word on.
 fn lay(
     alloc: Global,
     out: &mut Words,
@@ -241,6 +243,7 @@ fn add_all_relocations(
     Ok(())
 }
 
+// The relocations of the bound object: those of the text, and then those of the static words.
 fn relocations(alloc: Global, frame: &Shape, all: &[Placed<'_>]) -> Result<Relocs, NoMemory>
     ensures { IfOk result
         (λ rs. rs ≡ relocations_from frame.now true
@@ -279,6 +282,7 @@ struct LaidWords {
     statics: Words,
 }
 
+// The text and the static words of the bound object.
 fn all_laid(alloc: Global, frame: &Shape, all: &[Placed<'_>]) -> Result<LaidWords, NoMemory>
     ensures text { IfOk result (λ laid. laid.text ≡ laid_from frame.now false [] all.now) }
     ensures statics { IfOk result (λ laid. laid.statics ≡ laid_from frame.now true [] all.now) }
@@ -295,6 +299,7 @@ struct References {
     relocations: Relocs,
 }
 
+// The links and the relocations of the bound object.
 fn references_of(alloc: Global, frame: &Shape, all: &Components<'_>) -> Result<References, NoMemory>
     ensures links { IfOk result (λ refs. refs.links ≡ links_from frame.now all.now [] all.now) }
     ensures relocations { IfOk result

@@ -31,6 +31,7 @@ impl<'a> Model for Given<'a> {
     ghost invariant = { λ g. ArePlaces g.names.now g.places.entries };
 }
 
+// The index of the object that was given under a name.
 fn place_in(places: &IndexMap<Name, u64, HashSeed>, name: &Name) -> Option<u64>
     ensures { result ≡ lookup (same name.now) places.now.entries }
 {

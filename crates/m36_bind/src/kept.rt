@@ -16,6 +16,7 @@ use m36_word::NoMemory;
 use obj36_parts::{Defs, Named};
 use std::alloc::Global;
 
+// Adds the definitions of a component, at their places in the bound object.
 fn add_component(table: &mut Exports, frame: &Shape, p: &Placed<'_>) -> Result<(), NoMemory>
     ensures { OnOk result
         (table.new ≡ moved_from (moving frame.now p.now) table.old p.now.parts.definitions) }
@@ -46,6 +47,7 @@ fn stands_twice(kept: &Defs, name: &Name, export: &Export) -> bool
     kept.has(name) || export.twice
 }
 
+// Adds the definition of a retained name, or refuses line n.
 #[tactic(auto, using(crate::proofs::KeepLaws::keep_done))]
 fn keep_one(kept: &mut Defs, n: u64, name: &Name, export: Option<Export>) -> Result<(), BindFault>
     requires { n < 2 ^ 32 }
@@ -66,6 +68,7 @@ fn keep_one(kept: &mut Defs, n: u64, name: &Name, export: Option<Export>) -> Res
     }
 }
 
+// Adds the definition that line n retains, if it retains one, or refuses the line.
 fn keep_line(exports: &Exports, kept: &mut Defs, n: u64, line: &BindLine) -> Result<(), BindFault>
     requires { n < 2 ^ 32 }
     ensures { Changes kept.new result (kept_line exports.now kept.old n line.now) }

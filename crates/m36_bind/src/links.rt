@@ -126,6 +126,7 @@ fn link_moved(frame: &Shape, all: &Components<'_>, p: &Placed<'_>, l: &Link) -> 
     l.copied()
 }
 
+// Adds what these links of a component become in the bound object.
 #[tactic(auto, unfolding(crate::specs::Links::links_onto))]
 fn add_links(
     out: &mut Links,
@@ -144,6 +145,7 @@ fn add_links(
     Ok(())
 }
 
+// Adds what the links of a component become in the bound object.
 fn add_links_of(
     out: &mut Links,
     frame: &Shape,

@@ -99,6 +99,7 @@ fn is_newer(parts: &Parts) -> bool
     parts.version == 2
 }
 
+// The definitions of an object by their names.
 fn entries_of(alloc: Global, parts: &Parts) -> Result<Exports, NoMemory>
     ensures { IfOk result (λ table. table ≡ own_from [] parts.now.definitions) }
 {
@@ -243,6 +244,8 @@ fn pick<'a>(
     Ok(behind)
 }
 
+// Adds the component of line n, if it is an `object` line, or refuses the line. Returns where the
+// next component begins.
 #[tactic(auto, using(crate::proofs::PickLaws::pick_found))]
 fn pick_line<'a>(
     alloc: Global,

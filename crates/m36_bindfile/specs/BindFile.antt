@@ -24,15 +24,19 @@ use Rattle.m36_bindfile.specs.declared.fault.BindFault.TheVariants as fault
 
 -- ---- each line by itself
 
+-- `object NAME`
 abbrev pub object_line : List ℕ → Option BindLine
 object_line name = if is_file_name name then Some (line.Object name) else None
 
+-- `retain NAME`
 abbrev pub retain_line : List ℕ → Option BindLine
 retain_line name = if is_file_name name then Some (line.Retain name) else None
 
+-- `version 2`
 abbrev pub version_line : List ℕ → Option BindLine
 version_line number = if is_text (codes "2") number then Some line.Version else None
 
+-- the line with these two words; None if it has no form
 abbrev pub two_words : List ℕ → List ℕ → Option BindLine
 two_words word given =
     if is_text (codes "object") word then object_line given
@@ -40,13 +44,16 @@ two_words word given =
     else if is_text (codes "version") word then version_line given
     else None
 
+-- the line with these words; None if it has no form
 abbrev pub line_of_words : List (List ℕ) → Option BindLine
 line_of_words (word ∷ given ∷ []) = two_words word given
 line_of_words _ = None
 
+-- a line parsed by itself; None if it has no form or lacks its line feed
 unfoldable pub line_given : Option (List ℕ) → Option BindLine
 line_given line = by_words line_of_words None line
 
+-- each line parsed by itself
 unfoldable pub lines_given : List ℕ → List (Option BindLine)
 lines_given text = map line_given (lines_of text)
 
@@ -79,6 +86,7 @@ may_begin line.Version = true
 may_begin (line.Object name) = true
 may_begin (line.Retain name) = false
 
+-- whether a line may follow another one, or begin the file
 abbrev pub is_in_order_behind : Option BindLine → BindLine → Bool
 is_in_order_behind None next = may_begin next
 is_in_order_behind (Some above) next = may_follow above next
@@ -90,6 +98,7 @@ in_order above (Some next) = if is_in_order_behind above next then Some next els
 
 -- ---- B1
 
+-- continues with a line, or gives `otherwise` if the line has no form
 abbrev pub read_on : Result (List BindLine) BindFault → (BindLine
     → Result (List BindLine) BindFault) → Option BindLine → Result (List BindLine) BindFault
 read_on otherwise next None = otherwise
@@ -108,6 +117,7 @@ abbrev pub is_cut : List ℕ → Bool
 is_cut [] = false
 is_cut (b ∷ rest) = true
 
+-- whether a line has a form and is an `object` line
 abbrev pub gives_object : Option BindLine → Bool
 gives_object None = false
 gives_object (Some next) = is_object next
@@ -122,6 +132,7 @@ bind_lines text = if has_object text then lines_from [] (lines_given text) else 
 
 -- ---- the meaning of the lines
 
+-- the name that a line retains, if it retains one
 abbrev pub retained_in : BindLine → List (List ℕ)
 retained_in line.Version = []
 retained_in (line.Object name) = []
@@ -133,6 +144,7 @@ with_component names line.Version = names
 with_component names (line.Object name) = with_once (are_same name) names name
 with_component names (line.Retain name) = names
 
+-- names, with those of the components of lines, each once
 unfoldable pub with_components : List (List ℕ) → List BindLine → List (List ℕ)
 with_components names [] = names
 with_components names (next ∷ lines) = with_components (with_component names next) lines
@@ -157,6 +169,7 @@ abbrev pub Refuses : {A : Type 0} → BindFault → Result A BindFault → Type 
 Refuses fault.NoMemory definition = Unit {0}
 Refuses told definition = definition ≡ Err told
 
+-- The result of a call is that of the definition, or `NoMemory`.
 abbrev pub BindSays : {A : Type 0} → Result A BindFault → Result A BindFault → Type 0
 BindSays (Ok value) definition = definition ≡ Ok value
 BindSays (Err told) definition = Refuses told definition

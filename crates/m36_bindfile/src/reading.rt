@@ -97,6 +97,7 @@ fn add_name(
     Ok(())
 }
 
+// Adds the component of a line, if it is an `object` line and names a new one.
 fn add_component(
     names: &mut Names,
     seen: &mut IndexSet<Name, HashSeed>,

@@ -20,7 +20,7 @@ use Rattle.m36_link.specs.Fields.{LayFields}
 use Rattle.m36_link.specs.Known.{first_segment, first_linkage, linkage_segment, catalog_index}
 use Rattle.m36_link.specs.Known.{lot_words, lot_word}
 
--- Stacks are segments 8 to 15, linkage segments 16 to 23, and those of the catalog 64 and above.
+-- the number of the stack of ring 0; stacks are segments 8 to 15
 abbrev pub first_stack : ℕ
 first_stack = 8
 
@@ -44,7 +44,7 @@ linkage_pages = table_words
 abbrev pub is_short : List ℕ → Bool
 is_short words = nat_le (length words) segment_limit
 
--- the same for each of several files
+-- no file has more words than a segment can have
 abbrev pub AreShort : List (List ℕ) → Type 0
 AreShort files = All (λ w. length w ≤ segment_limit) files
 

@@ -20,7 +20,8 @@ use m36_page::Pager;
 use m36_word::NoMemory;
 use std::alloc::Global;
 
-// With so many frames, an instruction that is retried finds a frame that it does not refer to.
+// The least number of pageable frames. With these an instruction that is retried finds a frame that
+// it does not refer to.
 const LEAST_FRAMES: u32 = 24;
 
 // The number of frames of the descriptor segment and the page tables, which are never paged.

@@ -2,9 +2,10 @@
 //! from a catalog and the files of its segments.
 //!
 //! `lay` returns exactly the image of the definitions, word by word: the descriptors, the page
-//! tables, the content of each segment, the stacks, the LOT with the linkage section of the start,
-//! and the registers. Otherwise it returns the first of the faults U1 to U4 that applies, with its
-//! segment. Instead of either, it may fail with `NoMemory`.
+//! tables, the content of each segment, the stacks, the linkage offset table (LOT) with the linkage
+//! section of the start, and the registers. If the catalog cannot be booted, it returns the first
+//! of the faults U1 to U4 that applies, with its segment. Instead of either, it may fail with
+//! `NoMemory`.
 //!
 //! More about the image that is proved:
 //!

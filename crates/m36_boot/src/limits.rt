@@ -48,6 +48,7 @@ fn limit(seg: u16, segment: &Segment, file: &File) -> Result<u16, BootFault>
     }
 }
 
+// Adds the call limiter of the next segment.
 fn add(limits: &mut Vec<u16>, limit: u16) -> Result<(), NoMemory>
     ensures { OnOk result (limits.new.items ≡ limits.old.items ++ limit ∷ []) }
 {

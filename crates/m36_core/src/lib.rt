@@ -2,8 +2,8 @@
 //!
 //! Contracts see core as a list of words, each a number below 2^36. `peek` and `poke` read and
 //! write one word. `page` and `page_mut` borrow exactly the words of one frame, to read or to write
-//! them. `copy` makes a second core with the same words. Only `poke` and writes through `page_mut`
-//! change the list; `frame_law` states word by word what core is after a write through `page_mut`.
+//! them. `copy` makes a second core with the same words. The list changes only by `poke` and by
+//! writes through `page_mut`; `frame_law` states word by word what core is after such a write.
 //!
 //! Core is one block of raw memory. Only six functions of `cells` use its pointer: they allocate
 //! and free the block, read and write one word, and borrow a range of words for reading or writing.

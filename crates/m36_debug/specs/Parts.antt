@@ -44,7 +44,7 @@ doing_came comes.Waits = Waiting
 doing_came comes.Starves = Starved
 doing_came comes.Cut = Waiting
 
--- from the turn and from what the command does after it
+-- the result of a turn whose lines were put, by what the command does after it
 abbrev pub came_of : Turn → Further → Came
 came_of turn (Runs run) = comes.Runs run (is_service turn)
 came_of turn Waits = comes.Waits

@@ -193,7 +193,7 @@ onward_by g s doing happened = standing s doing
 unfoldable pub onward : RegsFields → Standing → Happening → Standing
 onward g s happened = onward_by g s.sitting s.doing happened
 
--- the lines that are written for an event
+-- as `said`, given what the session remembers and what it is doing
 abbrev pub said_by :
     RegsFields → (ℕ → ℕ → Option ℕ) → SittingFields → Doing → Happening → List (List ℕ)
 said_by g content s Waiting (Took line) = line_says g content s line (session_line line)
@@ -221,7 +221,7 @@ lines_said o s (e ∷ events) =
     said (o.regs e.after) (o.content e.after) s e.happened
     ++ lines_said o (onward (o.regs e.after) s e.happened) events
 
--- the lines that are taken in events
+-- the line that is taken in an event, if there is one
 abbrev pub line_in : Happening → List (List ℕ)
 line_in (Took line) = line ∷ []
 line_in (Turned turn) = []

@@ -55,7 +55,7 @@ placed line (Some seg) (Some word) = line seg word
 placed line (Some seg) None = Unknown
 placed line None word = Unknown
 
--- from a segment number and a word number
+-- as `placed`, from the words that are the two numbers
 abbrev pub placed_in : (ℕ → ℕ → SessionLine) → List ℕ → List ℕ → SessionLine
 placed_in line s w = placed line (segment_number_in s) (word_number_in w)
 

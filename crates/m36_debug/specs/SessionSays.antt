@@ -132,9 +132,9 @@ ReadHasCause (Err fault.TooLong) old new = new ≡ old
 ReadHasCause (Err fault.WriteFault) old new = new ≡ old
 ReadHasCause (Err fault.NoMemory) old new = new ≡ old
 
--- A session, by its events: each may follow the one before, from the machine before the call to
--- the machine after it. The lines that they take are those of the bytes that were read, and
--- `lines` is what they say.
+-- A session, by its events: each may follow the one before, from the machine before the call to the
+-- machine after it. The lines that they take are those of the bytes that were read, and `lines` is
+-- what the events write.
 pub record IsSession {M : Type 0} (o : Turning M) (result : Result (Unit {0}) SessionFault)
     (m m' : M) (before after : LinesSeen) (lines : List (List ℕ)) : Type 0 where
   pub pieces : List (List ℕ)

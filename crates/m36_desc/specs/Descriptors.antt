@@ -77,10 +77,11 @@ dbr_even d = d.addr * 2 ^ 12
 abbrev pub dbr_odd : DbrFields → ℕ
 dbr_odd d = d.bnd * 2 ^ 21 + of_bit d.unpaged * 2 ^ 16 + d.stack
 
--- The odd word of an ITS or ITP pair: WORDNO 0-17, BITNO 21-26, tag 30-35.
+-- the word number in the odd word of an ITS or ITP pair: WORDNO 0-17
 abbrev pub wordno_of : ℕ → ℕ
 wordno_of odd = field odd 0 18
 
+-- the bit number in that word: BITNO 21-26; its tag is in 30-35
 abbrev pub bitno_of : ℕ → ℕ
 bitno_of odd = field odd 21 6
 
@@ -92,13 +93,15 @@ tag_of w = field w 30 6
 abbrev pub odd_of : ℕ → ℕ → ℕ → ℕ
 odd_of number bit tag = number * 2 ^ 18 + bit * 2 ^ 9 + tag
 
--- Indirect to segment (ITS). Even word: SEGNO 3-17, RNR 18-20, tag 43 octal in 30-35.
+-- the tag of ITS, in bits 30 to 35 of the even word of an ITS pair (indirect to segment)
 abbrev pub its_tag : ℕ
 its_tag = 0o43
 
+-- the segment number in the even word of an ITS pair: SEGNO 3-17
 abbrev pub segno_of : ℕ → ℕ
 segno_of even = field even 3 15
 
+-- the ring number in the even word of an ITS pair: RNR 18-20
 abbrev pub rnr_of : ℕ → ℕ
 rnr_of even = field even 18 3
 
@@ -113,9 +116,11 @@ its_of even odd =
       tag = tag_of odd;
     }
 
+-- the even word of an ITS pair
 abbrev pub its_even : ItsFields → ℕ
 its_even p = p.seg * 2 ^ 18 + p.ring * 2 ^ 15 + its_tag
 
+-- the odd word of an ITS pair
 abbrev pub its_odd : ItsFields → ℕ
 its_odd p = odd_of p.word p.bit p.tag
 
@@ -137,9 +142,11 @@ itp_of even odd =
       tag = tag_of odd;
     }
 
+-- the even word of an ITP pair
 abbrev pub itp_even : ItpFields → ℕ
 itp_even p = p.pr * 2 ^ 33 + itp_tag
 
+-- the odd word of an ITP pair
 abbrev pub itp_odd : ItpFields → ℕ
 itp_odd p = odd_of p.word p.bit p.tag
 
@@ -157,9 +164,11 @@ ptr_of even odd =
 abbrev pub its_of_ptr : PtrFields → ItsFields
 its_of_ptr p = record { seg = p.seg; ring = p.ring; word = p.word; bit = p.bit; tag = 0 }
 
+-- the even word of the ITS pair that stores a pointer register
 abbrev pub ptr_even : PtrFields → ℕ
 ptr_even p = its_even (its_of_ptr p)
 
+-- the odd word of that pair
 abbrev pub ptr_odd : PtrFields → ℕ
 ptr_odd p = its_odd (its_of_ptr p)
 

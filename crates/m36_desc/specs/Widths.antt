@@ -76,25 +76,31 @@ ItpFits = (even odd : ℕ) → IsItp (itp_of even odd)
 abbrev pub PackedFits : Type 0
 PackedFits = (w ring : ℕ) → ring < 2 ^ 3 → IsPtr (packed_of w ring)
 
--- The words of a record whose fields are within their widths have 36 bits.
+-- both numbers have 36 bits
 pub record AreWords (first second : ℕ) : Type 0 where
   pub even : first < 2 ^ 36
   pub odd : second < 2 ^ 36
 
+-- The words of an SDW whose fields are within their widths have 36 bits.
 abbrev pub SdwWords : Type 0
 SdwWords = (s : SdwFields) → IsSdw s → AreWords (sdw_even s) (sdw_odd s)
 
+-- as `SdwWords`, for a PTW
 abbrev pub PtwWords : Type 0
 PtwWords = (p : PtwFields) → IsPtw p → ptw_word p < 2 ^ 36
 
+-- as `SdwWords`, for the DBR
 abbrev pub DbrWords : Type 0
 DbrWords = (d : DbrFields) → IsDbr d → AreWords (dbr_even d) (dbr_odd d)
 
+-- as `SdwWords`, for a pointer register
 abbrev pub PtrWords : Type 0
 PtrWords = (p : PtrFields) → IsPtr p → AreWords (ptr_even p) (ptr_odd p)
 
+-- as `SdwWords`, for an ITS pair
 abbrev pub ItsWords : Type 0
 ItsWords = (p : ItsFields) → IsIts p → AreWords (its_even p) (its_odd p)
 
+-- as `SdwWords`, for an ITP pair
 abbrev pub ItpWords : Type 0
 ItpWords = (p : ItpFields) → IsItp p → AreWords (itp_even p) (itp_odd p)

@@ -25,6 +25,7 @@ use Rattle.m36_dir.specs.declared.boot_line.Brackets.{Brackets}
 
 -- ---- words
 
+-- whether a byte can be in the name of a directory: a character of a name, or `>`
 abbrev pub is_directory_character : ℕ → Bool
 is_directory_character c = is_name_character c || (c == 62)
 
@@ -35,12 +36,15 @@ directory_limit = 64
 abbrev pub is_directory : List ℕ → Bool
 is_directory word = is_run_of is_directory_character directory_limit word
 
+-- the name of a directory, if the word is one
 abbrev pub directory_of : List ℕ → Option (List ℕ)
 directory_of word = if is_directory word then Some word else None
 
+-- the name of a segment, an entry or a file, if the word is one
 abbrev pub name_of : List ℕ → Option (List ℕ)
 name_of word = if is_file_name word then Some word else None
 
+-- the kind of a segment
 abbrev pub kind_of : List ℕ → Option SegKind
 kind_of word =
     if is_text (codes "object") word then Some Object
@@ -53,6 +57,7 @@ pub record Taken : Type 0 where
   pub stands : Bool
   pub rest : List ℕ
 
+-- takes a letter from the beginning, if it is there
 abbrev pub taken : ℕ → List ℕ → Taken
 taken letter [] = record { stands = false; rest = [] }
 taken letter (c ∷ letters) =
@@ -64,6 +69,7 @@ abbrev pub whole : Mode → List ℕ → Option Mode
 whole mode [] = Some mode
 whole mode (c ∷ letters) = None
 
+-- The mode that letters spell: some of r, e, w and p, in this order.
 abbrev pub mode_of_letters : List ℕ → Option Mode
 mode_of_letters letters =
     let r = taken 114 letters in
@@ -80,6 +86,7 @@ mode_of_letters letters =
 abbrev pub no_mode : Mode
 no_mode = record { readable = false; executable = false; writable = false; privileged = false }
 
+-- the mode that a word spells: letters, or `null` for none
 unfoldable pub mode_of : List ℕ → Option Mode
 mode_of [] = None
 mode_of (c ∷ word) =
@@ -91,18 +98,22 @@ mode_of (c ∷ word) =
 abbrev pub most_frames : ℕ
 most_frames = 8192
 
+-- `frames N`
 abbrev pub frames_line : List (List ℕ) → Option BootLine
 frames_line (n ∷ []) = option_map line.Frames (decimal_in 1 most_frames n)
 frames_line _ = None
 
+-- `work DIR`
 abbrev pub work_line : List (List ℕ) → Option BootLine
 work_line (dir ∷ []) = option_map line.Work (directory_of dir)
 work_line _ = None
 
+-- `library DIR`
 abbrev pub library_line : List (List ℕ) → Option BootLine
 library_line (dir ∷ []) = option_map line.Library (directory_of dir)
 library_line _ = None
 
+-- `name NAME`
 abbrev pub name_line : List (List ℕ) → Option BootLine
 name_line (name ∷ []) = option_map line.Name (name_of name)
 name_line _ = None
@@ -113,23 +124,28 @@ start_read (Some ring) (Some name) (Some entry) =
     Some (line.Start (record { name = name; entry = entry; ring = ring }))
 start_read _ _ _ = None
 
+-- the start from its ring and the word NAME$ENTRY, given the index of the dollar sign
 abbrev pub start_parts : Option ℕ → List ℕ → Option ℕ → Option BootLine
 start_parts ring word (Some dollar) =
     start_read ring (name_of (take dollar word)) (name_of (drop (dollar + 1) word))
 start_parts ring word None = None
 
+-- `start RING NAME$ENTRY`
 abbrev pub start_line : List (List ℕ) → Option BootLine
 start_line (ring ∷ word ∷ []) = start_parts (octal_in 1 ring) word (position (λ c. c == 36) word)
 start_line _ = None
 
+-- three brackets, if each of them could be read
 abbrev pub brackets_read : Option ℕ → Option ℕ → Option ℕ → Option Brackets
 brackets_read (Some r1) (Some r2) (Some r3) = Some (record { r1 = r1; r2 = r2; r3 = r3 })
 brackets_read _ _ _ = None
 
+-- the brackets R1, R2 and R3, one octal digit each
 abbrev pub brackets_of : List (List ℕ) → Option Brackets
 brackets_of (r1 ∷ r2 ∷ r3 ∷ []) = brackets_read (octal_in 1 r1) (octal_in 1 r2) (octal_in 1 r3)
 brackets_of _ = None
 
+-- the line of a segment, if each of its parts could be read
 abbrev pub segment_read :
     Option (List ℕ) → Option (List ℕ) → Option (List ℕ) → Option SegKind → Option Mode
     → Option Brackets → Option BootLine
@@ -146,6 +162,7 @@ segment_read (Some dir) (Some name) (Some file) (Some kind) (Some mode) (Some en
     }))
 segment_read _ _ _ _ _ _ = None
 
+-- `segment DIR NAME FILE KIND MODE R1 R2 R3`
 abbrev pub segment_line : List (List ℕ) → Option BootLine
 segment_line (dir ∷ name ∷ file ∷ kind ∷ mode ∷ ends) =
     segment_read (directory_of dir) (name_of name) (name_of file) (kind_of kind) (mode_of mode)
@@ -154,6 +171,7 @@ segment_line _ = None
 
 -- ---- lines
 
+-- the line with this first word and these words after it; None if it has no form
 abbrev pub line_named : List ℕ → List (List ℕ) → Option BootLine
 line_named word given =
     if is_text (codes "frames") word then frames_line given
@@ -164,8 +182,10 @@ line_named word given =
     else if is_text (codes "start") word then start_line given
     else None
 
+-- the line with these words; None if it has no form
 abbrev pub line_of_words : List (List ℕ) → Option BootLine
 line_of_words words = by_first_word line_named words
 
+-- a line parsed by itself; None if it has no form or lacks its line feed
 unfoldable pub line_given : Option (List ℕ) → Option BootLine
 line_given line = by_words line_of_words None line

@@ -55,6 +55,8 @@ is_segment_or_name _ = false
 
 -- ---- order: D1
 
+-- Whether a line may follow another one directly. The order is: frames, work, libraries, segments
+-- with their further names, start.
 abbrev pub may_follow : BootLine → BootLine → Bool
 may_follow above (line.Frames n) = false
 may_follow above (line.Work dir) = is_frames above
@@ -75,6 +77,7 @@ pub record Entry : Type 0 where
   pub dir : List ℕ
   pub name : List ℕ
 
+-- the name `name` in the directory `dir`
 abbrev pub entry : List ℕ → List ℕ → Entry
 entry dir name = record { dir = dir; name = name }
 
@@ -104,9 +107,11 @@ entries_from dir [] = []
 entries_from dir (next ∷ lines) =
     entries_of_line dir next ++ entries_from (directory_behind dir next) lines
 
+-- whether lines put a name into a directory
 unfoldable pub has_entry : List BootLine → List ℕ → List ℕ → Bool
 has_entry lines dir name = list_any (is_entry (entry dir name)) (entries_from [] lines)
 
+-- whether a line puts a name into a directory that has it already
 abbrev pub stands_twice : List BootLine → BootLine → Bool
 stands_twice above (line.Segment given) = has_entry above given.dir given.name
 stands_twice above (line.Name name) = has_entry above (directory_at_end [] above) name
@@ -114,17 +119,21 @@ stands_twice above _ = false
 
 -- ---- directories: D3
 
+-- whether a line puts a segment into a directory
 abbrev pub is_in_directory : List ℕ → BootLine → Bool
 is_in_directory dir (line.Segment given) = is_text dir given.dir
 is_in_directory dir _ = false
 
+-- whether a line has a form and puts a segment into a directory
 abbrev pub is_given_in_directory : List ℕ → Option BootLine → Bool
 is_given_in_directory dir (Some next) = is_in_directory dir next
 is_given_in_directory dir None = false
 
+-- whether lines put a segment into a directory
 unfoldable pub has_directory : List BootLine → List ℕ → Bool
 has_directory lines dir = list_any (is_in_directory dir) lines
 
+-- whether the line names a working directory or a library that has no segment in the whole text
 abbrev pub names_no_directory : List BootLine → BootLine → Bool
 names_no_directory all (line.Work dir) = not (has_directory all dir)
 names_no_directory all (line.Library dir) = not (has_directory all dir)
@@ -132,13 +141,17 @@ names_no_directory all _ = false
 
 -- ---- brackets: D4
 
+-- whether a segment is said to be a gate and cannot be one: it is not executable, or no ring above
+-- R2 may call it
 abbrev pub is_no_gate : SegKind → SegmentGiven → Bool
 is_no_gate Gate given = not given.mode.executable || nat_eq given.r2 given.r3
 is_no_gate _ given = false
 
+-- whether R1, R2 and R3 do not decrease
 abbrev pub brackets_in_order : SegmentGiven → Bool
 brackets_in_order given = are_in_order given.r1 given.r2 given.r3
 
+-- whether the brackets of a segment line are refused
 abbrev pub has_wrong_brackets : BootLine → Bool
 has_wrong_brackets (line.Segment given) =
     not (brackets_in_order given) || is_no_gate given.kind given
@@ -151,20 +164,24 @@ abbrev pub names_with : ℕ → BootLine → ℕ
 names_with n (line.Name name) = n + 1
 names_with n _ = 0
 
+-- the number of `name` lines at the end of these lines, of which n more are directly above them
 unfoldable pub names_at_end : ℕ → List BootLine → ℕ
 names_at_end n [] = n
 names_at_end n (next ∷ lines) = names_at_end (names_with n next) lines
 
--- The most segments; the most names of a segment, including its first; the most libraries.
+-- the maximum number of segments
 abbrev pub most_segments : ℕ
 most_segments = 512
 
+-- the maximum number of names of a segment, including its first
 abbrev pub most_names : ℕ
 most_names = 8
 
+-- the maximum number of libraries
 abbrev pub most_libraries : ℕ
 most_libraries = 16
 
+-- whether there are already as many lines of this kind as there may be
 abbrev pub is_too_many : List BootLine → BootLine → Bool
 is_too_many above (line.Segment given) = nat_le most_segments (count_by is_segment above)
 is_too_many above (line.Name name) = nat_le (most_names - 1) (names_at_end 0 above)
@@ -185,10 +202,12 @@ code_of all above next =
     ∷ []
     )
 
+-- the code of a line: D1 if it has no form
 abbrev pub code_given : List BootLine → List BootLine → Option BootLine → Option BootCode
 code_given all above None = Some D1
 code_given all above (Some next) = code_of all above next
 
+-- the lines above, with one more, if it has a form
 abbrev pub with_line : List BootLine → Option BootLine → List BootLine
 with_line above None = above
 with_line above (Some next) = above ++ next ∷ []
@@ -198,6 +217,7 @@ abbrev pub ends : Option BootLine → Bool
 ends None = false
 ends (Some last) = is_start last
 
+-- D6, unless the last line is the start line
 abbrev pub code_at_end : Option BootLine → Option BootCode
 code_at_end last = if ends last then None else Some D6
 
@@ -212,6 +232,7 @@ abbrev pub Judges : List BootLine → List BootLine → Option BootLine → Resu
 Judges all above given (Ok next) = (given ≡ Some next) × (code_of all above next ≡ None)
 Judges all above given (Err code) = code_given all above given ≡ Some code
 
+-- the code of each line, if it has one, and at last that of the end of the text
 unfoldable pub codes_from : List BootLine → List BootLine → List (Option BootLine)
     → List (Option BootCode)
 codes_from all above [] = code_at_end (last_of above) ∷ []
@@ -220,10 +241,11 @@ codes_from all above (next ∷ lines) =
 
 -- ---- the text
 
--- each line parsed by itself; those that have a form
+-- each line parsed by itself
 unfoldable pub lines_given : List ℕ → List (Option BootLine)
 lines_given text = map line_given (lines_of text)
 
+-- the lines that have a form
 unfoldable pub all_lines : List ℕ → List BootLine
 all_lines text = those_read (lines_given text)
 

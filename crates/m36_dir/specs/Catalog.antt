@@ -28,17 +28,21 @@ pub record CatalogFields : Type 0 where
 
 -- ---- directories, in the order in which segment lines first have them
 
+-- directories with one more, unless they have it
 abbrev pub with_directory : List (List ℕ) → List ℕ → List (List ℕ)
 with_directory dirs dir = with_once (is_text dir) dirs dir
 
+-- directories with that of a line, if it is a segment line
 abbrev pub with_directory_of : List (List ℕ) → BootLine → List (List ℕ)
 with_directory_of dirs (line.Segment given) = with_directory dirs given.dir
 with_directory_of dirs _ = dirs
 
+-- directories with those of lines, each once
 unfoldable pub directories_from : List (List ℕ) → List BootLine → List (List ℕ)
 directories_from dirs [] = dirs
 directories_from dirs (next ∷ lines) = directories_from (with_directory_of dirs next) lines
 
+-- the number of a directory, counted from 0; also 0 if it is not in the list
 unfoldable pub number_in : List (List ℕ) → List ℕ → ℕ
 number_in dirs dir = unwrap_or (position (is_text dir) dirs) 0
 
@@ -53,6 +57,7 @@ unfoldable pub names_behind : List BootLine → List (List ℕ)
 names_behind (line.Name name ∷ lines) = name ∷ names_behind lines
 names_behind _ = []
 
+-- the segment of a segment line, with these further names
 abbrev pub segment_with : List (List ℕ) → SegmentGiven → List (List ℕ) → SegmentFields
 segment_with dirs given names =
     record {
@@ -71,25 +76,29 @@ abbrev pub segment_of : List (List ℕ) → BootLine → List BootLine → List 
 segment_of dirs (line.Segment given) behind = segment_with dirs given (names_behind behind) ∷ []
 segment_of dirs _ behind = []
 
+-- the segments of lines, in order
 unfoldable pub segments_in : List (List ℕ) → List BootLine → List SegmentFields
 segments_in dirs [] = []
 segments_in dirs (next ∷ lines) = segment_of dirs next lines ++ segments_in dirs lines
 
 -- ---- the other lines
 
+-- the directory number of a library line
 abbrev pub library_of : List (List ℕ) → BootLine → List ℕ
 library_of dirs (line.Library dir) = number_in dirs dir ∷ []
 library_of dirs _ = []
 
+-- the directory numbers of the library lines, in order
 unfoldable pub libraries_in : List (List ℕ) → List BootLine → List ℕ
 libraries_in dirs [] = []
 libraries_in dirs (next ∷ lines) = library_of dirs next ++ libraries_in dirs lines
 
--- The first line has the frames, the second the working directory, and the last the start.
+-- the number of frames, from the first line
 abbrev pub frames_of : Option BootLine → ℕ
 frames_of (Some (line.Frames n)) = n
 frames_of _ = 0
 
+-- the working directory, from the second line
 abbrev pub work_of : Option BootLine → List ℕ
 work_of (Some (line.Work dir)) = dir
 work_of _ = []
@@ -97,6 +106,7 @@ work_of _ = []
 abbrev pub no_start : StartFields
 no_start = record { name = []; entry = []; ring = 0 }
 
+-- the start, from the last line
 abbrev pub start_of : Option BootLine → StartFields
 start_of (Some (line.Start start)) = start
 start_of _ = no_start
@@ -116,6 +126,7 @@ catalog_in lines =
 
 -- ---- the text
 
+-- the fault of line n with this code
 abbrev pub fault_at : ℕ → BootCode → CatalogFault
 fault_at n D1 = fault.D1 n
 fault_at n D2 = fault.D2 n
@@ -124,10 +135,12 @@ fault_at n D4 = fault.D4 n
 fault_at n D5 = fault.D5 n
 fault_at n D6 = fault.D6 n
 
+-- the catalog, or the fault of the first line with a code
 abbrev pub catalog_by : Option (ℕ × BootCode) → CatalogFields → Result CatalogFields CatalogFault
 catalog_by told catalog =
     unless (option_map (λ (first : ℕ × BootCode). fault_at first.0 first.1) told) catalog
 
+-- the catalog that a text describes, or the fault of the text
 unfoldable pub catalog_of : List ℕ → Result CatalogFields CatalogFault
 catalog_of text = catalog_by (first_code text) (catalog_in (all_lines text))
 
@@ -136,12 +149,14 @@ abbrev pub Told : CatalogFault → Result CatalogFields CatalogFault → Type 0
 Told fault.NoMemory definition = Unit {0}
 Told told definition = definition ≡ Err told
 
+-- The result of a call is that of the definition, or `NoMemory`.
 abbrev pub ReadSays : Result CatalogFields CatalogFault → Result CatalogFields CatalogFault → Type 0
 ReadSays (Ok catalog) definition = definition ≡ Ok catalog
 ReadSays (Err told) definition = Told told definition
 
 -- ---- looking up, and rights
 
+-- whether one of the names of a segment is this one
 abbrev pub has_name : List ℕ → SegmentFields → Bool
 has_name name segment = list_any (is_text name) segment.names
 
@@ -164,6 +179,7 @@ with_rights s readable executable writable =
       };
     }
 
+-- the rights of segment i are set, if there is such a segment, and nothing else changes
 abbrev pub SetsRights : CatalogFields → CatalogFields → ℕ → Bool → Bool → Bool → Type 0
 SetsRights old new i readable executable writable =
     IfSome (slice_get old.segments i)

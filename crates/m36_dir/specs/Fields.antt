@@ -3,6 +3,7 @@ use Rattle.std.specs.Prelude.{ℕ, List}
 use Rattle.m36_dir.specs.declared.segment.SegKind.{SegKind}
 use Rattle.m36_dir.specs.declared.segment.Mode.{Mode}
 
+-- The fields of a segment in a catalog. `dir` is the number of its directory.
 pub record SegmentFields : Type 0 where
   pub names : List (List ℕ)
   pub file : List ℕ
@@ -13,6 +14,7 @@ pub record SegmentFields : Type 0 where
   pub r2 : ℕ
   pub r3 : ℕ
 
+-- The fields of a segment line.
 pub record SegmentGiven : Type 0 where
   pub dir : List ℕ
   pub name : List ℕ

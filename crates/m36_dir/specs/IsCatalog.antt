@@ -16,6 +16,8 @@ pub record IsSegment (directories : ℕ) (s : SegmentFields) : Type 0 where
   pub read_bracket : s.r1 ≤ s.r2
   pub call_bracket : s.r2 ≤ s.r3
 
+-- the invariant of a catalog: its counts are within their limits, and its directory numbers are
+-- those of its directories
 pub record IsCatalog (c : CatalogFields) : Type 0 where
   pub some_frames : 1 ≤ c.frames
   pub frames : c.frames ≤ most_frames

@@ -22,6 +22,7 @@ fn has(dirs: &[Directory], dir: &[u8]) -> bool
     dirs.iter().any(|other| other.bytes() == dir)
 }
 
+// Adds the directory of a line, if it is a segment line and the list does not have the directory.
 fn add_directory(dirs: &mut Vec<Directory>, line: &BootLine) -> Result<(), NoMemory>
     ensures { OnOk result (dirs.new.items ≡ with_directory_of dirs.old.items line.now) }
 {
@@ -48,6 +49,7 @@ pub(crate) fn directories_in(alloc: Global, lines: &[BootLine]) -> Result<Vec<Di
     Ok(dirs)
 }
 
+// The index of a directory in the list.
 fn place_of(dirs: &[Directory], dir: &[u8]) -> Option<usize>
     ensures place { result ≡ position (is_text dir.now) dirs.now }
     ensures within { IfSome result (λ place. place < length dirs.now) }
@@ -107,6 +109,7 @@ fn segment_with(
     })
 }
 
+// Adds the segment of a line, if it is a segment line. `behind` are the lines after it.
 fn add_segment(
     alloc: Global,
     segments: &mut Vec<Segment>,
@@ -153,6 +156,7 @@ pub(crate) fn segments_in(
 
 // ---- the other lines
 
+// Adds the directory number of a line, if it is a library line.
 fn add_library(
     libraries: &mut Vec<u16>,
     dirs: &[Directory],

@@ -80,6 +80,7 @@ fn has_name(name: &[u8], segment: &Segment) -> bool
         .any(|other| other.bytes() == name)
 }
 
+// Whether a segment is in a directory and has a name.
 fn is_at(segment: &Segment, dir: u16, name: &[u8]) -> bool
     ensures { result ≡ stands_as dir name.now segment.now }
 {

@@ -65,6 +65,7 @@ fn may_follow(above: &BootLine, line: &BootLine) -> bool
     }
 }
 
+// Whether a line may follow the lines above.
 fn is_in_order(above: &[BootLine], line: &BootLine) -> bool
     ensures { result ≡ is_in_order_behind (last_of above.now) line.now }
 {

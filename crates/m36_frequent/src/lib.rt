@@ -8,11 +8,11 @@
 //! Each has exactly the effect that the instruction's equations define, for one group of
 //! instructions (`Group` of `m36_inst`).
 //!
-//! [`read_word`], [`change_word`] and [`read_pair`] are for quick steps. A quick step makes no
-//! overflow fault: if the instruction would give one, they say so and change nothing. Their
-//! counterparts [`read_word_with_overflow`], [`change_word_with_overflow`] and
-//! [`read_pair_with_overflow`] are for the general step: they complete the instruction, and return
-//! whether it overflowed.
+//! [`read_word`], [`change_word`] and [`read_pair`] are for quick steps, the fast way of `m36_step`
+//! for a step that nothing refuses. A quick step makes no overflow fault: if the instruction would
+//! give one, they say so and change nothing. Their counterparts [`read_word_with_overflow`],
+//! [`change_word_with_overflow`] and [`read_pair_with_overflow`] are for the general step: they
+//! complete the instruction, and return whether it overflowed.
 //!
 //! Source: Multics Processor Manual AL39, "Fixed-point instructions" and "Boolean instructions".
 #![tactic(auto)]

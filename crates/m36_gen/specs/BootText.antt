@@ -8,12 +8,15 @@ unfoldable pub segment_line : List ℕ → List ℕ → List ℕ
 segment_line name has =
     line (codes "segment >gen " ++ name ++ codes " " ++ name ++ codes " " ++ has)
 
+-- the line of the segment of program i
 unfoldable pub program_line : ℕ → List ℕ
 program_line i = segment_line (segment_name i) (codes "object re 4 4 4")
 
+-- the lines of the segments of the first `count` programs
 unfoldable pub program_lines : ℕ → List ℕ
 program_lines count = flat_map program_line (range_with_len 0 count)
 
+-- the boot text, which is the same for each seed
 unfoldable pub boot_text : List ℕ
 boot_text =
     line (codes "frames 32")

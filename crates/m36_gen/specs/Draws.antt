@@ -2,10 +2,11 @@
 use Rattle.std.specs.Prelude.{ℕ, zero, suc, ◌+◌, ◌*◌, ◌/◌, ◌%◌, ◌^◌}
 use Rattle.m36_gen.specs.declared.draws.Draws.{Draws}
 
--- The next state of the generator. A draw is the upper 31 bits of the new state.
+-- the next state of the generator
 unfoldable pub next : ℕ → ℕ
 next x = (6364136223846793005 * x + 1442695040888963407) % 2 ^ 64
 
+-- what is drawn by a state: its upper 31 bits
 abbrev pub drawn : ℕ → ℕ
 drawn x = x / 2 ^ 33
 

@@ -10,6 +10,7 @@ use Rattle.m36_gen.specs.Lines.{program_count, data_name, gate_name, source_name
 use Rattle.m36_gen.specs.Sources.{source_text, stop_text}
 use Rattle.m36_gen.specs.BootText.{boot_text}
 
+-- a file with this name and content
 abbrev pub file : List ℕ → List ℕ → File
 file name content = record { name = name; content = content }
 
@@ -17,6 +18,7 @@ file name content = record { name = name; content = content }
 unfoldable pub source_file : ℕ → ℕ → File
 source_file seed i = file (source_name i) (source_text i (draws_from (state_at seed i)))
 
+-- the sources of the first `count` programs
 unfoldable pub source_files : ℕ → ℕ → List File
 source_files seed count = map (source_file seed) (range_with_len 0 count)
 
@@ -29,9 +31,11 @@ data_words = offset_bound + 256
 abbrev pub DataHoldsAll : Type 0
 DataHoldsAll = (x : ℕ) → (draws_from x).offset + (draws_from x).count < data_words
 
+-- this many zero words
 unfoldable pub zeros : ℕ → List ℕ
 zeros count = replicate count 0
 
+-- the sources of all programs, and that of the gate
 unfoldable pub sources_of : ℕ → List File
 sources_of seed =
     source_files seed program_count ++ file (source_of_object gate_name) stop_text ∷ []
@@ -41,5 +45,6 @@ unfoldable pub other_files : List File
 other_files =
     file data_name (packed (zeros data_words)) ∷ file boot_name boot_text ∷ []
 
+-- all files that a seed makes, in order
 unfoldable pub files_of : ℕ → List File
 files_of seed = sources_of seed ++ other_files

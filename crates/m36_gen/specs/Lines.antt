@@ -16,15 +16,18 @@ numbered before n behind = line (before ++ decimal_text n ++ behind)
 abbrev pub program_count : ℕ
 program_count = 64
 
--- the name of the data segment; the name of the gate's segment
+-- the name of the data segment
 abbrev pub data_name : List ℕ
 data_name = codes "d_"
 
+-- the name of the gate's segment
 abbrev pub gate_name : List ℕ
 gate_name = codes "stop_"
 
+-- the name of the segment of program i
 unfoldable pub segment_name : ℕ → List ℕ
 segment_name i = codes "g" ++ decimal_text i
 
+-- the name of the source of program i
 unfoldable pub source_name : ℕ → List ℕ
 source_name i = source_of_object (segment_name i)

@@ -25,6 +25,7 @@ storing_lines =
     ++ line (codes " eax2 -1,x2")
     ++ line (codes " tnz loop")
 
+-- the loop of a program
 unfoldable pub loop_lines : Draws → List ℕ
 loop_lines draws = adding_lines draws ++ storing_lines
 
@@ -34,15 +35,18 @@ following_line i =
     if nat_eq i (program_count - 1) then line (codes " call6 " ++ gate_name ++ codes "$stop")
     else line (codes " tra " ++ segment_name (i + 1) ++ codes "$start")
 
+-- the source of program i
 unfoldable pub source_text : ℕ → Draws → List ℕ
 source_text i draws =
     entry_lines ++ loop_lines draws ++ following_line i ++ line (codes " end")
 
+-- the gate: its entry `stop` stops the machine
 unfoldable pub stop_lines : List ℕ
 stop_lines =
     line (codes " entry stop")
     ++ line (codes "stop: dis 0")
     ++ line (codes " entrybound")
 
+-- the source of the gate
 unfoldable pub stop_text : List ℕ
 stop_text = stop_lines ++ line (codes " end")

@@ -14,6 +14,7 @@ use std::alloc::Global;
 /// The number of programs.
 pub const PROGRAMS: u64 = 64;
 
+// Adds the lines before the loop of a program.
 #[tactic(auto, unfolding(crate::specs::Sources::entry_lines), using(crate::proofs::Parts::together))]
 fn put_entry(text: &mut Text) -> Result<(), NoMemory>
     ensures { OnOk result (text.new ≡ text.old ++ entry_lines) }
@@ -23,6 +24,7 @@ fn put_entry(text: &mut Text) -> Result<(), NoMemory>
     put_line(text, b" lprp4 pr7|22,*au")
 }
 
+// Adds the beginning of the loop, which adds to X1.
 #[tactic(auto, unfolding(crate::specs::Sources::adding_lines), using(crate::proofs::Parts::together))]
 fn put_adding(text: &mut Text, draws: Draws) -> Result<(), NoMemory>
     ensures { OnOk result (text.new ≡ text.old ++ adding_lines draws) }
@@ -32,6 +34,7 @@ fn put_adding(text: &mut Text, draws: Draws) -> Result<(), NoMemory>
     put_numbered(text, b"loop: eax1 ", draws.add, b",x1")
 }
 
+// Adds the end of the loop, which stores each sum in the data.
 fn put_storing(text: &mut Text) -> Result<(), NoMemory>
     ensures { OnOk result (text.new ≡ text.old ++ storing_lines) }
 {
@@ -48,6 +51,7 @@ fn put_loop(text: &mut Text, draws: Draws) -> Result<(), NoMemory>
     put_storing(text)
 }
 
+// Adds the line after the loop of program `i`.
 #[tactic(auto, unfolding(crate::specs::Sources::following_line))]
 fn put_following(text: &mut Text, i: u64) -> Result<(), NoMemory>
     requires { i < program_count }
@@ -74,6 +78,7 @@ pub fn source(alloc: Global, i: u64, draws: Draws) -> Result<Text, NoMemory>
     Ok(text)
 }
 
+// Adds the lines of the gate.
 fn put_stop(text: &mut Text) -> Result<(), NoMemory>
     ensures { OnOk result (text.new ≡ text.old ++ stop_lines) }
 {

@@ -34,13 +34,14 @@ use Rattle.m36_image.specs.declared.refusal.Refusal.{Refusal}
 use Rattle.m36_image.specs.PlacedWords.{PlacedWords}
 use Rattle.m36_image.specs.Several.{one_to}
 
--- Line 1. N may have any number of decimal digits.
+-- the number of frames in line 1, which may have any number of decimal digits: I1 if it is no
+-- number, I2 if it is out of range
 abbrev pub frames_read : Result ℕ NumberFault → Result ℕ ImageCode
 frames_read (Ok n) = if nat_le 1 n then Ok n else Err I2
 frames_read (Err (T1 place)) = Err I1
 frames_read (Err T2) = Err I2
 
--- the number of frames, from the words of line 1
+-- the number of frames, from the words of line 1: `core N`
 abbrev pub core_words : List (List ℕ) → Result ℕ ImageCode
 core_words (name ∷ n ∷ []) =
     if is_text (codes "core") name then frames_read (number_read 10 n frames_reached) else Err I1
@@ -50,46 +51,46 @@ core_words _ = Err I1
 abbrev pub core_line : Option (List ℕ) → Result ℕ ImageCode
 core_line line = by_words core_words (Err I1) line
 
--- Line 2.
+-- the two words of the descriptor segment base register, if both could be read
 abbrev pub dbr_read : Option ℕ → Option ℕ → Option Pair
 dbr_read (Some even) (Some odd) = Some (record { even = even; odd = odd })
 dbr_read _ _ = None
 
--- from the texts of its two words
+-- its two words, from their texts
 abbrev pub dbr_in : List ℕ → List ℕ → Option Pair
 dbr_in even odd = dbr_read (octal_word_in even) (octal_word_in odd)
 
--- the words of the descriptor segment base register, from the words of line 2
+-- its two words, from the words of line 2: `dbr EVEN ODD`
 abbrev pub dbr_words : List (List ℕ) → Option Pair
 dbr_words (name ∷ even ∷ odd ∷ []) =
     if is_text (codes "dbr") name then dbr_in even odd else None
 dbr_words _ = None
 
--- the same from line 2
+-- its two words, from line 2
 abbrev pub dbr_line : Option (List ℕ) → Option Pair
 dbr_line line = by_words dbr_words None line
 
--- Line 3.
+-- where the machine starts, if a segment, a ring and a word number could be read
 abbrev pub start_read : Option ℕ → Option ℕ → Option ℕ → Option PprFields
 start_read (Some seg) (Some ring) (Some word) = Some (record { psr = seg; prr = ring; ic = word })
 start_read _ _ _ = None
 
--- from the texts of a segment, a ring and a word number
+-- where the machine starts, from the texts of these numbers
 abbrev pub start_in : List ℕ → List ℕ → List ℕ → Option PprFields
 start_in seg ring word =
     start_read (segment_number_in seg) (octal_in 1 ring) (word_number_in word)
 
--- where the machine starts, from the words of line 3
+-- where the machine starts, from the words of line 3: `start SEGMENT RING WORD`
 abbrev pub start_words : List (List ℕ) → Option PprFields
 start_words (name ∷ seg ∷ ring ∷ word ∷ []) =
     if is_text (codes "start") name then start_in seg ring word else None
 start_words _ = None
 
--- the same from line 3
+-- where the machine starts, from line 3
 abbrev pub start_line : Option (List ℕ) → Option PprFields
 start_line line = by_words start_words None line
 
--- Each further line: one to eight words, and the core address of the first of them.
+-- the words of an `at` line and the core address of the first of them, if both could be read
 abbrev pub at_read : Option ℕ → Option (List ℕ) → Option PlacedWords
 at_read (Some first) (Some words) = Some (record { first = first; words = words })
 at_read _ _ = None
@@ -98,14 +99,14 @@ at_read _ _ = None
 abbrev pub words_given : List (List ℕ) → Option (List ℕ)
 words_given texts = one_to 8 octal_word_in texts
 
--- the words of an `at` line and their address, from the words of the line
+-- the words of an `at` line and their address, from the words of the line: `at ADDRESS WORD ..`
 abbrev pub at_words : List (List ℕ) → Option PlacedWords
 at_words (name ∷ address ∷ texts) =
     if is_text (codes "at") name
     then at_read (core_address_in address) (words_given texts) else None
 at_words _ = None
 
--- the same from the line
+-- the words of an `at` line and their address
 abbrev pub at_line : Option (List ℕ) → Option PlacedWords
 at_line line = by_words at_words None line
 
@@ -117,7 +118,7 @@ at_by size is_above (Some p) =
     if is_above p.first && nat_le (p.first + length p.words) size
     then Ok (p.first + length p.words) else Err I3
 
--- its code, if any, given the addresses of the earlier lines
+-- the code of an `at` line, if it has one, given the addresses of the words of earlier lines
 abbrev pub at_code : ℕ → List ℕ → Option PlacedWords → Option ImageCode
 at_code size earlier line =
     result_err (at_by size (λ address. list_all (λ a. nat_lt a address) earlier) line)
@@ -137,7 +138,7 @@ at_codes size earlier (line ∷ lines) =
 abbrev pub header_count : ℕ
 header_count = 3
 
--- the code of each line, in order; a file has at least three lines
+-- I1 for a line that could not be read
 abbrev pub form_code : {A : Type 0} → Option A → Option ImageCode
 form_code (Some value) = None
 form_code None = Some I1

@@ -12,7 +12,7 @@ abbrev pub numbers_by : (List ℕ → Option ℕ) → List (List ℕ) → Option
 numbers_by form [] = Some []
 numbers_by form (text ∷ texts) = with_number (form text) (numbers_by form texts)
 
--- the same for one to `most` texts
+-- the numbers, if there are one to `most` texts and each has the form
 unfoldable pub one_to : ℕ → (List ℕ → Option ℕ) → List (List ℕ) → Option (List ℕ)
 one_to most form [] = None
 one_to most form (text ∷ texts) =

@@ -59,7 +59,8 @@ pub fn registers(dbr: Pair, start: Ppr) -> Regs
     }
 }
 
-/// Parses a bare image. It is refused exactly if a line has a code, with the first such line.
+/// Parses a bare image. The error is the first line that has a code, with the least code of that
+/// line, or `NoMemory`.
 #[tactic(auto, using(crate::proofs::Images::images))]
 pub fn read_image(alloc: Global, text: &[u8]) -> Result<Image, ImageFault>
     requires { length text.now ≤ 2 ^ 31 }

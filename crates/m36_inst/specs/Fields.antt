@@ -1,6 +1,7 @@
 -- An instruction word as contracts see it: its fields, as numbers and Booleans.
 use Rattle.std.specs.Prelude.{ℕ, Bool, ◌^◌, ◌<◌}
 
+-- `y` is the address, `code` the operation code without bit 27, and `by_pr` bit 29.
 pub record InstFields : Type 0 where
   pub y : ℕ
   pub code : ℕ

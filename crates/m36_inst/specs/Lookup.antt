@@ -8,13 +8,16 @@ use Rattle.m36_inst.specs.Table.{Entry, table}
 use Rattle.m36_inst.specs.declared.effect.Effect.{Effect}
 use Rattle.m36_inst.specs.declared.rows.Row.{Row}
 
+-- two Booleans are equal
 abbrev pub same_bit : Bool → Bool → Bool
 same_bit true b = b
 same_bit false b = not b
 
+-- whether an entry has this operation code and bit 27
 abbrev pub has_code : ℕ → Bool → Entry → Bool
 has_code code bit27 e = (e.code == code) && same_bit e.bit27 bit27
 
+-- whether an entry has this name
 abbrev pub has_name : List ℕ → Entry → Bool
 has_name name e = pointwise nat_eq e.name name
 
@@ -45,6 +48,7 @@ row_at code bit27 = option_map (λ e. row_of e.effect e.reg) (entry_at code bit2
 abbrev pub name_at : ℕ → Bool → Option (List ℕ)
 name_at code bit27 = option_map (λ e. e.name) (entry_at code bit27)
 
+-- the operation code and bit 27 of an entry
 abbrev pub code_of : Entry → ℕ × Bool
 code_of e = (e.code, e.bit27)
 
@@ -76,5 +80,6 @@ pub record IsRowAt (code : ℕ) (row : Row) : Type 0 where
   pub code_fits : code < 2 ^ 9
   pub parts : IsRow row
 
+-- the row of every code is one that `IsRowAt` allows
 abbrev pub RowsFit : Type 0
 RowsFit = (code : ℕ) (bit27 : Bool) (row : Row) → row_at code bit27 ≡ Some row → IsRowAt code row

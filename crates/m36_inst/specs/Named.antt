@@ -11,6 +11,7 @@ use Rattle.m36_inst.specs.declared.rows.Named.{Named}
 abbrev pub padded : List ℕ → List ℕ
 padded name = take 5 (name ++ replicate 5 0x20)
 
+-- the row and the padded name of an entry
 abbrev pub named_of : Entry → Named
 named_of e = record { row = row_of e.effect e.reg; name = padded e.name }
 

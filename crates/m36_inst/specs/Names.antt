@@ -15,13 +15,15 @@ key name =
     letter name 0 * 2 ^ 32 + letter name 1 * 2 ^ 24 + letter name 2 * 2 ^ 16 + letter name 3 * 2 ^ 8
     + letter name 4
 
--- the name as a number, the operation code and bit 27 of row i
+-- the name of row i, as a number
 abbrev pub key_at : List Coded → ℕ → ℕ
 key_at rows i = slice_index_or (map (λ r. key r.name) rows) i 0
 
+-- the operation code of row i
 abbrev pub code_at : List Coded → ℕ → ℕ
 code_at rows i = slice_index_or (map (λ r. r.code) rows) i 0
 
+-- bit 27 of row i
 abbrev pub bit27_at : List Coded → ℕ → Bool
 bit27_at rows i = slice_index_or (map (λ r. r.bit27) rows) i false
 

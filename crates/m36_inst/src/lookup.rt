@@ -123,6 +123,7 @@ fn bit27_at(rows: &[Coded], i: usize) -> bool
     rows[i].bit27
 }
 
+// Whether a code has an instruction with this name.
 fn has_name(code: u16, bit27: bool, n: &[u8]) -> bool
     ensures { IsTrue result ↔ (name_at code bit27 ≡ Some n.now) }
 {

@@ -9,11 +9,12 @@ use Rattle.m36_model.specs.Core.{unmarked}
 abbrev pub MarksKeepBits : Type 0
 MarksKeepBits = (modified : Bool) (w : ℕ) → unmarked (marked_word modified w) ≡ unmarked w
 
--- These two bits are the fields `used` and `modified` of a PTW. A mark turns the first on, that of
--- a write also the second, and no other field changes.
+-- the fields of a PTW after a mark: it turns `used` on, that of a write also `modified`
 abbrev pub marked_fields : Bool → PtwFields → PtwFields
 marked_fields modified p = record p { used = true; modified = modified || p.modified }
 
+-- the two bits that a mark turns on are the fields `used` and `modified`, and no other field
+-- changes
 abbrev pub MarksAreFields : Type 0
 MarksAreFields =
     (modified : Bool) (w : ℕ) → ptw_of (marked_word modified w) ≡ marked_fields modified (ptw_of w)

@@ -156,7 +156,7 @@ landing_in ring seg o link point found =
       lay = lay_if home.is_new home.section;
     }))
 
--- the same given only the place
+-- as `landing_in`, given the place or its refusal, and all sections that are laid
 abbrev pub landing_at : List LaidFields → ℕ → ℕ → ℕ → PartsFields → LinkFields
     → Result Point LinkCode → Result LandingFields LinkCode
 landing_at laid ring section_ring seg o link found =

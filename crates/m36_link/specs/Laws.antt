@@ -69,28 +69,27 @@ PairsStand =
     (s : SnapFields) → IsMade catalog files known → snap_of known catalog files at ≡ Ok s
     → found at.word s.pair.even ≡ Its
 
--- An answer may be accepted: to the link at a place, and to a link that is searched from a
--- directory.
+-- An answer to the link at a place may be accepted.
 abbrev pub MayBeAccepted : Type 0
 MayBeAccepted =
     (known : KnownFields) (catalog : CatalogFields) (files : List (List ℕ)) (at : AtFields)
     (s : SnapFields) → snap_of known catalog files at ≡ Ok s → MayBeLaid known s.lay
 
--- the same for a link that is searched from a directory
+-- An answer to a link that is searched from a directory may be accepted.
 abbrev pub MayBeAcceptedFrom : Type 0
 MayBeAcceptedFrom =
     (known : KnownFields) (catalog : CatalogFields) (files : List (List ℕ)) (ring : ℕ)
     (link : LinkFields) (from : ℕ) (s : SnapFields)
     → outer_snap known catalog files ring link from ≡ Ok s → MayBeLaid known s.lay
 
--- Accepting an answer keeps `IsMade`.
+-- Accepting an answer to the link at a place keeps `IsMade`.
 abbrev pub KeepsMade : Type 0
 KeepsMade =
     (known : KnownFields) (catalog : CatalogFields) (files : List (List ℕ)) (at : AtFields)
     (s : SnapFields) → IsMade catalog files known → snap_of known catalog files at ≡ Ok s
     → IsMade catalog files (accepted known s)
 
--- the same for a link that is searched from a directory
+-- Accepting an answer to a link that is searched from a directory keeps `IsMade`.
 abbrev pub KeepsMadeFrom : Type 0
 KeepsMadeFrom =
     (known : KnownFields) (catalog : CatalogFields) (files : List (List ℕ)) (ring : ℕ)

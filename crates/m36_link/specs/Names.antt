@@ -8,6 +8,6 @@ pub record IsInitiated (e : RingNameFields × ℕ) : Type 0 where
   pub name : length e.0.name ≤ name_limit
   pub seg : e.1 < 2 ^ 15
 
--- all of them are
+-- `IsInitiated` holds of each entry.
 abbrev pub AreNames : List (RingNameFields × ℕ) → Type 0
 AreNames names = All IsInitiated names

@@ -1,5 +1,7 @@
 //! The dynamic linker. It searches for a segment by a reference name, finds the pair that replaces
-//! a link, and decides where the linkage sections of objects are laid.
+//! a link, and decides where the linkage sections of objects are laid. A `Known` has what earlier
+//! answers have made known: the names that are initiated in each ring, and the sections that are
+//! laid there.
 //!
 //! The contract:
 //!

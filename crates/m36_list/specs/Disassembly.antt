@@ -38,5 +38,6 @@ by_fields w i =
     then octal_constant w
     else by_parts w i (name_at i.code i.bit27) (modifier_text i.tag)
 
+-- the text of a word
 unfoldable pub disassembly : ℕ → List ℕ
 disassembly w = by_fields w (inst_of w)

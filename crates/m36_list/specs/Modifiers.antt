@@ -6,10 +6,12 @@ use Rattle.std.specs.List.{find}
 use Rattle.m36_model.specs.Tally.{subtract_delta, indirect_only, add_delta, decrement_increment}
 use Rattle.m36_model.specs.Tally.{increment_decrement}
 
+-- a tag with its text
 pub record Modifier : Type 0 where
   pub tag : ℕ
   pub text : List ℕ
 
+-- the tag with this text, as a list
 abbrev pub written : ℕ → List ℕ → List Modifier
 written tag text = record { tag = tag; text = text } ∷ []
 
@@ -36,6 +38,7 @@ of_registers first before behind =
 abbrev pub tally_tag : ℕ → ℕ
 tally_tag td = 0o40 + td
 
+-- the IT tag with this Td and text, as a list
 abbrev pub of_tally : ℕ → List ℕ → List Modifier
 of_tally td text = written (tally_tag td) text
 
@@ -55,6 +58,7 @@ modifiers =
     ++ written 0o60 (codes ",*n")
     ++ of_registers 0o60 (codes ",*") []
 
+-- whether a modifier has this tag
 abbrev pub has_tag : ℕ → Modifier → Bool
 has_tag tag m = m.tag == tag
 

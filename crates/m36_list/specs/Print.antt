@@ -34,14 +34,16 @@ section_text Static = codes "static"
 abbrev pub section_line : List ℕ → ℕ → ℕ → List ℕ
 section_line name at len = line (name ∷ half_text at ∷ half_text len ∷ [])
 
--- the offsets of the sections
+-- the offset of the linkage section in the object
 abbrev pub linkage_at : PartsFields → ℕ
 linkage_at p = linkage_behind (length p.text) (length (definition_section p))
 
+-- the offset of the static section
 abbrev pub statics_at : PartsFields → ℕ
 statics_at p =
     statics_behind (length p.text) (length (definition_section p)) (length (linkage_section p))
 
+-- the offset of the symbol section
 abbrev pub symbol_at : PartsFields → ℕ
 symbol_at p =
     symbol_behind (length p.text) (length (definition_section p)) (length (linkage_section p))
@@ -52,9 +54,11 @@ abbrev pub static_line : PartsFields → List ℕ
 static_line p =
     if is_newer p then section_line (section_text Static) (statics_at p) (length p.statics) else []
 
+-- a name, and a number of 18 bits in octal
 abbrev pub value_line : List ℕ → ℕ → List ℕ
 value_line name v = line (name ∷ half_text v ∷ [])
 
+-- the lines of the sections, and of the entry bound
 unfoldable pub section_lines : PartsFields → List ℕ
 section_lines p =
     section_line (section_text Text) 0 (length p.text)
@@ -69,6 +73,7 @@ abbrev pub definition_fields : Named → List (List ℕ)
 definition_fields d =
     codes "def" ∷ d.name ∷ section_text d.def.section ∷ half_text d.def.value ∷ []
 
+-- the line of a definition
 unfoldable pub definition_line : Named → List ℕ
 definition_line d =
     line (if d.def.is_entry then definition_fields d ++ codes "entry" ∷ [] else definition_fields d)
@@ -90,10 +95,12 @@ link_lines at (l ∷ ls) = link_line at l ++ link_lines (at + 2) ls
 unfoldable pub word_line : ℕ → ℕ → List ℕ
 word_line at w = line (half_text at ∷ word_text w ∷ disassembly w ∷ [])
 
+-- the lines of words, from an offset on
 unfoldable pub word_lines : ℕ → List ℕ → List ℕ
 word_lines at [] = []
 word_lines at (w ∷ ws) = word_line at w ++ word_lines (at + 1) ws
 
+-- the print of an object, under this name
 unfoldable pub print_of : List ℕ → PartsFields → List ℕ
 print_of name p =
     object_line name p ++ section_lines p ++ flat_map definition_line p.definitions

@@ -40,6 +40,7 @@ fn constant(w: Word) -> ArrayString<32>
     line
 }
 
+// The name, a space, the address and the modifier.
 fn instruction(name: &str, inst: &Inst, modifier: &str) -> ArrayString<32>
     requires name { length name.now ≤ 8 }
     requires modifier { length modifier.now ≤ 4 }

@@ -90,6 +90,7 @@ pub record ComparisonFields : Type 0 where
   pub negative : Bool
   pub carry : Bool
 
+-- whether the first number is less than the second, as signed numbers
 unfoldable pub is_less : ℕ → ℕ → ℕ → Bool
 is_less half x y = int_lt (signed half x) (signed half y)
 

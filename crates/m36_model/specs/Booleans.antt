@@ -24,28 +24,35 @@ each_bit f (a ∷ more) (b ∷ bits) = f a b ∷ each_bit f more bits
 unfoldable pub bitwise : (Bool → Bool → Bool) → ℕ → ℕ → ℕ → ℕ
 bitwise f k x y = number_from (each_bit f (bits_of k x) (bits_of k y))
 
+-- AND of two bits
 abbrev pub and_bit : Bool → Bool → Bool
 and_bit a b = a && b
 
+-- OR of two bits
 abbrev pub or_bit : Bool → Bool → Bool
 or_bit a b = a || b
 
+-- EXCLUSIVE OR of two bits
 abbrev pub xor_bit : Bool → Bool → Bool
 xor_bit true b = not b
 xor_bit false b = b
 
+-- the first bit and not the second
 abbrev pub and_not_bit : Bool → Bool → Bool
 and_not_bit a b = a && not b
 
--- AND, OR, EXCLUSIVE OR, and AND NOT ("the first and not the second") of numbers of k bits
+-- AND of two numbers of k bits
 unfoldable pub and_of : ℕ → ℕ → ℕ → ℕ
 and_of k x y = bitwise and_bit k x y
 
+-- OR of two numbers of k bits
 unfoldable pub or_of : ℕ → ℕ → ℕ → ℕ
 or_of k x y = bitwise or_bit k x y
 
+-- EXCLUSIVE OR of two numbers of k bits
 unfoldable pub xor_of : ℕ → ℕ → ℕ → ℕ
 xor_of k x y = bitwise xor_bit k x y
 
+-- AND NOT of two numbers of k bits: the bits of the first that the second has not
 unfoldable pub and_not_of : ℕ → ℕ → ℕ → ℕ
 and_not_of k x y = bitwise and_not_bit k x y

@@ -20,22 +20,24 @@ stack_segment g ring = if ring == g.ppr.prr then (ptr g 6).seg else ring_stack g
 abbrev pub stack_pointer : RegsFields → ℕ → PtrFields
 stack_pointer g ring = pointer (stack_segment g ring) ring 0
 
--- CALL6: transfers to the final address in the new ring, which is given as the operand: the lesser
--- of TRR and R2 of the target.
+-- the registers after a transfer to the final address, in the ring `ring`
 abbrev pub in_ring : FinalFields → ℕ → RegsFields → RegsFields
 in_ring f ring g = record g { ppr = record { psr = f.at.seg; prr = ring; ic = f.at.word } }
 
+-- CALL6: transfers to the final address in the new ring, which is given as the operand: the lesser
+-- of TRR and R2 of the target. PR7 is set to the base of a stack of the new ring.
 unfoldable pub call : FinalFields → ℕ → RegsFields → Result EffectFields ℕ
 call f ring g = leaves (in_ring f ring (with_pr 7 (stack_pointer g ring) g))
 
--- RTCD: returns to the ring after its pair (`pair_ring`). All pointer registers get this ring. The
--- target is examined by the next fetch (this project's choice).
+-- the ring after RTCD: the ring after its pair (`pair_ring`)
 abbrev pub return_ring : ItsFields → FinalFields → OperandFields → ℕ
 return_ring its f o = pair_ring f.at.ring o.ring its.ring
 
+-- a pointer with this ring
 abbrev pub pointer_in_ring : ℕ → PtrFields → PtrFields
 pointer_in_ring ring p = record p { ring = ring }
 
+-- pointers, each with this ring
 abbrev pub all_in_ring : ℕ → List PtrFields → List PtrFields
 all_in_ring ring pointers = map (pointer_in_ring ring) pointers
 
@@ -47,8 +49,11 @@ returned its ring g =
       ppr = record { psr = its.seg; prr = ring; ic = its.word };
     }
 
+-- RTCD through this ITS pair
 abbrev pub return_by : ItsFields → FinalFields → OperandFields → RegsFields → Result EffectFields ℕ
 return_by its f o g = leaves (returned its (return_ring its f o) g)
 
+-- RTCD: returns to the pointer of its pair, in the ring after the pair. All pointer registers get
+-- this ring. The target is examined by the next fetch (this project's choice).
 unfoldable pub return_to : FinalFields → OperandFields → RegsFields → Result EffectFields ℕ
 return_to f o g = return_by (its_of (slice_index o.got 0) (slice_index o.got 1)) f o g

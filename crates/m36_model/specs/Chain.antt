@@ -34,6 +34,7 @@ Formation = Act (Result ChainEnd Halt)
 abbrev pub without_tally : FinalFields → ChainEnd
 without_tally last = record { last = last; pending = []; runout = None }
 
+-- the program of a chain that ends here, without a tally word
 abbrev pub ends_plain : FinalFields → Formation
 ends_plain last = done (Ok (without_tally last))
 
@@ -48,6 +49,7 @@ pub data Found : Type 0 where
   Itp : Found
   Plain : Found
 
+-- the kind of an indirect word at an even word number, by its tag
 abbrev pub found_by_tag : ℕ → Found
 found_by_tag tag = if tag == its_tag then Its else if tag == itp_tag then Itp else Plain
 
@@ -168,15 +170,16 @@ unfoldable pub chain : ℕ → RegsFields → Point → Formation
 chain zero g p = chain_exhausted p (move_of_point g p)
 chain (suc n) g p = chain_by (chain n g) g p (move_of_point g p)
 
--- A formed address of the code, as the result of a chain. A tally word is the first claim of the
--- step.
+-- the new value of a tally word, as the first claim of the step
 abbrev pub tally_put : Tally → Put
 tally_put t = record { claim = 0; part = Whole; value = t.word }
 
+-- the new value of the tally word of a formed address, if it has one
 abbrev pub pending_of : Option Tally → List Put
 pending_of None = []
 pending_of (Some t) = tally_put t ∷ []
 
+-- the new tally runout indicator of a formed address, if it has one
 abbrev pub runout_of : Option Tally → Option Bool
 runout_of None = None
 runout_of (Some t) = Some t.runout

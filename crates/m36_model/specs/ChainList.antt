@@ -29,12 +29,15 @@ pub data Turn (S : Type 0) : Type 0 where
   Goes : Stage S → Turn S
   Closes : Ran (Result ChainEnd Halt) S → Turn S
 
+-- the chain continues at the next point, with one more indirect word
 abbrev pub goes_on_at : {S : Type 0} → Stage S → Point → Mid S → Turn S
 goes_on_at s next m = Goes (record { point = next; count = s.count + 1; mid = m })
 
+-- the chain ends
 abbrev pub ends_with : {S : Type 0} → ChainEnd → Mid S → Turn S
 ends_with end m = Closes (record { value = Ok end; mid = m })
 
+-- the chain ends with a fault or a stop
 abbrev pub refused_with : {S : Type 0} → Halt → Mid S → Turn S
 refused_with h m = Closes (record { value = Err h; mid = m })
 
@@ -57,6 +60,7 @@ turn_found o g s word held a m Itp =
     turn_odd s (λ odd. itp_point g s.point word held (slice_index a.words 0) odd a.sdw.r1) t.mid
     t.reply
 
+-- after the reference to an indirect word: the fault, or what the word is
 abbrev pub turn_even :
     {S : Type 0} → Store S → RegsFields → Stage S → ℕ → Option ℕ → Mid S → Result Answer Fault
     → Turn S
@@ -85,6 +89,7 @@ turn_tally_by o g s a m true =
 turn_tally_by o g s a m false =
     let t = serve o g m (indirect Write s.point s.point.y) in turn_claimed s a t.mid t.reply
 
+-- after the read of the tally word: the fault, or as `turn_tally_by`
 abbrev pub turn_tally :
     {S : Type 0} → Store S → RegsFields → Stage S → Mid S → Result Answer Fault → Turn S
 turn_tally o g s m (Ok a) = turn_tally_by o g s a m (s.point.tag % 16 == indirect_only)
@@ -96,6 +101,7 @@ turn_counts o g s true =
     let t = serve o g s.mid (indirect Indirect s.point s.point.y) in turn_tally o g s t.mid t.reply
 turn_counts o g s false = refused_with (lockup s.point s.point.y) s.mid
 
+-- what follows from a point, by what its tag does
 abbrev pub turn_by : {S : Type 0} → Store S → RegsFields → Stage S → Move → Turn S
 turn_by o g s (Ends last) = ends_with (without_tally last) s.mid
 turn_by o g s (Fails h) = refused_with h s.mid
@@ -114,6 +120,7 @@ IsChain o g [] answer = ⊥
 IsChain o g (s ∷ []) answer = turn o g s ≡ Closes answer
 IsChain o g (s ∷ next ∷ more) answer = (turn o g s ≡ Goes next) × IsChain o g (next ∷ more) answer
 
+-- the stage at the first point, before any indirect word
 abbrev pub first_stage : {S : Type 0} → Point → Mid S → Stage S
 first_stage p m = record { point = p; count = 0; mid = m }
 

@@ -33,9 +33,11 @@ unmarked w = (w / 1024 * 1024 + w / 128 % 4 * 128) + w % 64
 abbrev pub ptw_entry : List ℕ → ℕ → ℕ × Option ℕ
 ptw_entry core a = (a, option_map unmarked (slice_get core a))
 
+-- an address with the word there
 abbrev pub sdw_entry : List ℕ → ℕ → ℕ × Option ℕ
 sdw_entry core a = (a, slice_get core a)
 
+-- the addresses of the two words of an SDW, with these words; none if it has no place
 abbrev pub sdw_entries : List ℕ → Result ℕ Refusal → List (ℕ × Option ℕ)
 sdw_entries core (Ok a) = sdw_entry core a ∷ sdw_entry core (wrapped (a + 1)) ∷ []
 sdw_entries core (Err e) = []

@@ -189,11 +189,12 @@ exec effect.Cams n g f o = completes g  -- nothing
 exec effect.Camp n g f o = completes g  -- nothing
 exec effect.Absa n g f o = load_absolute_address o g  -- core address → C(A)0-23, 0 → C(A)24-35
 
--- the results of the code's effects: a refusal is a fault at the instruction
+-- the result of the code's effect of an instruction, as numbers and lists
 abbrev pub answer_fields : Result Effect36 Fault → Result EffectFields Fault
 answer_fields (Ok e) = Ok (effect_fields e)
 answer_fields (Err f) = Err f
 
+-- a refusal is a fault at the instruction
 abbrev pub refused_here : RegsFields → Result EffectFields ℕ → Result EffectFields Fault
 refused_here g (Ok e) = Ok e
 refused_here g (Err number) = Err (fault_here number g)

@@ -27,9 +27,11 @@ lockup_fault = 7
 abbrev pub illegal_procedure : ℕ
 illegal_procedure = 10
 
+-- an arithmetic result is out of range, and the overflow mask is off
 abbrev pub overflow_fault : ℕ
 overflow_fault = 13
 
+-- the divisor of DIV is zero, or the quotient does not fit
 abbrev pub divide_check : ℕ
 divide_check = 14
 
@@ -45,11 +47,14 @@ missing_page_code = 1
 abbrev pub missing_page : ℕ
 missing_page = directed_fault missing_page_code
 
+-- a reference that the rings or the rights refuse
 abbrev pub access_violation : ℕ
 access_violation = 20
 
+-- an indirect word has fault tag 2
 abbrev pub fault_tag_2 : ℕ
 fault_tag_2 = 24
 
+-- an indirect word has fault tag 3
 abbrev pub fault_tag_3 : ℕ
 fault_tag_3 = 25

@@ -21,6 +21,7 @@ abbrev pub flat_sdw_by : Bool → List ℕ → ℕ → Result SdwFields Refusal
 flat_sdw_by true words seg = sdw_words (slice_get words (2 * seg)) (slice_get words (2 * seg + 1))
 flat_sdw_by false words seg = Err (violation out_of_segment_bounds)
 
+-- the descriptor of a segment; a refusal if it is out of bounds or not live
 unfoldable pub flat_sdw : Flat → DbrFields → ℕ → Result SdwFields Refusal
 flat_sdw s dbr seg = flat_sdw_by (in_bounds dbr seg) s.descriptors seg
 
@@ -38,6 +39,7 @@ abbrev pub content_with : (ℕ → ℕ → ℕ) → ℕ → ℕ → Part → ℕ
 content_with content seg w part v seg' w' =
     if (seg == seg') && (w == w') then written part (content seg' w') v else content seg' w'
 
+-- the flat memory with one word, or a half of it, written; a core word is none of its words
 abbrev pub flat_put_one : Flat → Spot → Part → ℕ → Flat
 flat_put_one s (Core_word a) part v = s
 flat_put_one s (Segment_word seg w) part v =

@@ -88,10 +88,12 @@ pub record JointFound : Type 0 where
   pub condition : ℕ
   pub place : ℕ
 
+-- findings of an audit, as those of a process or of the whole
 abbrev pub found_of : Option ℕ → List (ℕ × ℕ) → List JointFound
 found_of process findings =
     map (λ f. record { process = process; condition = f.0; place = f.1 }) findings
 
+-- findings of the audit of process i
 abbrev pub of_process : ℕ → List (ℕ × ℕ) → List JointFound
 of_process i findings = found_of (Some i) findings
 

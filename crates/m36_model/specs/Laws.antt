@@ -141,6 +141,7 @@ abbrev pub AgreeLaw : {S : Type 0} → Store S → Tables → Type 0
 AgreeLaw {S} o T =
     (r : ℕ) (a b : State S) → 1 ≤ r → IsAbove o T r a → Agree o r a b → IsAlike o T r a b
 
+-- The step has executed an LDBR.
 abbrev pub ExecutesLdbr : StepRecord → Type 0
 ExecutesLdbr e = Executes effect.Ldbr e
 

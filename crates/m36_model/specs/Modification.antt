@@ -74,9 +74,11 @@ index_of g td =
     else if td == 6 then field g.q 18 18
     else slice_index g.x (td - 8)
 
+-- Td of DU: the direct operand is in bits 0 to 17 of a word
 abbrev pub direct_upper : ℕ
 direct_upper = 3
 
+-- Td of DL: the direct operand is in bits 18 to 35 of a word
 abbrev pub direct_lower : ℕ
 direct_lower = 7
 
@@ -138,13 +140,15 @@ move_register_then_indirect g p td =
 abbrev pub move_indirect_then_register : RegsFields → Point → ℕ → Move
 move_indirect_then_register g p td = reads_unless_direct g td p.y (Some (index_of g td))
 
--- Td of the three fault tags, which have Tm IT
+-- Td of fault tag 1, which has Tm IT
 abbrev pub first_fault_tag : ℕ
 first_fault_tag = 0o0
 
+-- Td of fault tag 2
 abbrev pub second_fault_tag : ℕ
 second_fault_tag = 0o6
 
+-- Td of fault tag 3
 abbrev pub third_fault_tag : ℕ
 third_fault_tag = 0o7
 

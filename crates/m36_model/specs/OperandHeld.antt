@@ -6,18 +6,22 @@ use Rattle.m36_inst.specs.declared.operand.Operand.TheVariants as operand
 use Rattle.m36_model.specs.declared.effects.Held.{Held}
 use Rattle.m36_model.specs.declared.effects.Held.TheVariants as held
 
+-- the effect gets no word
 abbrev pub is_empty : Held → Bool
 is_empty held.Empty = true
 is_empty _ = false
 
+-- the effect gets one word
 abbrev pub is_word : Held → Bool
 is_word (held.One w) = true
 is_word _ = false
 
+-- the effect gets a pair
 abbrev pub is_pair : Held → Bool
 is_pair (held.Two p) = true
 is_pair _ = false
 
+-- the effect gets a block
 abbrev pub is_block : Held → Bool
 is_block (held.Block b) = true
 is_block _ = false

@@ -11,12 +11,13 @@ use Rattle.m36_model.specs.Results.{becomes}
 unfoldable pub multiply : ℕ → RegsFields → Result EffectFields ℕ
 multiply v g = becomes AQ (product g.q v) g
 
--- DIV: the quotient of Q by the value to Q, and the remainder to A; a divide check changes nothing
+-- DIV, given whether the divide check refuses it
 abbrev pub divide_by : Bool → ℕ → RegsFields → Result EffectFields ℕ
 divide_by true v g = Err divide_check
 divide_by false v g =
     let q = quotient g.q v in
     completes (takes Q q (zn (half Q) q g.ind) (with_value A (remainder g.q v) g))
 
+-- DIV: the quotient of Q by the value to Q, and the remainder to A; a divide check changes nothing
 unfoldable pub divide : ℕ → RegsFields → Result EffectFields ℕ
 divide v g = divide_by (is_divide_check g.q v) v g

@@ -43,20 +43,23 @@ pub record EffectFields : Type 0 where
   pub put : List ℕ
   pub overflow : Bool
 
--- the operands and results of the code as numbers and lists
+-- the words of the pairs of a block, in order
 abbrev pub words_of_pairs : List Pair → List ℕ
 words_of_pairs [] = []
 words_of_pairs (p ∷ pairs) = p.even ∷ p.odd ∷ words_of_pairs pairs
 
+-- the words that an operand of the code has
 abbrev pub words_of_held : Held → List ℕ
 words_of_held held.Empty = []
 words_of_held (held.One w) = w ∷ []
 words_of_held (held.Two p) = pair_words p
 words_of_held (held.Block b) = words_of_pairs b
 
+-- an operand of the code, as numbers and lists
 abbrev pub operand_fields : Operand36 → OperandFields
 operand_fields o = record { got = words_of_held o.got; ring = o.ring; place = o.place }
 
+-- the effect that the code returns, as numbers and lists
 abbrev pub effect_fields : Effect36 → EffectFields
 effect_fields e = record { regs = e.regs; put = words_of_held e.put; overflow = e.overflow }
 
@@ -121,10 +124,11 @@ value Q g = g.q
 value AQ g = number_of (aq_pair g)
 value (X n) g = slice_index g.x n
 
--- the two words of a number of 72 bits
+-- the more significant word of a number of 72 bits
 abbrev pub upper_word : ℕ → ℕ
 upper_word v = v / 2 ^ 36
 
+-- the less significant word of a number of 72 bits
 abbrev pub lower_word : ℕ → ℕ
 lower_word v = v % 2 ^ 36
 
@@ -187,9 +191,11 @@ zn_carry_overflow s i = with_zn_overflow s s.carry i
 unfoldable pub compared : ComparisonFields → Ind → Ind
 compared c i = with_zn_carry c.zero c.negative c.carry i
 
+-- indicators with this zero indicator
 abbrev pub with_zero : Bool → Ind → Ind
 with_zero z i = record i { zero = z }
 
+-- registers with these indicators
 abbrev pub with_indicators : Ind → RegsFields → RegsFields
 with_indicators i g = record g { ind = i }
 

@@ -121,21 +121,23 @@ request_at kind c count =
       at = aligned_at count c.last.at;
     }
 
--- The operand of an effect, from the answer to its reference: of a word that is read, the word; of
--- a pair or a block, its words and R1 of their segment; of ABSA, the core address; of a transfer,
--- nothing; of a call, the new ring.
+-- the operand of an effect, from the answer to its reference: the word that is read
 abbrev pub got_word : Answer → OperandFields
 got_word a = words_only a.words
 
+-- for a pair or a block, its words and R1 of their segment
 abbrev pub got_words : Answer → OperandFields
 got_words a = words_in_ring a.words a.sdw.r1
 
+-- for ABSA, the core address
 abbrev pub got_place : Answer → OperandFields
 got_place a = place_only a.place
 
+-- for a transfer, nothing
 abbrev pub got_nothing : Answer → OperandFields
 got_nothing a = no_operand
 
+-- for a call, the new ring
 abbrev pub got_ring : ℕ → Answer → OperandFields
 got_ring trr a = ring_only (ring_called a.sdw trr)
 
@@ -201,11 +203,12 @@ abbrev pub direct_word : Operand → ℕ → List ℕ
 direct_word kind.R w = w ∷ []
 direct_word _ w = []
 
--- A direct operand is the operand unchanged, if the instruction accepts one.
+-- the operand of a direct operand: itself, if the instruction accepts one
 abbrev pub takes_word : Effect → RegsFields → ℕ → Bool → Result OperandFields Fault
 takes_word e g w true = Ok (words_only (direct_word (operand_of e) w))
 takes_word e g w false = Err (fault_here illegal_procedure g)
 
+-- what follows with this operand, or the fault
 abbrev pub with_operand :
     Effect → ℕ → RegsFields → ChainEnd → Result OperandFields Fault → Operation
 with_operand e n g c (Ok o) = perform e n g c Whole 0 o
@@ -282,12 +285,13 @@ abbrev pub addressed : Effect → ℕ → RegsFields → ℕ → Act Ending
 addressed e n g w =
     otherwise (formation g (inst_of w)) (operated e n g w) (halted g (Some w) None)
 
--- MME, DRL and DIS form no address (this project's choice): they end the step at once.
+-- the fault or stop with which MME, DRL or DIS ends the step
 abbrev pub at_once : Effect → RegsFields → Halt
 at_once effect.Mme g = halt_here master_mode_entry g
 at_once effect.Drl g = halt_here derail g
 at_once _ g = halt.Stop stop.Dis
 
+-- MME, DRL and DIS form no address (this project's choice): they end the step at once.
 abbrev pub no_address : Effect → RegsFields → ℕ → Act Ending
 no_address e g w = halted g (Some w) None (at_once e g)
 

@@ -98,15 +98,19 @@ conduct Transfer = record { reads = false; touches = false; claims = false; targ
 conduct Call = record { reads = false; touches = false; claims = false; target = true }
 conduct Locate = record { reads = false; touches = false; claims = false; target = false }
 
+-- whether a reference of this kind reads words
 abbrev pub reads : RequestKind → Bool
 reads kind = (conduct kind).reads
 
+-- whether a reference of this kind sets marks, and is among the completed references of the step
 abbrev pub touches : RequestKind → Bool
 touches kind = (conduct kind).touches
 
+-- whether a reference of this kind claims its words, to be written
 abbrev pub claims_words : RequestKind → Bool
 claims_words kind = (conduct kind).claims
 
+-- whether a reference of this kind only checks the bound of the target
 abbrev pub is_target : RequestKind → Bool
 is_target kind = (conduct kind).target
 
@@ -196,6 +200,7 @@ abbrev pub bound_only : Bool → ℕ → Result (List Spot) (ℕ × Refusal)
 bound_only true word = Ok []
 bound_only false word = Err (word, past_bound)
 
+-- the spots of the words of a reference, which are none for a target (true)
 abbrev pub places_by :
     Bool → Result (List Spot) (ℕ × Refusal) → Result (List Spot) (ℕ × Refusal)
     → Result (List Spot) (ℕ × Refusal)
@@ -305,6 +310,7 @@ answered_with o s claims refs q d spots =
           };
     }
 
+-- the reply after the rights were checked: the fault of the places, or the answer
 abbrev pub serve_places :
     {S : Type 0} → Store S → RegsFields → Mid S → Request → SdwFields
     → Result (List Spot) (ℕ × Refusal) → Served S
@@ -312,11 +318,13 @@ serve_places o g m q d (Err e) = refused m q e.0 e.1
 serve_places o g m q d (Ok spots) =
     answered_with o (after_marks o m.store g.dbr q) m.claims m.refs q d spots
 
+-- the reply after the descriptor was found: the access violation, or as `serve_places`
 abbrev pub serve_rights :
     {S : Type 0} → Store S → RegsFields → Mid S → Request → SdwFields → Option ℕ → Served S
 serve_rights o g m q d (Some acv) = refused m q q.at.word (violation acv)
 serve_rights o g m q d None = serve_places o g m q d (places o m.store g.dbr d q)
 
+-- the reply to a reference: the refusal of its descriptor, or as `serve_rights`
 abbrev pub serve_sdw :
     {S : Type 0} → Store S → RegsFields → Mid S → Request → Result SdwFields Refusal → Served S
 serve_sdw o g m q (Err why) = refused m q q.at.word why

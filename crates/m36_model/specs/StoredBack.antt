@@ -16,10 +16,11 @@ use Rattle.m36_model.specs.CallReturn.{return_by, return_to}
 use Rattle.m36_model.specs.Privileged.{load_dbr, store_dbr}
 use Rattle.m36_model.specs.Isolation.{HasPointers}
 
--- the halves of a word
+-- the left half of a word
 abbrev pub left_of : ℕ → ℕ
 left_of w = upper (words_only (w ∷ []))
 
+-- the right half of a word
 abbrev pub right_of : ℕ → ℕ
 right_of w = lower (words_only (w ∷ []))
 

@@ -12,19 +12,23 @@
 use Rattle.std.specs.Prelude.{ℕ, ◌+◌, ◌-◌, ◌*◌, ◌%◌, ◌^◌, Bool, ◌||◌, ◌==◌, if◌then◌else◌}
 use Rattle.m36_word.specs.Field.{field}
 
--- Td of the five tags
+-- Td of SD
 abbrev pub subtract_delta : ℕ
 subtract_delta = 0o4
 
+-- Td of I
 abbrev pub indirect_only : ℕ
 indirect_only = 0o11
 
+-- Td of AD
 abbrev pub add_delta : ℕ
 add_delta = 0o13
 
+-- Td of DI, which decreases the address and increases the tally
 abbrev pub decrement_increment : ℕ
 decrement_increment = 0o14
 
+-- Td of ID, which increases the address and decreases the tally
 abbrev pub increment_decrement : ℕ
 increment_decrement = 0o16
 
@@ -34,16 +38,19 @@ is_tally_tag td =
     (td == subtract_delta) || (td == indirect_only) || (td == add_delta)
     || (td == decrement_increment) || (td == increment_decrement)
 
--- the fields of a tally word
+-- the address in a tally word: bits 0 to 17
 abbrev pub tally_address : ℕ → ℕ
 tally_address w = field w 0 18
 
+-- the tally: bits 18 to 29
 abbrev pub tally_count : ℕ → ℕ
 tally_count w = field w 18 12
 
+-- the delta: bits 30 to 35
 abbrev pub tally_delta : ℕ → ℕ
 tally_delta w = field w 30 6
 
+-- the tally word with these fields
 abbrev pub tally_word : ℕ → ℕ → ℕ → ℕ
 tally_word address count delta = address * 2 ^ 18 + count * 2 ^ 6 + delta
 

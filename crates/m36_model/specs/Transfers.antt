@@ -27,6 +27,7 @@ is_taken _ g = true
 unfoldable pub gone_to : FinalFields → RegsFields → RegsFields
 gone_to f g = record g { ppr = record g.ppr { psr = f.at.seg; ic = f.at.word } }
 
+-- a transfer to the final address
 abbrev pub goes_to : FinalFields → RegsFields → Result EffectFields ℕ
 goes_to f g = leaves (gone_to f g)
 
@@ -40,10 +41,11 @@ transfer_by false f left g = completes g
 unfoldable pub transfer_where : Bool → FinalFields → RegsFields → Result EffectFields ℕ
 transfer_where taken f g = transfer_by taken f g g
 
--- TOV: overflow is turned off if the transfer is taken
+-- the registers with overflow turned off
 abbrev pub without_overflow : RegsFields → RegsFields
 without_overflow g = record g { ind = record g.ind { overflow = false } }
 
+-- TOV: as `transfer_where`; overflow is turned off if the transfer is taken
 unfoldable pub transfer_on_overflow : Bool → FinalFields → RegsFields → Result EffectFields ℕ
 transfer_on_overflow taken f g = transfer_by taken f (without_overflow g) g
 
@@ -51,9 +53,10 @@ transfer_on_overflow taken f g = transfer_by taken f (without_overflow g) g
 unfoldable pub transfer_and_set_index : ℕ → FinalFields → RegsFields → Result EffectFields ℕ
 transfer_and_set_index n f g = goes_to f (with_value (X n) (next_word g) g)
 
--- TSP: a pointer to the next instruction, in the procedure ring, to the pointer register
+-- the pointer to the next instruction, in the procedure ring
 abbrev pub return_pointer : RegsFields → PtrFields
 return_pointer g = pointer g.ppr.psr g.ppr.prr (next_word g)
 
+-- TSP: a pointer to the next instruction to the pointer register, and a transfer
 unfoldable pub transfer_and_set_pointer : ℕ → FinalFields → RegsFields → Result EffectFields ℕ
 transfer_and_set_pointer n f g = goes_to f (with_pr n (return_pointer g) g)

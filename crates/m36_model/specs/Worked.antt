@@ -30,8 +30,7 @@ abbrev pub words_from : ℕ → List ℕ → List (ℕ × ℕ)
 words_from place [] = []
 words_from place (w ∷ words) = (place, w) ∷ words_from (place + 1) words
 
--- A descriptor of an unpaged segment with these brackets, one block of 16 words, and no rights.
--- Those after it have one right more, are a gate with n entries, or have n + 1 blocks.
+-- the descriptor of an unpaged segment with these brackets, one block of 16 words, and no rights
 abbrev pub rings : ℕ → ℕ → ℕ → SdwFields
 rings r1 r2 r3 =
     record {
@@ -52,21 +51,27 @@ rings r1 r2 r3 =
       limit = 0;
     }
 
+-- a descriptor that also gives the right to read
 abbrev pub readable : SdwFields → SdwFields
 readable d = record d { readable = true }
 
+-- a descriptor that also gives the right to execute
 abbrev pub executable : SdwFields → SdwFields
 executable d = record d { executable = true }
 
+-- a descriptor that also gives the right to write
 abbrev pub writable : SdwFields → SdwFields
 writable d = record d { writable = true }
 
+-- a descriptor that also gives the right to be privileged
 abbrev pub privileged : SdwFields → SdwFields
 privileged d = record d { privileged = true }
 
+-- the descriptor of a gate with n entries
 abbrev pub gate_with_entries : ℕ → SdwFields → SdwFields
 gate_with_entries n d = record d { no_gate = false; limit = n }
 
+-- a descriptor with n + 1 blocks of 16 words
 abbrev pub last_block : ℕ → SdwFields → SdwFields
 last_block n d = record d { bound = n }
 
@@ -114,21 +119,26 @@ faults number at = Faulted (plain_fault number at)
 abbrev pub violates : ℕ → AtFields → Outcome
 violates acv at = Faulted (fault_by (violation acv) at)
 
--- one step: its outcome, the end of its chain, its references, the registers and the core after it
+-- the outcome of one step
 abbrev pub outcome_of_step : State (List ℕ) → Outcome
 outcome_of_step s = (record_of core_store s).outcome
 
+-- the end of the address chain of a step, if it has one
 abbrev pub address_of_step : State (List ℕ) → Option FinalFields
 address_of_step s = (record_of core_store s).at
 
+-- the references of a step
 abbrev pub references_of_step : State (List ℕ) → List Reference
 references_of_step s = (record_of core_store s).refs.items
 
+-- the registers after a step
 abbrev pub registers_after : State (List ℕ) → RegsFields
 registers_after s = (record_of core_store s).after
 
+-- the core after a step
 abbrev pub core_after : State (List ℕ) → List ℕ
 core_after s = (state_after core_store s).store
 
+-- a core word after a step
 abbrev pub word_after : State (List ℕ) → ℕ → ℕ
 word_after s a = slice_index (core_after s) a

@@ -28,13 +28,13 @@ abbrev pub PutHasError : Put → List ErrorKind → List ErrorKind → Type 0
 PutHasError Done old new = Signals old new
 PutHasError Failed old new = GivesUp old new
 
--- the same for the answers of an input
+-- As `PutHasError`, for the answers of an input.
 abbrev pub PieceHasError : Piece → List ErrorKind → List ErrorKind → Type 0
 PieceHasError (piece.Got count) old new = Signals old new
 PieceHasError piece.End old new = Signals old new
 PieceHasError piece.Failed old new = GivesUp old new
 
--- the same for a file that was opened, which cannot be absent
+-- As `PutHasError`, for a file that was opened, which cannot be absent.
 abbrev pub OpenHasError : ReadAnswer → List ErrorKind → List ErrorKind → Type 0
 OpenHasError (read.Read bytes) old new = Signals old new
 OpenHasError read.Absent old new = ⊥

@@ -73,7 +73,8 @@ pub trait Folder {
         ensures count_bound { read_faults self.new < 2 ^ 64 }
         ensures other_count { write_faults self.new ≡ write_faults self.old };
 
-    /// Creates or replaces the file with this name. Its content is then `content`.
+    /// Creates or replaces the file with this name, so that its content is `content`. If that
+    /// fails, no file changes.
     fn write(&mut self, alloc: Global, name: &[u8], content: &[u8]) -> WriteAnswer
         ensures says { WriteSays result (files self.old) (files self.new) name.now content.now }
         ensures wrote { wrote self.new ≡ wrote self.old ++ (name.now, content.now, result) ∷ [] }

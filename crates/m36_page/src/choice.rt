@@ -20,6 +20,7 @@ fn is_to(held: (u16, u16), reference: &Reference) -> bool
     at.seg == held.0 && at.word / PAGE == held.1 as u32
 }
 
+// Whether one of the references is to this page.
 fn is_page_pinned(references: &[Reference], held: (u16, u16)) -> bool
     ensures { result ≡ is_pinned references.now (Some held) }
 {
@@ -78,6 +79,7 @@ const USED: u64 = 512;
 // The maximum number of frames that the hand looks at before it takes one that was used.
 const MOST_PASSED: usize = 64;
 
+// Whether a page table word has its used mark set.
 fn is_used(core: &Core, spot: u32) -> bool
     requires { spot < length core.now }
     ensures { result ≡ (ptw_of (slice_index core.now spot)).used }

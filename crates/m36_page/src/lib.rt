@@ -5,8 +5,9 @@
 //! - The content of every word of every segment is the same wherever its page is. Bringing a page
 //!   in or evicting one changes no content, and no core word except page table words and words of
 //!   pageable frames.
-//! - Bringing a page in evicts at most one page, and none that is pinned. Of the pages that stay
-//!   where they are it changes only used marks, which it clears, and none of a pinned page.
+//! - Bringing a page in evicts at most one page, and none that is pinned. A page is pinned if one
+//!   of the references that the caller gives is to it. Of the pages that stay where they are it
+//!   changes only used marks, which it clears, and none of a pinned page.
 //! - The kept words change only for the page that is evicted.
 //! - Setting a word changes it in its frame or in the kept words, and nothing else.
 //!

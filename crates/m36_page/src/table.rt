@@ -46,6 +46,7 @@ fn is_apart_of_all(table: &PageTable, others: &[PageTable]) -> bool
     others.iter().all(|other| is_apart(table, other))
 }
 
+// Whether a page table is below the pageable frames, and apart from all others.
 fn is_placed(first: u32, table: &PageTable, others: &[PageTable]) -> bool
     ensures { result ≡ (fits_below first table.now && list_all (is_apart table.now) others.now) }
 {

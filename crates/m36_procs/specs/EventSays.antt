@@ -5,12 +5,13 @@ use Rattle.m36_model.specs.Registers.{RegsFields}
 use Rattle.m36_model.specs.Schedule.{Processes, event}
 use Rattle.m36_model.specs.declared.record.StepRecord.{StepRecord}
 
--- the event was a step of process i, which had the registers g
+-- The event was a step of process i, which had the registers g.
 pub record IsEvent (i : ℕ) (old new : Processes (List ℕ)) (told : StepRecord) (g : RegsFields)
     : Type 0 where
   pub told_is : told ≡ (event core_store old i g).told
   pub state : new ≡ (event core_store old i g).after
 
+-- The event was a step of process i, if there is this process.
 abbrev pub EventSays : ℕ → Processes (List ℕ) → Processes (List ℕ) → StepRecord → Type 0
 EventSays i old new told =
     (g : RegsFields) → slice_get old.regs i ≡ Some g → IsEvent i old new told g

@@ -1,5 +1,5 @@
--- A reader of this crate begins with `ProcsFile`, the grammar of the text, and `ScheduleText`, what
--- a run writes. The others say what the calls answer.
+-- Read first `ProcsFile`, the grammar of the text, and `ScheduleText`, what a run writes. The other
+-- modules say what the results of the calls imply.
 pub mod ProcsFields
 pub mod ProcsFile
 pub mod ProcsSays

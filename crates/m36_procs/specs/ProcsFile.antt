@@ -1,24 +1,23 @@
--- The text of processes: it writes out one core, the processes on it, and the schedule by which
--- they run.
+-- The text of processes: it describes one core, the processes on it, and the schedule by which they
+-- run.
 --
 --     core N              N decimal, 1 to 16384 frames of 1,024 words
 --     process E O S R I   a process: the two words of its descriptor segment base register, of 12
 --                         octal digits, and where it starts: segment, ring and word number, of 5, 1
 --                         and 6
---     at A W ..           a core address of 8 octal digits, and one to eight words of 12, there and
---                         behind
---     turns C P ..        one to sixteen process numbers of one digit, taken in order, C times; C
---                         decimal, 1 to 1000000
+--     at A W ..           a core address of 8 octal digits; one to eight words of 12, from there on
+--     turns C P ..        one to sixteen process numbers of one digit: turns in this order, C
+--                         times; C decimal, 1 to 1000000
 --
--- Each line ends with a line feed, and the words of a line are parted by single spaces. The lines
--- stand in this order: `core` once, one to eight `process`, any number of `at`, and at least one
--- `turns`. Processes are numbered from 0. All `turns` lines together make at most 10000000 events.
+-- Each line ends with a line feed, and single spaces separate the words of a line. The order of the
+-- lines is: `core` once, one to eight `process`, any number of `at`, and at least one `turns`.
+-- Processes are numbered from 0. All `turns` lines together make at most 10000000 events.
 --
--- P1 is a line not of its form, out of order or missing, a missing line feed, an N out of range, an
--- `at` whose first address is not above every earlier address or whose last address is outside
--- core, or a `turns` line with which there are too many events. P2 is a number of no process. The
--- first line with a fault counts, and in it P1 before P2. A missing line has the number that it
--- would have.
+-- P1 is a line that does not have its form, is out of order or missing, a missing line feed, an N
+-- out of range, an `at` whose first address is not above every earlier address or whose last
+-- address is outside core, or a `turns` line with which there are too many events. P2 is a number
+-- that no process has. The first line with a code is reported, with P1 before P2. A missing line
+-- has the number that it would have.
 use Rattle.std.specs.Prelude.{ℕ, ◌+◌, ◌*◌, ◌&&◌, Bool, true, false, nat_le, nat_lt, List}
 use Rattle.std.specs.Prelude.{[], ◌∷◌, length, drop, codes, Option, Some, None}
 use Rattle.std.specs.Prelude.{Result, Ok, Err, if◌then◌else◌}
@@ -44,18 +43,19 @@ use Rattle.m36_procs.specs.declared.fault.Code.TheVariants.{P1, P2}
 use Rattle.m36_procs.specs.declared.reader.Stage.{Stage}
 use Rattle.m36_procs.specs.declared.reader.Stage.TheVariants.{Naming, Placing, Turning}
 
--- A `process` line: all registers are zero but for the two that it gives.
+-- the registers of a process, if both could be read; all others are zero
 abbrev pub process_read : Option Pair → Option PprFields → Option RegsFields
 process_read (Some dbr) (Some start) = Some (regs_of dbr start)
 process_read _ _ = None
 
+-- the registers of a process, from the words of a `process` line
 abbrev pub process_words : List (List ℕ) → Option RegsFields
 process_words (name ∷ even ∷ odd ∷ seg ∷ ring ∷ word ∷ []) =
     if is_text (codes "process") name
     then process_read (dbr_in even odd) (start_in seg ring word) else None
 process_words _ = None
 
--- the most times that a line gives its turns
+-- the maximum number of times that a line repeats its turns
 abbrev pub most_times : ℕ
 most_times = 1000000
 
@@ -63,38 +63,42 @@ most_times = 1000000
 abbrev pub process_numbers : List (List ℕ) → Option (List ℕ)
 process_numbers texts = one_to 16 (short_decimal_in 1 0 9) texts
 
--- A `turns` line: one to sixteen numbers of processes, and how many times.
+-- turns, if their numbers and how many times they are made could be read
 abbrev pub turns_read : Option ℕ → Option (List ℕ) → Option TurnsFields
 turns_read (Some times) (Some order) = Some (record { times = times; order = order })
 turns_read _ _ = None
 
+-- turns, from the words of a `turns` line
 abbrev pub turns_words : List (List ℕ) → Option TurnsFields
 turns_words (name ∷ times ∷ texts) =
     if is_text (codes "turns") name
     then turns_read (decimal_in 1 most_times times) (process_numbers texts) else None
 turns_words _ = None
 
--- A line behind the first, by its form.
+-- a parsed line after the first
 pub data Line : Type 0 where
   ProcessLine : RegsFields → Line
   TurnsLine : TurnsFields → Line
   AtLine : PlacedWords → Line
   OtherLine : Line
 
+-- a line by the first of the forms that it has
 abbrev pub line_by : Option RegsFields → Option TurnsFields → Option PlacedWords → Line
 line_by (Some regs) turns placed = ProcessLine regs
 line_by None (Some turns) placed = TurnsLine turns
 line_by None None (Some placed) = AtLine placed
 line_by None None None = OtherLine
 
+-- the line with these words
 abbrev pub line_in : List (List ℕ) → Line
 line_in words = line_by (process_words words) (turns_words words) (at_words words)
 
+-- a line parsed by itself; it has no form if it lacks its line feed
 abbrev pub line_of : Option (List ℕ) → Line
 line_of line = by_words line_in OtherLine line
 
--- What stands before a line: which lines may follow, the words of core, the count of processes, the
--- least address that an `at` line may have, and the count of events.
+-- The state of parsing before a line: which lines may follow, the number of words of core, the
+-- number of processes, the least address that an `at` line may have, and the number of events.
 pub record Stands : Type 0 where
   pub stage : Stage
   pub size : ℕ
@@ -102,40 +106,42 @@ pub record Stands : Type 0 where
   pub next : ℕ
   pub events : ℕ
 
--- behind `core`, or a `process` line
+-- whether a `process` line may follow: after `core` or a `process` line
 abbrev pub may_name : Stage → Bool
 may_name Naming = true
 may_name Placing = false
 may_name Turning = false
 
--- the same, or behind an `at` line
+-- whether an `at` line may follow: also after an `at` line
 abbrev pub may_place : Stage → Bool
 may_place Naming = true
 may_place Placing = true
 may_place Turning = false
 
--- behind a `turns` line
+-- whether the text may end: after a `turns` line
 abbrev pub may_end : Stage → Bool
 may_end Naming = false
 may_end Placing = false
 may_end Turning = true
 
--- What stands behind a line, or the least code that it has.
+-- the state after an `at` line that ends there, or its code
 abbrev pub placed_from : Stands → Result ℕ ImageCode → Result Stands Code
 placed_from s (Ok end) = Ok (record s { stage = Placing; next = end })
 placed_from s (Err code) = Err P1
 
--- at most so many events of a schedule
+-- the maximum number of events of a schedule
 abbrev pub most_events : ℕ
 most_events = 10000000
 
--- how many events there are with turns behind so many
+-- the number of events with these turns after `events` events
 abbrev pub events_with : ℕ → TurnsFields → ℕ
 events_with events t = events + t.times * length t.order
 
+-- each number is that of one of `count` processes
 abbrev pub are_named : ℕ → List ℕ → Bool
 are_named count numbers = list_all (λ number. nat_lt number count) numbers
 
+-- the state after a line, or the least code of the line
 unfoldable pub judged : Stands → Line → Result Stands Code
 judged s (ProcessLine regs) =
     if may_name s.stage && nat_lt s.processes most_processes
@@ -150,55 +156,64 @@ judged s (TurnsLine t) =
     else Err P1
 judged s OtherLine = Err P1
 
--- what stands behind a line that is judged so: what stood before one with a code
+-- the state after a line with this result; a line with a code does not change it
 abbrev pub behind : Stands → Result Stands Code → Stands
 behind s (Ok later) = later
 behind s (Err code) = s
 
+-- P1 if the text may not end here
 abbrev pub end_code : Stage → Option Code
 end_code stage = if may_end stage then None else Some P1
 
--- The code of each line from there on, and of what is missing at their end.
+-- The code of each line from this state on, if it has one, and at last that of a missing line.
 unfoldable pub codes_from : Stands → List (Option (List ℕ)) → List (Option Code)
 codes_from s [] = end_code s.stage ∷ []
 codes_from s (line ∷ lines) =
     result_err (judged s (line_of line)) ∷ codes_from (behind s (judged s (line_of line))) lines
 
--- The first line, and what stands behind it.
+-- the code of the first line, if it has one
 abbrev pub core_code : Result ℕ ImageCode → Option Code
 core_code (Ok frames) = None
 core_code (Err code) = Some P1
 
+-- the state after the first line
 abbrev pub at_start : ℕ → Stands
 at_start size = record { stage = Naming; size = size; processes = 0; next = 0; events = 0 }
 
+-- the code of each line, if it has one, and of a missing line at the end
 abbrev pub line_codes : List (Option (List ℕ)) → List (Option Code)
 line_codes lines =
     core_code (core_line (line_at lines 1))
     ∷ codes_from (at_start (1024 * frames_of lines)) (drop 1 lines)
 
--- What the lines say, where none has a code.
+-- the process of a line, if it is a `process` line
 abbrev pub process_of : Line → List RegsFields
 process_of (ProcessLine regs) = regs ∷ []
 process_of _ = []
 
+-- the words of a line, if it is an `at` line
 abbrev pub placed_of : Line → List PlacedWords
 placed_of (AtLine placed) = placed ∷ []
 placed_of _ = []
 
+-- the processes that take the turns of a line, if it is a `turns` line
 abbrev pub turns_of : Line → List ℕ
 turns_of (TurnsLine t) = repeat t.times t.order
 turns_of _ = []
 
+-- the processes of lines, in order
 abbrev pub processes_in : List (Option (List ℕ)) → List RegsFields
 processes_in lines = flat_map (λ line. process_of (line_of line)) lines
 
+-- the words of `at` lines, in order
 abbrev pub placed_in : List (Option (List ℕ)) → List PlacedWords
 placed_in lines = flat_map (λ line. placed_of (line_of line)) lines
 
+-- the schedule of lines
 abbrev pub turns_in : List (Option (List ℕ)) → List ℕ
 turns_in lines = flat_map (λ line. turns_of (line_of line)) lines
 
+-- the processes and the schedule that lines without a code describe, in a core of `size` words
 abbrev pub procs_in : ℕ → List (Option (List ℕ)) → ProcsFields
 procs_in size lines =
     record {
@@ -210,8 +225,8 @@ procs_in size lines =
       schedule = turns_in lines;
     }
 
--- the processes and the schedule that a text writes out, or its first line that has a code, with
--- the least code of that line
+-- the processes and the schedule that a text describes, or its first line that has a code, with the
+-- least code of that line
 unfoldable pub procs_given : List ℕ → Result ProcsFields (ℕ × Code)
 procs_given text =
     unless

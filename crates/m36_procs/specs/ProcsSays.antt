@@ -1,4 +1,4 @@
--- What the reader of processes answers, where want of memory may come at any time.
+-- What the results of parsing a text of processes imply. Memory may run out at any time.
 use Rattle.std.specs.Prelude.{ℕ, ◌≡◌, ⊤, Result, Ok, Err}
 use Rattle.m36_procs.specs.ProcsFields.{ProcsFields}
 use Rattle.m36_procs.specs.declared.fault.Code.{Code}
@@ -8,15 +8,17 @@ use Rattle.m36_procs.specs.declared.fault.LineFault.TheVariants as fault
 use Rattle.m36_procs.specs.declared.fault.ProcsFault.{ProcsFault}
 use Rattle.m36_procs.specs.declared.fault.ProcsFault.TheVariants.{P1, P2, NoMemory}
 
--- a code at its line
+-- the fault with a code at a line
 abbrev pub fault_at : ℕ × Code → ProcsFault
 fault_at (line, code.P1) = P1 line
 fault_at (line, code.P2) = P2 line
 
+-- the fault of the text, for the fault of a line
 abbrev pub line_fault_at : ℕ → LineFault → ProcsFault
 line_fault_at line (fault.Refused code) = fault_at (line, code)
 line_fault_at line fault.NoMemory = NoMemory
 
+-- The result of parsing is that of the definition, or `NoMemory`.
 abbrev pub ProcsSays : Result ProcsFields ProcsFault → Result ProcsFields (ℕ × Code) → Type 0
 ProcsSays (Ok procs) definition = definition ≡ Ok procs
 ProcsSays (Err (P1 line)) definition = definition ≡ Err (line, code.P1)

@@ -1,5 +1,5 @@
--- A text of processes as it is read, line after line. That this comes to what the text says is
--- proved.
+-- A text of processes is parsed line by line. It is proved that this yields what the text
+-- describes.
 use Rattle.std.specs.Prelude.{ℕ, ◌≡◌, ◌<◌, ⊤, true, List, ◌++◌, length, None, Result, Ok, Err}
 use Rattle.m36_image.specs.BareImage.{at_words}
 use Rattle.m36_image.specs.ImageState.{written_all}
@@ -15,7 +15,7 @@ use Rattle.m36_procs.specs.declared.reader.Reader.{Reader}
 abbrev pub rest_in : List (List ℕ) → Line
 rest_in words = line_by None None (at_words words)
 
--- what stands behind the lines that were read
+-- the state of parsing after the lines that were read
 abbrev pub stands_of : Reader → Stands
 stands_of r =
     record {
@@ -26,7 +26,7 @@ stands_of r =
       events = length r.schedule.items;
     }
 
--- what was read, as processes with their schedule
+-- the processes and the schedule that were read
 abbrev pub procs_read : Reader → ProcsFields
 procs_read r =
     record {
@@ -34,18 +34,19 @@ procs_read r =
       schedule = r.schedule.items;
     }
 
--- what is known of what was read, whatever the lines
+-- the invariant of what was read
 pub record Fits (r : Reader) : Type 0 where
   pub are : IsFew (length r.regs.items) r.schedule.items
   pub some : may_end r.stage ≡ true → 0 < length r.regs.items
 
--- A line was taken.
+-- A line was accepted: it has no code, and adds what it describes.
 pub record TookLine (old new : Reader) (line : Line) : Type 0 where
   pub stands : judged (stands_of old) line ≡ Ok (stands_of new)
   pub regs : new.regs.items ≡ old.regs.items ++ process_of line
   pub core : new.core ≡ written_all old.core (placed_of line)
   pub schedule : new.schedule.items ≡ old.schedule.items ++ turns_of line
 
+-- the result of taking a line: it was accepted, or has this least code
 abbrev pub TakeSays : Result (Unit {0}) LineFault → Reader → Reader → Line → Type 0
 TakeSays (Ok done) old new line = TookLine old new line
 TakeSays (Err (Refused code)) old new line = judged (stands_of old) line ≡ Err code

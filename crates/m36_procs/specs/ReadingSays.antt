@@ -1,4 +1,4 @@
--- What the parts of reading a text of processes answer.
+-- What the results of parsing parts of a text of processes imply.
 use Rattle.std.specs.Prelude.{ℕ, ◌≡◌, ◌*◌, ◌<◌, ⊤, List, [], ◌∷◌, ◌++◌, drop, length, replicate}
 use Rattle.std.specs.Prelude.{Option, Some, None, Result, Ok, Err}
 use Rattle.std.specs.Borrow.{Bor}
@@ -14,14 +14,15 @@ use Rattle.m36_procs.specs.declared.fault.ProcsFault.{ProcsFault}
 use Rattle.m36_procs.specs.declared.fault.ProcsFault.TheVariants.{P1, P2, NoMemory}
 use Rattle.m36_procs.specs.declared.reader.Reader.{Reader}
 
--- the fault told of a list of codes, of which the first is that of line n; want of memory may come
--- at any time
+-- The fault is that of the first line with a code, where the first code of the list is that of line
+-- n. Memory may run out at any time.
 abbrev pub FaultSays : ProcsFault → ℕ → List (Option Code) → Type 0
 FaultSays (P1 line) n codes = first_told n codes ≡ Some (line, code.P1)
 FaultSays (P2 line) n codes = first_told n codes ≡ Some (line, code.P2)
 FaultSays NoMemory n codes = ⊤
 
--- what the first line says, and the text behind it
+-- The first line was parsed: core has its size and is zero, no process or turn was read yet, and
+-- `rest` is the text after the line.
 pub record Begun (r : Reader) (rest : List ℕ) (lines : List (Option (List ℕ))) : Type 0 where
   pub frames : ℕ
   pub line : core_line (line_at lines 1) ≡ Ok frames
@@ -31,11 +32,12 @@ pub record Begun (r : Reader) (rest : List ℕ) (lines : List (Option (List ℕ)
   pub schedule : r.schedule.items ≡ []
   pub others : drop 1 lines ≡ lines_of rest
 
+-- the result of parsing the first line
 abbrev pub BeginSays : Result (Reader × Bor (List ℕ)) ProcsFault → List (Option (List ℕ)) → Type 0
 BeginSays (Ok begun) lines = Begun begun.0 begun.1.now lines
 BeginSays (Err fault) lines = FaultSays fault 1 (core_code (core_line (line_at lines 1)) ∷ [])
 
--- All lines behind the first were taken.
+-- All lines after the first were accepted.
 pub record TookLines (old new : Reader) (lines : List (Option (List ℕ))) : Type 0 where
   pub fine : first_told 2 (codes_from (stands_of old) lines) ≡ None
   pub regs : new.regs.items ≡ old.regs.items ++ processes_in lines
@@ -44,6 +46,7 @@ pub record TookLines (old new : Reader) (lines : List (Option (List ℕ))) : Typ
   pub fits : Fits new
   pub some : 0 < length new.regs.items
 
+-- the result of parsing the lines after the first
 abbrev pub LinesSay :
     Result (Unit {0}) ProcsFault → Reader → Reader → List (Option (List ℕ)) → Type 0
 LinesSay (Ok done) old new lines = TookLines old new lines

@@ -1,4 +1,4 @@
--- What a run of a schedule answers.
+-- What the result of a run of a schedule implies.
 use Rattle.std.specs.Prelude.{ℕ, ◌≡◌, List, ◌++◌, Option, Result, Ok, Err}
 use Rattle.m36_outside.specs.Passing.{TakesLines}
 use Rattle.m36_outside.specs.Put.{PutSays, PutHasCause}
@@ -8,14 +8,14 @@ use Rattle.m36_model.specs.Schedule.{Processes}
 use Rattle.m36_procs.specs.ScheduleText.{schedule_text, schedule_pieces, last_state}
 use Rattle.m36_procs.specs.declared.fault.WriteFault.{WriteFault}
 
--- all events were made, and their text is written
+-- All events were made, and their text was written.
 pub record IsRun
     (schedule : List ℕ) (old new : Processes (List ℕ)) (before now : Option (List ℕ))
     : Type 0 where
   pub state : new ≡ last_state schedule old
   pub grew : PutSays put.Done before now (schedule_text schedule old)
 
--- or else the events of a first part of the schedule, and a first part of the text is written
+-- The events of a prefix of the schedule were made, and a prefix of the text was written.
 pub record IsPartRun
     (schedule : List ℕ) (old new : Processes (List ℕ)) (before now : Option (List ℕ))
     : Type 0 where
@@ -25,23 +25,25 @@ pub record IsPartRun
   pub state : new ≡ last_state made old
   pub grew : PutSays put.Failed before now (schedule_text schedule old)
 
+-- what the result implies for the processes and for what is written
 abbrev pub RunSays :
     Result (Unit {0}) WriteFault → List ℕ → Processes (List ℕ) → Processes (List ℕ)
     → Option (List ℕ) → Option (List ℕ) → Type 0
 RunSays (Ok done) schedule old new before now = IsRun schedule old new before now
 RunSays (Err cut) schedule old new before now = IsPartRun schedule old new before now
 
--- what the last put of a run answered
+-- the result of the last put of a run
 abbrev pub put_by : Result (Unit {0}) WriteFault → Put
 put_by (Ok done) = put.Done
 put_by (Err cut) = put.Failed
 
--- which pieces the sink took by it: a line in each
+-- what the result implies for the pieces that the sink took, one for each line
 abbrev pub RunTakes :
     Result (Unit {0}) WriteFault → List ℕ → Processes (List ℕ) → List (List ℕ) → List (List ℕ)
     → Type 0
 RunTakes result schedule old before now =
     TakesLines (put_by result) before now (schedule_pieces schedule old)
 
+-- A run that failed raised the count of faults of the sink.
 abbrev pub RunHasCause : Result (Unit {0}) WriteFault → ℕ → ℕ → Type 0
 RunHasCause result old new = PutHasCause (put_by result) old new

@@ -1,5 +1,5 @@
--- What a run of a schedule writes, in pieces, each line one: a line for each event, and the last
--- line.
+-- What a run of a schedule writes: a line for each event, and the last line. Each line is one
+-- piece.
 use Rattle.std.specs.Prelude.{ℕ, ◌+◌, List, [], ◌∷◌, ◌++◌, length, codes}
 use Rattle.m36_outside.specs.Passing.{joined}
 use Rattle.m36_text.specs.Digits.{decimal_text}
@@ -15,29 +15,32 @@ use Rattle.m36_trace.specs.TraceLine.{line_of}
 unfoldable pub event_line : ℕ → ℕ → StepRecord → List ℕ
 event_line n process told = as_line ((decimal_text process ++ codes " ") ++ line_of n told)
 
--- the lines of events, of which the first has number n
+-- the lines of events; the first event has the number n
 unfoldable pub event_pieces : ℕ → List (Event (List ℕ)) → List (List ℕ)
 event_pieces n [] = []
 event_pieces n (e ∷ more) = event_line n e.process e.told ∷ event_pieces (n + 1) more
 
+-- the last line, after this many events
 unfoldable pub end_line : ℕ → List ℕ
 end_line events = as_line (end_line_with (codes "schedule") events)
 
--- what is written from event n on, where there are so many events
+-- what is written from event n on; the schedule has `total` events
 abbrev pub pieces_from : ℕ → ℕ → List ℕ → Processes (List ℕ) → List (List ℕ)
 pieces_from total n schedule s =
     event_pieces n (events core_store schedule s) ++ end_line total ∷ []
 
+-- the lines of a run of a schedule
 unfoldable pub schedule_pieces : List ℕ → Processes (List ℕ) → List (List ℕ)
 schedule_pieces schedule s = pieces_from (length schedule) 1 schedule s
 
+-- the text of a run of a schedule
 unfoldable pub schedule_text : List ℕ → Processes (List ℕ) → List ℕ
 schedule_text schedule s = joined (schedule_pieces schedule s)
 
--- the state that some events leave; the one before them where there is none
+-- the state after these events; `s` if there are none
 abbrev pub behind_events : Processes (List ℕ) → List (Event (List ℕ)) → Processes (List ℕ)
 behind_events s made = state_behind (λ (e : Event (List ℕ)). e.after) s made
 
--- the state that a schedule leaves
+-- the state after a schedule
 unfoldable pub last_state : List ℕ → Processes (List ℕ) → Processes (List ℕ)
 last_state schedule s = behind_events s (events core_store schedule s)

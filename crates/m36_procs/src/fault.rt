@@ -1,4 +1,4 @@
-//! Why processes are not read, and why a run ends early.
+//! Why a text of processes is refused, and why a run ends early.
 
 ghost use Rattle.std.specs.Prelude.{◌≡◌};
 ghost use Rattle.m36_procs.specs.declared.fault.LineFault.TheVariants as line;
@@ -7,17 +7,17 @@ ghost use Rattle.m36_procs.specs.ProcsSays.{fault_at, line_fault_at};
 
 use m36_word::NoMemory;
 
-/// The code of a line that is refused.
+/// The code of a refused line.
 #[derive(Clone, Copy, PartialEq, Eq)]
 pub enum Code {
-    /// The line is not of its form, out of order or missing, has no line feed, has a number or an address against its
-    /// rule, or makes too many events.
+    /// The line does not have its form, is out of order or missing, lacks its line feed, has a
+    /// number or an address out of range, or makes too many events.
     P1,
-    /// A number in it is that of no process.
+    /// No process has a number in the line.
     P2,
 }
 
-/// Why a line is not taken.
+/// Why a line was not accepted.
 #[derive(Clone, Copy, PartialEq, Eq)]
 pub(crate) enum LineFault {
     Refused(Code),
@@ -25,7 +25,7 @@ pub(crate) enum LineFault {
 }
 
 impl LineFault {
-    /// What it means at its line.
+    /// The fault of the text, if this is the fault of line `line`.
     pub(crate) fn at(self, line: u32) -> ProcsFault
         ensures { result ≡ line_fault_at line self }
     {
@@ -52,21 +52,21 @@ impl From<NoMemory> for LineFault {
     }
 }
 
-/// Why a text is not read: its first line that has a code, counted from 1, and the least code of that line. A missing
-/// line has the number that it would have.
+/// Why a text is refused: its first line that has a code, with the least code of that line. Lines
+/// are counted from 1. A missing line has the number that it would have.
 #[derive(Clone, Copy, PartialEq, Eq)]
 pub enum ProcsFault {
-    /// The line is not of its form, out of order or missing, has no line feed, has a number or an address against its
-    /// rule, or makes more than 10,000,000 events.
+    /// The line does not have its form, is out of order or missing, lacks its line feed, has a
+    /// number or an address out of range, or makes more than 10,000,000 events.
     P1(u32),
     /// The line gives a turn to a number that no process has.
     P2(u32),
-    /// No memory was found.
+    /// Memory ran out.
     NoMemory,
 }
 
 impl ProcsFault {
-    /// A code at its line.
+    /// The fault with this code at a line.
     pub(crate) fn at(line: u32, code: Code) -> ProcsFault
         ensures { result ≡ fault_at (line, code) }
     {

@@ -1,4 +1,4 @@
-//! The lines of a text of processes, each read by its form. A line is given without its line feed.
+//! Parses single lines of a text of processes. A line is given without its line feed.
 
 ghost use Rattle.std.specs.Prelude.{◌≡◌};
 ghost use Rattle.std.specs.Option.{option_map};
@@ -13,10 +13,10 @@ use m36_text::{decimal_in, first_word, is_text, octal_in, only_word, short_decim
 use m36_word::Pair;
 use std::marker::Model;
 
-/// The most times that a line gives its turns.
+/// The maximum number of times that a line repeats its turns.
 const MOST_TIMES: u64 = 1_000_000;
 
-/// Turns of processes, given so many times in a row.
+/// Turns of processes, and how many times they are made in a row.
 #[derive(Drop)]
 pub(crate) struct Turns {
     /// The numbers of the processes, in order.
@@ -37,7 +37,8 @@ impl Model for Turns {
     ghost invariant = { λ t. t.times ≤ most_times };
 }
 
-/// The line `process E O S R I`: the registers of a process; none where it is not of its form.
+/// The registers of a process, from the line `process E O S R I`. None if it does not have this
+/// form.
 pub(crate) fn process_line(line: &[u8]) -> Option<Regs>
     ensures { result ≡ process_words (words_of line.now) }
 {
@@ -63,7 +64,7 @@ pub(crate) fn process_line(line: &[u8]) -> Option<Regs>
     Some(registers(Pair { even, odd }, start))
 }
 
-// One to sixteen numbers of one digit; none where there are more, or one is of another form.
+// One to sixteen numbers of one digit. None if there are more, or one has another form.
 #[tactic(auto, using(m36_image::proofs::SeveralLaws::reading_several))]
 fn sixteen_numbers(line: &[u8]) -> Option<ArrayVec<u8, 16>>
     ensures { option_map (λ v. v.items) result ≡ process_numbers (words_of line.now) }
@@ -82,7 +83,7 @@ fn sixteen_numbers(line: &[u8]) -> Option<ArrayVec<u8, 16>>
     None
 }
 
-/// The line `turns C P ..`; none where it is not of its form.
+/// The turns of the line `turns C P ..`. None if it does not have this form.
 #[tactic(auto, unfolding(m36_image::specs::Several::one_to))]
 pub(crate) fn turns_line(line: &[u8]) -> Option<Turns>
     ensures { result ≡ turns_words (words_of line.now) }

@@ -10,12 +10,13 @@ use m36_word::NoMemory;
 use std::alloc::Global;
 use std::marker::Model;
 
-/// Several processes on one core, seen as the registers of each and the words of core. The machine has the registers of
-/// one of them, and keeps them until another has its turn.
+/// Several processes on one core. The model is the registers of each process and the words of core.
+/// The machine has the registers of one of them, until another has its turn.
 #[derive(Drop)]
 pub(crate) struct ProcessSet {
     machine: Machine,
-    /// The registers of each process, but for those of the one that the machine has: what stands there is no one's.
+    /// The registers of each process, except for the one whose registers the machine has: its entry
+    /// has no meaning.
     regs: Vec<Regs>,
     /// The process whose registers the machine has.
     inside: usize,
@@ -32,7 +33,8 @@ impl Model for ProcessSet {
     ghost invariant = { λ p. p.inside < length p.regs.items };
 }
 
-/// Puts the registers of process i into the machine, and those that it had back to their process.
+/// Exchanges the registers in the machine for those of process i. The registers that the machine
+/// had go back to their process.
 #[tactic(auto, using(crate::proofs::Exchanging::exchanging))]
 fn bring(machine: &mut Machine, regs: &mut Vec<Regs>, inside: &mut usize, i: usize)
     requires inside { inside.old < length regs.old.items }
@@ -53,7 +55,7 @@ fn bring(machine: &mut Machine, regs: &mut Vec<Regs>, inside: &mut usize, i: usi
 }
 
 impl ProcessSet {
-    /// The processes with these registers, one at least, on this core.
+    /// The processes with these registers, at least one, on this core.
     #[tactic(auto, using(crate::proofs::Exchanging::exchanging))]
     pub(crate) fn new(core: Core, regs: Vec<Regs>) -> ProcessSet
         requires { 0 < length regs.items }
@@ -67,14 +69,14 @@ impl ProcessSet {
         }
     }
 
-    /// How many there are.
+    /// The number of processes.
     pub(crate) fn count(&self) -> usize
         ensures { result ≡ length self.now.regs }
     {
         self.regs.len()
     }
 
-    /// Core as it stands.
+    /// The core of all processes.
     pub(crate) fn core(&self) -> &Core
         ensures { result.now ≡ self.now.store }
     {
@@ -94,12 +96,12 @@ impl ProcessSet {
         }
     }
 
-    /// A record for `step_into` to fill, which tells of no step yet.
+    /// An empty record for `step_into` to overwrite.
     pub(crate) fn untold(&self) -> StepRecord {
         self.machine.untold()
     }
 
-    /// One step of process i, told in a record that an earlier one may have filled.
+    /// Takes one step of process i, and overwrites the record.
     #[tactic(auto, using(crate::proofs::Exchanging::exchanging))]
     pub(crate) fn step_into(&mut self, i: usize, told: &mut StepRecord)
         requires { i < length self.old.regs }

@@ -20,7 +20,8 @@ use m36_word::NoMemory;
 use std::alloc::Global;
 use std::marker::Model;
 
-/// One to eight processes on one core, and the schedule by which they run: at most 10,000,000 process numbers.
+/// One to eight processes on one core, and the schedule by which they run: at most 10,000,000
+/// process numbers.
 #[derive(Drop)]
 pub struct Procs {
     processes: ProcessSet,
@@ -38,7 +39,7 @@ impl Model for Procs {
     ghost invariant = { λ p. IsProcs p.processes p.schedule.items };
 }
 
-// What was read, as processes with their schedule.
+// The processes and the schedule that were read.
 fn finished(alloc: Global, reader: Reader) -> Result<Procs, NoMemory>
     requires fits { Fits reader }
     requires some { 0 < length reader.regs.items }
@@ -58,8 +59,8 @@ fn finished(alloc: Global, reader: Reader) -> Result<Procs, NoMemory>
 }
 
 impl Procs {
-    /// Reads processes with their schedule. A text is refused exactly where a line has a code, with the first such line
-    /// and its least code; the only other answer is want of memory, and all memory is taken here.
+    /// Parses processes with their schedule. The error is the first line that has a code, with the
+    /// least code of that line, or `NoMemory`. All memory is allocated here.
     #[tactic(auto, using(crate::proofs::Accepting::accepting))]
     pub fn read(alloc: Global, text: &[u8]) -> Result<Procs, ProcsFault>
         requires { length text.now ≤ 2 ^ 31 }
@@ -70,7 +71,7 @@ impl Procs {
         Ok(finished(alloc, reader)?)
     }
 
-    /// How many processes there are: 1 to 8.
+    /// The number of processes: 1 to 8.
     pub fn count(&self) -> usize
         ensures value { result ≡ length self.now.state.regs }
         ensures some { 1 ≤ result }
@@ -79,14 +80,14 @@ impl Procs {
         self.processes.count()
     }
 
-    /// Core as it stands.
+    /// The core of all processes.
     pub fn core(&self) -> &Core
         ensures { result.now ≡ self.now.state.store }
     {
         self.processes.core()
     }
 
-    /// The registers of process i as they stand.
+    /// The registers of process i, counted from 0.
     pub fn regs(&self, i: usize) -> &Regs
         requires { i < length self.now.state.regs }
         ensures { slice_get self.now.state.regs i ≡ Some result.now }
@@ -94,7 +95,8 @@ impl Procs {
         self.processes.regs(i)
     }
 
-    /// One step of process i, also of one that has stopped or faulted. The registers of the others stay.
+    /// Takes one step of process i, also if it has stopped or faulted, and returns its record. The
+    /// registers of the other processes do not change.
     pub fn event(&mut self, i: usize) -> StepRecord
         requires { i < length self.old.state.regs }
         ensures says { EventSays i self.old.state self.new.state result }

@@ -1,4 +1,4 @@
-//! What a text of processes has said so far, and what its next line adds.
+//! What has been read of a text of processes, and what its next line adds.
 
 ghost use Rattle.std.specs.Prelude.{◌≡◌, ◌<◌, ◌≤◌, [], ◌∷◌, ◌++◌, OnOk};
 ghost use Rattle.std.specs.List.{repeat};
@@ -14,24 +14,24 @@ use m36_image::put_line_into_core;
 use m36_model::Regs;
 use m36_word::NoMemory;
 
-/// The most processes.
+/// The maximum number of processes.
 const MOST_PROCESSES: usize = 8;
 
-/// The most events of a schedule.
+/// The maximum number of events of a schedule.
 const MOST_EVENTS: u64 = 10_000_000;
 
 /// Which lines may follow.
 #[derive(Clone, Copy, PartialEq, Eq)]
 pub(crate) enum Stage {
-    /// A further process, or words and turns once there is one.
+    /// `process` lines; and `at` and `turns` lines, if there is a process.
     Naming,
-    /// Words and turns.
+    /// `at` and `turns` lines.
     Placing,
-    /// Turns.
+    /// `turns` lines.
     Turning,
 }
 
-/// What the lines so far have said.
+/// What the lines so far have described.
 #[derive(Drop)]
 pub(crate) struct Reader {
     pub(crate) core: Core,
@@ -44,6 +44,7 @@ pub(crate) struct Reader {
     pub(crate) stage: Stage,
 }
 
+// Whether a `process` line may follow.
 fn may_name(stage: Stage) -> bool
     ensures { result ≡ may_name stage }
 {
@@ -53,6 +54,7 @@ fn may_name(stage: Stage) -> bool
     }
 }
 
+// Whether an `at` line may follow.
 fn may_place(stage: Stage) -> bool
     ensures { result ≡ may_place stage }
 {
@@ -62,7 +64,7 @@ fn may_place(stage: Stage) -> bool
     }
 }
 
-/// Whether a text may end there.
+/// Whether the text may end.
 pub(crate) fn may_end(stage: Stage) -> bool
     ensures { result ≡ may_end stage }
 {
@@ -72,21 +74,21 @@ pub(crate) fn may_end(stage: Stage) -> bool
     }
 }
 
-// Whether each is the number of one of so many processes.
+// Whether each number is that of one of `count` processes.
 fn are_named(count: usize, numbers: &[u8]) -> bool
     ensures { result ≡ are_named count numbers.now }
 {
     numbers.iter().all(|number| (*number as usize) < count)
 }
 
-// Whether turns are those of some of so many processes.
+// Whether each turn is that of one of `count` processes.
 fn have_processes(count: usize, turns: &Turns) -> bool
     ensures { result ≡ are_named count turns.now.order }
 {
     are_named(count, turns.order.as_slice())
 }
 
-// How many events there are with turns behind so many.
+// The number of events with these turns after `events` events.
 #[tactic(auto, using(crate::proofs::Taking::few_events))]
 fn events_with(events: usize, turns: &Turns) -> u64
     requires { events ≤ most_events }
@@ -102,7 +104,7 @@ fn push_process(all: &mut Vec<Regs>, regs: Regs) -> Result<(), NoMemory>
     Ok(())
 }
 
-// Puts numbers behind a schedule, so many times.
+// Adds numbers to a schedule, `times` times in a row.
 #[tactic(auto, using(crate::proofs::Repeating::repeating))]
 fn push_numbers(schedule: &mut Vec<u8>, order: &[u8], times: u32) -> Result<(), NoMemory>
     ensures { OnOk result (schedule.new.items ≡ schedule.old.items ++ repeat times order.now) }
@@ -115,7 +117,7 @@ fn push_numbers(schedule: &mut Vec<u8>, order: &[u8], times: u32) -> Result<(), 
     Ok(())
 }
 
-// Puts turns behind a schedule.
+// Adds turns to a schedule.
 fn push_turns(schedule: &mut Vec<u8>, turns: &Turns) -> Result<(), NoMemory>
     ensures { OnOk result
         (schedule.new.items ≡ schedule.old.items ++ repeat turns.now.times turns.now.order) }
@@ -123,7 +125,7 @@ fn push_turns(schedule: &mut Vec<u8>, turns: &Turns) -> Result<(), NoMemory>
     push_numbers(schedule, turns.order.as_slice(), turns.times)
 }
 
-// Takes a line `process`.
+// Takes a `process` line.
 #[tactic(auto, unfolding(crate::specs::ProcsFile::judged), using(crate::proofs::Taking::taking))]
 fn take_process(reader: &mut Reader, regs: Regs) -> Result<(), LineFault>
     ensures { TakeSays result reader.old reader.new (ProcessLine regs) }
@@ -135,7 +137,7 @@ fn take_process(reader: &mut Reader, regs: Regs) -> Result<(), LineFault>
     Ok(())
 }
 
-// Takes a line `turns`.
+// Takes a `turns` line.
 #[tactic(auto, unfolding(crate::specs::ProcsFile::judged), using(crate::proofs::Taking::taking))]
 fn take_turns(reader: &mut Reader, turns: &Turns) -> Result<(), LineFault>
     requires { Fits reader.old }
@@ -153,7 +155,7 @@ fn take_turns(reader: &mut Reader, turns: &Turns) -> Result<(), LineFault>
     }
 }
 
-// Takes a line that is neither, an `at` line or one of no form.
+// Takes a line that is neither: an `at` line, or a line without a form.
 #[tactic(auto, unfolding(crate::specs::ProcsFile::judged), using(crate::proofs::Taking::taking))]
 fn take_words(reader: &mut Reader, line: &[u8]) -> Result<(), LineFault>
     ensures { TakeSays result reader.old reader.new (rest_in (words_of line.now)) }
@@ -172,7 +174,7 @@ fn take_words(reader: &mut Reader, line: &[u8]) -> Result<(), LineFault>
 }
 
 impl Reader {
-    /// Takes a line, or answers the least code that it has.
+    /// Takes a line, or fails with the least code that it has.
     pub(crate) fn take(&mut self, line: &[u8]) -> Result<(), LineFault>
         requires { Fits self.old }
         ensures { TakeSays result self.old self.new (line_in (words_of line.now)) }

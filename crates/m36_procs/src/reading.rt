@@ -1,4 +1,4 @@
-//! A text of processes, read line by line.
+//! Parses a text of processes line by line.
 
 ghost use Rattle.std.specs.Prelude.{◌+◌, ◌≤◌, ◌^◌, length, IfOk};
 ghost use Rattle.m36_text.specs.Lines.{lines_of};
@@ -12,7 +12,7 @@ use m36_image::core_line;
 use m36_text::first_line;
 use std::alloc::Global;
 
-/// Reads the first line. Answers what it says, and the text behind it.
+/// Parses the first line. Returns a reader with the core that it describes, and the text after it.
 #[tactic(auto, using(crate::proofs::Beginning::beginning))]
 pub(crate) fn begin(alloc: Global, text: &[u8]) -> Result<(Reader, &[u8]), ProcsFault>
     ensures says { BeginSays result (lines_of text.now) }
@@ -35,7 +35,7 @@ pub(crate) fn begin(alloc: Global, text: &[u8]) -> Result<(Reader, &[u8]), Procs
     Ok((reader, rest))
 }
 
-/// Reads the lines behind the first.
+/// Parses the lines after the first.
 #[tactic(auto, using(crate::proofs::LinesRead::reading, m36_text::proofs::Splitting::lining))]
 pub(crate) fn read_lines(reader: &mut Reader, text: &[u8]) -> Result<(), ProcsFault>
     requires fits { Fits reader.old }

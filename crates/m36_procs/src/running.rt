@@ -1,5 +1,5 @@
-//! A run of a schedule, written line by line. The lines are gathered in a block, which is handed over when it is full and at
-//! the end.
+//! Runs a schedule, and writes its lines. They are gathered in a block, which is handed over when
+//! it is full and at the end.
 
 ghost use Rattle.std.specs.Prelude.{◌≡◌, ◌<◌, true, [], ◌∷◌, ◌++◌, length};
 ghost use Rattle.m36_outside.specs.Gathered.{Adds};
@@ -52,7 +52,7 @@ fn add_event<S: Sink>(process: u8, n: u64, told: &StepRecord, block: &mut Block,
     block.add(event_line(process, n, told).as_str().as_bytes(), out)
 }
 
-// Adds the last line to a block, as one piece, and hands the block over.
+// Adds the last line to a block, as one piece, and hands over the block.
 #[tactic(auto, using(crate::proofs::EventPieces::one_line))]
 fn put_end<S: Sink>(events: u64, block: &mut Block, out: &mut S) -> Put
     ensures says { PutSays result
@@ -64,8 +64,8 @@ fn put_end<S: Sink>(events: u64, block: &mut Block, out: &mut S) -> Put
     block.finish(end_line(events).as_str().as_bytes(), out)
 }
 
-/// Makes the events of a schedule, and writes a line for each and the last line. Where a line could not be written the
-/// events of a first part of the schedule were made.
+/// Makes the events of a schedule, and writes a line for each and the last line. If a line could
+/// not be written, the events of a prefix of the schedule were made.
 #[tactic(auto, using(crate::proofs::EventsRun::running, crate::proofs::EventPieces::running))]
 pub(crate) fn run_schedule<S: Sink>(
     processes: &mut ProcessSet,

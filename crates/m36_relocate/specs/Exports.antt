@@ -15,14 +15,16 @@ use Rattle.m36_relocate.specs.Layout.{spot_moved}
 use Rattle.m36_relocate.specs.declared.layout.Moving.{Moving}
 use Rattle.m36_relocate.specs.declared.exports.Export.{Export}
 
--- the entry of a name
+-- the entry of a name, if the table has one
 unfoldable pub export_named : List ℕ → List (List ℕ × Export) → Option Export
 export_named name table = lookup (same name) table
 
+-- the entry of a name after one more definition of it
 abbrev pub export_behind : DefFields → Option Export → Export
 export_behind def None = record { def = def; twice = false }
 export_behind def (Some first) = record { def = first.def; twice = true }
 
+-- the table with one more definition of a name
 unfoldable pub with_export : List (List ℕ × Export) → List ℕ → DefFields → List (List ℕ × Export)
 with_export table name def =
     insert_entry same table name (export_behind def (export_named name table))
@@ -40,9 +42,11 @@ with_counted table d def =
 
 -- ---- the definitions of one component, at their places there
 
+-- the table with a definition of a component, at its place there
 abbrev pub with_own : List (List ℕ × Export) → Named → List (List ℕ × Export)
 with_own table d = with_counted table d d.def
 
+-- the table with the definitions of a component, at their places there
 unfoldable pub own_from : List (List ℕ × Export) → List Named → List (List ℕ × Export)
 own_from table [] = table
 own_from table (d ∷ ds) = own_from (with_own table d) ds
@@ -57,14 +61,17 @@ EntriesStand =
 
 -- ---- the definitions of a component, at their places in the bound object
 
+-- a definition, at its place in the bound object
 abbrev pub def_moved : Moving → DefFields → DefFields
 def_moved m d =
     let s = spot_moved m d.section d.value in
     record { section = s.section; value = s.offset; is_entry = d.is_entry }
 
+-- the table with a definition of a component, at its place in the bound object
 abbrev pub with_moved : Moving → List (List ℕ × Export) → Named → List (List ℕ × Export)
 with_moved m table d = with_counted table d (def_moved m d.def)
 
+-- the table with the definitions of a component, at their places in the bound object
 unfoldable pub moved_from : Moving → List (List ℕ × Export) → List Named → List (List ℕ × Export)
 moved_from m table [] = table
 moved_from m table (d ∷ ds) = moved_from m (with_moved m table d) ds

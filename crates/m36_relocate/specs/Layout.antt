@@ -35,14 +35,18 @@ meant_older statics v =
 abbrev pub statics_behind_links : ℕ → ℕ
 statics_behind_links links = linkage_length 0 links
 
+-- what an offset of the linkage section past its head denotes in version 2: a word of a link, or
+-- past the links a static word
 abbrev pub meant_newer : ℕ → ℕ → Meant
 meant_newer links v =
     if nat_lt v (statics_behind_links links)
     then LinkWord (v - head_words) else StaticWord (v - statics_behind_links links)
 
+-- what an offset of the linkage section past its head denotes
 abbrev pub meant_past_head : ShapeFields → ℕ → Meant
 meant_past_head s v = if s.newer then meant_newer s.links v else meant_older s.statics v
 
+-- what an offset of the linkage section denotes
 abbrev pub meant_in_linkage : ShapeFields → ℕ → Meant
 meant_in_linkage s v = if nat_lt v head_words then HeadWord v else meant_past_head s v
 
@@ -53,6 +57,7 @@ meant s Linkage v = meant_in_linkage s v
 meant s Static v = StaticWord v
 meant s Symbol v = HeadWord v
 
+-- the number of the word is below n
 abbrev pub IsBelow : ℕ → Meant → Type 0
 IsBelow n (TextWord v) = v < n
 IsBelow n (StaticWord v) = v < n
@@ -61,6 +66,7 @@ IsBelow n (HeadWord v) = v < n
 
 -- ---- where the words of a component begin
 
+-- the first component begins at word 0 of each section
 abbrev pub first_bases : BasesFields
 first_bases = record { text = 0; statics = 0; links = 0 }
 
@@ -83,6 +89,7 @@ first_link f = first_link_by f.newer f.statics
 abbrev pub first_static : ShapeFields → ℕ
 first_static f = if f.newer then statics_behind_links f.links else head_words
 
+-- a place of a section, with the offset modulo 2^18
 abbrev pub spot : Section → ℕ → Spot
 spot section offset = record { section = section; offset = offset % 2 ^ 18 }
 
@@ -90,9 +97,11 @@ spot section offset = record { section = section; offset = offset % 2 ^ 18 }
 abbrev pub text_spot : BasesFields → ℕ → Spot
 text_spot b v = spot Text (b.text + v)
 
+-- the place of a static word of the bound object
 abbrev pub static_spot : ShapeFields → ℕ → Spot
 static_spot f w = if f.newer then spot Static w else spot Linkage (head_words + w)
 
+-- the place in the bound object of a word of a component
 abbrev pub image_spot : ShapeFields → BasesFields → Meant → Spot
 image_spot f b (TextWord v) = text_spot b v
 image_spot f b (StaticWord w) = static_spot f (b.statics + w)
@@ -111,6 +120,7 @@ static_number f Text w = first_static f + w
 static_number f Linkage w = first_static f + w
 static_number f Symbol w = first_static f + w
 
+-- the number, in a relocated part, of a word of a component in the bound object
 abbrev pub image_number : ShapeFields → BasesFields → Section → Meant → ℕ
 image_number f b target (TextWord v) = b.text + v
 image_number f b target (StaticWord w) = static_number f target (b.statics + w)

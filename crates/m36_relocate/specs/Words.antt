@@ -31,6 +31,7 @@ below_zero b Static v = b.statics + v
 below_zero b Linkage v = v
 below_zero b Symbol v = v
 
+-- the relocated number of bits 3 to 17, plus 2^15
 unfoldable pub offset_raised : Moving → Section → ℕ → ℕ
 offset_raised m target v =
     if nat_lt v offset_limit then 2 ^ 15 + number_moved m target v else below_zero m.bases target v
@@ -66,6 +67,7 @@ StaticsBegin =
     (s : ShapeFields) (w : ℕ) → w < s.statics
     → meant s (static_spot s w).section (start_of true s + w) ≡ StaticWord w
 
+-- the static words or the text of parts
 abbrev pub words_in : Bool → PartsFields → List ℕ
 words_in statics p = if statics then p.statics else p.text
 
@@ -73,23 +75,28 @@ words_in statics p = if statics then p.statics else p.text
 abbrev pub place_in : ShapeFields → Bool → RelocFields → ℕ
 place_in s statics r = r.offset - start_of statics s
 
+-- words with word i relocated, if there is one
 abbrev pub moved_at : Moving → RelocFields → ℕ → List ℕ → List ℕ
 moved_at m r i words = if nat_lt i (length words)
     then slice_set words i (word_moved m r (slice_index words i)) else words
 
+-- words relocated by a relocation, if it is one of these words
 unfoldable pub one_moved : Moving → Bool → RelocFields → List ℕ → List ℕ
 one_moved m statics r words =
     if stands_in statics r then moved_at m r (place_in m.shape statics r) words else words
 
+-- words relocated by all their relocations
 unfoldable pub words_moved : Moving → Bool → List RelocFields → List ℕ → List ℕ
 words_moved m statics [] words = words
 words_moved m statics (r ∷ rs) words = words_moved m statics rs (one_moved m statics r words)
 
+-- whether the part of a relocation fits, if it is one of these words
 unfoldable pub one_fits : Moving → Bool → List ℕ → RelocFields → Bool
 one_fits m statics words r =
     if stands_in statics r then part_fits m r (slice_index words (place_in m.shape statics r))
     else true
 
+-- whether the parts of all relocations of these words fit
 unfoldable pub all_fit : Moving → Bool → List ℕ → List RelocFields → Bool
 all_fit m statics words [] = true
 all_fit m statics words (r ∷ rs) =

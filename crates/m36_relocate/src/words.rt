@@ -111,6 +111,7 @@ fn place_in(m: &Moving, statics: bool, r: &Reloc) -> usize
     (r.offset as usize).saturating_sub(start_of(statics, &m.shape))
 }
 
+// Relocates word i, if there is one.
 fn move_at(words: &mut [Word], m: &Moving, r: &Reloc, i: usize)
     ensures { words.new ≡ moved_at m.now r.now i words.old }
 {
@@ -120,6 +121,7 @@ fn move_at(words: &mut [Word], m: &Moving, r: &Reloc, i: usize)
     }
 }
 
+// Relocates the word of a relocation, if it is one of these words.
 #[tactic(auto, unfolding(crate::specs::Words::one_moved))]
 fn move_one(words: &mut [Word], m: &Moving, statics: bool, r: &Reloc)
     ensures { words.new ≡ one_moved m.now statics r.now words.old }

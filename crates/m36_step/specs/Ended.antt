@@ -83,7 +83,7 @@ abbrev pub EndsSo :
 EndsSo g program core refs core' refs' g' e =
     end_of (run core_store g program (standing core [] refs)) ≡ given_end core' refs' g' e
 
--- The same once the address is formed: the step has claimed the tally word, if there is one.
+-- As `EndsSo`, once the address is formed: the step has claimed the tally word, if there is one.
 abbrev pub EndsFormed :
     RegsFields → Act Ending → List ℕ → Formed → List Reference → List ℕ → List Reference
     → RegsFields → Ended → Type 0

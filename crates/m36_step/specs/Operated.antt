@@ -43,7 +43,8 @@ puts_of f put o =
     puts_with (pending_of f.tally) (part_of o.part) (length (claimed_by f.tally f.place))
     (words_of_held put)
 
--- the same with the registers after the effect
+-- the result of the operation: the registers after the effect, the values to write, and whether
+-- overflow has to be reported
 abbrev pub performed_by : Formed → RegsFields → Held → Operated → Performed
 performed_by f g put o = record { regs = g; puts = puts_of f put o; overflow = o.overflow }
 
@@ -52,7 +53,7 @@ abbrev pub ran_from :
     RegsFields → Operation → Formed → List ℕ → List Reference → Ran (Result Performed Halt) (List ℕ)
 ran_from g program f core refs = run core_store g program (formed_mid core f refs)
 
--- the same for the operation of an instruction
+-- as `ran_from`, for the operation of an instruction
 abbrev pub operation_from :
     Effect → ℕ → RegsFields → Formed → List ℕ → List Reference
     → Ran (Result Performed Halt) (List ℕ)

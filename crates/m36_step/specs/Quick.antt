@@ -46,11 +46,11 @@ Operates Has Tells q g w last core core' after =
     Goes Has Tells g (operated q.effect q.reg g w (chain_end_fields (plain last)))
     core core' after w
 
--- the operation of an instruction whose address has counted a tally word
+-- the formed address of an instruction that has counted a tally word
 abbrev pub counted_address : Counting → Formed
 counted_address c = record { last = c.last; tally = Some c.tally; place = c.place }
 
--- the same operation, in a step that has claimed the tally word
+-- the operation of an instruction with such an address, in a step that has claimed the tally word
 abbrev pub OperatesCounted :
     (List Reference → Type 0) → (List Reference → Ended → Type 0) → Quick → RegsFields → ℕ
     → Counting → List ℕ → List ℕ → RegsFields → Type 0

@@ -80,7 +80,7 @@ Reads program g f core refs core' refs' o u =
     (e : Effect) (n : ℕ)
     → ran_from g (program e n) f core refs ≡ unwritten_end e n g f core' refs' o u
 
--- The same for a program that will write `count` words.
+-- As `Reads`, for a program that will write `count` words.
 abbrev pub Writes :
     (Effect → ℕ → Operation) → RegsFields → Formed → ℕ → List ℕ → List Reference → List ℕ
     → List Reference → Operand36 → Result Reached Fault → Type 0

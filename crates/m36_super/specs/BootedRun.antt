@@ -79,9 +79,9 @@ IsStepTurn true frames before turn after = Takes before.state before turn after
 
 -- ---- services
 
--- Words of segments are written, each where its page is. Nothing else of the memory changes, and
--- no mark of a page table word. So the core is still that of the image, and the flat memory
--- changes by the same words.
+-- Words of segments are written, each where its page is. Nothing else of the memory changes, and no
+-- mark of a page table word. So the core is still laid out as that of the image, and the flat
+-- memory changes by the same words.
 pub record IsWritten (frames : ℕ) (old new : Paged) (changes : List Change) : Type 0 where
   pub put : new ≡ paged_put old changes
   -- what follows
@@ -141,7 +141,7 @@ IsTurnBy Print lib before turn after =
     (console_text before.state.regs (flat_of before.state.memory)) before turn after
 IsTurnBy (Over e) lib before turn after = (turn ≡ Ended e) × (after ≡ before)
 
--- the turn, and the state after it, are those that the run may have
+-- the run may make this turn, and then be in the state `after`
 unfoldable pub IsTurn : Library → Booted → Turn → Booted → Type 0
 IsTurn lib before turn after = IsTurnBy before.coming lib before turn after
 
@@ -161,7 +161,7 @@ pub record IsStanding (frames : ℕ) (s : PagedState) : Type 0 where
   pub dbr : s.regs.dbr ≡ booted_dbr
   pub laid : IsLaid s.memory.core frames
 
--- this holds until an LDBR is executed
+-- `IsStanding` holds, until an LDBR has been executed.
 abbrev pub Stands : Bool → ℕ → PagedState → Type 0
 Stands false frames s = IsStanding frames s
 Stands true frames s = Unit {0}

@@ -47,7 +47,7 @@ loads (Some w) Next = is_ldbr (decode w)
 loads (Some w) (Faulted f) = false
 loads (Some w) (Stopped s) = false
 
--- before the step or in it
+-- whether an LDBR has been executed, in this step or before it
 abbrev pub loaded_after : Bool → StepRecord → Bool
 loaded_after true e = true
 loaded_after false e = loads e.word e.outcome

@@ -22,8 +22,8 @@ use Rattle.m36_super.specs.Library.{Library}
 use Rattle.m36_super.specs.Coming.{Coming, Step, Link, Print, Over}
 use Rattle.m36_super.specs.BootedRun.{Booted}
 
--- its library, the registers, its core, the pager with the kept words, what the rings know, what
--- the next turn is, and whether an LDBR has been executed
+-- A system: its library, registers and core, the pager with the kept words, what the rings know,
+-- what the next turn is, and whether an LDBR has been executed.
 pub record SuperFields : Type 0 where
   pub lib : Library
   pub regs : RegsFields
@@ -53,8 +53,9 @@ pub record IsLinkage (core : List ℕ) (seg : ℕ) : Type 0 where
   pub live : core_sdw core booted_dbr seg ≡ Ok sdw
   pub whole : sdw.bound ≡ bound_of_pages linkage_pages
 
--- The core is laid out as that of the image, the pager has exactly the page tables of the image,
--- and the page table words are as the pager left them, except for marks.
+-- The core is laid out as that of the image, and the pager has exactly the page tables of the
+-- image. The page table words are as the pager left them, except for marks. The linkage segments
+-- have all the pages that a segment can have.
 pub record IsManaged (frames : ℕ) (core : List ℕ) (p : PagerFields) : Type 0 where
   pub pages : HasPages frames core p
   pub reads : Reads p core
@@ -66,7 +67,7 @@ pub record IsRunning (frames : ℕ) (regs : RegsFields) (core : List ℕ)
   pub dbr : regs.dbr ≡ booted_dbr
   pub managed : IsManaged frames core p
 
--- this holds until an LDBR is executed
+-- `IsRunning` holds, until an LDBR has been executed.
 abbrev pub Manages : Bool → ℕ → RegsFields → List ℕ → PagerFields → Type 0
 Manages false frames regs core p = IsRunning frames regs core p
 Manages true frames regs core p = Unit {0}

@@ -39,6 +39,7 @@ fn is_ldbr(word: Word) -> bool
     }
 }
 
+// Whether the instruction is LDBR.
 fn loads_dbr(effect: Effect) -> bool
     ensures { (n : ℕ) → result ≡ is_ldbr (Some (effect, n)) }
 {

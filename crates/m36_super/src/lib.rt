@@ -14,10 +14,11 @@
 //! state before. A system cannot go back.
 //!
 //! The flat run has no pages, and is a function of the catalog and the files. The laws relate the
-//! booted run to it, until an LDBR is executed:
+//! booted run to it, until an LDBR replaces the descriptor segment:
 //!
 //! - Each turn that executes no ABSA and does not run out of memory is the turn of the flat run.
-//!   If a turn executes ABSA, the turn of the flat run does too.
+//!   ABSA loads a core address, which depends on the frames. If a turn executes it, the turn of the
+//!   flat run does too.
 //! - The core stays laid out as that of the booted image, and the audit conditions are kept, also
 //!   by services.
 //! - If the linkage segment of a ring is all zeros, a link service lays the first linkage section

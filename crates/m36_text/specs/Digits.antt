@@ -8,10 +8,11 @@ unfoldable pub digits : ℕ → ℕ → ℕ → List ℕ
 digits base zero v = []
 digits base (suc places) v = v / base ^ places % base ∷ digits base places v
 
--- The digits 0 to 9 are the characters 60 to 71 (octal).
+-- the character of the digit 0
 abbrev pub zero_character : ℕ
 zero_character = 48
 
+-- the character of a digit from 0 to 9
 abbrev pub character : ℕ → ℕ
 character digit = zero_character + digit
 
@@ -27,23 +28,27 @@ digit_of c = c - zero_character
 unfoldable pub octal_text : ℕ → ℕ → List ℕ
 octal_text places v = map character (digits 8 places v)
 
--- How many octal digits a word has, a half word, a segment number, and the address of a core word.
+-- the number of octal digits of a word
 abbrev pub word_digits : ℕ
 word_digits = 12
 
+-- that of a half word, and so of a word number
 abbrev pub half_digits : ℕ
 half_digits = 6
 
+-- that of a segment number
 abbrev pub segment_digits : ℕ
 segment_digits = 5
 
+-- that of the address of a core word
 abbrev pub core_word_digits : ℕ
 core_word_digits = 8
 
--- a word in octal; a half word or another number of 18 bits in octal
+-- a word in octal
 abbrev pub word_text : ℕ → List ℕ
 word_text w = octal_text word_digits w
 
+-- a half word, or another number of 18 bits, in octal
 abbrev pub half_text : ℕ → List ℕ
 half_text h = octal_text half_digits h
 

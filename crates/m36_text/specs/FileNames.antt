@@ -5,10 +5,11 @@ use Rattle.std.specs.Prelude.{◌≡◌, ℕ, ◌-◌, List, ◌++◌, length, t
 abbrev pub source_suffix : List ℕ
 source_suffix = codes ".alm"
 
--- the name of the source of an object; the name of the object of a source
+-- the name of the source of an object
 abbrev pub source_of_object : List ℕ → List ℕ
 source_of_object object = object ++ source_suffix
 
+-- the name of a source without its suffix: that of its object
 abbrev pub object_of_source : List ℕ → List ℕ
 object_of_source source = take (length source - length source_suffix) source
 
@@ -20,6 +21,7 @@ SourceNames = (object : List ℕ) → object_of_source (source_of_object object)
 abbrev pub bindfile_suffix : List ℕ
 bindfile_suffix = codes ".bind"
 
+-- the name of the bind file of an object
 abbrev pub bindfile_of_object : List ℕ → List ℕ
 bindfile_of_object object = object ++ bindfile_suffix
 

@@ -19,6 +19,7 @@ ended [] = []
 ended (rest ∷ []) = cut_line rest
 ended (line ∷ next ∷ parts) = Some line ∷ ended (next ∷ parts)
 
+-- the lines of a text, without their line feeds; the last is None if it lacks its line feed
 unfoldable pub lines_of : List ℕ → List (Option (List ℕ))
 lines_of text = ended (slice_split (λ b. b == 10) text)
 
@@ -26,16 +27,18 @@ lines_of text = ended (slice_split (λ b. b == 10) text)
 abbrev pub line_at : List (Option (List ℕ)) → ℕ → Option (List ℕ)
 line_at lines n = unwrap_or (slice_get lines (n - 1)) None
 
--- The lines of a text whose last line may lack its line feed.
+-- what follows the last line feed: a line, unless it is empty
 abbrev pub open_rest : List ℕ → List (List ℕ)
 open_rest [] = []
 open_rest (b ∷ rest) = (b ∷ rest) ∷ []
 
+-- the lines, by the parts that the line feeds separate, of which the last may lack its own
 abbrev pub open_ended : List (List ℕ) → List (List ℕ)
 open_ended [] = []
 open_ended (rest ∷ []) = open_rest rest
 open_ended (line ∷ next ∷ parts) = line ∷ open_ended (next ∷ parts)
 
+-- The lines of a text, without their line feeds. The last one may lack its line feed.
 unfoldable pub open_lines_of : List ℕ → List (List ℕ)
 open_lines_of text = open_ended (slice_split (λ b. b == 10) text)
 

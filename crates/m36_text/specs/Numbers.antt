@@ -11,20 +11,23 @@ unfoldable pub octal_in : ℕ → List ℕ → Option ℕ
 octal_in places text =
     if length text == places then result_ok (number_read 8 text (8 ^ places - 1)) else None
 
--- A number with exactly the digits of a word, of a segment number, of the number of a word in a
--- segment, and of the address of a core word.
+-- a number with exactly the digits of a word
 abbrev pub octal_word_in : List ℕ → Option ℕ
 octal_word_in = octal_in word_digits
 
+-- a number with exactly the digits of a segment number
 abbrev pub segment_number_in : List ℕ → Option ℕ
 segment_number_in = octal_in segment_digits
 
+-- a number with exactly the digits of the number of a word in a segment
 abbrev pub word_number_in : List ℕ → Option ℕ
 word_number_in = octal_in half_digits
 
+-- a number with exactly the digits of the address of a core word
 abbrev pub core_address_in : List ℕ → Option ℕ
 core_address_in = octal_in core_word_digits
 
+-- a number, if it is at least `least`
 abbrev pub at_least : ℕ → Option ℕ → Option ℕ
 at_least least None = None
 at_least least (Some n) = if nat_le least n then Some n else None

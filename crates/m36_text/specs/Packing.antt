@@ -21,11 +21,12 @@ packed (even ∷ odd ∷ words) =
 unfoldable pub bits_of : List ℕ → ℕ
 bits_of bytes = number_from_digits 256 bytes
 
--- the words of whole groups of nine bytes, and then the word of the bytes that are left, if any
+-- the word of the bytes that are left after whole groups of nine bytes, if there are any
 abbrev pub last_word : List ℕ → List ℕ
 last_word [] = []
 last_word (byte ∷ bytes) = bits_of (byte ∷ bytes) / 2 ^ 4 ∷ []
 
+-- the words of this many groups of nine bytes, two each, and of the bytes that are left
 unfoldable pub words_of : ℕ → List ℕ → List ℕ
 words_of zero bytes = last_word bytes
 words_of (suc groups) bytes = bits_of (take 9 bytes) / 2 ^ 36 ∷ bits_of (take 9 bytes) % 2 ^ 36

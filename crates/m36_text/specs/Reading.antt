@@ -16,12 +16,14 @@ first_other base text = position (λ byte. not (is_digit base byte)) text
 unfoldable pub number_of : ℕ → List ℕ → ℕ
 number_of base text = number_from_digits base (map digit_of text)
 
--- A text parsed as a number of at most `max`. T1 with the index of the first byte that is not a
--- digit, or 0 for an empty text. T2 if all bytes are digits and the number is over `max`.
+-- The result of parsing a text that is not empty, given the index of its first byte that is not a
+-- digit and the number that its digits represent.
 abbrev pub judged : Option ℕ → ℕ → ℕ → Result ℕ NumberFault
 judged (Some place) v max = Err (T1 place)
 judged None v max = if nat_le v max then Ok v else Err T2
 
+-- A text parsed as a number of at most `max`. T1 with the index of the first byte that is not a
+-- digit, or 0 for an empty text. T2 if all bytes are digits and the number is over `max`.
 unfoldable pub number_read : ℕ → List ℕ → ℕ → Result ℕ NumberFault
 number_read base [] max = Err (T1 0)
 number_read base (byte ∷ text) max =

@@ -45,6 +45,7 @@ pub fn pack(alloc: Global, w: &[Word]) -> Result<Text, NoMemory>
     Ok(text)
 }
 
+// Appends the last word, if there is one, in five bytes.
 #[tactic(auto, using(crate::proofs::PackingLaws::nothing_packed, crate::proofs::PackingLaws::packed_one))]
 fn append_last(text: &mut Text, words: &[Word]) -> Result<(), NoMemory>
     requires { length words.now < 2 }
@@ -119,6 +120,7 @@ pub fn unpack(alloc: Global, t: &[u8]) -> Result<Words, PackFault>
     Ok(whole_words(alloc, t)?)
 }
 
+// The words of bytes whose number is that of packed words.
 fn whole_words(alloc: Global, t: &[u8]) -> Result<Words, NoMemory>
     requires { (length t.now % 9 ≡ 0) ⊎ (length t.now % 9 ≡ 5) }
     ensures { IfOk result (λ words. words ≡ words_of (length t.now / 9) t.now) }

@@ -50,6 +50,7 @@ impl HashSeed {
         HashSeed::with(both.finalize())
     }
 
+    // The seed with this digest.
     fn with(digest: [u8; 32]) -> HashSeed
         ensures { result ≡ seed_with digest }
     {

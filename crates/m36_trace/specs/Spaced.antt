@@ -17,7 +17,8 @@ abbrev pub front_text : ℕ → ℕ → ℕ → List ℕ
 front_text ring mark seg =
     octal_text 1 ring ++ (mark ∷ (octal_text segment_digits seg ++ codes "|"))
 
--- the same with the word number
+-- a ring, a segment number and a word number, with a character after the ring and a bar before the
+-- word number
 abbrev pub kept_place : ℕ → ℕ → ℕ → ℕ → List ℕ
 kept_place ring mark seg word = front_text ring mark seg ++ half_text word
 

@@ -38,6 +38,7 @@ fn put_place(line: &mut ArrayVec<u8, 160>, at: At)
     put(line, &digits);
 }
 
+// Appends a word in octal.
 fn put_word(line: &mut ArrayVec<u8, 160>, word: Word)
     requires { length line.old.items + 12 ≤ 160 }
     ensures text { line.new.items ≡ line.old.items ++ word_text word }
@@ -46,6 +47,7 @@ fn put_word(line: &mut ArrayVec<u8, 160>, word: Word)
     put(line, octal(word.value(), 12).as_str().as_bytes());
 }
 
+// Appends a pair, as two words in octal with a space between them.
 fn put_pair(line: &mut ArrayVec<u8, 160>, pair: Pair)
     requires { length line.old.items + 25 ≤ 160 }
     ensures text { line.new.items ≡ line.old.items ++ pair_text pair }

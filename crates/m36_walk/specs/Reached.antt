@@ -26,15 +26,18 @@ pub record Reached : Type 0 where
   pub sdw : SdwFields
   pub spots : List Spot
 
+-- the reference, given its descriptor and the spots of its words
 abbrev pub reached_places : SdwFields → Result (List Spot) Fault → Result Reached Fault
 reached_places d (Ok spots) = Ok (record { sdw = d; spots = spots })
 reached_places d (Err f) = Err f
 
+-- the reference, if the descriptor gives the right to it
 abbrev pub reached_rights : SdwFields → Result Unit Fault → Result (List Spot) Fault
     → Result Reached Fault
 reached_rights d (Ok u) places = reached_places d places
 reached_rights d (Err f) places = Err f
 
+-- the reference, if its segment has a descriptor: the first fault of descriptor, rights and places
 abbrev pub reached_sdw : (SdwFields → Result Unit Acv)
     → (SdwFields → Result (List Spot) (ℕ × Refusal)) → AtFields → Result SdwFields Fault
     → Result Reached Fault

@@ -38,6 +38,7 @@ abbrev pub sdw_by : Result SdwFields Refusal → SdwFields
 sdw_by (Ok d) = d
 sdw_by (Err why) = sdw_of 0 0
 
+-- the descriptor of a segment, in these tables; if there is none, the value has no meaning
 unfoldable pub sdw_in : Memory → ℕ → SdwFields
 sdw_in m seg = sdw_by (core_sdw m.core m.dbr seg)
 

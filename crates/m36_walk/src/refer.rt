@@ -21,6 +21,7 @@ pub(crate) struct Reach {
     pub(crate) ring: u8,
 }
 
+// The address of a word that was found, and R1 of its segment.
 #[inline(always)]
 fn reach_of(found: &Found) -> Reach
     ensures place { result.place ≡ found.now.place }

@@ -20,7 +20,8 @@ pub trait World {
     fn read(&mut self, alloc: Global, name: &[u8]) -> ReadAnswer
         ensures { IsFileRead name.now result (seen self.old) (seen self.new) };
 
-    /// Creates or replaces the file with this name. Its content is then `content`.
+    /// Creates or replaces the file with this name, so that its content is `content`. If that
+    /// fails, no file changes.
     fn write(&mut self, alloc: Global, name: &[u8], content: &[u8]) -> WriteAnswer
         ensures { IsFileWrite name.now content.now result (seen self.old) (seen self.new) };
 

@@ -13,52 +13,62 @@ use Rattle.obj36.specs.declared.fault.ObjectFault.{ObjectFault}
 use Rattle.obj36.specs.declared.fault.ObjectFault.TheVariants.{O1, O2, O3, O4, O5, O6, O7, O8}
 use Rattle.obj36.specs.declared.fault.ObjectFault.TheVariants.{NoMemory}
 
--- the words of the definition section and of the linkage section, as the map gives them
+-- the words of the definition section, where the map says that it is
 unfoldable pub told_definition : List ℕ → List ℕ
 told_definition words = extent_words words (extents_of words).definition
 
+-- the words of the linkage section, where the map says that it is
 unfoldable pub told_linkage : List ℕ → List ℕ
 told_linkage words = extent_words words (extents_of words).linkage
 
+-- the first word with which O5 refuses a list
 unfoldable pub definition_fault : List ℕ → Option ℕ
 definition_fault words =
     behind (extents_of words).definition.from
     (table_fault (version_in words) (told_definition words))
 
+-- the first word with which O6 refuses a list
 unfoldable pub spelling_fault : List ℕ → Option ℕ
 spelling_fault words =
     behind (extents_of words).definition.from (names_fault (told_definition words))
 
+-- the first word with which O7 refuses a list
 unfoldable pub linking_fault : List ℕ → Option ℕ
 linking_fault words =
     links_fault (version_in words) (extents_of words).definition.from (told_definition words)
     (extents_of words).linkage.from (told_linkage words)
 
--- each code with its place, if it applies, and otherwise the next one; O8 if no other applies
+-- O7 at a place, if it applies, and otherwise O8
 abbrev pub from_links : Option ℕ → ObjectFault
 from_links (Some p) = O7 p
 from_links None = O8 0
 
+-- O6 at a place, if it applies, and otherwise a later code
 abbrev pub from_names : Option ℕ → ObjectFault → ObjectFault
 from_names (Some p) later = O6 p
 from_names None later = later
 
+-- O5 at a place, if it applies, and otherwise a later code
 abbrev pub from_tables : Option ℕ → ObjectFault → ObjectFault
 from_tables (Some p) later = O5 p
 from_tables None later = later
 
+-- O4 at a place, if it applies, and otherwise a later code
 abbrev pub from_sharing : Option ℕ → ObjectFault → ObjectFault
 from_sharing (Some p) later = O4 p
 from_sharing None later = later
 
+-- O3 at a place, if it applies, and otherwise a later code
 abbrev pub from_sections : Option ℕ → ObjectFault → ObjectFault
 from_sections (Some p) later = O3 p
 from_sections None later = later
 
+-- the fault of the length or the map, if there is one, and otherwise a later code
 abbrev pub from_outline : Option ObjectFault → ObjectFault → ObjectFault
 from_outline (Some fault) later = fault
 from_outline None later = later
 
+-- the first fault of a list whose map is valid, and which encodes no parts
 unfoldable pub fault_behind_map : List ℕ → ObjectFault
 fault_behind_map words =
     from_sections (section_fault words) (from_sharing (shared_fault words)
@@ -72,9 +82,11 @@ outline_fault words =
     then Some (O1 (length words))
     else option_map O2 (map_fault words)
 
+-- the first fault of a list that encodes no parts
 unfoldable pub first_fault : List ℕ → ObjectFault
 first_fault words = from_outline (outline_fault words) (fault_behind_map words)
 
+-- The list encodes no parts.
 abbrev pub StandsForNone : List ℕ → Type 0
 StandsForNone words = (p : PartsFields) → Stands p words → ⊥
 

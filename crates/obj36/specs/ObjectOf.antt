@@ -17,10 +17,12 @@ value_of words =
     let parts = parts_of words in
     if is_well_formed parts && pointwise nat_eq (words_of parts) words then Some parts else None
 
+-- the parts, or the fault if there are none
 abbrev pub or_fault : Option PartsFields → ObjectFault → Result PartsFields ObjectFault
 or_fault (Some parts) fault = Ok parts
 or_fault None fault = Err fault
 
+-- the parts that a list encodes, or the first fault of the list
 unfoldable pub object_of : List ℕ → Result PartsFields ObjectFault
 object_of words = or_fault (value_of words) (first_fault words)
 

@@ -1,5 +1,6 @@
-//! Object segments, as parts and as a list of words. An assembler or a binder makes them, and a
-//! linker reads them.
+//! Object segments, as parts and as a list of words. An object segment is an assembled program: its
+//! text, static words, definitions, links and relocations. An assembler or a binder makes it, and a
+//! linker reads it.
 //!
 //! Parts are encoded by at most one list of words, and different parts by different lists. The
 //! linkage section of an object with a static section ends where that section is placed: after its

@@ -49,6 +49,7 @@ unfoldable pub name_words_from : List ℕ → ℕ → ℕ → List ℕ
 name_words_from name j zero = []
 name_words_from name j (suc count) = name_word name j ∷ name_words_from name (suc j) count
 
+-- the words of a name: its length and its characters, four to a word
 unfoldable pub name_words : List ℕ → List ℕ
 name_words name = name_words_from name 0 (name_length name)
 

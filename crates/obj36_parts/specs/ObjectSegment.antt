@@ -20,24 +20,27 @@ use Rattle.obj36_parts.specs.declared.definition.Named.{Named}
 abbrev pub version_of : Bool → ℕ
 version_of newer = if newer then 2 else 1
 
--- whether objects of a version, or with these parts, have a static section of their own
+-- whether objects of a version have a static section of their own
 abbrev pub is_newer_version : ℕ → Bool
 is_newer_version version = nat_eq version (version_of true)
 
+-- whether the object of these parts has a static section of its own
 abbrev pub is_newer : PartsFields → Bool
 is_newer p = is_newer_version p.version
 
--- the least even number that is not below n; words with a zero word added if their number is odd
+-- the least even number that is not below n
 abbrev pub evened : ℕ → ℕ
 evened n = n + n % 2
 
+-- words with a zero word added if their number is odd
 abbrev pub evened_words : List ℕ → List ℕ
 evened_words words = if nat_eq (length words % 2) 0 then words else words ++ 0 ∷ []
 
--- the static words of the linkage section, and those of the static section
+-- the static words of the linkage section
 abbrev pub inner_statics : PartsFields → List ℕ
 inner_statics p = if is_newer p then [] else p.statics
 
+-- the words of the static section, which only version 2 has
 abbrev pub outer_statics : PartsFields → List ℕ
 outer_statics p = if is_newer p then p.statics else []
 
@@ -45,10 +48,11 @@ outer_statics p = if is_newer p then p.statics else []
 abbrev pub head_words : ℕ
 head_words = 8
 
--- the number of words of the head of a definition section, and of a symbol section
+-- the number of words of the head of a definition section
 abbrev pub definition_head : ℕ
 definition_head = 2
 
+-- the number of words of the head of a symbol section
 abbrev pub symbol_head : ℕ
 symbol_head = 1
 
@@ -56,27 +60,31 @@ symbol_head = 1
 abbrev pub expressions_behind : ℕ → ℕ
 expressions_behind definitions = definition_head + 2 * definitions
 
--- The types of links: to a section of the own object, to a segment, to an entry of a segment, and
--- to an entry of the own object.
+-- the type of a link to a section of the own object
 abbrev pub to_section : ℕ
 to_section = 1
 
+-- the type of a link to a segment
 abbrev pub to_segment : ℕ
 to_segment = 3
 
+-- the type of a link to an entry of a segment
 abbrev pub to_entry : ℕ
 to_entry = 4
 
+-- the type of a link to an entry of the own object
 abbrev pub to_own_entry : ℕ
 to_own_entry = 5
 
--- whether a link of this type has the name of a segment, an entry, or a section
+-- whether a link of this type has the name of a segment
 abbrev pub has_name : ℕ → Bool
 has_name kind = nat_eq kind to_segment || nat_eq kind to_entry
 
+-- whether a link of this type has the name of an entry
 abbrev pub has_entry : ℕ → Bool
 has_entry kind = nat_eq kind to_entry || nat_eq kind to_own_entry
 
+-- whether a link of this type has a section
 abbrev pub has_section : ℕ → Bool
 has_section kind = nat_eq kind to_section || nat_eq kind to_own_entry
 
@@ -87,24 +95,29 @@ place_if_any (suc count) at = at
 
 -- ---- the definition section
 
--- the names that a link uses, in order
+-- the name of a segment that a link uses, if it uses one
 unfoldable pub name_used : LinkFields → List (List ℕ)
 name_used l = if has_name l.kind then l.name ∷ [] else []
 
+-- the name of an entry that a link uses, if it uses one
 unfoldable pub entry_used : LinkFields → List (List ℕ)
 entry_used l = if has_entry l.kind then l.entry ∷ [] else []
 
+-- the names that a link uses, in order
 unfoldable pub link_names : LinkFields → List (List ℕ)
 link_names l = name_used l ++ entry_used l
 
+-- the names of definitions, in order
 unfoldable pub definition_names : List Named → List (List ℕ)
 definition_names [] = []
 definition_names (d ∷ ds) = d.name ∷ definition_names ds
 
+-- the names that links use, in order
 unfoldable pub all_link_names : List LinkFields → List (List ℕ)
 all_link_names [] = []
 all_link_names (l ∷ ls) = link_names l ++ all_link_names ls
 
+-- the class of a definition: the number of its section, with a mark if it is an entry
 unfoldable pub class_of : DefFields → ℕ
 class_of d = class_number d.section + (if d.is_entry then entry_mark else 0)
 
@@ -118,15 +131,17 @@ definition_words names base (d ∷ ds) at =
     ∷ joined d.def.value (place_of d.name names base)
     ∷ definition_words names base ds (at + 2)
 
--- The words of an expression: the type, the section or the offset of the name, the offset of the
--- entry, and the number that is added.
+-- the right half of the first word of an expression: the section, or the offset of the name
 unfoldable pub subject_of : List (List ℕ) → ℕ → LinkFields → ℕ
 subject_of names base l =
     if has_name l.kind then place_of l.name names base else place_number l.section
 
+-- the offset of the name of the entry of a link; 0 if it has none
 unfoldable pub entry_place : List (List ℕ) → ℕ → LinkFields → ℕ
 entry_place names base l = if has_entry l.kind then place_of l.entry names base else 0
 
+-- The expressions of links, two words each: the type, the section or the offset of the name; the
+-- offset of the entry, and the number that is added.
 unfoldable pub expression_words : List (List ℕ) → ℕ → List LinkFields → List ℕ
 expression_words names base [] = []
 expression_words names base (l ∷ ls) =
@@ -145,6 +160,7 @@ definition_part ds ls =
     ++ expression_words names base ls
     ++ all_name_words names
 
+-- the words of the definition section
 unfoldable pub definition_section : PartsFields → List ℕ
 definition_section p = definition_part p.definitions p.links
 
@@ -188,6 +204,7 @@ linkage_part statics ls expressions =
     0 ∷ joined (links_behind (length statics)) (length ls) ∷ 0 ∷ 0 ∷ 0 ∷ 0 ∷ 0 ∷ 0 ∷ statics
     ++ link_words ls (links_behind (length statics)) expressions
 
+-- the words of the linkage section
 unfoldable pub linkage_section : PartsFields → List ℕ
 linkage_section p =
     linkage_part (inner_statics p) p.links (expressions_behind (length p.definitions))
@@ -198,13 +215,15 @@ first_link p = links_behind (length (inner_statics p))
 
 -- ---- the symbol section
 
--- the parts of a word that a relocation may name: its left half, its right half, and bits 3 to 17
+-- the number of the left half of a word, as the part that is relocated
 abbrev pub left_part : ℕ
 left_part = 0
 
+-- that of the right half
 abbrev pub right_part : ℕ
 right_part = 1
 
+-- that of bits 3 to 17
 abbrev pub offset_part : ℕ
 offset_part = 2
 
@@ -215,23 +234,27 @@ part_of part w =
     else if nat_eq part right_part then right w
     else offset_in w
 
--- The units of the section, the part and the target in the right half of a relocation. Each has
--- three bits.
+-- the unit of the section in the right half of a relocation; it has three bits, as the part and the
+-- target have
 abbrev pub section_unit : ℕ
 section_unit = 2 ^ 15
 
+-- the unit of the part
 abbrev pub part_unit : ℕ
 part_unit = 2 ^ 12
 
+-- the unit of the target
 abbrev pub target_unit : ℕ
 target_unit = 2 ^ 9
 
+-- the word of a relocation
 unfoldable pub relocation_word : RelocFields → ℕ
 relocation_word r =
     joined r.offset
     (place_number r.section * section_unit + r.part * part_unit
     + place_number r.target * target_unit)
 
+-- the words of relocations, in order
 unfoldable pub relocation_words : List RelocFields → List ℕ
 relocation_words [] = []
 relocation_words (r ∷ rs) = relocation_word r ∷ relocation_words rs
@@ -240,18 +263,21 @@ relocation_words (r ∷ rs) = relocation_word r ∷ relocation_words rs
 unfoldable pub symbol_part : List RelocFields → List ℕ
 symbol_part rs = joined 0 (length rs) ∷ relocation_words rs
 
+-- the words of the symbol section
 unfoldable pub symbol_section : PartsFields → List ℕ
 symbol_section p = symbol_part p.relocations
 
 -- ---- the map and the last word
 
--- The offset at which a section begins after others of these lengths.
+-- the offset at which the linkage section begins, by the lengths of the sections before it
 abbrev pub linkage_behind : ℕ → ℕ → ℕ
 linkage_behind text definition = text + definition
 
+-- the offset at which the static section begins
 abbrev pub statics_behind : ℕ → ℕ → ℕ → ℕ
 statics_behind text definition linkage = linkage_behind text definition + linkage
 
+-- the offset at which the symbol section begins
 abbrev pub symbol_behind : ℕ → ℕ → ℕ → ℕ → ℕ
 symbol_behind text definition linkage statics = statics_behind text definition linkage + statics
 
@@ -274,6 +300,7 @@ map_part newer text definition linkage statics symbol bound =
     ∷ joined (map_behind text definition linkage statics symbol) 0
     ∷ []
 
+-- the map of the object of these parts, with the last word
 unfoldable pub map_words : PartsFields → List ℕ
 map_words p =
     map_part (is_newer p) (length p.text) (length (definition_section p))
@@ -303,10 +330,11 @@ segment_limit = 2 ^ 18
 abbrev pub section_limit : ℕ
 section_limit = 258048
 
--- whether a section is within the limit; whether each section of an object is
+-- whether a section is within the limit
 abbrev pub section_fits : List ℕ → Bool
 section_fits words = nat_le (length words) section_limit
 
+-- whether each section of an object is within the limit
 unfoldable pub sections_fit : PartsFields → Bool
 sections_fit p =
     section_fits p.text && section_fits (definition_section p) && section_fits (linkage_section p)
@@ -316,28 +344,32 @@ sections_fit p =
 unfoldable pub are_distinct : List (List ℕ) → Bool
 are_distinct names = are_distinct_by same names
 
--- the greatest class of a definition; the greatest number of a section in links and relocations
+-- the greatest number of a section in a definition
 abbrev pub last_class : ℕ → ℕ
 last_class version =
     if is_newer_version version then class_number Static else class_number Symbol
 
+-- the greatest number of a section in links and relocations
 abbrev pub last_place : ℕ → ℕ
 last_place version =
     if is_newer_version version then place_number Static else place_number Linkage
 
+-- whether an object of this version can have a definition
 unfoldable pub is_definition : ℕ → Named → Bool
 is_definition version d =
     is_name d.name && nat_lt d.def.value (2 ^ 18)
     && nat_le (class_number d.def.section) (last_class version)
 
--- A section or a name that a link's type does not use is the text or empty.
+-- whether a link of this version can have this section; one that its type does not use is the text
 abbrev pub is_section_where : Bool → ℕ → Section → Bool
 is_section_where used version section =
     nat_le (place_number section) (if used then last_place version else 0)
 
+-- whether a link can have this name; one that its type does not use is empty
 abbrev pub is_name_where : Bool → List ℕ → Bool
 is_name_where used name = if used then is_name name else nat_eq (length name) 0
 
+-- whether an object of this version can have a link
 unfoldable pub is_link : ℕ → LinkFields → Bool
 is_link version l =
     (has_name l.kind || has_section l.kind)
@@ -356,6 +388,7 @@ is_place text inner outer Linkage offset =
 is_place text inner outer Static offset = nat_lt offset outer
 is_place text inner outer Symbol offset = false
 
+-- whether an object with these numbers of words can have a relocation
 unfoldable pub is_relocation : ℕ → ℕ → ℕ → ℕ → RelocFields → Bool
 is_relocation text inner outer version r =
     is_place text inner outer r.section r.offset && nat_lt r.offset (2 ^ 18)

@@ -3,6 +3,7 @@ use Rattle.std.specs.Prelude.{ℕ, List}
 use Rattle.obj36_parts.specs.Fields.{LinkFields, RelocFields}
 use Rattle.obj36_parts.specs.declared.definition.Named.{Named}
 
+-- `entry_bound` is in words, and `version` is 1 or 2.
 pub record PartsFields : Type 0 where
   pub text : List ℕ
   pub statics : List ℕ

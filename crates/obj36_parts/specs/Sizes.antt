@@ -19,7 +19,7 @@ all_length (name ∷ names) = name_length name + all_length names
 unfoldable pub other_length : List Named → List ℕ → ℕ
 other_length ds name = if has_definition name ds then 0 else name_length name
 
--- the same for names, counted as often as they occur
+-- the number of words of names, counted as often as they occur, without those that definitions have
 unfoldable pub others_length : List Named → List (List ℕ) → ℕ
 others_length ds [] = 0
 others_length ds (name ∷ names) = other_length ds name + others_length ds names

@@ -64,6 +64,7 @@ pub fn has_its_section(kind: u64) -> bool
     kind == 1 || kind == 5
 }
 
+// Whether a link can have this name; one that its type does not use is empty.
 fn is_good_text(used: bool, name: &Name) -> bool
     ensures { result ≡ is_name_where used name.now }
 {
@@ -74,6 +75,7 @@ fn is_good_text(used: bool, name: &Name) -> bool
     }
 }
 
+// Whether a link of this version can have this section; one that its type does not use is the text.
 fn is_good_section(used: bool, version: u8, section: Section) -> bool
     ensures { result ≡ is_section_where used version section }
 {
@@ -123,6 +125,7 @@ pub(crate) struct Room {
     pub version: u8,
 }
 
+// Whether the offset of a relocation is that of a word of the text or of a static word.
 #[tactic(auto, unfolding(crate::specs::ObjectSegment::is_place))]
 fn is_good_place(room: Room, section: Section, offset: u32) -> bool
     ensures { result ≡ is_place room.text room.inner room.outer section offset }
@@ -161,6 +164,7 @@ fn are_good_relocations(room: Room, relocations: &[Reloc]) -> bool
     true
 }
 
+// A number by which relocations are in order: by section, offset and part.
 #[tactic(auto, unfolding(crate::specs::ObjectSegment::order_of))]
 fn order(relocation: &Reloc) -> u64
     ensures value { result ≡ order_of relocation.now }
@@ -169,6 +173,7 @@ fn order(relocation: &Reloc) -> u64
     (number(relocation.section) * (1 << 18) + relocation.offset as u64) * 4 + relocation.part as u64
 }
 
+// Whether a place is at least `least` and is not `barred`.
 fn may_follow(least: u64, barred: u64, place: u64) -> bool
     ensures { result ≡ (nat_le least place && not (nat_eq place barred)) }
 {

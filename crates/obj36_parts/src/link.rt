@@ -214,6 +214,7 @@ fn note_name(names: &mut IndexSet<Name, HashSeed>, name: &Name)
     }
 }
 
+// Adds the name of a segment that a link uses, if it uses one. There is room for it.
 #[tactic(auto, unfolding(crate::specs::ObjectSegment::name_used, crate::specs::Names::with_names))]
 fn note_subject(names: &mut IndexSet<Name, HashSeed>, link: &Link)
     requires { 0 < spare names.old }
@@ -225,6 +226,7 @@ fn note_subject(names: &mut IndexSet<Name, HashSeed>, link: &Link)
     }
 }
 
+// Adds the name of an entry that a link uses, if it uses one. There is room for it.
 #[tactic(auto, unfolding(crate::specs::ObjectSegment::entry_used, crate::specs::Names::with_names))]
 fn note_entry(names: &mut IndexSet<Name, HashSeed>, link: &Link)
     requires { 0 < spare names.old }

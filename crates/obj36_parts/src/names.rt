@@ -186,6 +186,7 @@ pub(crate) fn names_used(
     }
 }
 
+// Part i of nine bits of a name: its length, or a character.
 #[tactic(auto, unfolding(crate::specs::Names::unit_of))]
 fn unit(name: &[u8], i: usize) -> u64
     requires { length name.now ≤ name_limit }
@@ -202,6 +203,7 @@ fn unit(name: &[u8], i: usize) -> u64
     }
 }
 
+// Word j of a name, which has four parts of nine bits.
 #[tactic(auto, unfolding(crate::specs::Names::name_word))]
 fn word(name: &[u8], j: usize) -> Word
     requires fits { length name.now ≤ name_limit }

@@ -169,6 +169,7 @@ pub(crate) fn push_pair(out: &mut Words, first: Word, second: Word) -> Result<()
 
 // ---- the definition section
 
+// Adds the two words of a definition; `next` is the offset of the next one.
 fn push_definition(
     out: &mut Words,
     table: &NameTable,
@@ -208,6 +209,7 @@ fn push_definitions(
     Ok(())
 }
 
+// The right half of the first word of an expression: the offset of a name, or a section.
 #[tactic(auto, unfolding(crate::specs::ObjectSegment::subject_of))]
 fn subject(table: &NameTable, link: &Link) -> u64
     ensures { result ≡ subject_of table.now.names table.now.base link.now }
@@ -219,6 +221,7 @@ fn subject(table: &NameTable, link: &Link) -> u64
     }
 }
 
+// The offset of the name of the entry of a link; 0 if it has none.
 #[tactic(auto, unfolding(crate::specs::ObjectSegment::entry_place))]
 fn entry(table: &NameTable, link: &Link) -> u64
     ensures { result ≡ entry_place table.now.names table.now.base link.now }
@@ -230,6 +233,7 @@ fn entry(table: &NameTable, link: &Link) -> u64
     }
 }
 
+// Adds the two words of the expression of a link.
 fn push_expression(out: &mut Words, table: &NameTable, link: &Link) -> Result<(), NoMemory>
     ensures { OnOk result (out.new ≡ out.old
         ++ joined link.now.kind (subject_of table.now.names table.now.base link.now)

@@ -10,6 +10,8 @@ use Rattle.obj36_read.specs.TableFaults.{earlier, where_bad, expression_count, f
 
 -- ---- types and sections of expressions, indexed from word 0 of the definition section
 
+-- Whether a word is the first of a valid expression: its left half is a type with a name, or a type
+-- with a section whose number is one of this version.
 unfoldable pub is_type : ℕ → ℕ → Bool
 is_type version word =
     has_name (left word) || (has_section (left word) && nat_le (right word) (last_place version))
@@ -23,6 +25,7 @@ type_faults version d (suc count) at =
 
 -- ---- links, indexed from word 0 of the linkage section
 
+-- the number of links, which the head of the linkage section has
 unfoldable pub link_count : List ℕ → ℕ
 link_count k = right (slice_index k 1)
 
@@ -52,6 +55,7 @@ link_faults k at expression (suc count) =
     then link_faults k (at + 2) (expression + 2) count
     else Some at
 
+-- The first invalid word of the linkage section. That of an invalid head is word 1.
 unfoldable pub linkage_fault : ℕ → List ℕ → List ℕ → Option ℕ
 linkage_fault version d k =
     if is_head version d k
@@ -60,9 +64,12 @@ linkage_fault version d k =
 
 -- ---- O7, indexed from word 0 of the list
 
+-- an index in a section as an index in the list, if the section begins at `from`
 abbrev pub behind : ℕ → Option ℕ → Option ℕ
 behind from place = option_map (λ p. from + p) place
 
+-- the first word with which O7 refuses a list, given its definition and linkage sections and where
+-- they begin
 unfoldable pub links_fault : ℕ → ℕ → List ℕ → ℕ → List ℕ → Option ℕ
 links_fault version d_from d k_from k =
     earlier (behind d_from (type_faults version d (expression_count d) (first_expression d)))

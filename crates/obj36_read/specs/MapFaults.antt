@@ -15,20 +15,22 @@ use Rattle.obj36_read.specs.declared.map.Extents.{Extents}
 
 -- ---- the map: O2
 
--- whether a map of either version, from where the last word says, reaches to the end
+-- whether the map begins where the last word says: it then has the length of a map of either
+-- version
 unfoldable pub is_told : List ℕ → Bool
 is_told words =
     nat_eq (map_place words + older_map) (length words)
     || nat_eq (map_place words + newer_map) (length words)
 
--- The first word of the map has only the version. The word with the entry bound has 0 in its right
--- half, and the bound is at most the length of the text. The last word has the index of the map,
--- and 0 in its right half.
+-- The word with the entry bound has 0 in its right half, and the bound is at most the length of the
+-- text.
 unfoldable pub is_bound : List ℕ → ℕ → Bool
 is_bound words bound =
     nat_eq (right bound) 0
     && nat_le (left bound) (told_length words text_index)
 
+-- The first invalid word of a map with a valid length. Its first word has only the version. Its
+-- last word has 0 in its right half.
 unfoldable pub fixed_fault : List ℕ → ℕ → Option ℕ
 fixed_fault words version =
     first_met (
@@ -41,21 +43,25 @@ fixed_fault words version =
     ∷ []
     )
 
+-- the first word with which O2 refuses a list
 unfoldable pub map_fault : List ℕ → Option ℕ
 map_fault words =
     if is_told words then fixed_fault words (version_in words) else Some (length words - 1)
 
 -- ---- sections that end past the map or are too short: O3
 
+-- where the section begins that word i of the map describes, and its length
 unfoldable pub extent_at : List ℕ → ℕ → Extent
 extent_at words i = record {
   from = left (map_word words i);
   count = told_length words i;
 }
 
+-- an absent section
 abbrev pub nowhere : Extent
 nowhere = record { from = 0; count = 0 }
 
+-- where the sections of a list are; version 1 has no static section
 unfoldable pub extents_of : List ℕ → Extents
 extents_of words =
     record {
@@ -71,6 +77,7 @@ extents_of words =
 unfoldable pub is_outside : ℕ → Extent → ℕ → Bool
 is_outside map e least = nat_lt map (e.from + e.count) || nat_lt e.count least
 
+-- the first word of the map with which O3 refuses a list
 unfoldable pub section_fault : List ℕ → Option ℕ
 section_fault words =
     let map = map_place words in
@@ -86,6 +93,7 @@ section_fault words =
 
 -- ---- sections that share words: O4
 
+-- whether a section has the word at an index
 unfoldable pub covers : Extent → ℕ → Bool
 covers e at = nat_le e.from at && nat_lt at (e.from + e.count)
 
@@ -101,10 +109,12 @@ first_shared e at zero = None
 first_shared e at (suc count) =
     if nat_le 2 (covering e at) then Some at else first_shared e (at + 1) count
 
+-- the first word with which O4 refuses a list
 unfoldable pub shared_fault : List ℕ → Option ℕ
 shared_fault words = first_shared (extents_of words) 0 (map_place words)
 
 -- ---- the words of a section
 
+-- the words of a section
 unfoldable pub extent_words : List ℕ → Extent → List ℕ
 extent_words words e = take e.count (drop e.from words)

@@ -33,12 +33,15 @@ name_at words at = characters words at 1 (min (unit_at words at 0) name_limit)
 
 -- ---- sections by their numbers
 
+-- the section of a definition with this number; numbers over 2 are the static section
 unfoldable pub class_with : ℕ → Section
 class_with zero = Text
 class_with (suc zero) = Linkage
 class_with (suc (suc zero)) = Symbol
 class_with (suc (suc (suc n))) = Static
 
+-- the section with this number in an expression or a relocation; numbers over 2 are the symbol
+-- section
 unfoldable pub section_with : ℕ → Section
 section_with zero = Text
 section_with (suc zero) = Linkage
@@ -47,6 +50,7 @@ section_with (suc (suc (suc n))) = Symbol
 
 -- ---- tables
 
+-- the definition at an index of the definition section
 unfoldable pub definition_at : List ℕ → ℕ → Named
 definition_at words at =
     let first = right (slice_index words at) in
@@ -60,11 +64,13 @@ definition_at words at =
       };
     }
 
+-- `count` definitions that follow one another, from an index on
 unfoldable pub definitions_in : List ℕ → ℕ → ℕ → List Named
 definitions_in words at zero = []
 definitions_in words at (suc count) = definition_at words at ∷ definitions_in words (at + 2) count
 
--- a link, by its expression in the definition section and its modifier in the linkage section
+-- a link, by its expression, at index `at` of the definition section, and its modifier, in the link
+-- at index `place` of the linkage section
 unfoldable pub link_at : List ℕ → ℕ → List ℕ → ℕ → LinkFields
 link_at words at linkage place =
     let first = slice_index words at in
@@ -79,11 +85,13 @@ link_at words at linkage place =
       modifier = right (slice_index linkage (place + 1)) % 2 ^ 6;
     }
 
+-- `count` links, whose expressions and link words each follow one another
 unfoldable pub links_in : List ℕ → ℕ → List ℕ → ℕ → ℕ → List LinkFields
 links_in words at linkage place zero = []
 links_in words at linkage place (suc count) =
     link_at words at linkage place ∷ links_in words (at + 2) linkage (place + 2) count
 
+-- the relocation that a word encodes
 unfoldable pub relocation_in : ℕ → RelocFields
 relocation_in w =
     record {
@@ -93,6 +101,7 @@ relocation_in w =
       target = section_with (right w / target_unit % 2 ^ 3);
     }
 
+-- `count` relocations that follow one another, from an index on
 unfoldable pub relocations_in : List ℕ → ℕ → ℕ → List RelocFields
 relocations_in words at zero = []
 relocations_in words at (suc count) =
@@ -100,26 +109,31 @@ relocations_in words at (suc count) =
 
 -- ---- the whole
 
--- the number of words of the map and the last word: of version 1, and of version 2
+-- the number of words of a map of version 1, with the last word
 abbrev pub older_map : ℕ
 older_map = 7
 
+-- the number of words of a map of version 2, with the last word
 abbrev pub newer_map : ℕ
 newer_map = 8
 
--- the indexes in the map of the words of the sections
+-- the index in the map of the word that describes the text
 abbrev pub text_index : ℕ
 text_index = 1
 
+-- that of the definition section
 abbrev pub definition_index : ℕ
 definition_index = 2
 
+-- that of the linkage section
 abbrev pub linkage_index : ℕ
 linkage_index = 3
 
+-- that of the static section, which only version 2 has
 abbrev pub statics_index : ℕ
 statics_index = 4
 
+-- that of the symbol section
 abbrev pub symbol_index : ℕ → ℕ
 symbol_index version = if is_newer_version version then 5 else 4
 
@@ -127,10 +141,11 @@ symbol_index version = if is_newer_version version then 5 else 4
 abbrev pub bound_index : ℕ → ℕ
 bound_index version = if is_newer_version version then 6 else 5
 
--- the index of the map, and the version, which depends on how far the map is from the end
+-- the index of the map, which the last word has
 unfoldable pub map_place : List ℕ → ℕ
 map_place words = left (slice_index words (length words - 1))
 
+-- the version, which depends on how far the map is from the end
 unfoldable pub version_in : List ℕ → ℕ
 version_in words = version_of (nat_eq (map_place words + newer_map) (length words))
 
@@ -146,16 +161,19 @@ told_length words i = right (map_word words i)
 unfoldable pub told_count : List ℕ → List ℕ → ℕ → ℕ
 told_count words part i = min (right (slice_index part i)) (length words)
 
--- the rest of the list from each section on
+-- the rest of the list from the definition section on
 unfoldable pub from_definition : List ℕ → List ℕ
 from_definition words = drop (told_length words text_index) words
 
+-- the rest of the list from the linkage section on
 unfoldable pub from_linkage : List ℕ → List ℕ
 from_linkage words = drop (told_length words definition_index) (from_definition words)
 
+-- the rest of the list after the linkage section
 unfoldable pub from_statics : List ℕ → List ℕ
 from_statics words = drop (told_length words linkage_index) (from_linkage words)
 
+-- the rest of the list from the symbol section on
 unfoldable pub from_symbol : List ℕ → List ℕ
 from_symbol words =
     if is_newer_version (version_in words)
@@ -166,18 +184,23 @@ from_symbol words =
 unfoldable pub link_start : List ℕ → ℕ
 link_start k = left (slice_index k 1)
 
+-- the offset of the first link in the linkage section of a list
 unfoldable pub told_first : List ℕ → ℕ
 told_first words = link_start (from_linkage words)
 
+-- the static words: in version 1 those before the links, and in version 2 those of the static
+-- section
 unfoldable pub statics_in : List ℕ → List ℕ
 statics_in words =
     if is_newer_version (version_in words)
     then take (told_length words statics_index) (from_statics words)
     else take (told_first words - head_words) (drop head_words (from_linkage words))
 
+-- the entry bound, which a word of the map has
 unfoldable pub bound_in : List ℕ → ℕ
 bound_in words = left (map_word words (bound_index (version_in words)))
 
+-- the parts that a list may encode
 unfoldable pub parts_of : List ℕ → PartsFields
 parts_of words =
     let definition = from_definition words in

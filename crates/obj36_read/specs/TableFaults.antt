@@ -16,14 +16,17 @@ earlier None q = q
 earlier (Some p) None = Some p
 earlier (Some p) (Some q) = Some (min p q)
 
+-- the place, if the condition holds
 abbrev pub where_bad : Bool → ℕ → Option ℕ
 where_bad bad at = if bad then Some at else None
 
 -- ---- the chain of definitions
 
+-- the number of definitions that the head of a definition section has
 unfoldable pub definition_count : List ℕ → ℕ
 definition_count d = right (slice_index d 0)
 
+-- the offset of the first definition, which the head has
 unfoldable pub first_definition : List ℕ → ℕ
 first_definition d = left (slice_index d 0)
 
@@ -54,12 +57,15 @@ count_fault d =
 
 -- ---- the table of expressions
 
+-- the number of expressions that the head has
 unfoldable pub expression_count : List ℕ → ℕ
 expression_count d = right (slice_index d 1)
 
+-- the offset of the first expression, which the head has
 unfoldable pub first_expression : List ℕ → ℕ
 first_expression d = left (slice_index d 1)
 
+-- whether the table of expressions is not within the section
 unfoldable pub leaves_section : List ℕ → Bool
 leaves_section d =
     nat_le (length d) (first_expression d)
@@ -97,6 +103,7 @@ same_units d at other i zero = true
 same_units d at other i (suc count) =
     nat_eq (unit_at d at i) (unit_at d other i) && same_units d at other (i + 1) count
 
+-- whether two names are within the section and are equal
 unfoldable pub same_name : List ℕ → ℕ → ℕ → Bool
 same_name d at other =
     lies_within d at && lies_within d other && same_units d at other 0 (unit_at d at 0 + 1)
@@ -118,6 +125,7 @@ repeats d (suc count) at =
 
 -- ---- O5
 
+-- whether a fault is that of word 0
 abbrev pub is_at_head : Option ℕ → Bool
 is_at_head None = false
 is_at_head (Some p) = nat_eq p 0
@@ -130,6 +138,7 @@ members_fault version d =
     (earlier (class_faults (last_class version) d (definition_count d) (first_definition d))
     (repeats d (definition_count d) (first_definition d)))
 
+-- the first word with which O5 refuses a definition section
 unfoldable pub table_fault : ℕ → List ℕ → Option ℕ
 table_fault version d =
     if is_at_head (count_fault d)
@@ -163,14 +172,14 @@ unfoldable pub name_fault : List ℕ → ℕ → ℕ → Option ℕ
 name_fault d holder at =
     if nat_le (length d) at then Some holder else where_bad (not (is_name_at d at)) at
 
--- the names of `count` definitions from `at` on
+-- the first fault of the names of `count` definitions from `at` on
 unfoldable pub defined_names_fault : List ℕ → ℕ → ℕ → Option ℕ
 defined_names_fault d zero at = None
 defined_names_fault d (suc count) at =
     earlier (name_fault d (at + 1) (name_place d at))
     (defined_names_fault d count (next_definition d at))
 
--- the names of an expression, which depend on its type
+-- the first fault of the names of an expression, which depend on its type
 unfoldable pub expression_fault : List ℕ → ℕ → Option ℕ
 expression_fault d at =
     earlier
@@ -181,12 +190,13 @@ expression_fault d at =
     then name_fault d (at + 1) (left (slice_index d (at + 1)))
     else None)
 
--- the names of `count` expressions from `at` on
+-- the first fault of the names of `count` expressions from `at` on
 unfoldable pub linked_names_fault : List ℕ → ℕ → ℕ → Option ℕ
 linked_names_fault d zero at = None
 linked_names_fault d (suc count) at =
     earlier (expression_fault d at) (linked_names_fault d count (at + 2))
 
+-- the first word with which O6 refuses a definition section
 unfoldable pub names_fault : List ℕ → Option ℕ
 names_fault d =
     earlier (defined_names_fault d (definition_count d) (first_definition d))

@@ -20,6 +20,7 @@ use obj36_parts::sections::{HEAD_WORDS, LINK_TAG};
 
 // ---- types of expressions
 
+// Whether a word is the first of a valid expression.
 #[tactic(auto, unfolding(crate::specs::LinkFaults::is_type))]
 fn is_good_type(version: u8, word: Word) -> bool
     ensures { result ≡ is_type version word }
@@ -28,6 +29,7 @@ fn is_good_type(version: u8, word: Word) -> bool
     has_its_name(kind) || (has_its_section(kind) && right_of(word) <= greatest_place(version))
 }
 
+// The first expression whose type or section is invalid.
 fn fault_of_types(version: u8, d: &[Word]) -> Option<u64>
     ensures value { result
         ≡ type_faults version d.now (expression_count d.now) (first_expression d.now) }
@@ -61,6 +63,7 @@ fn start_of_links(k: &[Word]) -> u64
     left_of(word_at(k, 1))
 }
 
+// Whether the head of the linkage section is valid.
 #[tactic(auto, unfolding(crate::specs::LinkFaults::is_head))]
 fn is_good_head(version: u8, d: &[Word], k: &[Word]) -> bool
     ensures { result ≡ is_head version d.now k.now }
@@ -87,6 +90,7 @@ fn is_good_link(k: &[Word], at: u64, expression: u64) -> bool
         && right_of(odd) < 1 << 6
 }
 
+// The first of `count` links from `start` on that is not valid.
 fn fault_of_each(k: &[Word], start: u64, expressions: u64, count: u64) -> Option<u64>
     requires start { start < 2 ^ 18 }
     requires expressions { expressions < 2 ^ 18 }
@@ -106,6 +110,7 @@ fn fault_of_each(k: &[Word], start: u64, expressions: u64, count: u64) -> Option
     None
 }
 
+// The first invalid word of the linkage section. That of an invalid head is word 1.
 #[tactic(auto, unfolding(crate::specs::LinkFaults::linkage_fault))]
 fn fault_of_linkage(version: u8, d: &[Word], k: &[Word]) -> Option<u64>
     ensures value { result ≡ linkage_fault version d.now k.now }
@@ -131,6 +136,7 @@ pub fn place_behind(from: u64, place: Option<u64>) -> Option<u64>
     }
 }
 
+// The lesser of two indexes, or the one that there is.
 fn first_place(first: Option<u64>, second: Option<u64>) -> Option<u64>
     requires first { IfSome first (λ p. p < 2 ^ 21) }
     requires second { IfSome second (λ p. p < 2 ^ 21) }

@@ -39,6 +39,7 @@ pub struct Extents {
     pub symbol: Extent,
 }
 
+// Where a section is, as word i of the map says.
 #[tactic(auto, unfolding(crate::specs::MapFaults::extent_at, crate::specs::Reading::told_length))]
 fn extent_told(words: &[Word], i: u64) -> Extent
     requires { i < newer_map }
@@ -55,6 +56,7 @@ fn extent_told(words: &[Word], i: u64) -> Extent
 
 // ---- the map
 
+// Whether the map has the length of a map of either version.
 #[tactic(auto, unfolding(crate::specs::MapFaults::is_told))]
 fn is_map_told(words: &[Word]) -> bool
     ensures { result ≡ is_told words.now }
@@ -64,6 +66,7 @@ fn is_map_told(words: &[Word]) -> bool
     map + OLDER_MAP == count || map + NEWER_MAP == count
 }
 
+// Whether the word with the entry bound is valid.
 #[tactic(auto, unfolding(crate::specs::MapFaults::is_bound))]
 fn is_good_bound(words: &[Word], bound: Word) -> bool
     ensures { result ≡ is_bound words.now bound }
@@ -71,6 +74,7 @@ fn is_good_bound(words: &[Word], bound: Word) -> bool
     right_of(bound) == 0 && left_of(bound) <= length_told(words, 1)
 }
 
+// The first invalid word of a map with a valid length.
 #[tactic(auto, unfolding(crate::specs::MapFaults::fixed_fault, m36_text::specs::Lines::first_met))]
 fn fault_of_fixed(words: &[Word], version: u8) -> Option<u64>
     requires some { 1 ≤ length words.now }
@@ -152,6 +156,7 @@ pub fn extents_told(words: &[Word]) -> Extents
     }
 }
 
+// Whether a section ends past the map, or has fewer words than its head.
 #[tactic(auto, unfolding(crate::specs::MapFaults::is_outside))]
 fn leaves(map: u64, e: Extent, least: u64) -> bool
     requires from { e.from < 2 ^ 18 }
@@ -190,6 +195,7 @@ pub fn fault_of_sections(words: &[Word]) -> Option<u64>
 
 // ---- shared words
 
+// Whether a section has the word at an index.
 #[tactic(auto, unfolding(crate::specs::MapFaults::covers))]
 fn has_word(e: Extent, at: u64) -> bool
     requires from { e.from < 2 ^ 18 }
@@ -199,6 +205,7 @@ fn has_word(e: Extent, at: u64) -> bool
     e.from <= at && at < e.from + e.count
 }
 
+// The number of sections that have the word at an index.
 #[tactic(auto, unfolding(crate::specs::MapFaults::covering))]
 fn sections_with(e: &Extents, at: u64) -> u64
     requires { AreNear e.now }

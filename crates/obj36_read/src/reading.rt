@@ -67,6 +67,7 @@ pub fn front(words: &[Word], count: u64) -> &[Word]
 
 // ---- names
 
+// Part i of nine bits of a word, counted from the left.
 #[tactic(auto, unfolding(obj36_parts::specs::Halves::quarter))]
 fn part(word: Word, i: u64) -> u64
     requires { i < 4 }
@@ -93,6 +94,7 @@ pub(crate) fn unit(words: &[Word], at: u64, i: u64) -> u64
     part(word_at(words, at + i / 4), i % 4)
 }
 
+// Writes the first `count` characters of the name at an index.
 fn put_characters(words: &[Word], at: u64, count: usize, bytes: &mut [u8; 32])
     requires at { at < 2 ^ 32 }
     requires count { count ≤ name_limit }
@@ -120,6 +122,7 @@ fn name(words: &[Word], at: u64) -> Name
 
 // ---- sections by their numbers
 
+// The section of a definition with this number; numbers over 2 are the static section.
 #[tactic(auto, unfolding(crate::specs::Reading::class_with))]
 fn section_of_class(class: u64) -> Section
     ensures { result ≡ class_with class }
@@ -132,6 +135,8 @@ fn section_of_class(class: u64) -> Section
     }
 }
 
+// The section with this number in an expression or a relocation; numbers over 2 are the symbol
+// section.
 #[tactic(auto, unfolding(crate::specs::Reading::section_with))]
 fn section_of(number: u64) -> Section
     ensures { result ≡ section_with number }
@@ -200,6 +205,8 @@ fn section_unless(named: bool, number: u64) -> Section
     }
 }
 
+// The link with its expression at `at` in the definition section, and its modifier in the link at
+// `place` of the linkage section.
 #[tactic(auto, unfolding(crate::specs::Reading::link_at))]
 fn link(words: &[Word], at: u64, linkage: &[Word], place: u64) -> Link
     requires at { at < 2 ^ 40 }
@@ -307,6 +314,7 @@ pub fn length_told(words: &[Word], i: u64) -> u64
     right_of(word_at(words, place_of_map(words) + i))
 }
 
+// A number of items that word i of a section has, at most the number of words of the list.
 #[tactic(auto, unfolding(crate::specs::Reading::told_count))]
 pub(crate) fn count_told(words: &[Word], part: &[Word], i: u64) -> u64
     ensures value { result ≡ told_count words.now part.now i }
@@ -315,6 +323,7 @@ pub(crate) fn count_told(words: &[Word], part: &[Word], i: u64) -> u64
     right_of(word_at(part, i)).min(words.len() as u64)
 }
 
+// The rest of the list from the definition section on.
 #[tactic(auto, unfolding(crate::specs::Reading::from_definition))]
 pub(crate) fn definition_on(words: &[Word]) -> &[Word]
     ensures { result.now ≡ from_definition words.now }
@@ -322,6 +331,7 @@ pub(crate) fn definition_on(words: &[Word]) -> &[Word]
     behind(words, length_told(words, 1))
 }
 
+// The rest of the list from the linkage section on.
 #[tactic(auto, unfolding(crate::specs::Reading::from_linkage))]
 pub(crate) fn linkage_on(words: &[Word]) -> &[Word]
     ensures { result.now ≡ from_linkage words.now }
@@ -329,6 +339,7 @@ pub(crate) fn linkage_on(words: &[Word]) -> &[Word]
     behind(definition_on(words), length_told(words, 2))
 }
 
+// The rest of the list after the linkage section.
 #[tactic(auto, unfolding(crate::specs::Reading::from_statics))]
 fn statics_on(words: &[Word]) -> &[Word]
     ensures { result.now ≡ from_statics words.now }
@@ -336,6 +347,7 @@ fn statics_on(words: &[Word]) -> &[Word]
     behind(linkage_on(words), length_told(words, 3))
 }
 
+// The rest of the list from the symbol section on.
 #[tactic(auto, unfolding(crate::specs::Reading::from_symbol))]
 pub(crate) fn symbol_on(words: &[Word]) -> &[Word]
     ensures { result.now ≡ from_symbol words.now }
@@ -347,6 +359,7 @@ pub(crate) fn symbol_on(words: &[Word]) -> &[Word]
     }
 }
 
+// The offset of the first link in the linkage section.
 #[tactic(auto, unfolding(crate::specs::Reading::told_first, crate::specs::Reading::link_start))]
 pub(crate) fn first_told(words: &[Word]) -> u64
     ensures value { result ≡ told_first words.now }
@@ -355,6 +368,7 @@ pub(crate) fn first_told(words: &[Word]) -> u64
     left_of(word_at(linkage_on(words), 1))
 }
 
+// The static words, from the section that has them.
 #[tactic(auto, unfolding(crate::specs::Reading::statics_in))]
 pub(crate) fn statics(words: &[Word]) -> &[Word]
     ensures { result.now ≡ statics_in words.now }

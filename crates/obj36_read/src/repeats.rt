@@ -45,6 +45,7 @@ fn parts_kept(word: Word, count: u64) -> u64
     }
 }
 
+// The words of a name but the last.
 #[tactic(auto, unfolding(crate::specs::Spelled::whole_words))]
 fn words_before_last(d: &[Word], at: u64) -> &[Word]
     requires at { at < 2 ^ 18 }
@@ -53,6 +54,7 @@ fn words_before_last(d: &[Word], at: u64) -> &[Word]
     front(behind(d, at), unit(d, at, 0) / 4)
 }
 
+// The parts of the last word of a name that belong to the name.
 #[tactic(auto, unfolding(crate::specs::Spelled::last_parts))]
 fn parts_of_last(d: &[Word], at: u64) -> u64
     requires at { at < 2 ^ 18 }
@@ -62,6 +64,7 @@ fn parts_of_last(d: &[Word], at: u64) -> u64
     parts_kept(word_at(d, at + length / 4), length % 4)
 }
 
+// The name at an offset, by the words and numbers in which equal names agree.
 fn spelled_at(d: &[Word], at: u64) -> Spelling<'_>
     requires at { at < 2 ^ 18 }
     ensures whole { result.whole.now ≡ whole_words d.now at }

@@ -55,6 +55,7 @@ fn have_zeros(d: &[Word], at: u64, from: u64, count: u64) -> bool
     true
 }
 
+// Whether there is a valid name at an offset.
 #[tactic(auto, unfolding(crate::specs::TableFaults::is_name_at))]
 fn has_good_name(d: &[Word], at: u64) -> bool
     requires { at < 2 ^ 20 }
@@ -68,6 +69,8 @@ fn has_good_name(d: &[Word], at: u64) -> bool
         && have_zeros(d, at, length + 1, 3 - length % 4)
 }
 
+// The fault of the name at an offset. If the offset is past the section, it is that of the word
+// `holder`, which has the offset.
 #[tactic(auto, unfolding(crate::specs::TableFaults::name_fault))]
 fn fault_of_name(d: &[Word], holder: u64, at: u64) -> Option<u64>
     requires holder { holder < 2 ^ 20 }
@@ -81,6 +84,7 @@ fn fault_of_name(d: &[Word], holder: u64, at: u64) -> Option<u64>
     place_if(!has_good_name(d, at), at)
 }
 
+// The first fault of the names of definitions.
 fn fault_of_defined_names(d: &[Word]) -> Option<u64>
     ensures value { result
         ≡ defined_names_fault d.now (definition_count d.now) (first_definition d.now) }
@@ -123,6 +127,7 @@ fn fault_of_expression(d: &[Word], at: u64) -> Option<u64>
     earlier_of(name, entry)
 }
 
+// The first fault of the names of expressions.
 fn fault_of_linked_names(d: &[Word]) -> Option<u64>
     ensures value { result
         ≡ linked_names_fault d.now (expression_count d.now) (first_expression d.now) }

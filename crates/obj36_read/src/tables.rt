@@ -58,6 +58,7 @@ pub(crate) fn definition_first(d: &[Word]) -> u64
     left_of(word_at(d, 0))
 }
 
+// The offset of the next definition, 0 after the last.
 #[tactic(auto, unfolding(crate::specs::TableFaults::next_definition))]
 pub(crate) fn definition_behind(d: &[Word], at: u64) -> u64
     ensures value { result ≡ next_definition d.now at }
@@ -66,6 +67,7 @@ pub(crate) fn definition_behind(d: &[Word], at: u64) -> u64
     left_of(word_at(d, at))
 }
 
+// Whether a definition at an offset is within the section.
 #[tactic(auto, unfolding(crate::specs::TableFaults::is_member))]
 fn is_inside(d: &[Word], at: u64) -> bool
     requires { at < 2 ^ 18 }
@@ -90,6 +92,7 @@ fn end_of_chain(d: &[Word], holder: u64, at: u64) -> Option<u64>
     }
 }
 
+// The fault of a chain of definitions that does not have `count` members.
 fn fault_of_chain(d: &[Word], count: u64) -> Option<u64>
     requires { count < 2 ^ 18 }
     ensures value { result ≡ chain_fault d.now count 0 (first_definition d.now) }
@@ -107,6 +110,7 @@ fn fault_of_chain(d: &[Word], count: u64) -> Option<u64>
     end_of_chain(d, holder, at)
 }
 
+// The fault of the number of definitions, or of their chain.
 #[tactic(auto, unfolding(crate::specs::TableFaults::count_fault))]
 fn fault_of_count(d: &[Word]) -> Option<u64>
     ensures value { result ≡ count_fault d.now }
@@ -137,6 +141,7 @@ pub(crate) fn expression_first(d: &[Word]) -> u64
     left_of(word_at(d, 1))
 }
 
+// Whether the table of expressions is not within the section.
 #[tactic(auto, unfolding(crate::specs::TableFaults::leaves_section))]
 fn expressions_leave(d: &[Word]) -> bool
     ensures { result ≡ leaves_section d.now }
@@ -148,6 +153,7 @@ fn expressions_leave(d: &[Word]) -> bool
 
 // ---- classes
 
+// The class of a definition, without the mark of an entry.
 #[tactic(auto, unfolding(crate::specs::TableFaults::class_at))]
 fn class_of_definition(d: &[Word], at: u64) -> u64
     ensures { result ≡ class_at d.now at }
@@ -160,6 +166,7 @@ fn class_of_definition(d: &[Word], at: u64) -> u64
     }
 }
 
+// The first definition whose class is over `last`.
 fn fault_of_classes(d: &[Word], last: u64) -> Option<u64>
     ensures value { result
         ≡ class_faults last d.now (definition_count d.now) (first_definition d.now) }
@@ -186,6 +193,7 @@ pub(crate) fn place_of_name(d: &[Word], at: u64) -> u64
     right_of(word_at(d, at + 1))
 }
 
+// Whether the name that begins at an offset is within the section.
 #[tactic(auto, unfolding(crate::specs::TableFaults::lies_within))]
 pub(crate) fn is_within(d: &[Word], at: u64) -> bool
     requires { at < 2 ^ 20 }
@@ -197,6 +205,7 @@ pub(crate) fn is_within(d: &[Word], at: u64) -> bool
 
 // ---- all of them
 
+// The first fault of the tables, if the number of definitions is right.
 #[tactic(auto, unfolding(crate::specs::TableFaults::members_fault))]
 fn fault_of_members(alloc: Global, version: u8, d: &[Word]) -> Result<Option<u64>, NoMemory>
     ensures value { IfOk result (λ place. place ≡ members_fault version d.now) }
