@@ -1,22 +1,23 @@
 //! Several processes on one core, under a written schedule.
 //!
-//! A process is a set of registers of its own, with its own descriptor segment base register; core is one for all. An
-//! event is one step of one process, and a schedule says which process makes each event. A process that has stopped or
-//! faulted is stepped again when its turn comes.
+//! A process is a set of registers of its own, with its own descriptor segment base register. All
+//! processes share one core. An event is one step of one process, and the schedule says which
+//! process makes each event. A process that has stopped or faulted is stepped again in its turn.
 //!
-//! The contract: [`Procs::read`] gives exactly the processes and the schedule that a text writes out, or the first line
-//! of it that has a code, with the least code of that line, or want of memory; all memory is taken there.
-//! [`Procs::event`] makes one event, and [`Procs::run`] those of the whole schedule with a line for each and a last line;
-//! what it writes is exactly the text of these events. Where the sink fails it is a first part of the text, and the
-//! processes stand behind a first part of the schedule.
+//! The contract: [`Procs::read`] returns exactly the processes and the schedule that a text
+//! describes; or the first line that has a code, with the least code of that line; or `NoMemory`.
+//! All memory is allocated there. [`Procs::event`] makes one event. [`Procs::run`] makes those of
+//! the whole schedule, and writes a line for each and a last line; what it writes is exactly the
+//! text of these events. If the output fails, it has written a prefix of the text and made the
+//! events of a prefix of the schedule.
 //!
-//! A caller with an output of another kind makes the events one by one: [`Procs::process_at`] is the process of each,
-//! [`Procs::event_into`] makes it and fills a record that the next event may fill again, and [`event_line`] and
+//! A caller with another kind of output makes the events one by one: [`Procs::process_at`] is the
+//! process of each, [`Procs::event_into`] makes it and overwrites a record, and [`event_line`] and
 //! [`end_line`] are the lines.
 //!
-//! `specs/ProcsFile.antt` has the grammar of the text, and `specs/ScheduleText.antt` what a run writes. What events are is
-//! `m36_model:Schedule`. The processor is that of the Multics Processor Manual AL39; the text and the lines are this
-//! simulator's own.
+//! `specs/ProcsFile.antt` has the grammar of the text, and `specs/ScheduleText.antt` what a run
+//! writes. Events are defined in `m36_model:Schedule`. The processor is that of the Multics
+//! Processor Manual AL39; the text and the lines are this simulator's own.
 #![tactic(auto)]
 
 pub mod fault;

@@ -142,9 +142,9 @@ impl Procs {
         processes.step_into(i, step);
     }
 
-    /// Makes the events of the whole schedule, and writes a line for each and the last line. The error comes only where a
-    /// line could not be written; then a first part of the text is written, and the events of a first part of the schedule
-    /// were made. Each line is put in one piece.
+    /// Makes the events of the whole schedule, and writes a line for each and the last line, each in
+    /// one piece. Fails only if a line could not be written: then a prefix of the text was written,
+    /// and the events of a prefix of the schedule were made.
     pub fn run<S: Sink>(&mut self, out: &mut S) -> Result<(), WriteFault>
         ensures says { RunSays result self.old.schedule
             self.old.state self.new.state (S.written out.old) (S.written out.new) }
