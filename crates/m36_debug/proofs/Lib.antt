@@ -6,4 +6,7 @@ pub mod LinesLaws
 pub mod AnswerLaws
 pub mod QuitLaws
 pub mod PieceLaws
+pub mod HandLaws
+pub mod ReplyLaws
+pub mod SessionSteps
 pub mod SessionLaws

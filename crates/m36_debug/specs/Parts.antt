@@ -5,7 +5,7 @@ use Rattle.m36_step.specs.Answers.{IsService, IsStep, Interrupts, is_service}
 use Rattle.m36_model.specs.declared.endings.End.{End}
 use Rattle.m36_outside.specs.declared.sink.Put.{Put}
 use Rattle.m36_outside.specs.declared.sink.Put.TheVariants.{Done, Failed}
-use Rattle.m36_outside.specs.SinkState.{SinkState}
+use Rattle.m36_debug.specs.Putting.{Pending, PutsPieces}
 use Rattle.m36_step.specs.declared.turns.Turn.{Turn}
 use Rattle.m36_debug.specs.declared.commands.Run.{Run}
 use Rattle.m36_debug.specs.declared.commands.Further.{Further}
@@ -14,7 +14,6 @@ use Rattle.m36_debug.specs.declared.turning.Came.{Came}
 use Rattle.m36_debug.specs.declared.turning.Came.TheVariants as comes
 use Rattle.m36_debug.specs.declared.turning.Ends.{Ends}
 use Rattle.m36_debug.specs.declared.turning.Ends.TheVariants as ends
-use Rattle.m36_outside.specs.Putting.{PutsPieces}
 use Rattle.m36_debug.specs.Session.{Turning, Doing, Waiting, Running, Backing, Over, Starved}
 use Rattle.m36_debug.specs.Session.{Standing, Event, standing, Follow, lines_said, lines_in}
 use Rattle.m36_debug.specs.SessionTexts.{unknown_line, end_line}
@@ -23,7 +22,7 @@ use Rattle.m36_debug.specs.Sitting.{SittingFields}
 -- A part of a session: these lines were taken in it, and what is said of it was put, whole or cut
 -- as the answer tells.
 pub record Part {M : Type 0} (o : Turning M) (s : Standing) (m : M) (lines : List (List ℕ))
-    (s' : Standing) (m' : M) (answer : Put) (old new : SinkState) : Type 0 where
+    (s' : Standing) (m' : M) (answer : Put) (old new : Pending) : Type 0 where
   pub events : List (Event M)
   pub follow : Follow o s m events s' m'
   pub took : lines_in events ≡ lines
@@ -31,7 +30,7 @@ pub record Part {M : Type 0} (o : Turning M) (s : Standing) (m : M) (lines : Lis
 
 -- One whose output was cut: the session stood somewhere.
 pub record CutPart {M : Type 0} (o : Turning M) (s : Standing) (m : M) (lines : List (List ℕ))
-    (m' : M) (old new : SinkState) : Type 0 where
+    (m' : M) (old new : Pending) : Type 0 where
   pub stands : Standing
   pub part : Part o s m lines stands m' Failed old new
 
@@ -91,7 +90,7 @@ CountsSteps o before after m m' = (after ≡ before) ⊎ Makes o IsStep m m'
 
 -- what a turn that a command takes came to
 abbrev pub CameSays :
-    {M : Type 0} → Turning M → Came → Standing → M → SittingFields → M → SinkState → SinkState
+    {M : Type 0} → Turning M → Came → Standing → M → SittingFields → M → Pending → Pending
     → Type 0
 CameSays o comes.Cut s m sitting m' old new = CutPart o s m [] m' old new
 CameSays o came s m sitting m' old new =
@@ -106,8 +105,8 @@ doing_at ends.Starved = Starved
 doing_at ends.Cut = Waiting
 
 abbrev pub EndSays :
-    {M : Type 0} → Turning M → Ends → Standing → M → List (List ℕ) → SittingFields → M → SinkState
-    → SinkState → Type 0
+    {M : Type 0} → Turning M → Ends → Standing → M → List (List ℕ) → SittingFields → M → Pending
+    → Pending → Type 0
 EndSays o ends.Cut s m lines sitting m' old new = CutPart o s m lines m' old new
 EndSays o end s m lines sitting m' old new =
     Part o s m lines (standing sitting (doing_at end)) m' Done old new
@@ -118,14 +117,14 @@ told Done = ends.Line
 told Failed = ends.Cut
 
 -- A line was told at once: nothing has changed but for what was put.
-abbrev pub EndPuts : Ends → SinkState → SinkState → List (List ℕ) → Type 0
+abbrev pub EndPuts : Ends → Pending → Pending → List (List ℕ) → Type 0
 EndPuts ends.Line old new lines = PutsPieces Done lines old new
 EndPuts ends.Quit old new lines = ⊥
 EndPuts ends.Starved old new lines = ⊥
 EndPuts ends.Cut old new lines = PutsPieces Failed lines old new
 
 pub record IsTold {M : Type 0} (end : Ends) (lines : List (List ℕ)) (s : SittingFields) (m : M)
-    (sitting : SittingFields) (m' : M) (old new : SinkState) : Type 0 where
+    (sitting : SittingFields) (m' : M) (old new : Pending) : Type 0 where
   pub puts : EndPuts end old new lines
   pub sitting_stays : sitting ≡ s
   pub machine_stays : m' ≡ m
@@ -133,7 +132,7 @@ pub record IsTold {M : Type 0} (end : Ends) (lines : List (List ℕ)) (s : Sitti
 -- A command whose run has ended tells the end again, and any other takes its turns.
 abbrev pub CommandSays :
     {M : Type 0} → Turning M → Ends → Option End → Run → SittingFields → M → SittingFields → M
-    → SinkState → SinkState → Type 0
+    → Pending → Pending → Type 0
 CommandSays o answer (Some end) run s m sitting m' old new =
     IsTold answer (end_line end s.taken ∷ []) s m sitting m' old new
 CommandSays o answer None run s m sitting m' old new =
@@ -142,7 +141,7 @@ CommandSays o answer None run s m sitting m' old new =
 -- The machine goes back where so many steps were taken, and else the line is not known.
 abbrev pub BackSays :
     {M : Type 0} → Turning M → Ends → Bool → List ℕ → ℕ → SittingFields → M → SittingFields → M
-    → SinkState → SinkState → Type 0
+    → Pending → Pending → Type 0
 BackSays o answer true line n s m sitting m' old new =
     EndSays o answer (standing s (Backing n line)) m [] sitting m' old new
 BackSays o answer false line n s m sitting m' old new =

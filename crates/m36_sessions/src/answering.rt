@@ -16,13 +16,14 @@ use m36_back::Past;
 use m36_booted::reading::read_system;
 use m36_debug::debug;
 use m36_image::Image;
-use m36_outside::{Folder, Lines, Sink, Text};
+use m36_outside::{Folder, Lines, MemFolder, Sink, Text};
 use m36_ran::answering::machine_of;
 use m36_ran::reading::read_state;
 use m36_reading::Status;
 use m36_step::{Machine, Stepper};
 use m36_super::Super;
 use m36_word::NoMemory;
+use m36_world::Borrowed;
 use std::alloc::Global;
 
 // Holds a session over a machine.
@@ -41,7 +42,10 @@ fn hold<M: Stepper, L: Lines, S: Sink>(
     ensures input { InputStands (end_of result)
         (talk_of L.left L.given L.faults lines.old lines.new) }
 {
-    session_status(debug(alloc, machine, lines, out), name)
+    let mut none = MemFolder::new(alloc);
+    let mut world = Borrowed::new(&mut none, lines, out);
+    let ended = debug(alloc, machine, &mut world);
+    session_status(ended, name)
 }
 
 // The machine of an image, which goes back. Core is handed on, and not copied.
