@@ -10,3 +10,5 @@ pub mod HandLaws
 pub mod ReplyLaws
 pub mod SessionSteps
 pub mod SessionLaws
+pub mod Replied
+pub mod SessionBridge

@@ -44,7 +44,7 @@ further pieces more old new follow =
     let parts = follow_split (outputs pieces) more old new follow in
     record { between = parts.between; follow = parts.goes_on; input = outputs_keep pieces old parts.between parts.begins }
 
-nothing_more : (more : List Event) (old new : Seen) → more ≡ [] → Follow more old new → input_by new ≡ input_by old
+pub nothing_more : (more : List Event) (old new : Seen) → more ≡ [] → Follow more old new → input_by new ≡ input_by old
 unfolding Follow
 nothing_more more old new none follow =
     let is : Follow [] old new = subst (λ e. Follow e old new) none follow in ap input_by is
@@ -143,7 +143,7 @@ puts_go (piece ∷ pieces) rest events result none (inr fails) =
 
 -- ---- what puts nothing at once
 
-done_puts_none : PutsNone (done tt)
+pub done_puts_none : PutsNone (done tt)
 unfolding Goes
 done_puts_none pieces result goes = let is = goes.none in cc
 
