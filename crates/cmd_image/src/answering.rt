@@ -119,7 +119,6 @@ fn with_image<W: World>(
 }
 
 /// `bare FILE` and `audit FILE`: reads a bare image, and does what a command says with it.
-#[tactic(auto, unfolding(crate::specs::ImageProgram::image_program), using(m36_program::proofs::Performing::performing))]
 pub fn image_file<W: World>(
     alloc: Global,
     name: &[u8],
