@@ -12,3 +12,4 @@ pub mod SessionSteps
 pub mod SessionLaws
 pub mod Replied
 pub mod SessionBridge
+pub mod Unreading

@@ -4,7 +4,7 @@ ghost use Rattle.std.specs.Prelude.{◌≡◌, ◌↔◌, None, IfSome};
 ghost use Rattle.m36_reading.specs.Ends.{end_of};
 ghost use Rattle.m36_reading.specs.Outside.{outside_of};
 ghost use Rattle.m36_reading.specs.Doing.{Does};
-ghost use Rattle.m36_sessions.specs.Held.{talk_of};
+ghost use Rattle.cmd_debug.specs.Held.{talk_of};
 ghost use Rattle.m36_program.specs.Objects.{objects};
 ghost use Rattle.m36_top.specs.Words.{command_of};
 ghost use Rattle.m36_top.specs.Dues.{due_kind};
@@ -23,7 +23,7 @@ use m36_made::make_folder;
 use m36_outside::{Folder, Lines, Sink, Text};
 use m36_ran::ImageCommand;
 use m36_reading::Status;
-use m36_sessions::{folder_session, image_session};
+use cmd_debug::{folder_session, image_session};
 use std::alloc::Global;
 
 /// Does what a command says.

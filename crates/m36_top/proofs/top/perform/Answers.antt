@@ -1,6 +1,6 @@
 -- Each command does what its kind does, and what its program says.
 use Rattle.m36_reading.specs.Outside.{outside_of}
-use Rattle.m36_sessions.specs.Held.{talk_of}
+use Rattle.cmd_debug.specs.Held.{talk_of}
 use Rattle.m36_ran.specs.declared.command.ImageCommand.TheVariants as image
 use Rattle.cmd_image.specs.ImageProgram.{image_program}
 use Rattle.cmd_procs.specs.ProcsProgram.{procs_program}
