@@ -97,16 +97,6 @@ puts_more A B Starved result talk old new more (inr p) =
     inr (record { lines = p.lines; holds = more (Err fault.NoMemory) p.lines p.holds; puts = p.puts })
 puts_more A B Unasked result talk old new more p = absurd p
 
--- a booted system
-pub folder_puts :
-    (system : SuperFields) (result : Status) (talk : Talk) (old new : SinkState)
-    → IsFresh system
-    → PutsBy (IsHeld super_turning system talk) (end_of result) result talk old new
-    → PutsBy (HoldsFolder talk system.lib) (end_of result) result talk old new
-folder_puts system result talk old new fresh puts =
-    puts_more (IsHeld super_turning system talk) (HoldsFolder talk system.lib) (end_of result) result talk old new
-    (λ ended lines held. record { system = system; booted = fresh; held = held }) puts
-
 -- ---- with the folder, in which nothing changes
 
 ends_put :
@@ -187,14 +177,6 @@ pub performs_put :
     → Performs (session_kind Holds talk) (Ok d) result (record { folder = f; sink = s }) (record { folder = f; sink = s' })
 performs_put Holds d result talk f s s' p = ends_put Holds d (end_of result) result talk f s s' p
 
--- over the system to which a folder boots
-pub performs_booted :
-    (given : FolderFields) (result : Status) (talk : Talk) (f : FolderState) (s s' : SinkState)
-    → PutsBy (HoldsFolder talk given.lib) (end_of result) result talk s s'
-    → Performs (folder_kind talk) (Ok given) result (record { folder = f; sink = s }) (record { folder = f; sink = s' })
-performs_booted given result talk f s s' p =
-    performs_put (λ (g : FolderFields). HoldsFolder talk g.lib) given result talk f s s' p
-
 -- ---- what takes input
 
 takes_answered :
@@ -237,30 +219,3 @@ takes_over Holds p d result talk f f' s s' before after reads puts =
       | inl same ↦ inl same
       | inr end ↦ inr (record { asked = reads.asked; passed = reads.passed; given = d; came = reads.comes; session = end })
     ]
-
--- a session over the machine of an image
-pub image_takes :
-    (name : List ℕ) (state : State (List ℕ)) (result : Status) (talk : Talk) (f f' : FolderState) (s s' : SinkState) (before after : List Asked)
-    → Reads (state_reads name) (Ok state) f f' before after → PutsBy (HoldsImage talk state) (end_of result) result talk s s'
-    → ImageTakes name result talk before after
-image_takes name state result talk f f' s s' before after reads puts =
-    takes_over (HoldsImage talk) (state_reads name) state result talk f f' s s' before after reads puts
-
--- over a booted system
-pub folder_takes :
-    (given : FolderFields) (result : Status) (talk : Talk) (f f' : FolderState) (s s' : SinkState) (before after : List Asked)
-    → Reads (folder_reads None) (Ok given) f f' before after → PutsBy (HoldsFolder talk given.lib) (end_of result) result talk s s'
-    → FolderTakes result talk before after
-folder_takes given result talk f f' s s' before after reads puts =
-    takes_over (λ (g : FolderFields). HoldsFolder talk g.lib) (folder_reads None) given result talk f f' s s' before after reads puts
-
--- no session
-pub image_takes_nothing :
-    (name : List ℕ) (result : Status) (talk : Talk) (before after : List Asked) → talk.after ≡ talk.before
-    → ImageTakes name result talk before after
-image_takes_nothing name result talk before after same = inl same
-
-pub folder_takes_nothing :
-    (result : Status) (talk : Talk) (before after : List Asked) → talk.after ≡ talk.before
-    → FolderTakes result talk before after
-folder_takes_nothing result talk before after same = inl same

@@ -1,7 +1,8 @@
 //! Sessions: a machine is stepped, run, looked at and stepped back by lines.
 //!
-//! [`debug`] holds a session over any [`Stepper`](m36_step::Stepper). It takes lines from an input that gives pieces, which
-//! cut lines anywhere, and answers each before it takes the next piece, up to `quit` or the end of the input.
+//! [`debug`] holds a session over any [`Stepper`](m36_step::Stepper), whose input and output are those of a
+//! [`World`](m36_world::World). It takes pieces of input, which cut lines anywhere, and puts the answers to all whole lines
+//! before it takes the next piece, up to `quit` or the end of the input.
 //!
 //! | Line | Writes |
 //! |---|---|
@@ -14,16 +15,19 @@
 //! | `back`, `back N` | goes back N steps, and writes as `where` does |
 //! | `quit` | nothing: the session is over |
 //!
-//! The contract: a session is a list of events, each of which may follow the one before. A line is taken where one is
-//! waited for, a turn is made where a command runs, and the machine goes back where it is to; each turn and each going back
-//! is one that the machine may answer. The lines that the events take are those of the bytes that came in: whole lines while
-//! more may come, so that no `quit` is taken of `quitx` wherever its pieces are cut; what stands behind the last line feed
-//! is a line only once the input has told its end, and nothing is asked of it behind that. What was written is what is said
-//! of the events, each line put in one piece. Where the output fails, a first part of it was written; where the input fails
-//! or is too long, the text of all whole lines; where memory is wanted, what was said until then.
+//! The contract: a session is a program (`specs/SessionProgram.antt`). It takes a piece of input, puts the answers to the
+//! lines that are whole by then, and goes on. What the answers are (`specs/Replies.antt`) is a list of events, each of which
+//! may follow the one before: a line is taken where one is waited for, a turn is made where a command runs, and the machine
+//! goes back where it is to; each turn and each going back is one that the machine may answer. What follows the last line
+//! feed is a line only once the input has ended, and nothing is asked of the input after that. Where memory runs out, the
+//! answers until then are put; where the output fails, a first part of them is.
+//!
+//! Lines are added to a block, which is handed over when it is full and before more input is taken. A call that performs
+//! the program is a session by its events over all bytes that came (`proofs/SessionBridge.antt`), as `specs/SessionSays.antt`
+//! has it.
 //!
 //! `specs/SessionLines.antt` has the grammar of the lines, `specs/SessionTexts.antt` what is written, `specs/Session.antt`
-//! what may happen and what is said of it, and `specs/SessionSays.antt` what the answers say.
+//! what may happen and what is said of it.
 //!
 //! The processor is that of the Multics Processor Manual AL39; sessions are this simulator's own.
 #![tactic(auto)]

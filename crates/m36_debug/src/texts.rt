@@ -2,16 +2,18 @@
 
 ghost use Rattle.std.specs.Prelude.{ℕ, ◌≡◌, ◌≤◌, ◌<◌, ◌-◌, ◌^◌, [], ◌∷◌, length};
 ghost use Rattle.m36_step.specs.Counting.{most_taken};
+ghost use Rattle.m36_text.specs.Lines.{as_line};
+ghost use Rattle.m36_trace.specs.TraceLine.{line_of};
 ghost use Rattle.m36_debug.specs.Putting.{pending, PutsPieces};
 ghost use Rattle.m36_debug.specs.SessionTexts.{where_line, break_line, seg_line, end_line, shown_limit, shown, unknown_line, turn_lines};
 
 use crate::putting::{put_characters, put_text};
 use arrayvec::{ArrayString, ArrayVec};
-use m36_model::{End, Regs};
+use m36_model::{End, Regs, Shown, StepRecord};
 use m36_outside::{Block, Put};
 use m36_step::Turn;
 use m36_text::octal;
-use m36_trace::{line, put_place};
+use m36_trace::{TraceText, line, push_shown, put_place};
 use m36_turns::put::put;
 use m36_turns::{console_line, link_line, run_end_line};
 use m36_word::Word;
@@ -111,17 +113,58 @@ pub(crate) fn put_unknown<W: World>(block: &mut Block, world: &mut W, line: &[u8
     put_characters(block, world, text)
 }
 
+// Adds the line of step n where no part of an earlier line serves for it, or the block is full.
+#[inline(never)]
+fn put_whole<W: World>(block: &mut Block, world: &mut W, n: u64, told: &StepRecord) -> Put
+    ensures { PutsPieces result (as_line (line_of n told.now) ∷ [])
+        (pending block.old (W.seen world.old))
+        (pending block.new (W.seen world.new)) }
+{
+    put_text(block, world, line(n, told))
+}
+
+// Adds the line of step n. Of it only what is not that of an earlier line is spelled.
+#[tactic(auto, using(m36_program::proofs::Gathered::gathering))]
+fn put_step<W: World>(
+    block: &mut Block,
+    world: &mut W,
+    n: u64,
+    told: &StepRecord,
+    text: &mut TraceText,
+) -> Put
+    ensures { PutsPieces result (as_line (line_of n told.now) ∷ [])
+        (pending block.old (W.seen world.old))
+        (pending block.new (W.seen world.new)) }
+{
+    let shown = Shown {
+        word: told.word,
+        at: told.at,
+        outcome: told.outcome,
+        ppr: told.ppr,
+    };
+    if push_shown(text, n, &shown, &told.after, block) {
+        return Put::Done;
+    }
+    put_whole(block, world, n, told)
+}
+
 /// Tells a turn, where so many steps were taken before it.
 #[inline(never)]
 #[tactic(auto, unfolding(crate::specs::SessionTexts::turn_lines), using(crate::proofs::PutLaws::gathers_none))]
-pub(crate) fn put_turn<W: World>(block: &mut Block, world: &mut W, taken: u64, turn: &Turn) -> Put
+pub(crate) fn put_turn<W: World>(
+    block: &mut Block,
+    world: &mut W,
+    taken: u64,
+    turn: &Turn,
+    text: &mut TraceText,
+) -> Put
     requires { taken < most_taken }
     ensures { PutsPieces result (turn_lines taken turn.now)
         (pending block.old (W.seen world.old))
         (pending block.new (W.seen world.new)) }
 {
     match turn {
-        Turn::Stepped(told) => put_text(block, world, line(taken + 1, told)),
+        Turn::Stepped(told) => put_step(block, world, taken + 1, told, text),
         Turn::Linked(note) => put_characters(block, world, link_line(note)),
         Turn::Console(note) => put_characters(block, world, console_line(note)),
         Turn::Ended(end) => put_end(block, world, *end, taken),

@@ -14,6 +14,7 @@ use crate::texts::{put_end, put_turn, put_where};
 use m36_model::Regs;
 use m36_outside::{Block, Put};
 use m36_step::{Stepper, Turn};
+use m36_trace::TraceText;
 use m36_world::World;
 
 /// What a turn that a command takes came to. What it says is written but for the last case.
@@ -76,6 +77,7 @@ fn put_command<W: World>(
     sitting: &Sitting,
     turn: &Turn,
     next: Further,
+    text: &mut TraceText,
 ) -> Put
     requires { taken < most_taken }
     ensures { PutsPieces result (command_says command regs.now taken sitting.now turn.now next)
@@ -83,7 +85,7 @@ fn put_command<W: World>(
         (pending block.new (W.seen world.new)) }
 {
     match command {
-        Command::Step => put_turn(block, world, taken, turn),
+        Command::Step => put_turn(block, world, taken, turn, text),
         Command::Go => put_go(block, world, regs, sitting, next),
     }
 }
@@ -116,12 +118,15 @@ fn told_turn(put: Put, turn: &Turn, next: Further) -> Came
     }
 }
 
-/// Takes a turn of a command, and writes what it says. It is told in a `Turn` that an earlier one may have filled.
+/// Takes a turn of a command, and writes what it says. It is recorded in a `Turn` that an
+/// earlier one may have filled, and of the line of a step only what is not that of an earlier line is
+/// spelled.
 pub(crate) fn take_turn<M: Stepper, W: World>(
     m: &mut M,
     run: Run,
     sitting: &mut Sitting,
     turn: &mut Turn,
+    text: &mut TraceText,
     block: &mut Block,
     world: &mut W,
 ) -> Came
@@ -142,7 +147,17 @@ pub(crate) fn take_turn<M: Stepper, W: World>(
     sitting.note(turn);
     let regs = m.regs();
     let next = sitting.further(run, regs, turn);
-    let put = put_command(block, world, run.command, taken, regs, sitting, turn, next);
+    let put = put_command(
+        block,
+        world,
+        run.command,
+        taken,
+        regs,
+        sitting,
+        turn,
+        next,
+        text,
+    );
     told_turn(put, turn, next)
 }
 
@@ -164,10 +179,11 @@ pub(crate) fn run_command<M: Stepper, W: World>(
     ensures taken { sitting.new.taken ≤ sitting.old.taken + first.left }
 {
     let mut turn = Turn::Full;
+    let mut text = TraceText::new();
     let mut run = first;
     let mut served = false;
     'turns: loop {
-        match take_turn(m, run, sitting, &mut turn, block, world) {
+        match take_turn(m, run, sitting, &mut turn, &mut text, block, world) {
             Came::Runs(next, service) => {
                 run = next;
                 served = service;
