@@ -59,7 +59,7 @@ files_reader access =
     (each_reader segment_words old_folder.segment_words [] access.catalog.segments (λ s. segment_reader s))
     (λ files. decides_reader (boots (folder_with access files)))
 
-folder_reader : {may : May} (user : Option (List ℕ)) → IsReader {may = may} (folder_given user) (folder_reads user)
+pub folder_reader : {may : May} (user : Option (List ℕ)) → IsReader {may = may} (folder_given user) (folder_reads user)
 unfolding folder_given folder_reads
 folder_reader user =
     then_reader (catalog_access user) (λ access. files_booted access) (access_reads user) (λ access. old_folder.files_booted access)

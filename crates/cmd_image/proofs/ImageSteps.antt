@@ -12,7 +12,7 @@ use Rattle.m36_reading.specs.declared.status.Status.TheVariants.{AuditNo, NoMemo
 use Rattle.m36_program.specs.Early.{early}
 use Rattle.m36_program.specs.Goes.{Goes}
 use Rattle.m36_program.specs.Performs.{Performs}
-use Rattle.m36_program.specs.Program.{quiet}
+use Rattle.m36_program.specs.Program.{May, quiet}
 use Rattle.m36_program.specs.Readers.{refused, IsRefusal, file_bytes}
 use Rattle.m36_program.proofs.Performing.{goes_done, goes_wants, goes_no_memory, performs_none, performs_some, performs_wants, performs_no_memory, performs_then, performs_stop}
 use Rattle.m36_program.proofs.ProgramLaws.{goes_ends}
@@ -26,44 +26,44 @@ use Rattle.cmd_image.proofs.AuditPuts.{all_put, all_then, all_stop}
 -- ---- the machine of a file
 
 pub decode_given :
-    (name bytes : List ℕ) (state : State (List ℕ)) → state_given bytes ≡ Ok state
-    → Goes {may = quiet} (decode name bytes) [] (Ok state)
+    (may : May) (name bytes : List ℕ) (state : State (List ℕ)) → state_given bytes ≡ Ok state
+    → Goes {may = may} (decode name bytes) [] (Ok state)
 unfolding decode
-decode_given name bytes state is =
+decode_given may name bytes state is =
     goes_wants (decoded name (state_given bytes)) [] (Ok state)
-    (subst (λ g. Goes {may = quiet} (decoded name g) [] (Ok state)) (sym is) (goes_done quiet state))
+    (subst (λ g. Goes {may = may} (decoded name g) [] (Ok state)) (sym is) (goes_done may state))
 
 pub decode_refused :
-    (name bytes : List ℕ) (f : refusal.Refusal) (status : Status) → state_given bytes ≡ Err f
+    (may : May) (name bytes : List ℕ) (f : refusal.Refusal) (status : Status) → state_given bytes ≡ Err f
     → IsRefusal status (refused name (code_of f.code) f.line)
-    → Goes {may = quiet} (decode name bytes) [] (Err status)
+    → Goes {may = may} (decode name bytes) [] (Err status)
 unfolding decode
-decode_refused name bytes f status is refuses =
+decode_refused may name bytes f status is refuses =
     goes_wants (decoded name (state_given bytes)) [] (Err status)
-    (subst (λ g. Goes {may = quiet} (decoded name g) [] (Err status)) (sym is)
-    (goes_refused quiet (State (List ℕ)) status (refused name (code_of f.code) f.line) refuses))
+    (subst (λ g. Goes {may = may} (decoded name g) [] (Err status)) (sym is)
+    (goes_refused may (State (List ℕ)) status (refused name (code_of f.code) f.line) refuses))
 
-pub decode_starved : (name bytes : List ℕ) → Goes {may = quiet} (decode name bytes) [] (Err NoMemory)
+pub decode_starved : (may : May) (name bytes : List ℕ) → Goes {may = may} (decode name bytes) [] (Err NoMemory)
 unfolding decode
-decode_starved name bytes = goes_no_memory (decoded name (state_given bytes))
+decode_starved may name bytes = goes_no_memory (decoded name (state_given bytes))
 
 pub ruleset decoding = (decode_given, decode_refused, decode_starved)
 
 pub state_read :
-    (name bytes : List ℕ) (result : Result (State (List ℕ)) Status) (old new : Seen)
-    → Performs {may = quiet} (file_bytes name) (Ok bytes) old new → Goes {may = quiet} (decode name bytes) [] result
-    → Performs {may = quiet} (image_state name) result old new
+    (may : May) (name bytes : List ℕ) (result : Result (State (List ℕ)) Status) (old new : Seen)
+    → Performs {may = may} (file_bytes name) (Ok bytes) old new → Goes {may = may} (decode name bytes) [] result
+    → Performs {may = may} (image_state name) result old new
 unfolding image_state
-state_read name bytes result old new read goes =
+state_read may name bytes result old new read goes =
     performs_then (file_bytes name) (decode name) bytes result old new new read
     (performs_none (decode name bytes) result new goes)
 
 pub state_unread :
-    (name : List ℕ) (s : Status) (old new : Seen)
-    → Performs {may = quiet} (file_bytes name) (Err s) old new
-    → Performs {may = quiet} (image_state name) (Err s) old new
+    (may : May) (name : List ℕ) (s : Status) (old new : Seen)
+    → Performs {may = may} (file_bytes name) (Err s) old new
+    → Performs {may = may} (image_state name) (Err s) old new
 unfolding image_state
-state_unread name s old new read = performs_stop (file_bytes name) (decode name) s old new read
+state_unread may name s old new read = performs_stop (file_bytes name) (decode name) s old new read
 
 pub ruleset reading = (state_read, state_unread)
 

@@ -113,7 +113,6 @@ fn with_image<W: World>(
 
 /// Performs `bare FILE` or `audit FILE`: reads a bare image, audits it, and runs it if the command
 /// says so.
-#[tactic(auto, unfolding(crate::specs::ImageProgram::image_program), using(m36_program::proofs::Performing::performing))]
 pub fn image_file<W: World>(
     alloc: Global,
     name: &[u8],

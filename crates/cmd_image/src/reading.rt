@@ -4,7 +4,7 @@ ghost use Rattle.std.specs.Prelude.{◌≤◌, [], length};
 ghost use Rattle.m36_outside.specs.ReadAnswer.{file_limit};
 ghost use Rattle.m36_program.specs.Goes.{Goes};
 ghost use Rattle.m36_program.specs.Performs.{Performs};
-ghost use Rattle.m36_program.specs.Program.{quiet};
+ghost use Rattle.m36_program.specs.Program.{May};
 ghost use Rattle.cmd_image.specs.ImageProgram.{decode, image_state};
 
 use m36_image::{Image, ImageFault, read_image};
@@ -18,7 +18,7 @@ use std::alloc::Global;
 #[tactic(auto, using(crate::proofs::ImageSteps::decoding))]
 fn decode(alloc: Global, name: &[u8], bytes: &[u8]) -> Result<Image, Status>
     requires { length bytes.now ≤ file_limit }
-    ensures { Goes {may = quiet} (decode name.now bytes.now) [] result }
+    ensures { (may : May) → Goes {may = may} (decode name.now bytes.now) [] result }
 {
     match read_image(alloc, bytes) {
         Ok(image) => Ok(image),
@@ -32,7 +32,7 @@ fn decode(alloc: Global, name: &[u8], bytes: &[u8]) -> Result<Image, Status>
 /// The image in a file. Refused with F1, F2 or I1 to I3.
 #[tactic(auto, using(crate::proofs::ImageSteps::reading))]
 pub fn read_state<W: World>(alloc: Global, name: &[u8], world: &mut W) -> Result<Image, Status>
-    ensures { Performs {may = quiet} (image_state name.now) result
+    ensures { (may : May) → Performs {may = may} (image_state name.now) result
         (W.seen world.old) (W.seen world.new) }
 {
     match read_bytes(alloc, name, world) {

@@ -4,7 +4,7 @@ use Rattle.std.specs.Prelude.{if◌then◌else◌}
 use Rattle.m36_model.specs.declared.endings.End.{End}
 use Rattle.m36_outside.specs.declared.sink.Put.{Put}
 use Rattle.m36_outside.specs.declared.sink.Put.TheVariants.{Done, Failed}
-use Rattle.m36_outside.specs.SinkState.{SinkState}
+use Rattle.m36_debug.specs.Putting.{Pending, PutsPieces}
 use Rattle.m36_step.specs.declared.turns.BackAnswer.{BackAnswer}
 use Rattle.m36_step.specs.declared.turns.BackAnswer.TheVariants as back
 use Rattle.m36_debug.specs.declared.commands.Run.{Run}
@@ -13,7 +13,6 @@ use Rattle.m36_debug.specs.declared.session_line.SessionLine.TheVariants as sess
 use Rattle.m36_debug.specs.declared.turning.Ends.{Ends}
 use Rattle.m36_debug.specs.declared.turning.Ends.TheVariants as ends
 use Rattle.m36_debug.specs.Parts.{Part, CutPart, EndSays, EndPuts, IsTold, CommandSays, BackSays, told}
-use Rattle.m36_outside.specs.Putting.{PutsPieces}
 use Rattle.m36_debug.specs.Session.{Turning, Doing, Waiting, Running, Backing, Over, Starved, Standing, standing, Took, Went, onward, said, begun, remembered, line_says, run_begun, went, back_says}
 use Rattle.m36_debug.specs.SessionLines.{session_line}
 use Rattle.m36_debug.specs.SessionTexts.{unknown_line, end_line, end_lines}
@@ -23,7 +22,7 @@ use Rattle.m36_debug.proofs.PartLaws.{event_part, event_cut, part_on, part_cut}
 
 -- a part of a session, and then one that an answer describes
 pub then_ends :
-    {M : Type 0} (o : Turning M) (end : Ends) (s : Standing) (m : M) (lines others : List (List ℕ)) (s1 : Standing) (m1 : M) (sitting : SittingFields) (m2 : M) (old now new : SinkState)
+    {M : Type 0} (o : Turning M) (end : Ends) (s : Standing) (m : M) (lines others : List (List ℕ)) (s1 : Standing) (m1 : M) (sitting : SittingFields) (m2 : M) (old now new : Pending)
     → Part o s m lines s1 m1 Done old now → EndSays o end s1 m1 others sitting m2 now new
     → EndSays o end s m (lines ++ others) sitting m2 old new
 then_ends o ends.Line s m lines others s1 m1 sitting m2 old now new one two =
@@ -37,7 +36,7 @@ then_ends o ends.Cut s m lines others s1 m1 sitting m2 old now new one two =
 
 -- a line of this kind was taken
 took_part :
-    {M : Type 0} (o : Turning M) (s : SittingFields) (m : M) (text : List ℕ) (kind : SessionLine) (old new : SinkState)
+    {M : Type 0} (o : Turning M) (s : SittingFields) (m : M) (text : List ℕ) (kind : SessionLine) (old new : Pending)
     → session_line text ≡ kind → PutsPieces Done (line_says (o.regs m) (o.content m) s text kind) old new
     → Part o (standing s Waiting) m (text ∷ []) (standing (remembered s kind) (begun s text kind)) m Done old new
 unfolding onward said
@@ -48,7 +47,7 @@ took_part o s m text kind old new is puts =
     (subst (λ k. PutsPieces Done (line_says (o.regs m) (o.content m) s text k) old new) (sym is) puts))
 
 took_cut :
-    {M : Type 0} (o : Turning M) (s : SittingFields) (m : M) (text : List ℕ) (kind : SessionLine) (old new : SinkState)
+    {M : Type 0} (o : Turning M) (s : SittingFields) (m : M) (text : List ℕ) (kind : SessionLine) (old new : Pending)
     → session_line text ≡ kind → PutsPieces Failed (line_says (o.regs m) (o.content m) s text kind) old new
     → CutPart o (standing s Waiting) m (text ∷ []) m old new
 unfolding said
@@ -58,7 +57,7 @@ took_cut o s m text kind old new is puts =
 
 -- it was answered at once
 pub took_told :
-    {M : Type 0} (o : Turning M) (put : Put) (s : SittingFields) (m : M) (text : List ℕ) (kind : SessionLine) (sitting : SittingFields) (old new : SinkState)
+    {M : Type 0} (o : Turning M) (put : Put) (s : SittingFields) (m : M) (text : List ℕ) (kind : SessionLine) (sitting : SittingFields) (old new : Pending)
     → session_line text ≡ kind → begun s text kind ≡ Waiting → sitting ≡ remembered s kind
     → PutsPieces put (line_says (o.regs m) (o.content m) s text kind) old new
     → EndSays o (told put) (standing s Waiting) m (text ∷ []) sitting m old new
@@ -69,7 +68,7 @@ took_told o Failed s m text kind sitting old new is waits remembers puts = took_
 
 -- the same, by how it ended
 took_end :
-    {M : Type 0} (o : Turning M) (end : Ends) (s : SittingFields) (m : M) (text : List ℕ) (kind : SessionLine) (old new : SinkState)
+    {M : Type 0} (o : Turning M) (end : Ends) (s : SittingFields) (m : M) (text : List ℕ) (kind : SessionLine) (old new : Pending)
     → session_line text ≡ kind → begun s text kind ≡ Waiting → remembered s kind ≡ s
     → EndPuts end old new (line_says (o.regs m) (o.content m) s text kind)
     → EndSays o end (standing s Waiting) m (text ∷ []) s m old new
@@ -82,7 +81,7 @@ took_end o ends.Cut s m text kind old new is waits remembers puts =
 
 -- and if nothing was changed
 took_is_told :
-    {M : Type 0} (o : Turning M) (end : Ends) (s : SittingFields) (m : M) (text : List ℕ) (kind : SessionLine) (lines : List (List ℕ)) (sitting : SittingFields) (m' : M) (old new : SinkState)
+    {M : Type 0} (o : Turning M) (end : Ends) (s : SittingFields) (m : M) (text : List ℕ) (kind : SessionLine) (lines : List (List ℕ)) (sitting : SittingFields) (m' : M) (old new : Pending)
     → session_line text ≡ kind → begun s text kind ≡ Waiting → remembered s kind ≡ s
     → line_says (o.regs m) (o.content m) s text kind ≡ lines
     → IsTold end lines s m sitting m' old new
@@ -94,18 +93,18 @@ took_is_told o end s m text kind lines sitting m' old new is waits remembers say
 
 -- a line for which nothing is written
 pub took_quit :
-    {M : Type 0} (o : Turning M) (s : SittingFields) (m : M) (text : List ℕ) (now : SinkState)
+    {M : Type 0} (o : Turning M) (s : SittingFields) (m : M) (text : List ℕ) (now : Pending)
     → session_line text ≡ session.Quit → EndSays o ends.Quit (standing s Waiting) m (text ∷ []) s m now now
 took_quit o s m text now is = took_part o s m text session.Quit now now is (puts_nothing now)
 
 pub took_empty :
-    {M : Type 0} (o : Turning M) (s : SittingFields) (m : M) (text : List ℕ) (now : SinkState)
+    {M : Type 0} (o : Turning M) (s : SittingFields) (m : M) (text : List ℕ) (now : Pending)
     → session_line text ≡ session.Empty → EndSays o ends.Line (standing s Waiting) m (text ∷ []) s m now now
 took_empty o s m text now is = took_part o s m text session.Empty now now is (puts_nothing now)
 
 -- a line that begins something
 took_then :
-    {M : Type 0} (o : Turning M) (end : Ends) (s : SittingFields) (m : M) (text : List ℕ) (kind : SessionLine) (doing : Doing) (sitting : SittingFields) (m' : M) (old new : SinkState)
+    {M : Type 0} (o : Turning M) (end : Ends) (s : SittingFields) (m : M) (text : List ℕ) (kind : SessionLine) (doing : Doing) (sitting : SittingFields) (m' : M) (old new : Pending)
     → session_line text ≡ kind → begun s text kind ≡ doing → remembered s kind ≡ s
     → line_says (o.regs m) (o.content m) s text kind ≡ []
     → EndSays o end (standing s doing) m [] sitting m' old new
@@ -120,7 +119,7 @@ took_then o end s m text kind doing sitting m' old new is begins remembers silen
 
 -- a command that takes turns, by whether the run has ended
 command_by :
-    {M : Type 0} (o : Turning M) (end : Ends) (ended : Option End) (run : Run) (s : SittingFields) (m : M) (text : List ℕ) (kind : SessionLine) (sitting : SittingFields) (m' : M) (old new : SinkState)
+    {M : Type 0} (o : Turning M) (end : Ends) (ended : Option End) (run : Run) (s : SittingFields) (m : M) (text : List ℕ) (kind : SessionLine) (sitting : SittingFields) (m' : M) (old new : Pending)
     → session_line text ≡ kind → begun s text kind ≡ run_begun ended run.command run.left → remembered s kind ≡ s
     → line_says (o.regs m) (o.content m) s text kind ≡ end_lines ended s.taken
     → CommandSays o end ended run s m sitting m' old new
@@ -132,7 +131,7 @@ command_by o end (Some e) run s m text kind sitting m' old new is begins remembe
 
 -- `step`, and `go`
 pub took_command :
-    {M : Type 0} (o : Turning M) (end : Ends) (run : Run) (s : SittingFields) (m : M) (text : List ℕ) (kind : SessionLine) (sitting : SittingFields) (m' : M) (old new : SinkState)
+    {M : Type 0} (o : Turning M) (end : Ends) (run : Run) (s : SittingFields) (m : M) (text : List ℕ) (kind : SessionLine) (sitting : SittingFields) (m' : M) (old new : Pending)
     → session_line text ≡ kind → begun s text kind ≡ run_begun s.ended run.command run.left → remembered s kind ≡ s
     → line_says (o.regs m) (o.content m) s text kind ≡ end_lines s.ended s.taken
     → CommandSays o end s.ended run s m sitting m' old new
@@ -142,7 +141,7 @@ took_command o end run s m text kind sitting m' old new is begins remembers says
 
 -- `back`, by whether that many steps were taken
 back_by :
-    {M : Type 0} (o : Turning M) (end : Ends) (some : Bool) (n : ℕ) (s : SittingFields) (m : M) (text : List ℕ) (sitting : SittingFields) (m' : M) (old new : SinkState)
+    {M : Type 0} (o : Turning M) (end : Ends) (some : Bool) (n : ℕ) (s : SittingFields) (m : M) (text : List ℕ) (sitting : SittingFields) (m' : M) (old new : Pending)
     → session_line text ≡ session.Back n → nat_le n s.taken ≡ some
     → BackSays o end some text n s m sitting m' old new
     → EndSays o end (standing s Waiting) m (text ∷ []) sitting m' old new
@@ -156,7 +155,7 @@ back_by o end false n s m text sitting m' old new is few back =
     (ap (λ b. if b then [] else unknown_line text ∷ []) few) back
 
 pub took_back :
-    {M : Type 0} (o : Turning M) (end : Ends) (n : ℕ) (s : SittingFields) (m : M) (text : List ℕ) (sitting : SittingFields) (m' : M) (old new : SinkState)
+    {M : Type 0} (o : Turning M) (end : Ends) (n : ℕ) (s : SittingFields) (m : M) (text : List ℕ) (sitting : SittingFields) (m' : M) (old new : Pending)
     → session_line text ≡ session.Back n
     → BackSays o end (nat_le n s.taken) text n s m sitting m' old new
     → EndSays o end (standing s Waiting) m (text ∷ []) sitting m' old new
@@ -165,7 +164,7 @@ took_back o end n s m text sitting m' old new is back =
 
 -- the machine was asked to go back
 pub went_part :
-    {M : Type 0} (o : Turning M) (answer : BackAnswer) (n : ℕ) (text : List ℕ) (s : SittingFields) (m m' : M) (old new : SinkState)
+    {M : Type 0} (o : Turning M) (answer : BackAnswer) (n : ℕ) (text : List ℕ) (s : SittingFields) (m m' : M) (old new : Pending)
     → o.went m n answer m' → PutsPieces Done (back_says (o.regs m') text answer) old new
     → Part o (standing s (Backing n text)) m [] (went s n answer) m' Done old new
 unfolding onward said
@@ -173,7 +172,7 @@ went_part o answer n text s m m' old new may puts =
     event_part o (standing s (Backing n text)) m m' (Went answer) old new may puts
 
 pub went_cut :
-    {M : Type 0} (o : Turning M) (answer : BackAnswer) (n : ℕ) (text : List ℕ) (s : SittingFields) (m m' : M) (old new : SinkState)
+    {M : Type 0} (o : Turning M) (answer : BackAnswer) (n : ℕ) (text : List ℕ) (s : SittingFields) (m m' : M) (old new : Pending)
     → o.went m n answer m' → PutsPieces Failed (back_says (o.regs m') text answer) old new
     → CutPart o (standing s (Backing n text)) m [] m' old new
 unfolding said
@@ -184,14 +183,14 @@ went_cut o answer n text s m m' old new may puts =
 
 -- what is written at once, by how it ended
 pub told_puts :
-    (put : Put) (old new : SinkState) (lines : List (List ℕ))
+    (put : Put) (old new : Pending) (lines : List (List ℕ))
     → PutsPieces put lines old new → EndPuts (told put) old new lines
 told_puts Done old new lines puts = puts
 told_puts Failed old new lines puts = puts
 
 -- the end line was written again
 pub command_told :
-    {M : Type 0} (o : Turning M) (put : Put) (answer : Ends) (end : End) (run : Run) (s : SittingFields) (taken : ℕ) (m : M) (old new : SinkState)
+    {M : Type 0} (o : Turning M) (put : Put) (answer : Ends) (end : End) (run : Run) (s : SittingFields) (taken : ℕ) (m : M) (old new : Pending)
     → Some end ≡ s.ended → taken ≡ s.taken → PutsPieces put (end_line end taken ∷ []) old new → answer ≡ told put
     → CommandSays o answer s.ended run s m s m old new
 command_told o put answer end run s taken m old new is counted puts ends =
@@ -204,7 +203,7 @@ command_told o put answer end run s taken m old new is counted puts ends =
 
 -- the turns were taken
 pub command_ran :
-    {M : Type 0} (o : Turning M) (answer : Ends) (run : Run) (s : SittingFields) (m : M) (sitting : SittingFields) (m' : M) (old new : SinkState)
+    {M : Type 0} (o : Turning M) (answer : Ends) (run : Run) (s : SittingFields) (m : M) (sitting : SittingFields) (m' : M) (old new : Pending)
     → None ≡ s.ended → EndSays o answer (standing s (Running run)) m [] sitting m' old new
     → CommandSays o answer s.ended run s m sitting m' old new
 command_ran o answer run s m sitting m' old new is says =
@@ -212,7 +211,7 @@ command_ran o answer run s m sitting m' old new is says =
 
 -- the machine was asked to go back, and the answer was written at once
 pub went_told :
-    {M : Type 0} (o : Turning M) (put : Put) (end : Ends) (answer : BackAnswer) (n : ℕ) (text : List ℕ) (s sitting : SittingFields) (m m' : M) (old new : SinkState)
+    {M : Type 0} (o : Turning M) (put : Put) (end : Ends) (answer : BackAnswer) (n : ℕ) (text : List ℕ) (s sitting : SittingFields) (m m' : M) (old new : Pending)
     → o.went m n answer m' → went s n answer ≡ standing sitting Waiting
     → PutsPieces put (back_says (o.regs m') text answer) old new → end ≡ told put
     → EndSays o end (standing s (Backing n text)) m [] sitting m' old new
@@ -224,13 +223,13 @@ went_told o Failed end answer n text s sitting m m' old new may stands puts ends
     (went_cut o answer n text s m m' old new may puts)
 
 pub went_starved :
-    {M : Type 0} (o : Turning M) (n : ℕ) (text : List ℕ) (s : SittingFields) (m m' : M) (now : SinkState)
+    {M : Type 0} (o : Turning M) (n : ℕ) (text : List ℕ) (s : SittingFields) (m m' : M) (now : Pending)
     → o.went m n back.NoMemory m' → EndSays o ends.Starved (standing s (Backing n text)) m [] s m' now now
 went_starved o n text s m m' now may = went_part o back.NoMemory n text s m m' now now may (puts_nothing now)
 
 -- that many steps were taken
 pub back_went :
-    {M : Type 0} (o : Turning M) (end : Ends) (n : ℕ) (text : List ℕ) (s : SittingFields) (m : M) (sitting : SittingFields) (m' : M) (old new : SinkState)
+    {M : Type 0} (o : Turning M) (end : Ends) (n : ℕ) (text : List ℕ) (s : SittingFields) (m : M) (sitting : SittingFields) (m' : M) (old new : Pending)
     → nat_le n s.taken ≡ true → EndSays o end (standing s (Backing n text)) m [] sitting m' old new
     → BackSays o end (nat_le n s.taken) text n s m sitting m' old new
 back_went o end n text s m sitting m' old new enough says =
@@ -238,7 +237,7 @@ back_went o end n text s m sitting m' old new enough says =
 
 -- fewer steps were taken
 pub back_not :
-    {M : Type 0} (o : Turning M) (put : Put) (end : Ends) (n : ℕ) (text : List ℕ) (s : SittingFields) (m : M) (old new : SinkState)
+    {M : Type 0} (o : Turning M) (put : Put) (end : Ends) (n : ℕ) (text : List ℕ) (s : SittingFields) (m : M) (old new : Pending)
     → nat_le n s.taken ≡ false → PutsPieces put (unknown_line text ∷ []) old new → end ≡ told put
     → BackSays o end (nat_le n s.taken) text n s m s m old new
 back_not o put end n text s m old new few puts ends =
@@ -249,7 +248,7 @@ back_not o put end n text s m old new few puts ends =
 
 -- a line of this kind was answered at once
 pub took_at_once :
-    {M : Type 0} (o : Turning M) (put : Put) (end : Ends) (s : SittingFields) (m : M) (text : List ℕ) (kind : SessionLine) (sitting : SittingFields) (old new : SinkState)
+    {M : Type 0} (o : Turning M) (put : Put) (end : Ends) (s : SittingFields) (m : M) (text : List ℕ) (kind : SessionLine) (sitting : SittingFields) (old new : Pending)
     → kind ≡ session_line text → begun s text kind ≡ Waiting → sitting ≡ remembered s kind
     → PutsPieces put (line_says (o.regs m) (o.content m) s text kind) old new → end ≡ told put
     → EndSays o end (standing s Waiting) m (text ∷ []) sitting m old new

@@ -6,4 +6,10 @@ pub mod LinesLaws
 pub mod AnswerLaws
 pub mod QuitLaws
 pub mod PieceLaws
+pub mod HandLaws
+pub mod ReplyLaws
+pub mod SessionSteps
 pub mod SessionLaws
+pub mod Replied
+pub mod SessionBridge
+pub mod Unreading

@@ -2,9 +2,8 @@
 use Rattle.std.proofs.Common.{◌≡◌, ℕ, List, [], ◌∷◌, ◌++◌, refl, sym, ap, subst, ◌∙◌}
 use Rattle.std.proofs.lemmas.List.{append-nil, append_assoc}
 use Rattle.m36_outside.specs.declared.sink.Put.TheVariants.{Done, Failed}
-use Rattle.m36_outside.specs.SinkState.{SinkState}
+use Rattle.m36_debug.specs.Putting.{Pending, PutsPieces}
 use Rattle.m36_debug.specs.Parts.{Part, CutPart}
-use Rattle.m36_outside.specs.Putting.{PutsPieces}
 use Rattle.m36_debug.specs.Session.{Turning, Standing, Happening, Event, May, onward, said, Follow, lines_said, lines_in, line_in}
 use Rattle.m36_debug.proofs.PutLaws.{puts_nothing, puts_on, puts_more}
 
@@ -36,12 +35,12 @@ in_on (e ∷ events) others =
 
 -- ---- parts
 
-pub part_none : {M : Type 0} (o : Turning M) (s : Standing) (m : M) (now : SinkState) → Part o s m [] s m Done now now
+pub part_none : {M : Type 0} (o : Turning M) (s : Standing) (m : M) (now : Pending) → Part o s m [] s m Done now now
 unfolding Follow lines_said lines_in
 part_none o s m now = record { events = []; follow = (refl, refl); took = refl; wrote = puts_nothing now }
 
 pub part_on :
-    {M : Type 0} (o : Turning M) (s : Standing) (m : M) (lines others : List (List ℕ)) (s1 : Standing) (m1 : M) (s2 : Standing) (m2 : M) (old now new : SinkState)
+    {M : Type 0} (o : Turning M) (s : Standing) (m : M) (lines others : List (List ℕ)) (s1 : Standing) (m1 : M) (s2 : Standing) (m2 : M) (old now new : Pending)
     → Part o s m lines s1 m1 Done old now → Part o s1 m1 others s2 m2 Done now new
     → Part o s m (lines ++ others) s2 m2 Done old new
 part_on o s m lines others s1 m1 s2 m2 old now new one two = record {
@@ -52,7 +51,7 @@ part_on o s m lines others s1 m1 s2 m2 old now new one two = record {
 }
 
 pub part_cut :
-    {M : Type 0} (o : Turning M) (s : Standing) (m : M) (lines others : List (List ℕ)) (s1 : Standing) (m1 m2 : M) (old now new : SinkState)
+    {M : Type 0} (o : Turning M) (s : Standing) (m : M) (lines others : List (List ℕ)) (s1 : Standing) (m1 m2 : M) (old now new : Pending)
     → Part o s m lines s1 m1 Done old now → CutPart o s1 m1 others m2 now new
     → CutPart o s m (lines ++ others) m2 old new
 part_cut o s m lines others s1 m1 m2 old now new one two = record {
@@ -67,7 +66,7 @@ part_cut o s m lines others s1 m1 m2 old now new one two = record {
 
 -- one event
 pub event_part :
-    {M : Type 0} (o : Turning M) (s : Standing) (m m' : M) (h : Happening) (old new : SinkState)
+    {M : Type 0} (o : Turning M) (s : Standing) (m m' : M) (h : Happening) (old new : Pending)
     → May o s.doing m h m' → PutsPieces Done (said (o.regs m') (o.content m') s h) old new
     → Part o s m (line_in h) (onward (o.regs m') s h) m' Done old new
 unfolding Follow lines_said lines_in
@@ -79,7 +78,7 @@ event_part o s m m' h old new may puts = record {
 }
 
 pub event_cut :
-    {M : Type 0} (o : Turning M) (s : Standing) (m m' : M) (h : Happening) (old new : SinkState)
+    {M : Type 0} (o : Turning M) (s : Standing) (m m' : M) (h : Happening) (old new : Pending)
     → May o s.doing m h m' → PutsPieces Failed (said (o.regs m') (o.content m') s h) old new
     → CutPart o s m (line_in h) m' old new
 unfolding Follow lines_said lines_in

@@ -1,7 +1,7 @@
 -- Laws of pieces of input that are answered line by line.
 use Rattle.std.proofs.Common.{◌≡◌, ◌<◌, ℕ, List, [], ◌∷◌, ◌++◌, length, sym, subst, arith}
 use Rattle.m36_outside.specs.declared.sink.Put.TheVariants.{Done}
-use Rattle.m36_outside.specs.SinkState.{SinkState}
+use Rattle.m36_debug.specs.Putting.{Pending}
 use Rattle.m36_text.specs.Lines.{as_line, open_rest}
 use Rattle.m36_debug.specs.declared.turning.Ends.{Ends}
 use Rattle.m36_debug.specs.declared.turning.Ends.TheVariants as ends
@@ -13,21 +13,21 @@ use Rattle.m36_debug.specs.Sitting.{SittingFields}
 use Rattle.m36_debug.proofs.LinesLaws.{lines_none, lines_line}
 use Rattle.m36_debug.proofs.PartLaws.{part_none, part_on, part_cut}
 
--- The first lines of a text were answered, and `left` is left of it.
-pub record SoFar {M : Type 0} (o : Turning M) (s : Standing) (m : M) (text left : List ℕ) (sitting : SittingFields) (m' : M) (old new : SinkState) : Type 0 where
+-- The first lines of a text were answered, and so much of it is left.
+pub record SoFar {M : Type 0} (o : Turning M) (s : Standing) (m : M) (text left : List ℕ) (sitting : SittingFields) (m' : M) (old new : Pending) : Type 0 where
   pub lines : List (List ℕ)
   pub is : IsLines text lines left
   pub part : Part o s m lines (standing sitting Waiting) m' Done old new
 
 pub so_far_start :
-    {M : Type 0} (o : Turning M) (sitting : SittingFields) (m : M) (text : List ℕ) (now : SinkState)
+    {M : Type 0} (o : Turning M) (sitting : SittingFields) (m : M) (text : List ℕ) (now : Pending)
     → SoFar o (standing sitting Waiting) m text text sitting m now now
 so_far_start o sitting m text now =
     record { lines = []; is = lines_none text; part = part_none o (standing sitting Waiting) m now }
 
 -- the lines with one more
 more_lines :
-    {M : Type 0} (o : Turning M) (s : Standing) (m : M) (text begun end behind rest line : List ℕ) (sitting : SittingFields) (m1 : M) (old now : SinkState)
+    {M : Type 0} (o : Turning M) (s : Standing) (m : M) (text begun end behind rest line : List ℕ) (sitting : SittingFields) (m1 : M) (old now : Pending)
     → (f : SoFar o s m text (begun ++ rest) sitting m1 old now)
     → IsUnbroken begun → IsUnbroken end → rest ≡ as_line end ++ behind → line ≡ begun ++ end
     → IsLines text (f.lines ++ line ∷ []) behind
@@ -37,7 +37,7 @@ more_lines o s m text begun end behind rest line sitting m1 old now f begun_unbr
 
 -- one more line was answered, and the session waits for the next
 pub so_far_line :
-    {M : Type 0} (o : Turning M) (s : Standing) (m : M) (text begun end behind rest line : List ℕ) (sitting sitting' : SittingFields) (m1 m2 : M) (old now new : SinkState)
+    {M : Type 0} (o : Turning M) (s : Standing) (m : M) (text begun end behind rest line : List ℕ) (sitting sitting' : SittingFields) (m1 m2 : M) (old now new : Pending)
     → SoFar o s m text (begun ++ rest) sitting m1 old now
     → IsUnbroken begun → IsUnbroken end → rest ≡ as_line end ++ behind → line ≡ begun ++ end
     → EndSays o ends.Line (standing sitting Waiting) m1 (line ∷ []) sitting' m2 now new
@@ -50,7 +50,7 @@ so_far_line o s m text begun end behind rest line sitting sitting' m1 m2 old now
 
 -- the line was `quit`
 pub so_far_quit :
-    {M : Type 0} (o : Turning M) (s : Standing) (m : M) (text begun end behind rest line : List ℕ) (sitting sitting' : SittingFields) (m1 m2 : M) (old now new : SinkState)
+    {M : Type 0} (o : Turning M) (s : Standing) (m : M) (text begun end behind rest line : List ℕ) (sitting sitting' : SittingFields) (m1 m2 : M) (old now new : Pending)
     → SoFar o s m text (begun ++ rest) sitting m1 old now
     → IsUnbroken begun → IsUnbroken end → rest ≡ as_line end ++ behind → line ≡ begun ++ end
     → EndSays o ends.Quit (standing sitting Waiting) m1 (line ∷ []) sitting' m2 now new
@@ -64,7 +64,7 @@ so_far_quit o s m text begun end behind rest line sitting sitting' m1 m2 old now
 
 -- it ran out of memory
 pub so_far_starved :
-    {M : Type 0} (o : Turning M) (s : Standing) (m : M) (text begun end behind rest line : List ℕ) (sitting sitting' : SittingFields) (m1 m2 : M) (old now new : SinkState)
+    {M : Type 0} (o : Turning M) (s : Standing) (m : M) (text begun end behind rest line : List ℕ) (sitting sitting' : SittingFields) (m1 m2 : M) (old now new : Pending)
     → SoFar o s m text (begun ++ rest) sitting m1 old now
     → IsUnbroken begun → IsUnbroken end → rest ≡ as_line end ++ behind → line ≡ begun ++ end
     → EndSays o ends.Starved (standing sitting Waiting) m1 (line ∷ []) sitting' m2 now new
@@ -79,7 +79,7 @@ so_far_starved o s m text begun end behind rest line sitting sitting' m1 m2 old 
 
 -- what the line says could not be written
 pub so_far_cut :
-    {M : Type 0} (o : Turning M) (s : Standing) (m : M) (text begun end behind rest line : List ℕ) (sitting sitting' : SittingFields) (m1 m2 : M) (old now new : SinkState)
+    {M : Type 0} (o : Turning M) (s : Standing) (m : M) (text begun end behind rest line : List ℕ) (sitting sitting' : SittingFields) (m1 m2 : M) (old now new : Pending)
     → SoFar o s m text (begun ++ rest) sitting m1 old now
     → IsUnbroken begun → IsUnbroken end → rest ≡ as_line end ++ behind → line ≡ begun ++ end
     → EndSays o ends.Cut (standing sitting Waiting) m1 (line ∷ []) sitting' m2 now new
@@ -93,7 +93,7 @@ so_far_cut o s m text begun end behind rest line sitting sitting' m1 m2 old now 
 
 -- memory ran out for a line that has begun
 pub so_far_unkept :
-    {M : Type 0} (o : Turning M) (s : Standing) (m : M) (text left : List ℕ) (sitting : SittingFields) (m1 : M) (old now : SinkState)
+    {M : Type 0} (o : Turning M) (s : Standing) (m : M) (text left : List ℕ) (sitting : SittingFields) (m1 : M) (old now : Pending)
     → SoFar o s m text left sitting m1 old now → AnsweredSome o s m text m1 old now
 so_far_unkept o s m text left sitting m1 old now f = record {
   lines = f.lines;
@@ -105,7 +105,7 @@ so_far_unkept o s m text left sitting m1 old now f = record {
 
 -- what is left is kept
 pub so_far_all :
-    {M : Type 0} (o : Turning M) (s : Standing) (m : M) (text left kept : List ℕ) (sitting : SittingFields) (m1 : M) (old now : SinkState)
+    {M : Type 0} (o : Turning M) (s : Standing) (m : M) (text left kept : List ℕ) (sitting : SittingFields) (m1 : M) (old now : Pending)
     → SoFar o s m text left sitting m1 old now → kept ≡ left → IsUnbroken kept
     → AnsweredAll o s m text kept sitting m1 old now
 so_far_all o s m text left kept sitting m1 old now f is unbroken = record {
@@ -119,14 +119,14 @@ so_far_all o s m text left kept sitting m1 old now f is unbroken = record {
 
 -- no line has begun
 pub last_none :
-    {M : Type 0} (o : Turning M) (s : SittingFields) (m : M) (text : List ℕ) (now : SinkState)
+    {M : Type 0} (o : Turning M) (s : SittingFields) (m : M) (text : List ℕ) (now : Pending)
     → length text ≡ 0 → Part o (standing s Waiting) m (open_rest text) (standing s Waiting) m Done now now
 last_none o s m [] now none = part_none o (standing s Waiting) m now
 last_none o s m (b ∷ text) now none = absurd (omega (arith, none))
 
 -- one has begun, and is a line although it lacks its line feed
 pub last_some :
-    {M : Type 0} (o : Turning M) (end : Ends) (s : SittingFields) (m : M) (text : List ℕ) (sitting : SittingFields) (m' : M) (old new : SinkState)
+    {M : Type 0} (o : Turning M) (end : Ends) (s : SittingFields) (m : M) (text : List ℕ) (sitting : SittingFields) (m' : M) (old new : Pending)
     → 0 < length text → EndSays o end (standing s Waiting) m (text ∷ []) sitting m' old new
     → EndSays o end (standing s Waiting) m (open_rest text) sitting m' old new
 last_some o end s m [] sitting m' old new some said = absurd (omega arith)

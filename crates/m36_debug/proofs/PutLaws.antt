@@ -1,97 +1,107 @@
 -- Laws of lines that are put one after another.
-use Rattle.std.proofs.Common.{◌≡◌, ◌≤◌, ◌<◌, ◌+◌, ℕ, List, [], ◌∷◌, ◌++◌, length, take, drop, get_or, Option, refl, sym, ap, subst, ◌∙◌}
-use Rattle.std.proofs.lemmas.List.Folds.{concat-append}
-use Rattle.std.proofs.lemmas.List.{append-nil, take_all, at_drop_more, at_drop_all}
+use Rattle.std.proofs.Common.{◌≡◌, ◌≤◌, ◌<◌, ◌+◌, ℕ, List, [], ◌∷◌, ◌++◌, length, take, drop, get_or, refl, sym, ap, subst, ◌∙◌}
+use Rattle.std.proofs.lemmas.List.{append-nil, append_assoc, take_all, at_drop_more, at_drop_all}
 use Rattle.m36_desc.specs.Fields.{PtrFields}
-use Rattle.m36_outside.specs.Counts.{Rose}
-use Rattle.m36_outside.specs.Passing.{joined, PutTakes}
-use Rattle.m36_outside.specs.Put.{PutSays, PutHasCause}
-use Rattle.m36_outside.specs.Written.{Grew, GrewWithin}
 use Rattle.m36_outside.specs.declared.sink.Put.{Put}
 use Rattle.m36_outside.specs.declared.sink.Put.TheVariants.{Done, Failed}
-use Rattle.m36_outside.proofs.Grown.{grew_by_nothing, grew_on, grew_more, grew_longer}
-use Rattle.m36_outside.proofs.LinesTaken.{takes_no_lines, takes_lines_on, takes_some_of_line, takes_lines_more, takes_lines_longer}
-use Rattle.m36_outside.specs.SinkState.{SinkState}
-use Rattle.m36_outside.specs.Putting.{PutsPieces}
-use Rattle.m36_debug.specs.Putting.{seen}
+use Rattle.m36_world.proofs.Following.{follow_none}
+use Rattle.m36_world.specs.Did.{IsOutputFailed}
+use Rattle.m36_world.specs.Follow.{Follow, outputs}
+use Rattle.m36_world.specs.Seen.{Seen}
+use Rattle.m36_program.specs.Gathered.{Gathers}
+use Rattle.m36_program.proofs.Gathered.{follow_pieces, loses_here}
+use Rattle.m36_debug.specs.Putting.{Pending, pending, PutsPieces}
 use Rattle.m36_debug.specs.SessionTexts.{pointer_line, pointer_lines}
 
--- nothing has to be put
-pub puts_nothing : (now : SinkState) → PutsPieces Done [] now now
-puts_nothing now =
-    record { text = grew_by_nothing now.written; pieces = takes_no_lines now.taken; faults = refl }
+-- nothing is to be put
+pub gathers_none : (block : List (List ℕ)) (seen : Seen) → Gathers block block [] seen seen
+gathers_none block seen = record { handed = []; is = append-nil block; follow = follow_none seen }
+
+pub puts_nothing : (now : Pending) → PutsPieces Done [] now now
+puts_nothing now = gathers_none now.block now.world
 
 -- some lines, and then others
 pub puts_on :
-    (old now new : SinkState) (first second : List (List ℕ))
+    (old now new : Pending) (first second : List (List ℕ))
     → PutsPieces Done first old now → PutsPieces Done second now new → PutsPieces Done (first ++ second) old new
 puts_on old now new first second one two = record {
-  text = subst (Grew old.written new.written) (sym (concat-append first second)) (grew_on old.written now.written new.written (joined first) (joined second) one.text two.text);
-  pieces = takes_lines_on old.taken now.taken new.taken first second one.pieces two.pieces;
-  faults = two.faults ∙ one.faults;
+  handed = one.handed ++ two.handed;
+  is = sym (append_assoc old.block first second) ∙ ap (λ l. l ++ second) one.is ∙ append_assoc one.handed now.block second
+      ∙ ap (λ l. one.handed ++ l) two.is ∙ sym (append_assoc one.handed two.handed new.block);
+  follow = follow_pieces one.handed two.handed old.world now.world new.world one.follow two.follow;
 }
 
 -- some lines, and then some others and a prefix of the next
 pub puts_more :
-    (old now new : SinkState) (first second : List (List ℕ))
+    (old now new : Pending) (first second : List (List ℕ))
     → PutsPieces Done first old now → PutsPieces Failed second now new → PutsPieces Failed (first ++ second) old new
 puts_more old now new first second one two = record {
-  text = subst (GrewWithin old.written new.written) (sym (concat-append first second)) (grew_more old.written now.written new.written (joined first) (joined second) one.text two.text);
-  pieces = takes_lines_more old.taken now.taken new.taken first second one.pieces two.pieces;
-  faults = subst (λ n. Rose n new.faults) one.faults two.faults;
+  handed = one.handed ++ two.handed;
+  failed = two.failed;
+  left = two.left;
+  is = sym (append_assoc old.block first second) ∙ ap (λ l. l ++ second) one.is ∙ append_assoc one.handed now.block second
+      ∙ ap (λ l. one.handed ++ l) two.is ∙ sym (append_assoc one.handed (two.handed ++ two.failed) two.left)
+      ∙ ap (λ l. l ++ two.left) (sym (append_assoc one.handed two.handed two.failed));
+  between = two.between;
+  follow = follow_pieces one.handed two.handed old.world now.world two.between one.follow two.follow;
+  fails = two.fails;
 }
 
 -- some lines and a prefix of the next are so of more lines
 pub puts_longer :
-    (old new : SinkState) (first second : List (List ℕ))
+    (old new : Pending) (first second : List (List ℕ))
     → PutsPieces Failed first old new → PutsPieces Failed (first ++ second) old new
 puts_longer old new first second cut = record {
-  text = subst (GrewWithin old.written new.written) (sym (concat-append first second)) (grew_longer old.written new.written (joined first) (joined second) cut.text);
-  pieces = takes_lines_longer old.taken new.taken first second cut.pieces;
-  faults = cut.faults;
+  handed = cut.handed;
+  failed = cut.failed;
+  left = cut.left ++ second;
+  is = sym (append_assoc old.block first second) ∙ ap (λ l. l ++ second) cut.is
+      ∙ append_assoc (cut.handed ++ cut.failed) cut.left second;
+  between = cut.between;
+  follow = cut.follow;
+  fails = cut.fails;
 }
 
--- one line was put
-pub puts_line :
-    (answer : Put) (written written' : Option (List ℕ)) (taken taken' : List (List ℕ)) (faults faults' : ℕ) (line : List ℕ)
-    → PutSays answer written written' line → PutTakes answer written written' taken taken' line → PutHasCause answer faults faults'
-    → PutsPieces answer (line ∷ []) (seen written taken faults) (seen written' taken' faults')
-puts_line Done written written' taken taken' faults faults' line says took cause = record {
-  text = subst (Grew written written') (sym (append-nil line)) says;
-  pieces = took;
-  faults = cause;
-}
-puts_line Failed written written' taken taken' faults faults' line says took cause = record {
-  text = subst (GrewWithin written written') (sym (append-nil line)) says;
-  pieces = takes_some_of_line written written' taken taken' line took;
-  faults = cause;
-}
+-- the lines that waited were put
+pub puts_waiting :
+    (block block' : List (List ℕ)) (old new : Seen)
+    → Follow (outputs block) old new → block' ≡ []
+    → PutsPieces Done [] (pending block old) (pending block' new)
+puts_waiting block block' old new follow none =
+    record { handed = block; is = ap (λ l. block ++ l) (sym none); follow = follow }
+
+pub waiting_lost :
+    (block block' : List (List ℕ)) (old new : Seen)
+    → IsOutputFailed block old new → PutsPieces Failed [] (pending block old) (pending block' new)
+waiting_lost block block' old new fails = loses_here block [] old new fails
+
+pub ruleset handing = (puts_waiting, waiting_lost)
 
 -- the piece that was put is this line
 pub puts_same :
-    (answer : Put) (old new : SinkState) (lines others : List (List ℕ))
+    (answer : Put) (old new : Pending) (lines others : List (List ℕ))
     → lines ≡ others → PutsPieces answer lines old new → PutsPieces answer others old new
 puts_same answer old new lines others is puts = subst (λ l. PutsPieces answer l old new) is puts
 
 -- some lines, and then others, as an answer says
 pub puts_then :
-    (answer : Put) (old now new : SinkState) (first second : List (List ℕ))
+    (answer : Put) (old now new : Pending) (first second : List (List ℕ))
     → PutsPieces Done first old now → PutsPieces answer second now new → PutsPieces answer (first ++ second) old new
 puts_then Done old now new first second one two = puts_on old now new first second one two
 puts_then Failed old now new first second one two = puts_more old now new first second one two
 
--- Of the lines `all`, put from `start` on, `left` are still to be put after `now`.
-pub record Putting (now start : SinkState) (left all : List (List ℕ)) : Type 0 where
-  pub whole : (new : SinkState) → PutsPieces Done left now new → PutsPieces Done all start new
-  pub cut : (new : SinkState) → PutsPieces Failed left now new → PutsPieces Failed all start new
+-- Of the lines `all`, put from `start` on, `left` are left to put behind `now`.
+pub record Putting (now start : Pending) (left all : List (List ℕ)) : Type 0 where
+  pub whole : (new : Pending) → PutsPieces Done left now new → PutsPieces Done all start new
+  pub cut : (new : Pending) → PutsPieces Failed left now new → PutsPieces Failed all start new
 
--- at the start all are left
-pub putting_all : (start : SinkState) (all : List (List ℕ)) → Putting start start all all
+-- at the beginning all are left
+pub putting_all : (start : Pending) (all : List (List ℕ)) → Putting start start all all
 putting_all start all = record { whole = λ new puts. puts; cut = λ new puts. puts }
 
 -- the first of those that were left was put
 pub putting_next :
-    (now next start : SinkState) (line : List ℕ) (left all : List (List ℕ))
+    (now next start : Pending) (line : List ℕ) (left all : List (List ℕ))
     → Putting now start (line ∷ left) all → PutsPieces Done (line ∷ []) now next → Putting next start left all
 putting_next now next start line left all before puts = record {
   whole = λ new rest. before.whole new (puts_on now next new (line ∷ []) left puts rest);
@@ -100,13 +110,13 @@ putting_next now next start line left all before puts = record {
 
 -- it was not put as a whole
 pub putting_cut :
-    (now new start : SinkState) (line : List ℕ) (left all : List (List ℕ))
+    (now new start : Pending) (line : List ℕ) (left all : List (List ℕ))
     → Putting now start (line ∷ left) all → PutsPieces Failed (line ∷ []) now new → PutsPieces Failed all start new
 putting_cut now new start line left all before cut =
     before.cut new (puts_longer now new (line ∷ []) left cut)
 
 -- none is left
-pub putting_none : (now start : SinkState) (all : List (List ℕ)) → Putting now start [] all → PutsPieces Done all start now
+pub putting_none : (now start : Pending) (all : List (List ℕ)) → Putting now start [] all → PutsPieces Done all start now
 putting_none now start all before = before.whole now (puts_nothing now)
 
 -- ---- pointer registers, one after another
@@ -130,12 +140,12 @@ pointers_at n pointers i p inside is =
     ∙ pointers_first n (get_or pointers i p) (drop (i + 1) pointers)
     ∙ ap (λ (q : PtrFields). pointer_line n q ∷ pointer_lines (n + 1) (drop (i + 1) pointers)) (sym is)
 
-pub pointers_start : (now : SinkState) (pointers : List PtrFields) → Putting now now (pointer_lines 0 pointers) (pointer_lines 0 pointers)
+pub pointers_start : (now : Pending) (pointers : List PtrFields) → Putting now now (pointer_lines 0 pointers) (pointer_lines 0 pointers)
 pointers_start now pointers = putting_all now (pointer_lines 0 pointers)
 
 -- the line of the next one was put
 pub pointer_put :
-    (now next start : SinkState) (n : ℕ) (pointers : List PtrFields) (i : ℕ) (p : PtrFields) (all : List (List ℕ))
+    (now next start : Pending) (n : ℕ) (pointers : List PtrFields) (i : ℕ) (p : PtrFields) (all : List (List ℕ))
     → i < length pointers → p ≡ get_or pointers i p
     → Putting now start (pointer_lines n (drop i pointers)) all → PutsPieces Done (pointer_line n p ∷ []) now next
     → Putting next start (pointer_lines (n + 1) (drop (i + 1) pointers)) all
@@ -145,7 +155,7 @@ pointer_put now next start n pointers i p all inside is before puts =
 
 -- it was not put as a whole
 pub pointer_cut :
-    (now new start : SinkState) (n : ℕ) (pointers : List PtrFields) (i : ℕ) (p : PtrFields) (all : List (List ℕ))
+    (now new start : Pending) (n : ℕ) (pointers : List PtrFields) (i : ℕ) (p : PtrFields) (all : List (List ℕ))
     → i < length pointers → p ≡ get_or pointers i p
     → Putting now start (pointer_lines n (drop i pointers)) all → PutsPieces Failed (pointer_line n p ∷ []) now new
     → PutsPieces Failed all start new
@@ -155,7 +165,7 @@ pointer_cut now new start n pointers i p all inside is before cut =
 
 -- all were put
 pub pointers_end :
-    (now start : SinkState) (n : ℕ) (pointers : List PtrFields) (i : ℕ) (all : List (List ℕ))
+    (now start : Pending) (n : ℕ) (pointers : List PtrFields) (i : ℕ) (all : List (List ℕ))
     → length pointers ≤ i → Putting now start (pointer_lines n (drop i pointers)) all → PutsPieces Done all start now
 pointers_end now start n pointers i all past before =
     putting_none now start all (subst (λ l. Putting now start l all) (at_drop_all (pointer_lines n) pointers i past ∙ pointers_none n) before)
@@ -169,19 +179,19 @@ shown_whole line within = sym (take_all 64 line within)
 
 -- one line, and then others, as an answer says
 pub puts_behind :
-    (answer : Put) (old now new : SinkState) (line : List ℕ) (lines : List (List ℕ))
+    (answer : Put) (old now new : Pending) (line : List ℕ) (lines : List (List ℕ))
     → PutsPieces Done (line ∷ []) old now → PutsPieces answer lines now new → PutsPieces answer (line ∷ lines) old new
 puts_behind answer old now new line lines one two = puts_then answer old now new (line ∷ []) lines one two
 
 -- one line, and then some others and a prefix of the next
 pub puts_behind_cut :
-    (old now new : SinkState) (line : List ℕ) (lines : List (List ℕ))
+    (old now new : Pending) (line : List ℕ) (lines : List (List ℕ))
     → PutsPieces Done (line ∷ []) old now → PutsPieces Failed lines now new → PutsPieces Failed (line ∷ lines) old new
 puts_behind_cut old now new line lines one two = puts_more old now new (line ∷ []) lines one two
 
 -- a prefix of the first of several lines
 pub puts_first_cut :
-    (old new : SinkState) (line : List ℕ) (lines : List (List ℕ))
+    (old new : Pending) (line : List ℕ) (lines : List (List ℕ))
     → PutsPieces Failed (line ∷ []) old new → PutsPieces Failed (line ∷ lines) old new
 puts_first_cut old new line lines cut = puts_longer old new (line ∷ []) lines cut
 

@@ -1,5 +1,5 @@
--- Laws of a session that continues piece by piece.
-use Rattle.std.proofs.Common.{◌≡◌, ◌+◌, ◌-◌, ◌≤◌, ℕ, List, [], ◌∷◌, ◌++◌, length, take, All, Option, Some, None, inl, inr, refl, sym, ap, subst, ◌∙◌, arith, length-append, length-take}
+-- Laws of a session that goes on piece by piece: what it is, by its events, and which lines they say.
+use Rattle.std.proofs.Common.{◌≡◌, ◌+◌, ◌-◌, ◌≤◌, ℕ, List, [], ◌∷◌, ◌++◌, length, take, All, Option, Some, None, inl, inr, refl, sym, ap, subst, ◌∙◌, arith, length-append}
 use Rattle.std.specs.Prelude.{Result, Ok, Err}
 use Rattle.std.specs.Io.KnownBytes.{IsAtEnd}
 use Rattle.std.proofs.Math.Seq.{take-length}
@@ -8,25 +8,59 @@ use Rattle.std.proofs.lemmas.List.{append-nil, append_assoc, take-append-le}
 use Rattle.m36_outside.specs.Counts.{Rose}
 use Rattle.m36_outside.specs.Passing.{joined}
 use Rattle.m36_outside.specs.Piece.{preceded}
-use Rattle.m36_outside.specs.declared.sink.Put.{Put}
-use Rattle.m36_outside.specs.declared.sink.Put.TheVariants.{Done}
-use Rattle.m36_outside.specs.SinkState.{SinkState}
 use Rattle.m36_text.specs.Lines.{open_rest, open_lines_of}
 use Rattle.m36_debug.specs.declared.fault.SessionFault.{SessionFault}
 use Rattle.m36_debug.specs.declared.fault.SessionFault.TheVariants as fault
-use Rattle.m36_debug.specs.declared.turning.Ends.{Ends}
-use Rattle.m36_debug.specs.declared.turning.Ends.TheVariants as ends
 use Rattle.m36_debug.specs.LinesTaken.{IsLines, IsUnbroken}
-use Rattle.m36_debug.specs.Parts.{Part, EndSays}
-use Rattle.m36_debug.specs.PieceSays.{AnsweredAll, AnsweredQuit, AnsweredSome, AnsweredCut}
-use Rattle.m36_debug.specs.Session.{Turning, Waiting, Over, Starved, Standing, standing, lines_said}
-use Rattle.m36_debug.specs.SessionSays.{LinesSeen, SessionSays, TookBy, CountBy, put_by, ReadHasCause, answer_of, bytes_limit, HasEnded, StopsAtEnd, TookOpen, EndInQuit, TookWhole}
+use Rattle.m36_debug.specs.Replies.{Happens, RepliesAll, RepliesQuit, RepliesSome, LastQuits, LastBreaks}
+use Rattle.m36_debug.specs.Session.{Turning, Waiting, Over, Standing, standing, Follow, lines_said, lines_in}
+use Rattle.m36_debug.specs.SessionSays.{LinesSeen, IsSession, TookBy, CountBy, ReadHasCause, bytes_limit, HasEnded, StopsAtEnd, TookSome, TookOpen, EndInQuit, TookWhole}
 use Rattle.m36_debug.specs.Sitting.{SittingFields, new_sitting}
-use Rattle.m36_debug.specs.Taking.{GotPiece, GotEnd, GotNothing}
 use Rattle.m36_debug.proofs.LinesLaws.{lines_none, lines_on, all_open, all_whole, some_whole}
-use Rattle.m36_debug.proofs.PartLaws.{part_none, part_on, part_cut}
+use Rattle.m36_debug.proofs.PartLaws.{follow_on, said_on, in_on}
 use Rattle.m36_debug.specs.SessionLines.{IsNotQuit}
 use Rattle.m36_debug.proofs.QuitLaws.{no_quit, quit_last}
+
+-- ---- what happens
+
+pub happens_none : {M : Type 0} (o : Turning M) (s : Standing) (m : M) → Happens o s m [] [] s m
+unfolding Follow lines_said lines_in
+happens_none o s m = record { events = []; follow = (refl, refl); took = refl; said = refl }
+
+pub happens_on :
+    {M : Type 0} (o : Turning M) (s : Standing) (m : M) (lines others written more : List (List ℕ)) (s1 : Standing) (m1 : M) (s2 : Standing) (m2 : M)
+    → Happens o s m lines written s1 m1 → Happens o s1 m1 others more s2 m2
+    → Happens o s m (lines ++ others) (written ++ more) s2 m2
+happens_on o s m lines others written more s1 m1 s2 m2 one two = record {
+  events = one.events ++ two.events;
+  follow = follow_on o s m one.events two.events s1 m1 s2 m2 one.follow two.follow;
+  took = in_on one.events two.events ∙ ap (λ l. l ++ lines_in two.events) one.took ∙ ap (λ l. lines ++ l) two.took;
+  said = said_on o s m one.events two.events s1 m1 one.follow ∙ ap (λ l. l ++ lines_said o s1 two.events) one.said
+      ∙ ap (λ l. written ++ l) two.said;
+}
+
+-- ---- calls for input
+
+-- a piece that has a byte, and at most so many
+pub record GotPiece (piece : List ℕ) (most : ℕ) (old new : LinesSeen) : Type 0 where
+  pub within : length piece ≤ most
+  pub some : 1 ≤ length piece
+  pub left : old.left ≡ preceded piece new.left
+  pub gave : new.given ≡ old.given ++ piece ∷ []
+  pub faults : new.faults ≡ old.faults
+
+-- the end of the input
+pub record GotEnd (old new : LinesSeen) : Type 0 where
+  pub at_end : IsAtEnd old.left
+  pub left : old.left ≡ preceded [] new.left
+  pub gave : new.given ≡ old.given ++ [] ∷ []
+  pub faults : new.faults ≡ old.faults
+
+-- nothing
+pub record GotNothing (old new : LinesSeen) : Type 0 where
+  pub left : new.left ≡ old.left
+  pub gave : new.given ≡ old.given
+  pub cause : Rose old.faults new.faults
 
 -- ---- pieces of input
 
@@ -70,8 +104,7 @@ came_more before now after pieces piece came gave left = record {
 came_end :
     (before now after : LinesSeen) (pieces : List (List ℕ))
     → Came before now pieces → GotEnd now after → Came before after (pieces ++ [] ∷ [])
-came_end before now after pieces came end =
-    came_more before now after pieces [] came end.gave (sym end.left.1 ∙ preceded_none after.left)
+came_end before now after pieces came end = came_more before now after pieces [] came end.gave end.left
 
 -- no piece
 came_still :
@@ -108,9 +141,10 @@ stops_ended ((byte ∷ piece) ∷ pieces) old new all stands = stops_ended piece
 
 -- ---- a session that continues
 
--- All whole lines so far were answered, the bytes after them are the beginning of the next line, and at most `left`
--- more bytes may be read.
-pub record Going {M : Type 0} (o : Turning M) (m m' : M) (before after : LinesSeen) (old new : SinkState) (left : ℕ) (begun : List ℕ) (sitting : SittingFields) : Type 0 where
+-- All whole lines so far were answered, what follows them has begun the next one, and so many more
+-- bytes may come.
+pub record Going {M : Type 0} (o : Turning M) (m m' : M) (before after : LinesSeen) (left : ℕ) (begun : List ℕ) (sitting : SittingFields) (written : List (List ℕ))
+    : Type 0 where
   pub pieces : List (List ℕ)
   pub came : Came before after pieces
   pub some : AreSome pieces
@@ -119,129 +153,123 @@ pub record Going {M : Type 0} (o : Turning M) (m m' : M) (before after : LinesSe
   pub lines : List (List ℕ)
   pub is : IsLines (joined pieces) lines begun
   pub unbroken : IsUnbroken begun
-  pub part : Part o (standing new_sitting Waiting) m lines (standing sitting Waiting) m' Done old new
+  pub happens : Happens o (standing new_sitting Waiting) m lines written (standing sitting Waiting) m'
 
 -- at the start
 pub going_start :
-    {M : Type 0} (o : Turning M) (m : M) (before : LinesSeen) (old : SinkState) (begun : List ℕ) (sitting : SittingFields)
-    → begun ≡ [] → sitting ≡ new_sitting → IsUnbroken [] → Going o m m before before old old bytes_limit begun sitting
-going_start o m before old begun sitting empty is unbroken = record {
+    {M : Type 0} (o : Turning M) (m : M) (before : LinesSeen) → IsUnbroken []
+    → Going o m m before before bytes_limit [] new_sitting []
+going_start o m before unbroken = record {
   pieces = [];
   came = came_none before;
   some = tt;
   faults = refl;
   count = refl;
   lines = [];
-  is = subst (IsLines [] []) (sym empty) (lines_none []);
-  unbroken = subst IsUnbroken (sym empty) unbroken;
-  part =
-      subst (λ (s : SittingFields). Part o (standing new_sitting Waiting) m [] (standing s Waiting) m Done old old) (sym is)
-      (part_none o (standing new_sitting Waiting) m old);
+  is = lines_none [];
+  unbroken = unbroken;
+  happens = happens_none o (standing new_sitting Waiting) m;
 }
 
--- the contract of a session, for a part of it
+-- what happened is a session
 says :
-    {M : Type 0} (o : Turning M) (result : Result (Unit {0}) SessionFault) (m m' : M) (before after : LinesSeen) (old new : SinkState) (pieces lines : List (List ℕ)) (stands : Standing)
+    {M : Type 0} (o : Turning M) (result : Result (Unit {0}) SessionFault) (m m' : M) (before after : LinesSeen) (pieces lines written : List (List ℕ)) (stands : Standing)
     → Came before after pieces → CountBy result (length (joined pieces)) → ReadHasCause result before.faults after.faults
     → StopsAtEnd pieces before.faults after.faults
     → TookBy result pieces lines stands.doing after
-    → Part o (standing new_sitting Waiting) m lines stands m' (put_by result) old new
-    → SessionSays o result m m' before after old new
-says o result m m' before after old new pieces lines stands came count cause stops took part = record {
-  lines = lines_said o (standing new_sitting Waiting) part.events;
-  session = record {
-    pieces = pieces;
-    gave = came.gave;
-    came = came.left;
-    count = count;
-    read_cause = cause;
-    stops = stops;
-    events = part.events;
-    stands = stands;
-    follow = part.follow;
-    took = subst (λ l. TookBy result pieces l stands.doing after) (sym part.took) took;
-    said = refl;
-  };
-  wrote = part.wrote;
+    → Happens o (standing new_sitting Waiting) m lines written stands m'
+    → IsSession o result m m' before after written
+says o result m m' before after pieces lines written stands came count cause stops took happens = record {
+  pieces = pieces;
+  gave = came.gave;
+  came = came.left;
+  count = count;
+  read_cause = cause;
+  stops = stops;
+  events = happens.events;
+  stands = stands;
+  follow = happens.follow;
+  took = subst (λ l. TookBy result pieces l stands.doing after) (sym happens.took) took;
+  said = sym happens.said;
 }
 
--- a part that waits for a line has not taken `quit`
-part_no_quit :
-    {M : Type 0} (o : Turning M) (m m' : M) (lines : List (List ℕ)) (sitting : SittingFields) (answer : Put) (old new : SinkState)
-    → Part o (standing new_sitting Waiting) m lines (standing sitting Waiting) m' answer old new
+-- while a line is waited for, `quit` was not taken
+not_quit :
+    {M : Type 0} (o : Turning M) (m m' : M) (lines written : List (List ℕ)) (sitting : SittingFields)
+    → Happens o (standing new_sitting Waiting) m lines written (standing sitting Waiting) m'
     → All IsNotQuit lines
-part_no_quit o m m' lines sitting answer old new part =
-    subst (All IsNotQuit) part.took
-    (no_quit o new_sitting Waiting m part.events (standing sitting Waiting) m' part.follow refl)
+not_quit o m m' lines written sitting happens =
+    subst (All IsNotQuit) happens.took
+    (no_quit o new_sitting Waiting m happens.events (standing sitting Waiting) m' happens.follow refl)
 
 waits_not_over : Waiting ≡ Over → ⊥
 waits_not_over is = cc
 
--- a part after which the session is over has taken `quit` last
-part_quit :
-    {M : Type 0} (o : Turning M) (m m' : M) (lines : List (List ℕ)) (sitting : SittingFields) (answer : Put) (old new : SinkState)
-    → Part o (standing new_sitting Waiting) m lines (standing sitting Over) m' answer old new
+-- in a session that is over it was taken last
+ends_in_quit :
+    {M : Type 0} (o : Turning M) (m m' : M) (lines written : List (List ℕ)) (sitting : SittingFields)
+    → Happens o (standing new_sitting Waiting) m lines written (standing sitting Over) m'
     → EndInQuit lines
-part_quit o m m' lines sitting answer old new part =
-    subst EndInQuit part.took
-    (quit_last o new_sitting Waiting m part.events (standing sitting Over) m' (λ is. waits_not_over is) part.follow refl)
+ends_in_quit o m m' lines written sitting happens =
+    subst EndInQuit happens.took
+    (quit_last o new_sitting Waiting m happens.events (standing sitting Over) m' (λ is. waits_not_over is) happens.follow refl)
 
 -- all whole lines were taken
 took_whole :
-    {M : Type 0} (o : Turning M) (m m' : M) (text begun : List ℕ) (lines : List (List ℕ)) (sitting : SittingFields) (answer : Put) (old new : SinkState)
+    {M : Type 0} (o : Turning M) (m m' : M) (text begun : List ℕ) (lines written : List (List ℕ)) (sitting : SittingFields)
     → IsLines text lines begun → IsUnbroken begun
-    → Part o (standing new_sitting Waiting) m lines (standing sitting Waiting) m' answer old new
+    → Happens o (standing new_sitting Waiting) m lines written (standing sitting Waiting) m'
     → TookWhole text lines Waiting
-took_whole o m m' text begun lines sitting answer old new are unbroken part = record {
+took_whole o m m' text begun lines written sitting are unbroken happens = record {
   waits = refl;
   whole = sym (all_whole text begun lines are unbroken);
-  none = part_no_quit o m m' lines sitting answer old new part;
+  none = not_quit o m m' lines written sitting happens;
 }
 
 -- the input could not be read
 pub going_unread :
-    {M : Type 0} (o : Turning M) (m m' : M) (before now after : LinesSeen) (old new : SinkState) (left : ℕ) (begun : List ℕ) (sitting : SittingFields)
-    → Going o m m' before now old new left begun sitting → GotNothing now after
-    → SessionSays o (Err fault.ReadFault) m m' before after old new
-going_unread o m m' before now after old new left begun sitting g got =
-    says o (Err fault.ReadFault) m m' before after old new g.pieces g.lines (standing sitting Waiting)
+    {M : Type 0} (o : Turning M) (m m' : M) (before now after : LinesSeen) (left : ℕ) (begun : List ℕ) (sitting : SittingFields) (written : List (List ℕ))
+    → Going o m m' before now left begun sitting written → GotNothing now after
+    → IsSession o (Err fault.ReadFault) m m' before after written
+going_unread o m m' before now after left begun sitting written g got =
+    says o (Err fault.ReadFault) m m' before after g.pieces g.lines written (standing sitting Waiting)
     (came_still before now after g.pieces g.came got.gave got.left)
     (omega (arith, g.count))
     (subst (λ n. Rose n after.faults) g.faults got.cause)
     (stops_going g.pieces before.faults after.faults g.some)
-    (took_whole o m m' (joined g.pieces) begun g.lines sitting Done old new g.is g.unbroken g.part)
-    g.part
+    (took_whole o m m' (joined g.pieces) begun g.lines written sitting g.is g.unbroken g.happens)
+    g.happens
 
 -- one byte more than the limit was read
 pub going_too_long :
-    {M : Type 0} (o : Turning M) (m m' : M) (before now after : LinesSeen) (old new : SinkState) (count left : ℕ) (begun buffer : List ℕ) (sitting : SittingFields)
-    → Going o m m' before now old new left begun sitting → left ≡ 0 → GotPiece count 1 now after buffer
-    → SessionSays o (Err fault.TooLong) m m' before after old new
-going_too_long o m m' before now after old new count left begun buffer sitting g full got =
-    let piece : List ℕ = take count buffer in
+    {M : Type 0} (o : Turning M) (m m' : M) (before now after : LinesSeen) (begun piece : List ℕ) (sitting : SittingFields) (written : List (List ℕ))
+    → Going o m m' before now 0 begun sitting written → GotPiece piece 1 now after
+    → IsSession o (Err fault.TooLong) m m' before after written
+going_too_long o m m' before now after begun piece sitting written g got =
     let bytes : List ℕ = joined g.pieces in
     let all : joined (g.pieces ++ piece ∷ []) ≡ bytes ++ piece = joined_last g.pieces piece in
-    let one : length piece ≡ 1 = omega (arith, length-take count buffer, got.moved.some, got.within, got.moved.room) in
-    let most : length bytes ≡ bytes_limit = omega (arith, g.count, full) in
+    let one : length piece ≡ 1 = omega (arith, got.some, got.within) in
+    let most : length bytes ≡ bytes_limit = omega (arith, g.count) in
     let first : take bytes_limit (joined (g.pieces ++ piece ∷ [])) ≡ bytes =
     ap (take bytes_limit) all
     ∙ take-append-le bytes_limit bytes piece (omega (arith, most))
     ∙ ap (λ n. take n bytes) (sym most)
     ∙ take-length bytes in
     let size : length (joined (g.pieces ++ piece ∷ [])) ≡ bytes_limit + 1 = omega (arith, ap length all, length-append bytes piece, most, one) in
-    says o (Err fault.TooLong) m m' before after old new (g.pieces ++ piece ∷ []) g.lines (standing sitting Waiting)
-    (came_more before now after g.pieces piece g.came got.gave got.moved.left)
+    says o (Err fault.TooLong) m m' before after (g.pieces ++ piece ∷ []) g.lines written (standing sitting Waiting)
+    (came_more before now after g.pieces piece g.came got.gave got.left)
     (omega (arith, size), omega (arith, size))
     (got.faults ∙ g.faults)
-    (stops_going (g.pieces ++ piece ∷ []) before.faults after.faults (some_more g.pieces piece g.some (omega (arith, one))))
-    (subst (λ t. TookWhole t g.lines Waiting) (sym first) (took_whole o m m' bytes begun g.lines sitting Done old new g.is g.unbroken g.part))
-    g.part
+    (stops_going (g.pieces ++ piece ∷ []) before.faults after.faults (some_more g.pieces piece g.some got.some))
+    (subst (λ t. TookWhole t g.lines Waiting) (sym first) (took_whole o m m' bytes begun g.lines written sitting g.is g.unbroken g.happens))
+    g.happens
 
--- the input has reported its end
-told_end :
-    (now after : LinesSeen) (pieces : List (List ℕ)) → GotEnd now after → HasEnded (pieces ++ [] ∷ []) after
-told_end now after pieces got =
-    record { before = pieces; last = refl; none = subst IsAtEnd (sym got.left.1) got.left.0 }
+-- ---- the end
+
+-- the input has ended
+has_ended : (now after : LinesSeen) (pieces : List (List ℕ)) → GotEnd now after → HasEnded (pieces ++ [] ∷ []) after
+has_ended now after pieces got =
+    record { before = pieces; last = refl; none = subst IsAtEnd (got.left ∙ sym (preceded_none after.left)) got.at_end }
 
 -- the lines that were taken are a prefix of all lines
 took_open :
@@ -253,18 +281,38 @@ took_open now after pieces lines begun got are unbroken = record {
     rest = [];
     is = ap open_lines_of (joined_end pieces) ∙ all_open (joined pieces) begun lines are unbroken ∙ sym (append-nil (lines ++ open_rest begun));
   };
-  ended = told_end now after pieces got;
+  ended = has_ended now after pieces got;
 }
 
--- the input has ended, and the line that has begun was answered, if there is one
+-- how a session ends in which not all was answered
+pub data Breaking : Type 0 where
+  Unwritten : Breaking
+  Starving : Breaking
+
+abbrev pub fault_of : Breaking → SessionFault
+fault_of Unwritten = fault.WriteFault
+fault_of Starving = fault.NoMemory
+
+breaks :
+    {M : Type 0} (how : Breaking) (o : Turning M) (m m' : M) (before after : LinesSeen) (pieces lines written : List (List ℕ)) (stands : Standing)
+    → Came before after pieces → length (joined pieces) ≤ bytes_limit → after.faults ≡ before.faults
+    → StopsAtEnd pieces before.faults after.faults
+    → TookSome pieces lines after
+    → Happens o (standing new_sitting Waiting) m lines written stands m'
+    → IsSession o (Err (fault_of how)) m m' before after written
+breaks Unwritten o m m' before after pieces lines written stands came count faults stops took happens =
+    says o (Err fault.WriteFault) m m' before after pieces lines written stands came count faults stops took happens
+breaks Starving o m m' before after pieces lines written stands came count faults stops took happens =
+    says o (Err fault.NoMemory) m m' before after pieces lines written stands came count faults stops took happens
+
+-- the line that has begun was answered, if there is one
 pub going_end :
-    {M : Type 0} (o : Turning M) (end : Ends) (m m1 m2 : M) (before now after : LinesSeen) (old mid new : SinkState) (left : ℕ) (begun : List ℕ) (sitting sitting' : SittingFields)
-    → Going o m m1 before now old mid left begun sitting → GotEnd now after
-    → EndSays o end (standing sitting Waiting) m1 (open_rest begun) sitting' m2 mid new
-    → SessionSays o (answer_of end) m m2 before after old new
-going_end o ends.Line m m1 m2 before now after old mid new left begun sitting sitting' g got said =
-    let lines : List (List ℕ) = g.lines ++ open_rest begun in
-    says o (Ok tt) m m2 before after old new (g.pieces ++ [] ∷ []) lines (standing sitting' Waiting)
+    {M : Type 0} (o : Turning M) (m m1 m2 : M) (before now after : LinesSeen) (left : ℕ) (begun : List ℕ) (sitting sitting' : SittingFields) (written more : List (List ℕ))
+    → Going o m m1 before now left begun sitting written → GotEnd now after
+    → Happens o (standing sitting Waiting) m1 (open_rest begun) more (standing sitting' Waiting) m2
+    → IsSession o (Ok tt) m m2 before after (written ++ more)
+going_end o m m1 m2 before now after left begun sitting sitting' written more g got last =
+    says o (Ok tt) m m2 before after (g.pieces ++ [] ∷ []) (g.lines ++ open_rest begun) (written ++ more) (standing sitting' Waiting)
     (came_end before now after g.pieces g.came got)
     (omega (arith, g.count, ap length (joined_end g.pieces)))
     (got.faults ∙ g.faults)
@@ -272,12 +320,19 @@ going_end o ends.Line m m1 m2 before now after old mid new left begun sitting si
     (inr record {
       waits = refl;
       all = sym (ap open_lines_of (joined_end g.pieces) ∙ all_open (joined g.pieces) begun g.lines g.is g.unbroken);
-      ended = told_end now after g.pieces got;
+      ended = has_ended now after g.pieces got;
     })
-    (part_on o (standing new_sitting Waiting) m g.lines (open_rest begun) (standing sitting Waiting) m1 (standing sitting' Waiting) m2 old mid new g.part said)
-going_end o ends.Quit m m1 m2 before now after old mid new left begun sitting sitting' g got said =
-    let part = part_on o (standing new_sitting Waiting) m g.lines (open_rest begun) (standing sitting Waiting) m1 (standing sitting' Over) m2 old mid new g.part said in
-    says o (Ok tt) m m2 before after old new (g.pieces ++ [] ∷ []) (g.lines ++ open_rest begun) (standing sitting' Over)
+    (happens_on o (standing new_sitting Waiting) m g.lines (open_rest begun) written more (standing sitting Waiting) m1 (standing sitting' Waiting) m2 g.happens last)
+
+-- it is `quit`
+pub going_last_quit :
+    {M : Type 0} (o : Turning M) (m m1 : M) (before now after : LinesSeen) (left : ℕ) (begun : List ℕ) (sitting : SittingFields) (written more : List (List ℕ))
+    → Going o m m1 before now left begun sitting written → GotEnd now after
+    → (last : LastQuits o (standing sitting Waiting) m1 begun more)
+    → IsSession o (Ok tt) m last.machine before after (written ++ more)
+going_last_quit o m m1 before now after left begun sitting written more g got last =
+    let all = happens_on o (standing new_sitting Waiting) m g.lines (open_rest begun) written more (standing sitting Waiting) m1 (standing last.sitting Over) last.machine g.happens last.happens in
+    says o (Ok tt) m last.machine before after (g.pieces ++ [] ∷ []) (g.lines ++ open_rest begun) (written ++ more) (standing last.sitting Over)
     (came_end before now after g.pieces g.came got)
     (omega (arith, g.count, ap length (joined_end g.pieces)))
     (got.faults ∙ g.faults)
@@ -285,30 +340,28 @@ going_end o ends.Quit m m1 m2 before now after old mid new left begun sitting si
     (inl record {
       over = refl;
       some = inr (took_open now after g.pieces g.lines begun got g.is g.unbroken);
-      quit = part_quit o m m2 (g.lines ++ open_rest begun) sitting' Done old new part;
+      quit = ends_in_quit o m last.machine (g.lines ++ open_rest begun) (written ++ more) last.sitting all;
     })
-    part
-going_end o ends.Starved m m1 m2 before now after old mid new left begun sitting sitting' g got said =
-    says o (Err fault.NoMemory) m m2 before after old new (g.pieces ++ [] ∷ []) (g.lines ++ open_rest begun) (standing sitting' Starved)
+    all
+
+-- not all of its answer was written, or memory ran out
+pub going_last_breaks :
+    {M : Type 0} (how : Breaking) (o : Turning M) (m m1 : M) (before now after : LinesSeen) (left : ℕ) (begun : List ℕ) (sitting : SittingFields) (written more : List (List ℕ))
+    → Going o m m1 before now left begun sitting written → GotEnd now after
+    → (last : LastBreaks o (standing sitting Waiting) m1 begun more)
+    → IsSession o (Err (fault_of how)) m last.machine before after (written ++ more)
+going_last_breaks how o m m1 before now after left begun sitting written more g got last =
+    breaks how o m last.machine before after (g.pieces ++ [] ∷ []) (g.lines ++ open_rest begun) (written ++ more) last.stands
     (came_end before now after g.pieces g.came got)
     (omega (arith, g.count, ap length (joined_end g.pieces)))
     (got.faults ∙ g.faults)
     (stops_ended g.pieces before.faults after.faults g.some (got.faults ∙ g.faults))
     (inr (took_open now after g.pieces g.lines begun got g.is g.unbroken))
-    (part_on o (standing new_sitting Waiting) m g.lines (open_rest begun) (standing sitting Waiting) m1 (standing sitting' Starved) m2 old mid new g.part said)
-going_end o ends.Cut m m1 m2 before now after old mid new left begun sitting sitting' g got said =
-    let cut = part_cut o (standing new_sitting Waiting) m g.lines (open_rest begun) (standing sitting Waiting) m1 m2 old mid new g.part said in
-    says o (Err fault.WriteFault) m m2 before after old new (g.pieces ++ [] ∷ []) (g.lines ++ open_rest begun) cut.stands
-    (came_end before now after g.pieces g.came got)
-    (omega (arith, g.count, ap length (joined_end g.pieces)))
-    (got.faults ∙ g.faults)
-    (stops_ended g.pieces before.faults after.faults g.some (got.faults ∙ g.faults))
-    (inr (took_open now after g.pieces g.lines begun got g.is g.unbroken))
-    cut.part
+    (happens_on o (standing new_sitting Waiting) m g.lines (open_rest begun) written more (standing sitting Waiting) m1 last.stands last.machine g.happens last.happens)
 
 -- ---- a piece was taken
 
--- the bytes after the whole lines, and the piece
+-- what follows the whole lines, and the piece
 got_lines :
     (pieces lines others : List (List ℕ)) (begun piece rest : List ℕ)
     → IsLines (joined pieces) lines begun → IsLines (begun ++ piece) others rest
@@ -318,86 +371,65 @@ got_lines pieces lines others begun piece rest one two =
     (lines_on (joined pieces) begun piece rest lines others one two)
 
 got_count :
-    (pieces : List (List ℕ)) (buffer : List ℕ) (count left : ℕ)
-    → length (joined pieces) + left ≡ bytes_limit → count ≤ left → count ≤ length buffer
-    → length (joined (pieces ++ take count buffer ∷ [])) + (left - count) ≡ bytes_limit
-got_count pieces buffer count left is within room =
-    omega (arith, ap length (joined_last pieces (take count buffer)), length-append (joined pieces) (take count buffer), length-take count buffer)
-
-got_some :
-    (pieces : List (List ℕ)) (buffer : List ℕ) (count : ℕ)
-    → AreSome pieces → 1 ≤ count → count ≤ length buffer → AreSome (pieces ++ take count buffer ∷ [])
-got_some pieces buffer count all some room =
-    some_more pieces (take count buffer) all (omega (arith, length-take count buffer, some, room))
+    (pieces : List (List ℕ)) (piece : List ℕ) (rest : ℕ)
+    → length (joined pieces) + (rest + length piece) ≡ bytes_limit
+    → length (joined (pieces ++ piece ∷ [])) + rest ≡ bytes_limit
+got_count pieces piece rest is =
+    omega (arith, is, ap length (joined_last pieces piece), length-append (joined pieces) piece)
 
 -- all its whole lines were answered
 pub going_on :
-    {M : Type 0} (o : Turning M) (m m1 m2 : M) (before now after : LinesSeen) (old mid new : SinkState) (count left : ℕ) (begun begun' buffer : List ℕ) (sitting sitting' : SittingFields)
-    → Going o m m1 before now old mid left begun sitting → GotPiece count left now after buffer
-    → AnsweredAll o (standing sitting Waiting) m1 (begun ++ take count buffer) begun' sitting' m2 mid new
-    → Going o m m2 before after old new (left - count) begun' sitting'
-going_on o m m1 m2 before now after old mid new count left begun begun' buffer sitting sitting' g got said = record {
-  pieces = g.pieces ++ take count buffer ∷ [];
-  came = came_more before now after g.pieces (take count buffer) g.came got.gave got.moved.left;
-  some = got_some g.pieces buffer count g.some got.moved.some got.moved.room;
+    {M : Type 0} (o : Turning M) (m m1 m2 : M) (before now after : LinesSeen) (rest : ℕ) (begun kept piece : List ℕ) (sitting sitting' : SittingFields) (written more : List (List ℕ))
+    → Going o m m1 before now (rest + length piece) begun sitting written → GotPiece piece (rest + length piece) now after
+    → RepliesAll o (standing sitting Waiting) m1 (begun ++ piece) more kept sitting' m2
+    → Going o m m2 before after rest kept sitting' (written ++ more)
+going_on o m m1 m2 before now after rest begun kept piece sitting sitting' written more g got reply = record {
+  pieces = g.pieces ++ piece ∷ [];
+  came = came_more before now after g.pieces piece g.came got.gave got.left;
+  some = some_more g.pieces piece g.some got.some;
   faults = got.faults ∙ g.faults;
-  count = got_count g.pieces buffer count left g.count got.within got.moved.room;
-  lines = g.lines ++ said.lines;
-  is = got_lines g.pieces g.lines said.lines begun (take count buffer) begun' g.is said.is;
-  unbroken = said.unbroken;
-  part = part_on o (standing new_sitting Waiting) m g.lines said.lines (standing sitting Waiting) m1 (standing sitting' Waiting) m2 old mid new g.part said.part;
+  count = got_count g.pieces piece rest g.count;
+  lines = g.lines ++ reply.lines;
+  is = got_lines g.pieces g.lines reply.lines begun piece kept g.is reply.is;
+  unbroken = reply.unbroken;
+  happens = happens_on o (standing new_sitting Waiting) m g.lines reply.lines written more (standing sitting Waiting) m1 (standing sitting' Waiting) m2 g.happens reply.happens;
 }
 
 -- `quit` was taken
 pub going_quit :
-    {M : Type 0} (o : Turning M) (m m1 m2 : M) (before now after : LinesSeen) (old mid new : SinkState) (count left : ℕ) (begun buffer : List ℕ) (sitting sitting' : SittingFields)
-    → Going o m m1 before now old mid left begun sitting → GotPiece count left now after buffer
-    → AnsweredQuit o (standing sitting Waiting) m1 (begun ++ take count buffer) sitting' m2 mid new
-    → SessionSays o (Ok tt) m m2 before after old new
-going_quit o m m1 m2 before now after old mid new count left begun buffer sitting sitting' g got said =
-    let pieces : List (List ℕ) = g.pieces ++ take count buffer ∷ [] in
-    let part = part_on o (standing new_sitting Waiting) m g.lines said.lines (standing sitting Waiting) m1 (standing sitting' Over) m2 old mid new g.part said.part in
-    says o (Ok tt) m m2 before after old new pieces (g.lines ++ said.lines) (standing sitting' Over)
-    (came_more before now after g.pieces (take count buffer) g.came got.gave got.moved.left)
-    (omega (arith, got_count g.pieces buffer count left g.count got.within got.moved.room))
+    {M : Type 0} (o : Turning M) (m m1 : M) (before now after : LinesSeen) (rest : ℕ) (begun piece : List ℕ) (sitting : SittingFields) (written more : List (List ℕ))
+    → Going o m m1 before now (rest + length piece) begun sitting written → GotPiece piece (rest + length piece) now after
+    → (reply : RepliesQuit o (standing sitting Waiting) m1 (begun ++ piece) more)
+    → IsSession o (Ok tt) m reply.machine before after (written ++ more)
+going_quit o m m1 before now after rest begun piece sitting written more g got reply =
+    let pieces : List (List ℕ) = g.pieces ++ piece ∷ [] in
+    let lines : List (List ℕ) = g.lines ++ reply.lines in
+    let all = happens_on o (standing new_sitting Waiting) m g.lines reply.lines written more (standing sitting Waiting) m1 (standing reply.sitting Over) reply.machine g.happens reply.happens in
+    says o (Ok tt) m reply.machine before after pieces lines (written ++ more) (standing reply.sitting Over)
+    (came_more before now after g.pieces piece g.came got.gave got.left)
+    (omega (arith, got_count g.pieces piece rest g.count))
     (got.faults ∙ g.faults)
-    (stops_going pieces before.faults after.faults (got_some g.pieces buffer count g.some got.moved.some got.moved.room))
+    (stops_going pieces before.faults after.faults (some_more g.pieces piece g.some got.some))
     (inl record {
       over = refl;
-      some = inl (some_whole (joined pieces) said.rest (g.lines ++ said.lines) (got_lines g.pieces g.lines said.lines begun (take count buffer) said.rest g.is said.is));
-      quit = part_quit o m m2 (g.lines ++ said.lines) sitting' Done old new part;
+      some = inl (some_whole (joined pieces) reply.rest lines (got_lines g.pieces g.lines reply.lines begun piece reply.rest g.is reply.is));
+      quit = ends_in_quit o m reply.machine lines (written ++ more) reply.sitting all;
     })
-    part
+    all
 
--- memory ran out
-pub going_starved :
-    {M : Type 0} (o : Turning M) (m m1 m2 : M) (before now after : LinesSeen) (old mid new : SinkState) (count left : ℕ) (begun buffer : List ℕ) (sitting : SittingFields)
-    → Going o m m1 before now old mid left begun sitting → GotPiece count left now after buffer
-    → AnsweredSome o (standing sitting Waiting) m1 (begun ++ take count buffer) m2 mid new
-    → SessionSays o (Err fault.NoMemory) m m2 before after old new
-going_starved o m m1 m2 before now after old mid new count left begun buffer sitting g got said =
-    let pieces : List (List ℕ) = g.pieces ++ take count buffer ∷ [] in
-    says o (Err fault.NoMemory) m m2 before after old new pieces (g.lines ++ said.lines) said.stands
-    (came_more before now after g.pieces (take count buffer) g.came got.gave got.moved.left)
-    (omega (arith, got_count g.pieces buffer count left g.count got.within got.moved.room))
+-- not all answers were written, or memory ran out
+pub going_breaks :
+    {M : Type 0} (how : Breaking) (o : Turning M) (m m1 : M) (before now after : LinesSeen) (rest : ℕ) (begun piece : List ℕ) (sitting : SittingFields) (written more : List (List ℕ))
+    → Going o m m1 before now (rest + length piece) begun sitting written → GotPiece piece (rest + length piece) now after
+    → (reply : RepliesSome o (standing sitting Waiting) m1 (begun ++ piece) more)
+    → IsSession o (Err (fault_of how)) m reply.machine before after (written ++ more)
+going_breaks how o m m1 before now after rest begun piece sitting written more g got reply =
+    let pieces : List (List ℕ) = g.pieces ++ piece ∷ [] in
+    let lines : List (List ℕ) = g.lines ++ reply.lines in
+    breaks how o m reply.machine before after pieces lines (written ++ more) reply.stands
+    (came_more before now after g.pieces piece g.came got.gave got.left)
+    (omega (arith, got_count g.pieces piece rest g.count))
     (got.faults ∙ g.faults)
-    (stops_going pieces before.faults after.faults (got_some g.pieces buffer count g.some got.moved.some got.moved.room))
-    (inl (some_whole (joined pieces) said.rest (g.lines ++ said.lines) (got_lines g.pieces g.lines said.lines begun (take count buffer) said.rest g.is said.is)))
-    (part_on o (standing new_sitting Waiting) m g.lines said.lines (standing sitting Waiting) m1 said.stands m2 old mid new g.part said.part)
-
--- the output could not be written
-pub going_cut :
-    {M : Type 0} (o : Turning M) (m m1 m2 : M) (before now after : LinesSeen) (old mid new : SinkState) (count left : ℕ) (begun buffer : List ℕ) (sitting : SittingFields)
-    → Going o m m1 before now old mid left begun sitting → GotPiece count left now after buffer
-    → AnsweredCut o (standing sitting Waiting) m1 (begun ++ take count buffer) m2 mid new
-    → SessionSays o (Err fault.WriteFault) m m2 before after old new
-going_cut o m m1 m2 before now after old mid new count left begun buffer sitting g got said =
-    let pieces : List (List ℕ) = g.pieces ++ take count buffer ∷ [] in
-    let cut = part_cut o (standing new_sitting Waiting) m g.lines said.lines (standing sitting Waiting) m1 m2 old mid new g.part said.part in
-    says o (Err fault.WriteFault) m m2 before after old new pieces (g.lines ++ said.lines) cut.stands
-    (came_more before now after g.pieces (take count buffer) g.came got.gave got.moved.left)
-    (omega (arith, got_count g.pieces buffer count left g.count got.within got.moved.room))
-    (got.faults ∙ g.faults)
-    (stops_going pieces before.faults after.faults (got_some g.pieces buffer count g.some got.moved.some got.moved.room))
-    (inl (some_whole (joined pieces) said.rest (g.lines ++ said.lines) (got_lines g.pieces g.lines said.lines begun (take count buffer) said.rest g.is said.is)))
-    cut.part
+    (stops_going pieces before.faults after.faults (some_more g.pieces piece g.some got.some))
+    (inl (some_whole (joined pieces) reply.rest lines (got_lines g.pieces g.lines reply.lines begun piece reply.rest g.is reply.is)))
+    (happens_on o (standing new_sitting Waiting) m g.lines reply.lines written more (standing sitting Waiting) m1 reply.stands reply.machine g.happens reply.happens)

@@ -11,7 +11,7 @@ use Rattle.m36_model.specs.declared.record.StepRecord.{StepRecord}
 use Rattle.m36_step.specs.LinkNoteFields.{LinkNoteFields}
 use Rattle.m36_outside.specs.declared.sink.Put.{Put}
 use Rattle.m36_outside.specs.declared.sink.Put.TheVariants.{Done, Failed}
-use Rattle.m36_outside.specs.SinkState.{SinkState}
+use Rattle.m36_debug.specs.Putting.{Pending, PutsPieces}
 use Rattle.m36_step.specs.Answers.{IsService, IsStep, IsNotNext, IsRefused, Interrupts, is_service}
 use Rattle.m36_step.specs.declared.turns.Turn.{Turn}
 use Rattle.m36_step.specs.declared.turns.Turn.TheVariants as turns
@@ -25,14 +25,13 @@ use Rattle.m36_debug.specs.declared.commands.Further.TheVariants.{Runs, Waits, S
 use Rattle.m36_debug.specs.declared.turning.Came.{Came}
 use Rattle.m36_debug.specs.Commands.{run_of, wants, after_step, after_link, after_turn, is_at_break}
 use Rattle.m36_debug.specs.Parts.{Part, CutPart, CameSays, CameServed, CameCounts, CameInterrupted, CountsSteps, RunsCounts, Makes, came_of, told_turn}
-use Rattle.m36_outside.specs.Putting.{PutsPieces}
 use Rattle.m36_debug.specs.Session.{Turning, Standing, standing, Running, Turned, doing_by, next_of, turn_says, command_says, onward, said}
 use Rattle.m36_debug.specs.Sitting.{SittingFields, sitting_after}
 use Rattle.m36_debug.proofs.PartLaws.{event_part, event_cut}
 
 -- a part that continues as the command does
 came_says :
-    {M : Type 0} (o : Turning M) (turn : Turn) (next : Further) (s : Standing) (m : M) (sitting : SittingFields) (m' : M) (old new : SinkState)
+    {M : Type 0} (o : Turning M) (turn : Turn) (next : Further) (s : Standing) (m : M) (sitting : SittingFields) (m' : M) (old new : Pending)
     → Part o s m [] (standing sitting (doing_by next)) m' Done old new
     → CameSays o (came_of turn next) s m sitting m' old new
 came_says o turn (Runs run) s m sitting m' old new part = part
@@ -40,14 +39,14 @@ came_says o turn Waits s m sitting m' old new part = part
 came_says o turn Starves s m sitting m' old new part = part
 
 turn_part :
-    {M : Type 0} (o : Turning M) (turn : Turn) (run : Run) (s : SittingFields) (m m' : M) (old new : SinkState)
+    {M : Type 0} (o : Turning M) (turn : Turn) (run : Run) (s : SittingFields) (m m' : M) (old new : Pending)
     → o.next m turn m' → PutsPieces Done (turn_says (o.regs m') s run turn) old new
     → Part o (standing s (Running run)) m [] (standing (sitting_after s turn) (doing_by (next_of (o.regs m') s run turn))) m' Done old new
 unfolding onward said
 turn_part o turn run s m m' old new next puts = event_part o (standing s (Running run)) m m' (Turned turn) old new next puts
 
 turn_cut :
-    {M : Type 0} (o : Turning M) (turn : Turn) (run : Run) (s : SittingFields) (m m' : M) (old new : SinkState)
+    {M : Type 0} (o : Turning M) (turn : Turn) (run : Run) (s : SittingFields) (m m' : M) (old new : Pending)
     → o.next m turn m' → PutsPieces Failed (turn_says (o.regs m') s run turn) old new
     → CutPart o (standing s (Running run)) m [] m' old new
 unfolding said
@@ -55,7 +54,7 @@ turn_cut o turn run s m m' old new next puts = event_cut o (standing s (Running 
 
 -- a turn was taken, and what it says was put
 pub turn_came :
-    {M : Type 0} (o : Turning M) (put : Put) (turn : Turn) (run : Run) (s : SittingFields) (m m' : M) (old new : SinkState)
+    {M : Type 0} (o : Turning M) (put : Put) (turn : Turn) (run : Run) (s : SittingFields) (m m' : M) (old new : Pending)
     → o.next m turn m' → PutsPieces put (turn_says (o.regs m') s run turn) old new
     → CameSays o (told_turn put turn (next_of (o.regs m') s run turn)) (standing s (Running run)) m (sitting_after s turn) m' old new
 turn_came o Done turn run s m m' old new next puts =
@@ -246,7 +245,7 @@ further_same o turn run next g s s' m' noted regs further =
     ∙ ap (λ (b : List Break). after_turn run (is_at_break (o.regs m').ppr b) turn) (breaks_stay turn s)
 
 pub took_turn :
-    {M : Type 0} (o : Turning M) (put : Put) (turn : Turn) (run : Run) (next : Further) (came : Came) (g : RegsFields) (s s' : SittingFields) (taken : ℕ) (m m' : M) (old new : SinkState)
+    {M : Type 0} (o : Turning M) (put : Put) (turn : Turn) (run : Run) (next : Further) (came : Came) (g : RegsFields) (s s' : SittingFields) (taken : ℕ) (m m' : M) (old new : Pending)
     → taken ≡ s.taken → o.next m turn m' → s' ≡ sitting_after s turn → g ≡ o.regs m' → next ≡ after_turn run (is_at_break g.ppr s'.breaks) turn
     → PutsPieces put (command_says run.command g taken s' turn next) old new → came ≡ told_turn put turn next
     → CameSays o came (standing s (Running run)) m s' m' old new

@@ -6,7 +6,10 @@ pub mod Session
 pub mod Putting
 pub mod Parts
 pub mod LinesTaken
+pub mod Handing
 pub mod PieceSays
 pub mod SessionSays
 pub mod Taking
+pub mod Replies
+pub mod SessionProgram
 pub mod StepLimit

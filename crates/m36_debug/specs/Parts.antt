@@ -5,7 +5,7 @@ use Rattle.m36_step.specs.Answers.{IsService, IsStep, Interrupts, is_service}
 use Rattle.m36_model.specs.declared.endings.End.{End}
 use Rattle.m36_outside.specs.declared.sink.Put.{Put}
 use Rattle.m36_outside.specs.declared.sink.Put.TheVariants.{Done, Failed}
-use Rattle.m36_outside.specs.SinkState.{SinkState}
+use Rattle.m36_debug.specs.Putting.{Pending, PutsPieces}
 use Rattle.m36_step.specs.declared.turns.Turn.{Turn}
 use Rattle.m36_debug.specs.declared.commands.Run.{Run}
 use Rattle.m36_debug.specs.declared.commands.Further.{Further}
@@ -14,7 +14,6 @@ use Rattle.m36_debug.specs.declared.turning.Came.{Came}
 use Rattle.m36_debug.specs.declared.turning.Came.TheVariants as comes
 use Rattle.m36_debug.specs.declared.turning.Ends.{Ends}
 use Rattle.m36_debug.specs.declared.turning.Ends.TheVariants as ends
-use Rattle.m36_outside.specs.Putting.{PutsPieces}
 use Rattle.m36_debug.specs.Session.{Turning, Doing, Waiting, Running, Backing, Over, Starved}
 use Rattle.m36_debug.specs.Session.{Standing, Event, standing, Follow, lines_said, lines_in}
 use Rattle.m36_debug.specs.SessionTexts.{unknown_line, end_line}
@@ -23,7 +22,7 @@ use Rattle.m36_debug.specs.Sitting.{SittingFields}
 -- A part of a session: these lines were taken in it, and what its events say was put, or a prefix
 -- of it if the answer is Failed.
 pub record Part {M : Type 0} (o : Turning M) (s : Standing) (m : M) (lines : List (List ℕ))
-    (s' : Standing) (m' : M) (answer : Put) (old new : SinkState) : Type 0 where
+    (s' : Standing) (m' : M) (answer : Put) (old new : Pending) : Type 0 where
   pub events : List (Event M)
   pub follow : Follow o s m events s' m'
   pub took : lines_in events ≡ lines
@@ -31,7 +30,7 @@ pub record Part {M : Type 0} (o : Turning M) (s : Standing) (m : M) (lines : Lis
 
 -- A part in which the output failed. The session is in some state.
 pub record CutPart {M : Type 0} (o : Turning M) (s : Standing) (m : M) (lines : List (List ℕ))
-    (m' : M) (old new : SinkState) : Type 0 where
+    (m' : M) (old new : Pending) : Type 0 where
   pub stands : Standing
   pub part : Part o s m lines stands m' Failed old new
 
@@ -95,7 +94,7 @@ CountsSteps o before after m m' = (after ≡ before) ⊎ Makes o IsStep m m'
 
 -- the result of a turn of a command
 abbrev pub CameSays :
-    {M : Type 0} → Turning M → Came → Standing → M → SittingFields → M → SinkState → SinkState
+    {M : Type 0} → Turning M → Came → Standing → M → SittingFields → M → Pending → Pending
     → Type 0
 CameSays o comes.Cut s m sitting m' old new = CutPart o s m [] m' old new
 CameSays o came s m sitting m' old new =
@@ -112,8 +111,8 @@ doing_at ends.Cut = Waiting
 
 -- the contract of a command or of lines, by how they ended
 abbrev pub EndSays :
-    {M : Type 0} → Turning M → Ends → Standing → M → List (List ℕ) → SittingFields → M → SinkState
-    → SinkState → Type 0
+    {M : Type 0} → Turning M → Ends → Standing → M → List (List ℕ) → SittingFields → M → Pending
+    → Pending → Type 0
 EndSays o ends.Cut s m lines sitting m' old new = CutPart o s m lines m' old new
 EndSays o end s m lines sitting m' old new =
     Part o s m lines (standing sitting (doing_at end)) m' Done old new
@@ -123,8 +122,8 @@ abbrev pub told : Put → Ends
 told Done = ends.Line
 told Failed = ends.Cut
 
--- A line was answered at once: nothing has changed except for what was put.
-abbrev pub EndPuts : Ends → SinkState → SinkState → List (List ℕ) → Type 0
+-- A line was told at once: nothing has changed but for what was put.
+abbrev pub EndPuts : Ends → Pending → Pending → List (List ℕ) → Type 0
 EndPuts ends.Line old new lines = PutsPieces Done lines old new
 EndPuts ends.Quit old new lines = ⊥
 EndPuts ends.Starved old new lines = ⊥
@@ -132,7 +131,7 @@ EndPuts ends.Cut old new lines = PutsPieces Failed lines old new
 
 -- A line was answered at once: `lines` were put, and session and machine are unchanged.
 pub record IsTold {M : Type 0} (end : Ends) (lines : List (List ℕ)) (s : SittingFields) (m : M)
-    (sitting : SittingFields) (m' : M) (old new : SinkState) : Type 0 where
+    (sitting : SittingFields) (m' : M) (old new : Pending) : Type 0 where
   pub puts : EndPuts end old new lines
   pub sitting_stays : sitting ≡ s
   pub machine_stays : m' ≡ m
@@ -140,7 +139,7 @@ pub record IsTold {M : Type 0} (end : Ends) (lines : List (List ℕ)) (s : Sitti
 -- If the run has ended, a command writes the end line again; otherwise it takes its turns.
 abbrev pub CommandSays :
     {M : Type 0} → Turning M → Ends → Option End → Run → SittingFields → M → SittingFields → M
-    → SinkState → SinkState → Type 0
+    → Pending → Pending → Type 0
 CommandSays o answer (Some end) run s m sitting m' old new =
     IsTold answer (end_line end s.taken ∷ []) s m sitting m' old new
 CommandSays o answer None run s m sitting m' old new =
@@ -149,7 +148,7 @@ CommandSays o answer None run s m sitting m' old new =
 -- The machine goes back if n steps were taken; otherwise the line is unknown.
 abbrev pub BackSays :
     {M : Type 0} → Turning M → Ends → Bool → List ℕ → ℕ → SittingFields → M → SittingFields → M
-    → SinkState → SinkState → Type 0
+    → Pending → Pending → Type 0
 BackSays o answer true line n s m sitting m' old new =
     EndSays o answer (standing s (Backing n line)) m [] sitting m' old new
 BackSays o answer false line n s m sitting m' old new =

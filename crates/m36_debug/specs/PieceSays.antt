@@ -1,7 +1,7 @@
 -- What the answer to a piece of input implies.
 use Rattle.std.specs.Prelude.{ℕ, List}
 use Rattle.m36_outside.specs.declared.sink.Put.TheVariants.{Done}
-use Rattle.m36_outside.specs.SinkState.{SinkState}
+use Rattle.m36_debug.specs.Putting.{Pending}
 use Rattle.m36_debug.specs.declared.turning.Ends.{Ends}
 use Rattle.m36_debug.specs.declared.turning.Ends.TheVariants as ends
 use Rattle.m36_debug.specs.LinesTaken.{IsLines, IsUnbroken}
@@ -11,7 +11,7 @@ use Rattle.m36_debug.specs.Sitting.{SittingFields}
 
 -- All whole lines of a text were answered, and the bytes after them are kept.
 pub record AnsweredAll {M : Type 0} (o : Turning M) (s : Standing) (m : M) (text kept : List ℕ)
-    (sitting : SittingFields) (m' : M) (old new : SinkState) : Type 0 where
+    (sitting : SittingFields) (m' : M) (old new : Pending) : Type 0 where
   pub lines : List (List ℕ)
   pub is : IsLines text lines kept
   pub unbroken : IsUnbroken kept
@@ -19,7 +19,7 @@ pub record AnsweredAll {M : Type 0} (o : Turning M) (s : Standing) (m : M) (text
 
 -- The first lines of a text were answered; the last of these is `quit`.
 pub record AnsweredQuit {M : Type 0} (o : Turning M) (s : Standing) (m : M) (text : List ℕ)
-    (sitting : SittingFields) (m' : M) (old new : SinkState) : Type 0 where
+    (sitting : SittingFields) (m' : M) (old new : Pending) : Type 0 where
   pub lines : List (List ℕ)
   pub rest : List ℕ
   pub is : IsLines text lines rest
@@ -27,7 +27,7 @@ pub record AnsweredQuit {M : Type 0} (o : Turning M) (s : Standing) (m : M) (tex
 
 -- The first lines of a text were answered, and then memory ran out.
 pub record AnsweredSome {M : Type 0} (o : Turning M) (s : Standing) (m : M) (text : List ℕ)
-    (m' : M) (old new : SinkState) : Type 0 where
+    (m' : M) (old new : Pending) : Type 0 where
   pub lines : List (List ℕ)
   pub rest : List ℕ
   pub is : IsLines text lines rest
@@ -36,7 +36,7 @@ pub record AnsweredSome {M : Type 0} (o : Turning M) (s : Standing) (m : M) (tex
 
 -- The first lines of a text were answered, and then the output could not be written.
 pub record AnsweredCut {M : Type 0} (o : Turning M) (s : Standing) (m : M) (text : List ℕ)
-    (m' : M) (old new : SinkState) : Type 0 where
+    (m' : M) (old new : Pending) : Type 0 where
   pub lines : List (List ℕ)
   pub rest : List ℕ
   pub is : IsLines text lines rest
@@ -44,8 +44,8 @@ pub record AnsweredCut {M : Type 0} (o : Turning M) (s : Standing) (m : M) (text
 
 -- by how the lines ended
 abbrev pub PieceSays :
-    {M : Type 0} → Turning M → Ends → Standing → M → List ℕ → List ℕ → SittingFields → M → SinkState
-    → SinkState → Type 0
+    {M : Type 0} → Turning M → Ends → Standing → M → List ℕ → List ℕ → SittingFields → M → Pending
+    → Pending → Type 0
 PieceSays o ends.Line s m text kept sitting m' old new =
     AnsweredAll o s m text kept sitting m' old new
 PieceSays o ends.Quit s m text kept sitting m' old new =

@@ -1,32 +1,18 @@
--- The contract of taking a piece of input.
-use Rattle.std.specs.Prelude.{ℕ, ◌≤◌, List, []}
-use Rattle.m36_outside.specs.Passing.{PieceGives}
-use Rattle.m36_outside.specs.Piece.{PieceSays, PieceHasCause}
+-- What a call for a piece of input says that asks for so many bytes at most.
+use Rattle.std.specs.Prelude.{ℕ, ◌≤◌, List, [], length, take}
 use Rattle.m36_outside.specs.declared.lines.Piece.{Piece}
 use Rattle.m36_outside.specs.declared.lines.Piece.TheVariants.{Got, End, Failed}
-use Rattle.m36_debug.specs.SessionSays.{LinesSeen}
+use Rattle.m36_world.specs.Did.{IsInput, IsInputFailed}
+use Rattle.m36_world.specs.Seen.{Seen}
 
--- `count` bytes were read, at most `most`; they are at the beginning of the buffer.
-pub record GotPiece (count most : ℕ) (old new : LinesSeen) (buffer : List ℕ) : Type 0 where
+-- The piece is the first bytes of the buffer.
+pub record IsTaken (count most : ℕ) (buffer : List ℕ) (old new : Seen) : Type 0 where
   pub within : count ≤ most
-  pub moved : PieceSays (Got count) old.left new.left buffer
-  pub gave : PieceGives (Got count) old.given new.given buffer
-  pub faults : PieceHasCause (Got count) old.faults new.faults
+  pub some : 1 ≤ count
+  pub room : count ≤ length buffer
+  pub input : IsInput (take count buffer) old new
 
--- The input has ended: it gave an empty piece.
-pub record GotEnd (old new : LinesSeen) : Type 0 where
-  pub left : PieceSays End old.left new.left []
-  pub gave : PieceGives End old.given new.given []
-  pub faults : PieceHasCause End old.faults new.faults
-
--- Nothing could be read.
-pub record GotNothing (old new : LinesSeen) : Type 0 where
-  pub left : PieceSays Failed old.left new.left []
-  pub gave : PieceGives Failed old.given new.given []
-  pub cause : PieceHasCause Failed old.faults new.faults
-
--- the result of taking a piece of at most `most` bytes
-abbrev pub PieceTaken : Piece → ℕ → LinesSeen → LinesSeen → List ℕ → Type 0
-PieceTaken (Got count) most old new buffer = GotPiece count most old new buffer
-PieceTaken End most old new buffer = GotEnd old new
-PieceTaken Failed most old new buffer = GotNothing old new
+abbrev pub TakesWithin : Piece → ℕ → List ℕ → Seen → Seen → Type 0
+TakesWithin (Got count) most buffer old new = IsTaken count most buffer old new
+TakesWithin End most buffer old new = IsInput [] old new
+TakesWithin Failed most buffer old new = IsInputFailed old new

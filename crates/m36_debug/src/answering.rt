@@ -3,8 +3,7 @@
 ghost use Rattle.std.specs.Prelude.{ℕ, ◌≡◌, ◌≤◌, ◌<◌, ◌+◌, ◌-◌, ◌^◌, [], ◌∷◌};
 ghost use Rattle.m36_debug.specs.Parts.{EndSays, CommandSays, BackSays, told};
 ghost use Rattle.m36_step.specs.Counting.{most_taken};
-ghost use Rattle.m36_outside.specs.Putting.{PutsPieces};
-ghost use Rattle.m36_debug.specs.Putting.{seen};
+ghost use Rattle.m36_debug.specs.Putting.{pending, PutsPieces};
 ghost use Rattle.m36_debug.specs.Session.{Waiting, Backing, standing, turning, break_says};
 ghost use Rattle.m36_debug.specs.SessionLines.{most_steps};
 ghost use Rattle.m36_debug.specs.Sitting.{sitting_with, has_taken};
@@ -15,8 +14,9 @@ use crate::session_line::{SessionLine, session_line};
 use crate::sitting::Sitting;
 use crate::texts::{put_break, put_end, put_seg, put_unknown, put_where};
 use crate::turning::{Ends, run_command};
-use m36_outside::{Put, Sink};
+use m36_outside::{Block, Put};
 use m36_step::{BackAnswer, Stepper};
+use m36_world::World;
 
 // The end of a line whose answer is written at once.
 fn told(put: Put) -> Ends
@@ -28,100 +28,116 @@ fn told(put: Put) -> Ends
     }
 }
 
-// Takes the turns of a command. If the run has ended, writes its end line again instead.
-fn command<M: Stepper, S: Sink>(m: &mut M, run: Run, sitting: &mut Sitting, out: &mut S) -> Ends
+// Takes the turns of a command; where the run has ended, tells its end again.
+fn command<M: Stepper, W: World>(
+    m: &mut M,
+    run: Run,
+    sitting: &mut Sitting,
+    block: &mut Block,
+    world: &mut W,
+) -> Ends
     requires some { 0 < run.left }
     requires room { sitting.old.taken + run.left < most_taken }
     ensures says { CommandSays (turning M.regs M.content M.next M.went) result sitting.old.ended run
         sitting.old m.old sitting.new m.new
-        (seen (S.written out.old) (S.taken out.old) (S.faults out.old))
-        (seen (S.written out.new) (S.taken out.new) (S.faults out.new)) }
+        (pending block.old (W.seen world.old))
+        (pending block.new (W.seen world.new)) }
     ensures taken { sitting.new.taken ≤ sitting.old.taken + run.left }
 {
     match sitting.ended() {
-        Some(end) => told(put_end(out, end, sitting.taken())),
-        None => run_command(m, run, sitting, out),
+        Some(end) => told(put_end(block, world, end, sitting.taken())),
+        None => run_command(m, run, sitting, block, world),
     }
 }
 
-// Adds a break if there is room for it. Otherwise the line is unknown.
-fn add_break<S: Sink>(line: &[u8], seg: u16, word: u32, sitting: &mut Sitting, out: &mut S) -> Put
+// Adds a break, where there is room for it.
+fn add_break<W: World>(
+    line: &[u8],
+    seg: u16,
+    word: u32,
+    sitting: &mut Sitting,
+    block: &mut Block,
+    world: &mut W,
+) -> Put
     requires seg { seg < 2 ^ 15 }
     requires word { word < 2 ^ 18 }
     ensures sitting { sitting.new ≡ sitting_with sitting.old seg word }
     ensures taken { sitting.new.taken ≡ sitting.old.taken }
     ensures puts { PutsPieces result (break_says sitting.old line.now seg word)
-        (seen (S.written out.old) (S.taken out.old) (S.faults out.old))
-        (seen (S.written out.new) (S.taken out.new) (S.faults out.new)) }
+        (pending block.old (W.seen world.old))
+        (pending block.new (W.seen world.new)) }
 {
     if sitting.has_room() {
         sitting.add(seg, word);
-        put_break(out, seg, word)
+        put_break(block, world, seg, word)
     } else {
-        put_unknown(out, line)
+        put_unknown(block, world, line)
     }
 }
 
-// Goes back n steps.
-fn go_back<M: Stepper, S: Sink>(
+// Goes back.
+fn go_back<M: Stepper, W: World>(
     line: &[u8],
     n: u32,
     m: &mut M,
     sitting: &mut Sitting,
-    out: &mut S,
+    block: &mut Block,
+    world: &mut W,
 ) -> Ends
     requires { n ≤ sitting.old.taken }
     ensures says { EndSays (turning M.regs M.content M.next M.went) result
         (standing sitting.old (Backing n line.now)) m.old [] sitting.new m.new
-        (seen (S.written out.old) (S.taken out.old) (S.faults out.old))
-        (seen (S.written out.new) (S.taken out.new) (S.faults out.new)) }
+        (pending block.old (W.seen world.old))
+        (pending block.new (W.seen world.new)) }
     ensures taken { sitting.new.taken ≤ sitting.old.taken }
 {
     match m.back(n) {
         BackAnswer::Done => {
             sitting.note_back(n);
-            told(put_where(out, m.regs()))
+            told(put_where(block, world, m.regs()))
         }
-        BackAnswer::Before(_) => told(put_unknown(out, line)),
-        BackAnswer::Unable => told(put_unknown(out, line)),
+        BackAnswer::Before(_) => told(put_unknown(block, world, line)),
+        BackAnswer::Unable => told(put_unknown(block, world, line)),
         BackAnswer::NoMemory => Ends::Starved,
     }
 }
 
-// Goes back n steps, if that many were taken. Otherwise the line is unknown.
-fn back<M: Stepper, S: Sink>(
+// Goes back, where so many steps were taken.
+fn back<M: Stepper, W: World>(
     line: &[u8],
     n: u32,
     m: &mut M,
     sitting: &mut Sitting,
-    out: &mut S,
+    block: &mut Block,
+    world: &mut W,
 ) -> Ends
     ensures says { BackSays (turning M.regs M.content M.next M.went) result
         (has_taken sitting.old n) line.now n
         sitting.old m.old sitting.new m.new
-        (seen (S.written out.old) (S.taken out.old) (S.faults out.old))
-        (seen (S.written out.new) (S.taken out.new) (S.faults out.new)) }
+        (pending block.old (W.seen world.old))
+        (pending block.new (W.seen world.new)) }
     ensures taken { sitting.new.taken ≤ sitting.old.taken }
 {
     if sitting.has_taken(n) {
-        go_back(line, n, m, sitting, out)
+        go_back(line, n, m, sitting, block, world)
     } else {
-        told(put_unknown(out, line))
+        told(put_unknown(block, world, line))
     }
 }
 
 /// Answers a line.
-pub(crate) fn answer<M: Stepper, S: Sink>(
+pub(crate) fn answer<M: Stepper, W: World>(
     line: &[u8],
     m: &mut M,
     sitting: &mut Sitting,
-    out: &mut S,
+    block: &mut Block,
+    world: &mut W,
 ) -> Ends
     requires { sitting.old.taken < 2 ^ 62 }
     ensures says { EndSays (turning M.regs M.content M.next M.went) result
         (standing sitting.old Waiting) m.old (line.now ∷ []) sitting.new m.new
-        (seen (S.written out.old) (S.taken out.old) (S.faults out.old))
-        (seen (S.written out.new) (S.taken out.new) (S.faults out.new)) }
+        (pending block.old (W.seen world.old))
+        (pending block.new (W.seen world.new)) }
     ensures taken { sitting.new.taken ≤ sitting.old.taken + most_steps }
 {
     match session_line(line) {
@@ -130,22 +146,22 @@ pub(crate) fn answer<M: Stepper, S: Sink>(
                 left,
                 command: Command::Step,
             };
-            command(m, command_run, sitting, out)
+            command(m, command_run, sitting, block, world)
         }
         SessionLine::Go => {
             let command_run = Run {
                 left: GO_LIMIT,
                 command: Command::Go,
             };
-            command(m, command_run, sitting, out)
+            command(m, command_run, sitting, block, world)
         }
-        SessionLine::Break(seg, word) => told(add_break(line, seg, word, sitting, out)),
-        SessionLine::Regs => told(put_regs(out, m.regs())),
-        SessionLine::Seg(seg, word) => told(put_seg(out, seg, word, m.content(seg, word))),
-        SessionLine::Where => told(put_where(out, m.regs())),
-        SessionLine::Back(n) => back(line, n, m, sitting, out),
+        SessionLine::Break(seg, word) => told(add_break(line, seg, word, sitting, block, world)),
+        SessionLine::Regs => told(put_regs(block, world, m.regs())),
+        SessionLine::Seg(seg, word) => told(put_seg(block, world, seg, word, m.content(seg, word))),
+        SessionLine::Where => told(put_where(block, world, m.regs())),
+        SessionLine::Back(n) => back(line, n, m, sitting, block, world),
         SessionLine::Quit => Ends::Quit,
         SessionLine::Empty => Ends::Line,
-        SessionLine::Unknown => told(put_unknown(out, line)),
+        SessionLine::Unknown => told(put_unknown(block, world, line)),
     }
 }

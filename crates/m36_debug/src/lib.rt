@@ -1,8 +1,8 @@
 //! Sessions: a user steps, runs, inspects and steps back a machine by lines of input.
 //!
-//! [`debug`] holds a session over any [`Stepper`](m36_step::Stepper). It reads its input in
-//! pieces, which may end anywhere in a line. It answers each line before it reads the next piece,
-//! until `quit` or the end of the input.
+//! [`debug`] holds a session over any [`Stepper`](m36_step::Stepper), whose input and output are those of a
+//! [`World`](m36_world::World). It takes pieces of input, which cut lines anywhere, and puts the answers to all whole lines
+//! before it takes the next piece, up to `quit` or the end of the input.
 //!
 //! | Line | Writes |
 //! |---|---|
@@ -15,22 +15,19 @@
 //! | `back`, `back N` | goes back N steps, and writes as `where` does |
 //! | `quit` | nothing: the session is over |
 //!
-//! The contract: a session is a list of events, each of which may follow the one before. A line is
-//! taken when the session waits for one, the machine makes a turn when a command runs, and it goes
-//! back when a line requires that. Each turn and each going back is one that the contract of the
-//! machine allows.
+//! The contract: a session is a program (`specs/SessionProgram.antt`). It takes a piece of input, puts the answers to the
+//! lines that are whole by then, and goes on. What the answers are (`specs/Replies.antt`) is a list of events, each of which
+//! may follow the one before: a line is taken where one is waited for, a turn is made where a command runs, and the machine
+//! goes back where it is to; each turn and each going back is one that the machine may answer. What follows the last line
+//! feed is a line only once the input has ended, and nothing is asked of the input after that. Where memory runs out, the
+//! answers until then are put; where the output fails, a first part of them is.
 //!
-//! - **Lines.** The lines of the events are those of the bytes that were read. While more input
-//!   may follow, only whole lines are taken, so no `quit` is taken from `quitx` wherever its
-//!   pieces end. The bytes after the last line feed are a line only once the input has ended. The
-//!   input is not read again after its end.
-//! - **Output.** What was written is what the events say, each line in one piece. If the output
-//!   fails, a prefix of it was written. If the input fails or is too long, it is the text for all
-//!   whole lines. If memory runs out, it is the text up to then.
+//! Lines are added to a block, which is handed over when it is full and before more input is taken. A call that performs
+//! the program is a session by its events over all bytes that came (`proofs/SessionBridge.antt`), as `specs/SessionSays.antt`
+//! has it.
 //!
-//! `specs/SessionLines.antt` has the grammar of the lines, `specs/SessionTexts.antt` the texts
-//! that are written, `specs/Session.antt` the events and what is written for each, and
-//! `specs/SessionSays.antt` what each answer implies.
+//! `specs/SessionLines.antt` has the grammar of the lines, `specs/SessionTexts.antt` what is written, `specs/Session.antt`
+//! what may happen and what is said of it.
 //!
 //! The processor is that of the Multics Processor Manual AL39; sessions are this simulator's own.
 #![tactic(auto)]

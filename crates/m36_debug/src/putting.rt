@@ -1,41 +1,40 @@
-//! Puts lines to the output, each with its line feed in one piece.
+//! Lines that are added to a block, each with its line feed in one piece.
 
 ghost use Rattle.std.specs.Prelude.{ℕ, ◌≡◌, ◌<◌, [], ◌∷◌, length};
 ghost use Rattle.m36_text.specs.Lines.{as_line};
-ghost use Rattle.m36_outside.specs.Putting.{PutsPieces};
-ghost use Rattle.m36_debug.specs.Putting.{seen};
+ghost use Rattle.m36_debug.specs.Putting.{pending, PutsPieces};
 
 use arrayvec::{ArrayString, ArrayVec};
-use m36_outside::{Put, Sink};
+use m36_outside::{Block, Put};
+use m36_program::add_piece;
+use m36_world::World;
 
-/// Puts a line that has its line feed.
-#[tactic(auto, using(crate::proofs::PutLaws::puts_line))]
-pub(crate) fn put_whole<S: Sink>(out: &mut S, line: &[u8]) -> Put
-    ensures { PutsPieces result (line.now ∷ [])
-        (seen (S.written out.old) (S.taken out.old) (S.faults out.old))
-        (seen (S.written out.new) (S.taken out.new) (S.faults out.new)) }
-{
-    out.put(line)
-}
-
-/// Puts a text and a line feed.
-pub(crate) fn put_text<S: Sink, const N: usize>(out: &mut S, mut text: ArrayString<N>) -> Put
+/// Adds a text as a line.
+pub(crate) fn put_text<W: World, const N: usize>(
+    block: &mut Block,
+    world: &mut W,
+    mut text: ArrayString<N>,
+) -> Put
     requires { length text.bytes < N }
     ensures { PutsPieces result (as_line text.entry.bytes ∷ [])
-        (seen (S.written out.old) (S.taken out.old) (S.faults out.old))
-        (seen (S.written out.new) (S.taken out.new) (S.faults out.new)) }
+        (pending block.old (W.seen world.old))
+        (pending block.new (W.seen world.new)) }
 {
     text.push_str("\n");
-    put_whole(out, text.as_str().as_bytes())
+    add_piece(block, text.as_str().as_bytes(), world)
 }
 
-/// Puts characters and a line feed.
-pub(crate) fn put_characters<S: Sink, const N: usize>(out: &mut S, mut text: ArrayVec<u8, N>) -> Put
+/// Adds characters as a line.
+pub(crate) fn put_characters<W: World, const N: usize>(
+    block: &mut Block,
+    world: &mut W,
+    mut text: ArrayVec<u8, N>,
+) -> Put
     requires { length text.items < N }
     ensures { PutsPieces result (as_line text.entry.items ∷ [])
-        (seen (S.written out.old) (S.taken out.old) (S.faults out.old))
-        (seen (S.written out.new) (S.taken out.new) (S.faults out.new)) }
+        (pending block.old (W.seen world.old))
+        (pending block.new (W.seen world.new)) }
 {
     text.push(b'\n');
-    put_whole(out, text.as_slice())
+    add_piece(block, text.as_slice(), world)
 }

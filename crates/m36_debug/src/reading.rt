@@ -5,7 +5,7 @@ ghost use Rattle.m36_text.specs.Lines.{open_rest};
 ghost use Rattle.m36_debug.specs.LinesTaken.{IsUnbroken};
 ghost use Rattle.m36_debug.specs.Parts.{EndSays};
 ghost use Rattle.m36_debug.specs.PieceSays.{PieceSays};
-ghost use Rattle.m36_debug.specs.Putting.{seen};
+ghost use Rattle.m36_debug.specs.Putting.{pending, PutsPieces};
 ghost use Rattle.m36_debug.specs.Session.{Waiting, standing, turning};
 ghost use Rattle.m36_debug.specs.SessionLines.{most_steps};
 
@@ -13,26 +13,28 @@ use crate::answering::answer;
 use crate::piece::cut_line;
 use crate::sitting::Sitting;
 use crate::turning::Ends;
-use m36_outside::{Sink, Text};
+use m36_outside::{Block, Text};
 use m36_step::Stepper;
+use m36_world::World;
 use std::alloc::Global;
 
-/// Answers the whole lines of a piece. `begun` has the beginning of the first of them, and then
-/// that of the line that the piece ends in.
-pub(crate) fn answer_piece<M: Stepper, S: Sink>(
+/// Answers the whole lines of a piece. The first of them has begun already, if there was a part of it before. What stands
+/// behind them has begun the next one.
+pub(crate) fn answer_piece<M: Stepper, W: World>(
     alloc: Global,
     piece: &[u8],
     begun: &mut Text,
     m: &mut M,
     sitting: &mut Sitting,
-    out: &mut S,
+    block: &mut Block,
+    world: &mut W,
 ) -> Ends
     requires unbroken { IsUnbroken begun.old }
     requires few { sitting.old.taken + most_steps * length piece.now < 2 ^ 62 }
     ensures says { PieceSays (turning M.regs M.content M.next M.went) result
         (standing sitting.old Waiting) m.old (begun.old ++ piece.now) begun.new sitting.new m.new
-        (seen (S.written out.old) (S.taken out.old) (S.faults out.old))
-        (seen (S.written out.new) (S.taken out.new) (S.faults out.new)) }
+        (pending block.old (W.seen world.old))
+        (pending block.new (W.seen world.new)) }
     ensures taken { sitting.new.taken ≤ sitting.old.taken + most_steps * length piece.now }
 {
     let mut rest = piece;
@@ -42,7 +44,7 @@ pub(crate) fn answer_piece<M: Stepper, S: Sink>(
             Ok(()) => {}
             Err(_) => return Ends::Starved,
         }
-        match answer(begun.bytes(), m, sitting, out) {
+        match answer(begun.bytes(), m, sitting, block, world) {
             Ends::Line => {}
             Ends::Quit => return Ends::Quit,
             Ends::Starved => return Ends::Starved,
@@ -59,20 +61,21 @@ pub(crate) fn answer_piece<M: Stepper, S: Sink>(
 
 /// Answers the line that has begun when the input ends, if it is not empty.
 #[tactic(auto, using(crate::proofs::PieceLaws::last))]
-pub(crate) fn answer_last<M: Stepper, S: Sink>(
+pub(crate) fn answer_last<M: Stepper, W: World>(
     begun: &Text,
     m: &mut M,
     sitting: &mut Sitting,
-    out: &mut S,
+    block: &mut Block,
+    world: &mut W,
 ) -> Ends
     requires { sitting.old.taken < 2 ^ 62 }
     ensures { EndSays (turning M.regs M.content M.next M.went) result
         (standing sitting.old Waiting) m.old (open_rest begun.now) sitting.new m.new
-        (seen (S.written out.old) (S.taken out.old) (S.faults out.old))
-        (seen (S.written out.new) (S.taken out.new) (S.faults out.new)) }
+        (pending block.old (W.seen world.old))
+        (pending block.new (W.seen world.new)) }
 {
     if begun.bytes().is_empty() {
         return Ends::Line;
     }
-    answer(begun.bytes(), m, sitting, out)
+    answer(begun.bytes(), m, sitting, block, world)
 }

@@ -1,19 +1,29 @@
 //! A session over a machine.
 
-ghost use Rattle.std.specs.Prelude.{ℕ, ◌≡◌, ◌≤◌, length};
-ghost use Rattle.m36_debug.specs.Putting.{seen};
-ghost use Rattle.m36_debug.specs.Session.{turning};
-ghost use Rattle.m36_debug.specs.SessionSays.{SessionSays, input, answer_of};
+ghost use Rattle.std.specs.Prelude.{ℕ, ◌≡◌, ◌≤◌, ◌<◌, ◌+◌, ◌*◌, ◌^◌, [], ◌++◌, length};
+ghost use Rattle.m36_text.specs.Lines.{open_rest};
+ghost use Rattle.m36_program.specs.Performs.{Performs};
+ghost use Rattle.m36_debug.specs.LinesTaken.{IsUnbroken};
+ghost use Rattle.m36_debug.specs.Handing.{after_put, HandsOver};
+ghost use Rattle.m36_debug.specs.Parts.{EndSays};
+ghost use Rattle.m36_debug.specs.PieceSays.{PieceSays};
+ghost use Rattle.m36_debug.specs.Putting.{pending, PutsPieces};
+ghost use Rattle.m36_debug.specs.Session.{Waiting, standing, turning};
+ghost use Rattle.m36_debug.specs.SessionLines.{most_steps};
+ghost use Rattle.m36_debug.specs.SessionProgram.{session, ended_by};
+ghost use Rattle.m36_debug.specs.SessionSays.{answer_of};
 ghost use Rattle.m36_debug.specs.StepLimit.{StepsWithin};
-ghost use Rattle.m36_debug.specs.Taking.{PieceTaken};
+ghost use Rattle.m36_debug.specs.Taking.{TakesWithin};
 
 use crate::fault::SessionFault;
 use crate::laws::step_limit;
 use crate::reading::{answer_last, answer_piece};
 use crate::sitting::Sitting;
 use crate::turning::Ends;
-use m36_outside::{Lines, Piece, Sink, Text};
+use m36_outside::{Block, Piece, Put, Text};
+use m36_program::hand_over;
 use m36_step::Stepper;
+use m36_world::World;
 use std::alloc::Global;
 
 /// The maximum number of bytes of a session.
@@ -33,49 +43,134 @@ fn answer_of(ends: Ends) -> Result<(), SessionFault>
     }
 }
 
-// Takes the next piece, of at most `most` bytes, into the beginning of the buffer.
-fn take_piece<L: Lines>(lines: &mut L, most: usize, buffer: &mut [u8]) -> Piece
+// Takes the next piece, of so many bytes at most, into the beginning of the buffer.
+fn take_piece<W: World>(world: &mut W, most: usize, buffer: &mut [u8]) -> Piece
     requires some { 1 ≤ most }
     requires room { 1 ≤ length buffer.old }
-    ensures { PieceTaken result most
-        (input (L.left lines.old) (L.given lines.old) (L.faults lines.old))
-        (input (L.left lines.new) (L.given lines.new) (L.faults lines.new)) buffer.new }
+    ensures { TakesWithin result most buffer.new (W.seen world.old) (W.seen world.new) }
 {
     let room = most.min(buffer.len());
-    match lines.next_piece(&mut buffer[..room]) {
+    match world.next_piece(&mut buffer[..room]) {
         Piece::Got(count) => Piece::Got(count),
         Piece::End => Piece::End,
         Piece::Failed => Piece::Failed,
     }
 }
 
-/// Holds a session: answers the lines of the input, until `quit` or the end of the input. The last
-/// line may lack its line feed. `step N` takes at most N steps, and `go` at most 100,000, for
-/// every machine.
-pub fn debug<M: Stepper, L: Lines, S: Sink>(
+// Puts the lines that wait.
+#[tactic(auto, using(crate::proofs::PutLaws::handing))]
+fn put_waiting<W: World>(block: &mut Block, world: &mut W) -> Put
+    ensures puts { PutsPieces result []
+        (pending block.old (W.seen world.old)) (pending block.new (W.seen world.new)) }
+    ensures empty { block.new ≡ [] }
+{
+    hand_over(block, world)
+}
+
+// How lines end whose answers are put.
+fn after_put(put: Put, end: Ends) -> Ends
+    ensures { result ≡ after_put put end }
+{
+    match put {
+        Put::Done => end,
+        Put::Failed => Ends::Cut,
+    }
+}
+
+// Puts the answers that wait to lines that ended so. Where the output has failed, nothing is put.
+fn put_answers<W: World>(end: Ends, block: &mut Block, world: &mut W) -> Ends
+    ensures says { HandsOver end result
+        (pending block.old (W.seen world.old)) (pending block.new (W.seen world.new)) }
+    ensures empty { block.new ≡ [] }
+{
+    match end {
+        Ends::Line => after_put(put_waiting(block, world), Ends::Line),
+        Ends::Quit => after_put(put_waiting(block, world), Ends::Quit),
+        Ends::Starved => after_put(put_waiting(block, world), Ends::Starved),
+        Ends::Cut => {
+            block.clear();
+            Ends::Cut
+        }
+    }
+}
+
+// Answers the whole lines of a piece, and puts all that they say.
+#[tactic(auto, using(crate::proofs::HandLaws::handing))]
+fn reply_piece<M: Stepper, W: World>(
+    alloc: Global,
+    piece: &[u8],
+    begun: &mut Text,
+    m: &mut M,
+    sitting: &mut Sitting,
+    block: &mut Block,
+    world: &mut W,
+) -> Ends
+    requires unbroken { IsUnbroken begun.old }
+    requires few { sitting.old.taken + most_steps * length piece.now < 2 ^ 62 }
+    ensures says { PieceSays (turning M.regs M.content M.next M.went) result
+        (standing sitting.old Waiting) m.old (begun.old ++ piece.now) begun.new sitting.new m.new
+        (pending block.old (W.seen world.old)) (pending block.new (W.seen world.new)) }
+    ensures taken { sitting.new.taken ≤ sitting.old.taken + most_steps * length piece.now }
+    ensures empty { block.new ≡ [] }
+{
+    let end = answer_piece(alloc, piece, begun, m, sitting, block, world);
+    put_answers(end, block, world)
+}
+
+// Answers the line that has begun when the input ends, if there is a part of it, and puts all that
+// it says.
+#[tactic(auto, using(crate::proofs::HandLaws::handing))]
+fn reply_last<M: Stepper, W: World>(
+    begun: &Text,
+    m: &mut M,
+    sitting: &mut Sitting,
+    block: &mut Block,
+    world: &mut W,
+) -> Ends
+    requires { sitting.old.taken < 2 ^ 62 }
+    ensures says { EndSays (turning M.regs M.content M.next M.went) result
+        (standing sitting.old Waiting) m.old (open_rest begun.now) sitting.new m.new
+        (pending block.old (W.seen world.old)) (pending block.new (W.seen world.new)) }
+    ensures empty { block.new ≡ [] }
+{
+    let end = answer_last(begun, m, sitting, block, world);
+    put_answers(end, block, world)
+}
+
+/// A session: does what the lines say, up to `quit` or their end. The last line may lack its line
+/// feed. The answers to all whole lines are put before more input is taken. `step N` takes at most
+/// N steps, and `go` at most 100,000, whatever the machine is.
+pub fn debug<M: Stepper, W: World>(
     alloc: Global,
     m: &mut M,
-    lines: &mut L,
-    out: &mut S,
+    world: &mut W,
 ) -> Result<(), SessionFault>
-    ensures says { SessionSays (turning M.regs M.content M.next M.went) result m.old m.new
-        (input (L.left lines.old) (L.given lines.old) (L.faults lines.old))
-        (input (L.left lines.new) (L.given lines.new) (L.faults lines.new))
-        (seen (S.written out.old) (S.taken out.old) (S.faults out.old))
-        (seen (S.written out.new) (S.taken out.new) (S.faults out.new)) }
+    ensures performs { Performs (session (turning M.regs M.content M.next M.went) m.old)
+        (ended_by result) (W.seen world.old) (W.seen world.new) }
     ensures limit { StepsWithin (turning M.regs M.content M.next M.went) }
 {
     step_limit::<M>();
     let mut sitting = Sitting::new();
     let mut begun = Text::new(alloc);
+    let mut block = Block::new();
     let mut buffer = [0; PIECE];
     let mut left = BYTES_LIMIT;
     'pieces: while left > 0 {
-        match take_piece(lines, left, &mut buffer) {
+        match take_piece(world, left, &mut buffer) {
             Piece::Failed => return Err(SessionFault::ReadFault),
-            Piece::End => return answer_of(answer_last(&begun, m, &mut sitting, out)),
+            Piece::End => {
+                return answer_of(reply_last(&begun, m, &mut sitting, &mut block, world));
+            }
             Piece::Got(count) => {
-                match answer_piece(alloc, &buffer[..count], &mut begun, m, &mut sitting, out) {
+                match reply_piece(
+                    alloc,
+                    &buffer[..count],
+                    &mut begun,
+                    m,
+                    &mut sitting,
+                    &mut block,
+                    world,
+                ) {
                     Ends::Line => {}
                     Ends::Quit => return Ok(()),
                     Ends::Starved => return Err(SessionFault::NoMemory),
@@ -85,9 +180,9 @@ pub fn debug<M: Stepper, L: Lines, S: Sink>(
             }
         }
     }
-    match take_piece(lines, 1, &mut buffer) {
+    match take_piece(world, 1, &mut buffer) {
         Piece::Failed => Err(SessionFault::ReadFault),
-        Piece::End => answer_of(answer_last(&begun, m, &mut sitting, out)),
+        Piece::End => answer_of(reply_last(&begun, m, &mut sitting, &mut block, world)),
         Piece::Got(_) => Err(SessionFault::TooLong),
     }
 }

@@ -2,62 +2,70 @@
 
 ghost use Rattle.std.specs.Prelude.{ℕ, ◌≡◌, ◌≤◌, ◌<◌, ◌-◌, ◌^◌, [], ◌∷◌, length};
 ghost use Rattle.m36_step.specs.Counting.{most_taken};
-ghost use Rattle.m36_outside.specs.Putting.{PutsPieces};
-ghost use Rattle.m36_debug.specs.Putting.{seen};
+ghost use Rattle.m36_text.specs.Lines.{as_line};
+ghost use Rattle.m36_trace.specs.TraceLine.{line_of};
+ghost use Rattle.m36_debug.specs.Putting.{pending, PutsPieces};
 ghost use Rattle.m36_debug.specs.SessionTexts.{where_line, break_line, seg_line, end_line, shown_limit, shown, unknown_line, turn_lines};
 
 use crate::putting::{put_characters, put_text};
 use arrayvec::{ArrayString, ArrayVec};
-use m36_model::{End, Regs};
-use m36_outside::{Put, Sink};
+use m36_model::{End, Regs, Shown, StepRecord};
+use m36_outside::{Block, Put};
 use m36_step::Turn;
 use m36_text::octal;
-use m36_trace::{line, put_place};
+use m36_trace::{TraceText, line, push_shown, put_place};
 use m36_turns::put::put;
 use m36_turns::{console_line, link_line, run_end_line};
 use m36_word::Word;
+use m36_world::World;
 
 /// The maximum number of bytes of an unknown line that are shown.
 const SHOWN: usize = 64;
 
 /// Writes the address of the next instruction.
 #[tactic(auto, unfolding(crate::specs::SessionTexts::where_line))]
-pub(crate) fn put_where<S: Sink>(out: &mut S, regs: &Regs) -> Put
+pub(crate) fn put_where<W: World>(block: &mut Block, world: &mut W, regs: &Regs) -> Put
     ensures { PutsPieces result (where_line regs.now.ppr ∷ [])
-        (seen (S.written out.old) (S.taken out.old) (S.faults out.old))
-        (seen (S.written out.new) (S.taken out.new) (S.faults out.new)) }
+        (pending block.old (W.seen world.old))
+        (pending block.new (W.seen world.new)) }
 {
     let place = regs.ppr;
     let mut text: ArrayString<80> = ArrayString::new();
     text.push_str(octal(place.prr as u64, 1).as_str());
     text.push_str(" ");
     put_place(&mut text, place.psr, place.ic);
-    put_text(out, text)
+    put_text(block, world, text)
 }
 
 /// Writes a break.
 #[tactic(auto, unfolding(crate::specs::SessionTexts::break_line))]
-pub(crate) fn put_break<S: Sink>(out: &mut S, seg: u16, word: u32) -> Put
+pub(crate) fn put_break<W: World>(block: &mut Block, world: &mut W, seg: u16, word: u32) -> Put
     requires seg { seg < 2 ^ 15 }
     requires word { word < 2 ^ 18 }
     ensures { PutsPieces result (break_line seg word ∷ [])
-        (seen (S.written out.old) (S.taken out.old) (S.faults out.old))
-        (seen (S.written out.new) (S.taken out.new) (S.faults out.new)) }
+        (pending block.old (W.seen world.old))
+        (pending block.new (W.seen world.new)) }
 {
     let mut text: ArrayString<80> = ArrayString::new();
     text.push_str("break ");
     put_place(&mut text, seg, word);
-    put_text(out, text)
+    put_text(block, world, text)
 }
 
 /// Writes a word of a segment, or `absent` if it has no place.
 #[tactic(auto, unfolding(crate::specs::SessionTexts::seg_line))]
-pub(crate) fn put_seg<S: Sink>(out: &mut S, seg: u16, word: u32, content: Option<Word>) -> Put
+pub(crate) fn put_seg<W: World>(
+    block: &mut Block,
+    world: &mut W,
+    seg: u16,
+    word: u32,
+    content: Option<Word>,
+) -> Put
     requires seg { seg < 2 ^ 15 }
     requires word { word < 2 ^ 18 }
     ensures { PutsPieces result (seg_line seg word content ∷ [])
-        (seen (S.written out.old) (S.taken out.old) (S.faults out.old))
-        (seen (S.written out.new) (S.taken out.new) (S.faults out.new)) }
+        (pending block.old (W.seen world.old))
+        (pending block.new (W.seen world.new)) }
 {
     let mut text: ArrayString<80> = ArrayString::new();
     put_place(&mut text, seg, word);
@@ -66,17 +74,17 @@ pub(crate) fn put_seg<S: Sink>(out: &mut S, seg: u16, word: u32, content: Option
         Some(word) => text.push_str(octal(word.value(), 12).as_str()),
         None => text.push_str("absent"),
     }
-    put_text(out, text)
+    put_text(block, world, text)
 }
 
 /// Writes how a run has ended, after `taken` steps.
 #[tactic(auto, unfolding(crate::specs::SessionTexts::end_line))]
-pub(crate) fn put_end<S: Sink>(out: &mut S, end: End, taken: u64) -> Put
+pub(crate) fn put_end<W: World>(block: &mut Block, world: &mut W, end: End, taken: u64) -> Put
     ensures { PutsPieces result (end_line end taken ∷ [])
-        (seen (S.written out.old) (S.taken out.old) (S.faults out.old))
-        (seen (S.written out.new) (S.taken out.new) (S.faults out.new)) }
+        (pending block.old (W.seen world.old))
+        (pending block.new (W.seen world.new)) }
 {
-    put_text(out, run_end_line(end, taken))
+    put_text(block, world, run_end_line(end, taken))
 }
 
 // The part of an unknown line that is shown.
@@ -94,31 +102,72 @@ fn shown(line: &[u8]) -> &[u8]
 
 /// Writes `?` and the first 64 bytes of an unknown line.
 #[tactic(auto, unfolding(crate::specs::SessionTexts::unknown_line))]
-pub(crate) fn put_unknown<S: Sink>(out: &mut S, line: &[u8]) -> Put
+pub(crate) fn put_unknown<W: World>(block: &mut Block, world: &mut W, line: &[u8]) -> Put
     ensures { PutsPieces result (unknown_line line.now ∷ [])
-        (seen (S.written out.old) (S.taken out.old) (S.faults out.old))
-        (seen (S.written out.new) (S.taken out.new) (S.faults out.new)) }
+        (pending block.old (W.seen world.old))
+        (pending block.new (W.seen world.new)) }
 {
     let mut text: ArrayVec<u8, 80> = ArrayVec::new();
     put(&mut text, b"? ");
     put(&mut text, shown(line));
-    put_characters(out, text)
+    put_characters(block, world, text)
+}
+
+// Adds the line of step n where no part of an earlier line serves for it, or the block is full.
+#[inline(never)]
+fn put_whole<W: World>(block: &mut Block, world: &mut W, n: u64, told: &StepRecord) -> Put
+    ensures { PutsPieces result (as_line (line_of n told.now) ∷ [])
+        (pending block.old (W.seen world.old))
+        (pending block.new (W.seen world.new)) }
+{
+    put_text(block, world, line(n, told))
+}
+
+// Adds the line of step n. Of it only what is not that of an earlier line is spelled.
+#[tactic(auto, using(m36_program::proofs::Gathered::gathering))]
+fn put_step<W: World>(
+    block: &mut Block,
+    world: &mut W,
+    n: u64,
+    told: &StepRecord,
+    text: &mut TraceText,
+) -> Put
+    ensures { PutsPieces result (as_line (line_of n told.now) ∷ [])
+        (pending block.old (W.seen world.old))
+        (pending block.new (W.seen world.new)) }
+{
+    let shown = Shown {
+        word: told.word,
+        at: told.at,
+        outcome: told.outcome,
+        ppr: told.ppr,
+    };
+    if push_shown(text, n, &shown, &told.after, block) {
+        return Put::Done;
+    }
+    put_whole(block, world, n, told)
 }
 
 /// Writes a turn before which `taken` steps were taken.
 #[inline(never)]
-#[tactic(auto, unfolding(crate::specs::SessionTexts::turn_lines), using(crate::proofs::PutLaws::puts_nothing))]
-pub(crate) fn put_turn<S: Sink>(out: &mut S, taken: u64, turn: &Turn) -> Put
+#[tactic(auto, unfolding(crate::specs::SessionTexts::turn_lines), using(crate::proofs::PutLaws::gathers_none))]
+pub(crate) fn put_turn<W: World>(
+    block: &mut Block,
+    world: &mut W,
+    taken: u64,
+    turn: &Turn,
+    text: &mut TraceText,
+) -> Put
     requires { taken < most_taken }
     ensures { PutsPieces result (turn_lines taken turn.now)
-        (seen (S.written out.old) (S.taken out.old) (S.faults out.old))
-        (seen (S.written out.new) (S.taken out.new) (S.faults out.new)) }
+        (pending block.old (W.seen world.old))
+        (pending block.new (W.seen world.new)) }
 {
     match turn {
-        Turn::Stepped(told) => put_text(out, line(taken + 1, told)),
-        Turn::Linked(note) => put_characters(out, link_line(note)),
-        Turn::Console(note) => put_characters(out, console_line(note)),
-        Turn::Ended(end) => put_end(out, *end, taken),
+        Turn::Stepped(told) => put_step(block, world, taken + 1, told, text),
+        Turn::Linked(note) => put_characters(block, world, link_line(note)),
+        Turn::Console(note) => put_characters(block, world, console_line(note)),
+        Turn::Ended(end) => put_end(block, world, *end, taken),
         Turn::Full | Turn::NoMemory => Put::Done,
     }
 }

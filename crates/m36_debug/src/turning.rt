@@ -5,16 +5,17 @@ ghost use Rattle.m36_debug.specs.Parts.{CameSays, CameServed, CameCounts, CameIn
 ghost use Rattle.m36_debug.specs.Parts.{CountsSteps, EndSays, came_of, told_turn};
 ghost use Rattle.m36_step.specs.Answers.{is_service};
 ghost use Rattle.m36_step.specs.Counting.{most_taken};
-ghost use Rattle.m36_outside.specs.Putting.{PutsPieces};
-ghost use Rattle.m36_debug.specs.Putting.{seen};
+ghost use Rattle.m36_debug.specs.Putting.{pending, PutsPieces};
 ghost use Rattle.m36_debug.specs.Session.{Running, standing, turning, go_says, command_says};
 
 use crate::commands::{Command, Further, Run};
 use crate::sitting::Sitting;
 use crate::texts::{put_end, put_turn, put_where};
 use m36_model::Regs;
-use m36_outside::{Put, Sink};
+use m36_outside::{Block, Put};
 use m36_step::{Stepper, Turn};
+use m36_trace::TraceText;
+use m36_world::World;
 
 /// The result of a turn of a command. What the turn says is written, except for `Cut`.
 #[derive(Clone, Copy, PartialEq, Eq)]
@@ -44,40 +45,48 @@ pub enum Ends {
 
 // Writes where `go` has stopped, once it is complete.
 #[inline]
-#[tactic(auto, using(crate::proofs::PutLaws::puts_nothing))]
-fn put_go<S: Sink>(out: &mut S, regs: &Regs, sitting: &Sitting, next: Further) -> Put
+#[tactic(auto, using(crate::proofs::PutLaws::gathers_none))]
+fn put_go<W: World>(
+    block: &mut Block,
+    world: &mut W,
+    regs: &Regs,
+    sitting: &Sitting,
+    next: Further,
+) -> Put
     ensures { PutsPieces result (go_says regs.now sitting.now next)
-        (seen (S.written out.old) (S.taken out.old) (S.faults out.old))
-        (seen (S.written out.new) (S.taken out.new) (S.faults out.new)) }
+        (pending block.old (W.seen world.old))
+        (pending block.new (W.seen world.new)) }
 {
     match next {
         Further::Runs(_) | Further::Starves => Put::Done,
         Further::Waits => match sitting.ended() {
-            Some(end) => put_end(out, end, sitting.taken()),
-            None => put_where(out, regs),
+            Some(end) => put_end(block, world, end, sitting.taken()),
+            None => put_where(block, world, regs),
         },
     }
 }
 
 // Writes what a turn of a command says.
 #[inline(always)]
-fn put_command<S: Sink>(
-    out: &mut S,
+fn put_command<W: World>(
+    block: &mut Block,
+    world: &mut W,
     command: Command,
     taken: u64,
     regs: &Regs,
     sitting: &Sitting,
     turn: &Turn,
     next: Further,
+    text: &mut TraceText,
 ) -> Put
     requires { taken < most_taken }
     ensures { PutsPieces result (command_says command regs.now taken sitting.now turn.now next)
-        (seen (S.written out.old) (S.taken out.old) (S.faults out.old))
-        (seen (S.written out.new) (S.taken out.new) (S.faults out.new)) }
+        (pending block.old (W.seen world.old))
+        (pending block.new (W.seen world.new)) }
 {
     match command {
-        Command::Step => put_turn(out, taken, turn),
-        Command::Go => put_go(out, regs, sitting, next),
+        Command::Step => put_turn(block, world, taken, turn, text),
+        Command::Go => put_go(block, world, regs, sitting, next),
     }
 }
 
@@ -109,19 +118,23 @@ fn told_turn(put: Put, turn: &Turn, next: Further) -> Came
     }
 }
 
-/// Takes a turn of a command, and writes what it says. The turn overwrites `turn`.
-pub(crate) fn take_turn<M: Stepper, S: Sink>(
+/// Takes a turn of a command, and writes what it says. It is recorded in a `Turn` that an
+/// earlier one may have filled, and of the line of a step only what is not that of an earlier line is
+/// spelled.
+pub(crate) fn take_turn<M: Stepper, W: World>(
     m: &mut M,
     run: Run,
     sitting: &mut Sitting,
     turn: &mut Turn,
-    out: &mut S,
+    text: &mut TraceText,
+    block: &mut Block,
+    world: &mut W,
 ) -> Came
     requires { sitting.old.taken < most_taken }
     ensures says { CameSays (turning M.regs M.content M.next M.went) result
         (standing sitting.old (Running run)) m.old sitting.new m.new
-        (seen (S.written out.old) (S.taken out.old) (S.faults out.old))
-        (seen (S.written out.new) (S.taken out.new) (S.faults out.new)) }
+        (pending block.old (W.seen world.old))
+        (pending block.new (W.seen world.new)) }
     ensures served { CameServed (turning M.regs M.content M.next M.went) result m.old m.new }
     ensures counts { CameCounts result run.left sitting.old.taken sitting.new.taken }
     ensures interrupted { CameInterrupted (turning M.regs M.content M.next M.went) result
@@ -134,31 +147,43 @@ pub(crate) fn take_turn<M: Stepper, S: Sink>(
     sitting.note(turn);
     let regs = m.regs();
     let next = sitting.further(run, regs, turn);
-    let put = put_command(out, run.command, taken, regs, sitting, turn, next);
+    let put = put_command(
+        block,
+        world,
+        run.command,
+        taken,
+        regs,
+        sitting,
+        turn,
+        next,
+        text,
+    );
     told_turn(put, turn, next)
 }
 
 /// Takes the turns of a command, and writes what they say. The steps among them are at most those
 /// that are left to the command.
-pub(crate) fn run_command<M: Stepper, S: Sink>(
+pub(crate) fn run_command<M: Stepper, W: World>(
     m: &mut M,
     first: Run,
     sitting: &mut Sitting,
-    out: &mut S,
+    block: &mut Block,
+    world: &mut W,
 ) -> Ends
     requires some { 0 < first.left }
     requires room { sitting.old.taken + first.left < most_taken }
     ensures says { EndSays (turning M.regs M.content M.next M.went) result
         (standing sitting.old (Running first)) m.old [] sitting.new m.new
-        (seen (S.written out.old) (S.taken out.old) (S.faults out.old))
-        (seen (S.written out.new) (S.taken out.new) (S.faults out.new)) }
+        (pending block.old (W.seen world.old))
+        (pending block.new (W.seen world.new)) }
     ensures taken { sitting.new.taken ≤ sitting.old.taken + first.left }
 {
     let mut turn = Turn::Full;
+    let mut text = TraceText::new();
     let mut run = first;
     let mut served = false;
     'turns: loop {
-        match take_turn(m, run, sitting, &mut turn, out) {
+        match take_turn(m, run, sitting, &mut turn, &mut text, block, world) {
             Came::Runs(next, service) => {
                 run = next;
                 served = service;

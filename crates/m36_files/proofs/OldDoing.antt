@@ -31,7 +31,7 @@ use Rattle.m36_program.specs.Goes.{AfterRead, Goes}
 use Rattle.m36_program.specs.Performs.{Performs}
 use Rattle.m36_program.specs.Program.{May, Program, then_with}
 use Rattle.m36_program.specs.Split.{BothGo, FirstEnds, FailsAcross, Split}
-use Rattle.m36_program.specs.Trail.{IsUnfailed, Trail, output_of}
+use Rattle.m36_program.specs.Trail.{InputKept, IsUnfailed, Trail, output_of}
 use Rattle.m36_program.proofs.PieceLaws.{reads_of}
 use Rattle.m36_program.proofs.SplitLaws.{goes_split}
 use Rattle.m36_program.proofs.TrailLaws.{goes_trail}
@@ -72,6 +72,31 @@ reads_kept (Output piece ∷ events) old new alone follow = absurd alone
 reads_kept (OutputFailed pieces ∷ events) old new alone follow = absurd alone
 reads_kept (Input piece ∷ events) old new alone follow = absurd alone
 reads_kept (InputFailed ∷ events) old new alone follow = absurd alone
+
+-- No input was asked for.
+input_after :
+    (name : List ℕ) (answer : ReadAnswer) (old between new : Seen) → IsFileRead name answer old between
+    → InputKept between new → InputKept old new
+input_after name answer old between new did kept = record {
+  left = kept.left ∙ ap (λ s. s.left) did.rest;
+  inputs = kept.inputs ∙ ap (λ s. s.inputs) did.rest;
+  faults = kept.faults ∙ ap (λ s. s.input_faults) did.rest;
+}
+
+pub reads_input : (events : List Event) (old new : Seen) → AreReads events → Follow events old new → InputKept old new
+unfolding Follow
+reads_input [] old new alone none = record {
+  left = ap (λ s. s.left) none;
+  inputs = ap (λ s. s.inputs) none;
+  faults = ap (λ s. s.input_faults) none;
+}
+reads_input (FileRead name answer ∷ events) old new alone follow =
+    input_after name answer old follow.between new follow.begins (reads_input events follow.between new alone follow.goes_on)
+reads_input (FileWrite name content answer ∷ events) old new alone follow = absurd alone
+reads_input (Output piece ∷ events) old new alone follow = absurd alone
+reads_input (OutputFailed pieces ∷ events) old new alone follow = absurd alone
+reads_input (Input piece ∷ events) old new alone follow = absurd alone
+reads_input (InputFailed ∷ events) old new alone follow = absurd alone
 
 -- Each answer is that of the files, where they are known.
 pub reads_told :
@@ -163,10 +188,11 @@ reads_cause may (InputFailed ∷ events) given old new alone trail follow = absu
 
 -- ---- a call of a reader
 
--- It reads as the reading says, and the output is as it was.
+-- It reads as the reading says, and the output and the input are as they were.
 pub record HasRead {A : Type 0} (reading : Reading (Early A)) (given : Result A Refusal) (old new : Seen) : Type 0 where
   pub reads : Reads reading given (outside_by old).folder (outside_by new).folder old.reads new.reads
   pub sink : output_of new ≡ output_of old
+  pub input : InputKept old new
 
 has_read :
     {may : May} {A : Type 0} (p : Program may A) (r : Reading (Early A)) (events : List Event) (given : Result A Refusal) (old new : Seen)
@@ -185,6 +211,7 @@ has_read {may = may} p r events given old new goes alone comes follow =
         write_faults = kept.write_faults;
       };
       sink = kept.sink;
+      input = reads_input events old new alone follow;
     }
 
 -- ---- and then what is due
@@ -210,7 +237,7 @@ pub record ReadRefused {D : Type 0} (r : Reading (Early D)) (result : Result (Un
   pub status_is : status_by result ≡ status_of refusal
   pub read : HasRead r (Err refusal) old new
 
-abbrev ReadFirst :
+abbrev pub ReadFirst :
     {may : May} {D : Type 0} → Program may D → (D → Program may (Unit {0})) → Reading (Early D) → Result (Unit {0}) Status
     → Seen → Seen → Type 0
 ReadFirst p answer r result old new = ReadAndDone p answer r result old new ⊎ ReadRefused r result old new
@@ -270,7 +297,7 @@ read_ends {may} {D} p r events result old new reader ends follow =
           (subst (λ g. Comes r (reads_of events) (coming g)) by.is one.comes) follow;
     }
 
-read_first :
+pub read_first :
     {may : May} {D : Type 0} (p : Program may D) (answer : D → Program may (Unit {0})) (r : Reading (Early D))
     (events : List Event) (result : Result (Unit {0}) Status) (old new : Seen)
     → IsReader p r → Split p answer events result → Follow events old new → ReadFirst p answer r result old new

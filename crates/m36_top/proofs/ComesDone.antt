@@ -56,8 +56,8 @@ use Rattle.m36_debug.specs.LinesTaken.{whole_lines}
 use Rattle.m36_debug.specs.Session.{Turning}
 use Rattle.m36_debug.specs.SessionLines.{IsNotQuit}
 use Rattle.m36_debug.specs.SessionSays.{bytes_limit, IsSession}
-use Rattle.m36_sessions.specs.Held.{Talk, HoldsImage, HoldsFolder}
-use Rattle.m36_sessions.specs.Sessions.{Told as Holding, IsSessionDue}
+use Rattle.cmd_debug.specs.Held.{Talk, HoldsImage, HoldsFolder}
+use Rattle.cmd_debug.specs.Sessions.{Told as Holding, IsSessionDue}
 use Rattle.m36_top.specs.declared.command.Command.{Command}
 use Rattle.m36_top.specs.Dues.{Due, Told, Image, Folder, Schedule, ImageSession, FolderSession, Made, IsDueOf, due_kind}
 use Rattle.m36_top.specs.Commands.{reads}

@@ -19,8 +19,8 @@ use Rattle.m36_made.proofs.DueLaws.{made_due_law}
 use Rattle.m36_made.proofs.MadeLaws.{made_joined}
 use Rattle.m36_top.specs.declared.command.Command.{Command}
 use Rattle.m36_top.specs.Words.{command_of}
-use Rattle.m36_sessions.specs.Held.{Talk, HoldsImage, HoldsFolder}
-use Rattle.m36_sessions.specs.Sessions.{Told as Holding, IsSessionDue}
+use Rattle.cmd_debug.specs.Held.{Talk, HoldsImage, HoldsFolder}
+use Rattle.cmd_debug.specs.Sessions.{Told as Holding, IsSessionDue}
 use Rattle.m36_top.specs.Dues.{Due, Told, Image, Folder, Schedule, ImageSession, FolderSession, Made, IsDueOf}
 use Rattle.m36_top.specs.Commands.{reads}
 use Rattle.m36_top.specs.Done.{OneComesToDis}

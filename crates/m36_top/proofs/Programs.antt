@@ -6,7 +6,7 @@ use Rattle.m36_reading.specs.Asking.{Asked}
 use Rattle.m36_reading.specs.Ends.{end_of}
 use Rattle.m36_program.specs.Early.{early}
 use Rattle.m36_debug.specs.SessionSays.{input}
-use Rattle.m36_sessions.specs.Held.{Talk}
+use Rattle.cmd_debug.specs.Held.{Talk}
 use Rattle.m36_program.specs.Objects.{PerformsOver}
 use Rattle.m36_program.specs.Program.{May, Program}
 use Rattle.m36_top.specs.declared.command.Command.{Command}

@@ -11,7 +11,7 @@ use Rattle.m36_reading.specs.Ends.{End, Answered, Cut, Unread, Starved, Unasked,
 use Rattle.m36_reading.specs.Doing.{IsAnswered, EndsBy}
 use Rattle.m36_reading.proofs.EndLaws.{ends_in}
 use Rattle.m36_top.specs.declared.command.Command.{Command}
-use Rattle.m36_sessions.specs.Held.{Talk}
+use Rattle.cmd_debug.specs.Held.{Talk}
 use Rattle.m36_top.specs.Dues.{Due, due_kind}
 use Rattle.m36_top.specs.Commands.{reads, writes_files, takes_input}
 use Rattle.m36_top.specs.TopCall.{Through, TopOutput, ReadRose, ReadCauseBy, ReadCause, WriteRose, WriteCauseBy, WriteCause, Completes, KeepsFiles, TopPasses, TopAnswersPass}

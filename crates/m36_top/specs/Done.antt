@@ -40,7 +40,7 @@ use Rattle.m36_made.specs.Summary.{run_limit}
 use Rattle.m36_debug.specs.LinesTaken.{whole_lines}
 use Rattle.m36_debug.specs.SessionLines.{IsNotQuit}
 use Rattle.m36_debug.specs.SessionSays.{bytes_limit}
-use Rattle.m36_sessions.specs.Held.{Talk}
+use Rattle.cmd_debug.specs.Held.{Talk}
 use Rattle.m36_top.specs.declared.command.Command.{Command}
 use Rattle.m36_top.specs.Dues.{Due, Told, Image, Folder, Schedule, ImageSession, FolderSession, Made}
 use Rattle.m36_top.specs.Commands.{reads, writes_files, takes_input}

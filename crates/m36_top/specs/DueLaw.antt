@@ -12,7 +12,7 @@ use Rattle.m36_booted.specs.DueLaw.{FolderDueLaw}
 use Rattle.m36_made.specs.DueLaw.{MadeDueLaw}
 use Rattle.m36_top.specs.declared.command.Command.{Command}
 use Rattle.m36_top.specs.Words.{command_of}
-use Rattle.m36_sessions.specs.Held.{Talk}
+use Rattle.cmd_debug.specs.Held.{Talk}
 use Rattle.m36_top.specs.Dues.{Due, Told, Image, Folder, Schedule, ImageSession, FolderSession, Made}
 use Rattle.m36_top.specs.Dues.{IsDueOf}
 use Rattle.m36_top.specs.Commands.{reads}

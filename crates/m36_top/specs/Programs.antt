@@ -1,10 +1,11 @@
--- The programs of commands. `debug` and `make` have none here: each is a reading and a kind alone.
+-- The programs of commands. `make` has none here: it is a reading and a kind alone.
 use Rattle.std.specs.Prelude.{⊤, Option, Some, None}
 use Rattle.m36_world.specs.Seen.{Seen}
 use Rattle.m36_reading.specs.declared.status.Status.{Status}
 use Rattle.m36_program.specs.Early.{early}
 use Rattle.m36_ran.specs.declared.command.ImageCommand.TheVariants as image
 use Rattle.cmd_image.specs.ImageProgram.{image_program}
+use Rattle.cmd_debug.specs.DebugProgram.{debug_image, debug_folder}
 use Rattle.cmd_folder.specs.FolderProgram.{folder_program}
 use Rattle.cmd_procs.specs.ProcsProgram.{procs_program}
 use Rattle.cmd_tools.specs.ToolPrograms.{print_program, access_program, alm_program, bind_program}
@@ -32,8 +33,10 @@ CommandPerforms (Alm files) result old new =
     PerformsOver (alm_program files) (early result) old new
 CommandPerforms (Bind files) result old new =
     PerformsOver (bind_program files) (early result) old new
-CommandPerforms DebugFolder result old new = ⊤
-CommandPerforms (DebugImage file) result old new = ⊤
+CommandPerforms DebugFolder result old new =
+    PerformsOver debug_folder (early result) old new
+CommandPerforms (DebugImage file) result old new =
+    PerformsOver (debug_image file) (early result) old new
 CommandPerforms (Make seed) result old new = ⊤
 
 abbrev pub TopPerforms : Option Command → Status → Seen → Seen → Type 0

@@ -12,8 +12,8 @@ use Rattle.m36_reading.specs.Outside.{Outside, IsKept, IsIdle, NoneUnread}
 use Rattle.m36_reading.specs.Ends.{End, Answered, Cut, Unread, Starved, Unasked, end_of}
 use Rattle.m36_reading.specs.Doing.{IsAnswered, EndsBy, Does}
 use Rattle.m36_ran.specs.AuditText.{yes_line}
-use Rattle.m36_sessions.specs.Held.{Talk, IsUntaken}
-use Rattle.m36_sessions.specs.Sessions.{InputStands, ImageTakes, FolderTakes}
+use Rattle.cmd_debug.specs.Held.{Talk, IsUntaken}
+use Rattle.cmd_debug.specs.Sessions.{InputStands, ImageTakes, FolderTakes}
 use Rattle.m36_top.specs.declared.command.Command.{Command}
 use Rattle.m36_top.specs.declared.command.Command.TheVariants.{DebugFolder, DebugImage}
 use Rattle.m36_top.specs.Dues.{Due, due_kind, Promises, yes_of}

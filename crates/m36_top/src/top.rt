@@ -4,7 +4,7 @@ ghost use Rattle.std.specs.Prelude.{◌≡◌, ◌↔◌, None, IfSome};
 ghost use Rattle.m36_reading.specs.Ends.{end_of};
 ghost use Rattle.m36_reading.specs.Outside.{outside_of};
 ghost use Rattle.m36_reading.specs.Doing.{Does};
-ghost use Rattle.m36_sessions.specs.Held.{talk_of};
+ghost use Rattle.cmd_debug.specs.Held.{talk_of};
 ghost use Rattle.m36_program.specs.Objects.{objects};
 ghost use Rattle.m36_top.specs.Words.{command_of};
 ghost use Rattle.m36_top.specs.Dues.{due_kind};
@@ -23,7 +23,7 @@ use m36_made::make_folder;
 use m36_outside::{Folder, Lines, Sink, Text};
 use m36_ran::ImageCommand;
 use m36_reading::Status;
-use m36_sessions::{folder_session, image_session};
+use cmd_debug::{folder_session, image_session};
 use std::alloc::Global;
 
 /// Does what a command says.
@@ -233,8 +233,8 @@ pub fn m36<F: Folder, L: Lines, S: Sink>(
         (talk_of L.left L.given L.faults lines.old lines.new)
         (F.asked folder.old) (F.asked folder.new) }
 
-    // Every command but `debug` and `make` does what its program says: all that the three objects record of the call, in
-    // one order.
+    // Every command but `make` does what its program says: all that the three objects record of the call, in one order. So
+    // `debug` puts the answers to the whole lines that it has before it takes more of the input.
     ensures performs { TopPerforms (command_of words.now) result
         (objects F.asked F.wrote F.files F.read_faults F.write_faults L.given L.left L.faults
         S.taken S.written S.faults folder.old lines.old out.old)

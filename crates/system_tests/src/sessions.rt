@@ -3,9 +3,10 @@
 use m36_back::Past;
 use m36_debug::{SessionFault, debug};
 use m36_image::{Image, read_image};
-use m36_outside::{MemLines, MemSink, Text};
+use m36_outside::{MemFolder, MemLines, MemSink, Text};
 use m36_step::Machine;
 use m36_word::NoMemory;
+use m36_world::Borrowed;
 use std::alloc::Global;
 
 /// The length in bytes of the longest image in this module.
@@ -147,7 +148,13 @@ fn ended(
     out: &mut MemSink,
 ) -> Result<(), SessionFault> {
     match past(alloc, image) {
-        Ok(mut past) => debug(alloc, &mut past, lines, out),
+        Ok(mut past) => {
+            let Ok(mut folder) = MemFolder::new(alloc, &[], &[]) else {
+                return Err(SessionFault::NoMemory);
+            };
+            let mut world = Borrowed::new(&mut folder, lines, out);
+            debug(alloc, &mut past, &mut world)
+        }
         Err(_) => Err(SessionFault::NoMemory),
     }
 }

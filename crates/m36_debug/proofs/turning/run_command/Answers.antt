@@ -1,5 +1,5 @@
 use Rattle.std.proofs.Common.{[], arith}
-use Rattle.m36_debug.specs.Putting.{seen}
+use Rattle.m36_debug.specs.Putting.{pending}
 use Rattle.m36_debug.specs.Session.{turning, standing, Running, Waiting, Starved}
 use Rattle.m36_debug.proofs.PartLaws.{part_none, part_on, part_cut}
 use Rattle.m36_debug.proofs.TurnLaws.{none_served, some_left, within_left, runs_count, runs_shorter}
@@ -7,11 +7,11 @@ use Rattle.m36_debug.proofs.turning.run_command.Goals as goal
 
 pub turns-init : goal.turns-init
 turns-init g c =
-    let s = g.S.Sink in
+    let world = g.W.World in
     let m = g.M.Stepper in
     let o = turning m.regs m.content m.next m.went in
     record {
-      part = part_none o (standing c.args.sitting.now (Running c.args.first)) c.args.m.now (seen (s.written c.args.out.now) (s.taken c.args.out.now) (s.faults c.args.out.now));
+      part = part_none o (standing c.args.sitting.now (Running c.args.first)) c.args.m.now (pending c.args.block.now (world.seen c.args.world.now));
       count = omega arith;
       service = none_served o c.args.m.now;
       interrupted = some_left o c.args.m.now c.args.first.left c.requires.some;
@@ -19,12 +19,12 @@ turns-init g c =
 
 pub turns-preserved : goal.turns-preserved
 turns-preserved g c =
-    let s = g.S.Sink in
+    let world = g.W.World in
     let m = g.M.Stepper in
     let o = turning m.regs m.content m.next m.went in
     record {
       part =
-          part_on o (standing c.args.sitting.now (Running c.args.first)) c.args.m.now [] [] (standing c.turns.sitting (Running c.turns.run)) c.turns.m (standing c.take_turn.new.sitting (Running c.in-Runs.next)) c.take_turn.new.m (seen (s.written c.args.out.now) (s.taken c.args.out.now) (s.faults c.args.out.now)) (seen (s.written c.turns.out) (s.taken c.turns.out) (s.faults c.turns.out)) (seen (s.written c.take_turn.new.out) (s.taken c.take_turn.new.out) (s.faults c.take_turn.new.out))
+          part_on o (standing c.args.sitting.now (Running c.args.first)) c.args.m.now [] [] (standing c.turns.sitting (Running c.turns.run)) c.turns.m (standing c.take_turn.new.sitting (Running c.in-Runs.next)) c.take_turn.new.m (pending c.args.block.now (world.seen c.args.world.now)) (pending c.turns.block (world.seen c.turns.world)) (pending c.take_turn.new.block (world.seen c.take_turn.new.world))
           c.turns.invariant.part c.in-Runs.ensures.says;
       count = runs_count c.in-Runs.service c.in-Runs.next.left c.turns.run.left c.turns.sitting.taken c.take_turn.new.sitting.taken _ c.in-Runs.ensures.counts c.turns.invariant.count;
       service = λ is. record { before = c.turns.m; makes = c.in-Runs.ensures.served is };
@@ -38,21 +38,21 @@ turns-smaller g c =
 
 pub returns-in-Waits-clause-says : goal.returns-in-Waits-clause-says
 returns-in-Waits-clause-says g c =
-    let s = g.S.Sink in
+    let world = g.W.World in
     let m = g.M.Stepper in
-    part_on (turning m.regs m.content m.next m.went) (standing c.args.sitting.now (Running c.args.first)) c.args.m.now [] [] (standing c.turns.sitting (Running c.turns.run)) c.turns.m (standing c.take_turn.new.sitting Waiting) c.take_turn.new.m (seen (s.written c.args.out.now) (s.taken c.args.out.now) (s.faults c.args.out.now)) (seen (s.written c.turns.out) (s.taken c.turns.out) (s.faults c.turns.out)) (seen (s.written c.take_turn.new.out) (s.taken c.take_turn.new.out) (s.faults c.take_turn.new.out)) c.turns.invariant.part c.in-Waits.ensures.says
+    part_on (turning m.regs m.content m.next m.went) (standing c.args.sitting.now (Running c.args.first)) c.args.m.now [] [] (standing c.turns.sitting (Running c.turns.run)) c.turns.m (standing c.take_turn.new.sitting Waiting) c.take_turn.new.m (pending c.args.block.now (world.seen c.args.world.now)) (pending c.turns.block (world.seen c.turns.world)) (pending c.take_turn.new.block (world.seen c.take_turn.new.world)) c.turns.invariant.part c.in-Waits.ensures.says
 
 pub returns-in-Starves-clause-says : goal.returns-in-Starves-clause-says
 returns-in-Starves-clause-says g c =
-    let s = g.S.Sink in
+    let world = g.W.World in
     let m = g.M.Stepper in
-    part_on (turning m.regs m.content m.next m.went) (standing c.args.sitting.now (Running c.args.first)) c.args.m.now [] [] (standing c.turns.sitting (Running c.turns.run)) c.turns.m (standing c.take_turn.new.sitting Starved) c.take_turn.new.m (seen (s.written c.args.out.now) (s.taken c.args.out.now) (s.faults c.args.out.now)) (seen (s.written c.turns.out) (s.taken c.turns.out) (s.faults c.turns.out)) (seen (s.written c.take_turn.new.out) (s.taken c.take_turn.new.out) (s.faults c.take_turn.new.out)) c.turns.invariant.part c.in-Starves.ensures.says
+    part_on (turning m.regs m.content m.next m.went) (standing c.args.sitting.now (Running c.args.first)) c.args.m.now [] [] (standing c.turns.sitting (Running c.turns.run)) c.turns.m (standing c.take_turn.new.sitting Starved) c.take_turn.new.m (pending c.args.block.now (world.seen c.args.world.now)) (pending c.turns.block (world.seen c.turns.world)) (pending c.take_turn.new.block (world.seen c.take_turn.new.world)) c.turns.invariant.part c.in-Starves.ensures.says
 
 pub returns-in-Cut-clause-says : goal.returns-in-Cut-clause-says
 returns-in-Cut-clause-says g c =
-    let s = g.S.Sink in
+    let world = g.W.World in
     let m = g.M.Stepper in
-    part_cut (turning m.regs m.content m.next m.went) (standing c.args.sitting.now (Running c.args.first)) c.args.m.now [] [] (standing c.turns.sitting (Running c.turns.run)) c.turns.m c.take_turn.new.m (seen (s.written c.args.out.now) (s.taken c.args.out.now) (s.faults c.args.out.now)) (seen (s.written c.turns.out) (s.taken c.turns.out) (s.faults c.turns.out)) (seen (s.written c.take_turn.new.out) (s.taken c.take_turn.new.out) (s.faults c.take_turn.new.out)) c.turns.invariant.part c.in-Cut.ensures.says
+    part_cut (turning m.regs m.content m.next m.went) (standing c.args.sitting.now (Running c.args.first)) c.args.m.now [] [] (standing c.turns.sitting (Running c.turns.run)) c.turns.m c.take_turn.new.m (pending c.args.block.now (world.seen c.args.world.now)) (pending c.turns.block (world.seen c.turns.world)) (pending c.take_turn.new.block (world.seen c.take_turn.new.world)) c.turns.invariant.part c.in-Cut.ensures.says
 
 pub returns-in-Waits-clause-taken : goal.returns-in-Waits-clause-taken
 returns-in-Waits-clause-taken g c =

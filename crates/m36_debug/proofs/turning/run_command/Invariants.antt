@@ -2,7 +2,7 @@ use Rattle.std.proofs.Common.{◌≡◌, ◌+◌, ◌≤◌, true, []}
 use Rattle.std.specs.Prelude.{if◌then◌else◌}
 use Rattle.m36_outside.specs.declared.sink.Put.TheVariants.{Done}
 use Rattle.m36_debug.specs.Parts.{Part}
-use Rattle.m36_debug.specs.Putting.{seen}
+use Rattle.m36_debug.specs.Putting.{pending}
 use Rattle.m36_debug.specs.Session.{turning, standing, Running}
 use Rattle.m36_step.specs.Answers.{IsService, Interrupts}
 use Rattle.m36_debug.proofs.TurnLaws.{WasMade}
@@ -15,11 +15,11 @@ decreases-turns g l = l.run.left + l.run.left + (if l.served then 0 else 1)
 -- what was done is a part of the session
 abbrev pub invariant-turns : goal.invariant-turns
 invariant-turns g l =
-    let s = g.S.Sink in
+    let world = g.W.World in
     let m = g.M.Stepper in
     let o = turning m.regs m.content m.next m.went in
     record {
-      part : Part o (standing l.fn.sitting (Running l.fn.first)) l.fn.m [] (standing l.sitting (Running l.run)) l.m Done (seen (s.written l.fn.out) (s.taken l.fn.out) (s.faults l.fn.out)) (seen (s.written l.out) (s.taken l.out) (s.faults l.out));
+      part : Part o (standing l.fn.sitting (Running l.fn.first)) l.fn.m [] (standing l.sitting (Running l.run)) l.m Done (pending l.fn.block (world.seen l.fn.world)) (pending l.block (world.seen l.world));
       count : l.sitting.taken + l.run.left ≤ l.fn.sitting.taken + l.fn.first.left;
       service : l.served ≡ true → WasMade o IsService l.m;
       interrupted : l.run.left ≡ 0 → WasMade o Interrupts l.m;

@@ -1,14 +1,14 @@
 use Rattle.m36_debug.specs.Commands.{is_at_break}
-use Rattle.m36_debug.specs.Putting.{seen}
+use Rattle.m36_debug.specs.Putting.{pending}
 use Rattle.m36_debug.specs.Session.{turning}
 use Rattle.m36_debug.proofs.TurnLaws.{took_turn, took_served, took_counts, took_interrupted, took_stepped}
 use Rattle.m36_debug.proofs.turning.take_turn.Goals as goal
 
 pub returns-clause-says : goal.returns-clause-says
 returns-clause-says g c =
-    let s = g.S.Sink in
+    let world = g.W.World in
     let m = g.M.Stepper in
-    took_turn (turning m.regs m.content m.next m.went) c.put_command-put.result c.turn_into.new.turn c.args.run c.further-next.result c.told_turn.result c.regs-regs.result.now c.args.sitting.now c.note.new.self c.taken-taken.result c.args.m.now c.turn_into.new.self (seen (s.written c.args.out.now) (s.taken c.args.out.now) (s.faults c.args.out.now)) (seen (s.written c.put_command-put.new.out) (s.taken c.put_command-put.new.out) (s.faults c.put_command-put.new.out)) c.taken-taken.ensures c.turn_into.ensures c.note.ensures c.regs-regs.ensures c.further-next.ensures c.put_command-put.ensures c.told_turn.ensures
+    took_turn (turning m.regs m.content m.next m.went) c.put_command-put.result c.turn_into.new.turn c.args.run c.further-next.result c.told_turn.result c.regs-regs.result.now c.args.sitting.now c.note.new.self c.taken-taken.result c.args.m.now c.turn_into.new.self (pending c.args.block.now (world.seen c.args.world.now)) (pending c.put_command-put.new.block (world.seen c.put_command-put.new.world)) c.taken-taken.ensures c.turn_into.ensures c.note.ensures c.regs-regs.ensures c.further-next.ensures c.put_command-put.ensures c.told_turn.ensures
 
 pub returns-clause-served : goal.returns-clause-served
 returns-clause-served g c =

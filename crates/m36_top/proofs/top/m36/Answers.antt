@@ -1,6 +1,6 @@
 -- Where nothing fails outside.
 use Rattle.m36_reading.specs.Outside.{outside_of}
-use Rattle.m36_sessions.specs.Held.{talk_of}
+use Rattle.cmd_debug.specs.Held.{talk_of}
 use Rattle.m36_top.specs.Words.{command_of}
 use Rattle.m36_top.proofs.TopEnds.{top_complete}
 use Rattle.m36_top.proofs.ComesDone.{top_done, no_fault}

@@ -1,11 +1,12 @@
 -- Each command does what its kind does, and what its program says.
 use Rattle.m36_reading.specs.Outside.{outside_of}
-use Rattle.m36_sessions.specs.Held.{talk_of}
+use Rattle.cmd_debug.specs.Held.{talk_of}
 use Rattle.m36_ran.specs.declared.command.ImageCommand.TheVariants as image
 use Rattle.cmd_image.specs.ImageProgram.{image_program}
 use Rattle.cmd_procs.specs.ProcsProgram.{procs_program}
 use Rattle.cmd_tools.specs.ToolPrograms.{print_program}
-use Rattle.m36_top.specs.declared.command.Command.TheVariants.{Bare, Audit, Booted, Procs, Access, Print, Alm, Bind}
+use Rattle.cmd_debug.specs.DebugProgram.{debug_image}
+use Rattle.m36_top.specs.declared.command.Command.TheVariants.{Bare, Audit, Booted, Procs, Access, Print, Alm, Bind, DebugFolder, DebugImage}
 use Rattle.m36_top.proofs.Performing.{as_command, performs_bare, performs_audit, performs_booted, performs_procs, performs_access, performs_print, performs_alm, performs_bind, performs_debug_folder, performs_debug_image, takes_debug_folder, takes_debug_image, performs_make}
 use Rattle.m36_top.proofs.Programs.{as_performs, as_input, as_takes, named, same_input}
 use Rattle.m36_top.proofs.top.perform.Goals as goal
@@ -323,6 +324,15 @@ returns-in-Make-clause-does g c =
     let after = f.asked c.make_folder.new.folder in
     as_command talk c.args.command.now _ c.make_folder.result old new before after c.in-Make.is
     (performs_make talk c.in-Make.seed c.make_folder.result old new before after c.make_folder.ensures)
+
+pub returns-in-DebugFolder-clause-performs : goal.returns-in-DebugFolder-clause-performs
+returns-in-DebugFolder-clause-performs g c =
+    as_performs c.args.command.now DebugFolder c.folder_session.result _ _ c.in-DebugFolder.is c.folder_session.ensures.performs
+
+pub returns-in-DebugImage-clause-performs : goal.returns-in-DebugImage-clause-performs
+returns-in-DebugImage-clause-performs g c =
+    as_performs c.args.command.now (DebugImage c.in-DebugImage.file) c.image_session.result _ _ c.in-DebugImage.is
+    (named debug_image c.in-DebugImage.file c.bytes-in-DebugImage.result.now c.image_session.result _ _ c.bytes-in-DebugImage.ensures.value c.image_session.ensures.performs)
 
 pub returns-in-DebugFolder-clause-takes : goal.returns-in-DebugFolder-clause-takes
 returns-in-DebugFolder-clause-takes g c =

@@ -12,6 +12,7 @@ use Rattle.m36_booted.specs.Systems.{IsFresh}
 use Rattle.m36_reading.specs.declared.status.Status.{Status}
 use Rattle.m36_reading.specs.declared.status.Status.TheVariants.{Done}
 use Rattle.m36_reading.specs.declared.status.Status.TheVariants as status
+use Rattle.m36_program.specs.Early.{status_by}
 use Rattle.m36_reading.specs.Reading.{Reading, Early}
 use Rattle.m36_reading.specs.Answers.{answer_with}
 use Rattle.m36_reading.specs.Asking.{Asked, Came}
@@ -22,56 +23,42 @@ use Rattle.m36_reading.proofs.WriteLaws.{none_set}
 use Rattle.m36_debug.specs.declared.fault.SessionFault.{SessionFault}
 use Rattle.m36_debug.specs.declared.fault.SessionFault.TheVariants as fault
 use Rattle.m36_debug.specs.Session.{Turning}
-use Rattle.m36_debug.specs.SessionSays.{SessionSays}
-use Rattle.m36_sessions.specs.Held.{Talk, IsHeld, new_history, past_turning, super_turning, HoldsImage, HoldsFolder}
-use Rattle.m36_sessions.specs.Sessions.{Told, too_long, stdin_name, session_kind, folder_kind, InputStands, session_status, PutsSession, PutsBy, IsSessionEnd, TakesInput, ImageTakes, FolderTakes}
+use Rattle.m36_debug.specs.SessionProgram.{stdin_name, ended_by}
+use Rattle.m36_debug.specs.SessionSays.{IsSession, WroteBy}
+use Rattle.cmd_debug.specs.Held.{Talk, IsHeld, new_history, past_turning, super_turning, HoldsImage, HoldsFolder}
+use Rattle.cmd_debug.specs.Sessions.{Told, too_long, session_kind, folder_kind, InputStands, session_status, PutsSession, PutsBy, IsSessionEnd, TakesInput, ImageTakes, FolderTakes}
 
 -- ---- a session was held
 
 put_of :
-    {M : Type 0} (o : Turning M) (ended : Result (Unit {0}) SessionFault) (m m' : M) (talk : Talk) (old new : SinkState)
-    → SessionSays o ended m m' talk.before talk.after old new
+    {M : Type 0} (o : Turning M) (ended : Result (Unit {0}) SessionFault) (m m' : M) (talk : Talk) (lines : List (List ℕ)) (old new : SinkState)
+    → IsSession o ended m m' talk.before talk.after lines → WroteBy ended old new lines
     → PutsSession (IsHeld o m talk) ended old new
-put_of o ended m m' talk old new says =
-    record { lines = says.lines; holds = record { later = m'; session = says.session }; puts = says.wrote }
+put_of o ended m m' talk lines old new session wrote =
+    record { lines = lines; holds = record { later = m'; session = session }; puts = wrote }
 
-puts_by :
-    {M : Type 0} (o : Turning M) (ended : Result (Unit {0}) SessionFault) (m m' : M) (talk : Talk) (old new : SinkState)
-    → SessionSays o ended m m' talk.before talk.after old new
-    → PutsBy (IsHeld o m talk) (end_of (session_status ended stdin_name)) (session_status ended stdin_name) talk old new
-puts_by o (Ok done) m m' talk old new says = inl (record { is = refl; puts = put_of o (Ok done) m m' talk old new says })
-puts_by o (Err fault.ReadFault) m m' talk old new says = put_of o (Err fault.ReadFault) m m' talk old new says
-puts_by o (Err fault.WriteFault) m m' talk old new says = put_of o (Err fault.WriteFault) m m' talk old new says
-puts_by o (Err fault.TooLong) m m' talk old new says = inr (record { is = refl; puts = put_of o (Err fault.TooLong) m m' talk old new says })
-puts_by o (Err fault.NoMemory) m m' talk old new says = inr (put_of o (Err fault.NoMemory) m m' talk old new says)
+pub puts_by :
+    {M : Type 0} (o : Turning M) (ended : Result (Unit {0}) SessionFault) (m m' : M) (talk : Talk) (lines : List (List ℕ)) (old new : SinkState)
+    → IsSession o ended m m' talk.before talk.after lines → WroteBy ended old new lines
+    → PutsBy (IsHeld o m talk) (end_of (status_by (ended_by ended))) (status_by (ended_by ended)) talk old new
+puts_by o (Ok done) m m' talk lines old new session wrote =
+    inl (record { is = refl; puts = put_of o (Ok done) m m' talk lines old new session wrote })
+puts_by o (Err fault.ReadFault) m m' talk lines old new session wrote = put_of o (Err fault.ReadFault) m m' talk lines old new session wrote
+puts_by o (Err fault.WriteFault) m m' talk lines old new session wrote = put_of o (Err fault.WriteFault) m m' talk lines old new session wrote
+puts_by o (Err fault.TooLong) m m' talk lines old new session wrote =
+    inr (record { is = refl; puts = put_of o (Err fault.TooLong) m m' talk lines old new session wrote })
+puts_by o (Err fault.NoMemory) m m' talk lines old new session wrote =
+    inr (put_of o (Err fault.NoMemory) m m' talk lines old new session wrote)
 
--- its status is that of how it ended
-pub held_puts :
-    {M : Type 0} (o : Turning M) (result : Status) (name : List ℕ) (ended : Result (Unit {0}) SessionFault) (m m' : M) (talk : Talk) (old new : SinkState)
-    → name ≡ codes "stdin" → result ≡ session_status ended name
-    → SessionSays o ended m m' talk.before talk.after old new
-    → PutsBy (IsHeld o m talk) (end_of result) result talk old new
-held_puts o result name ended m m' talk old new named is says =
-    subst (λ (r : Status). PutsBy (IsHeld o m talk) (end_of r) r talk old new) (sym is)
-    (subst (λ n. PutsBy (IsHeld o m talk) (end_of (session_status ended n)) (session_status ended n) talk old new) (sym named) (puts_by o ended m m' talk old new says))
-
-input_by :
-    {M : Type 0} (o : Turning M) (ended : Result (Unit {0}) SessionFault) (name : List ℕ) (m m' : M) (talk : Talk) (old new : SinkState)
-    → SessionSays o ended m m' talk.before talk.after old new
-    → InputStands (end_of (session_status ended name)) talk
-input_by o (Ok done) name m m' talk old new says = says.session.read_cause
-input_by o (Err fault.ReadFault) name m m' talk old new says = tt
-input_by o (Err fault.WriteFault) name m m' talk old new says = says.session.read_cause
-input_by o (Err fault.TooLong) name m m' talk old new says = says.session.read_cause
-input_by o (Err fault.NoMemory) name m m' talk old new says = says.session.read_cause
-
-pub held_input :
-    {M : Type 0} (o : Turning M) (result : Status) (name : List ℕ) (ended : Result (Unit {0}) SessionFault) (m m' : M) (talk : Talk) (old new : SinkState)
-    → result ≡ session_status ended name
-    → SessionSays o ended m m' talk.before talk.after old new
-    → InputStands (end_of result) talk
-held_input o result name ended m m' talk old new is says =
-    subst (λ (r : Status). InputStands (end_of r) talk) (sym is) (input_by o ended name m m' talk old new says)
+pub stands_by :
+    {M : Type 0} (o : Turning M) (ended : Result (Unit {0}) SessionFault) (m m' : M) (talk : Talk) (lines : List (List ℕ))
+    → IsSession o ended m m' talk.before talk.after lines
+    → InputStands (end_of (status_by (ended_by ended))) talk
+stands_by o (Ok done) m m' talk lines session = session.read_cause
+stands_by o (Err fault.ReadFault) m m' talk lines session = tt
+stands_by o (Err fault.WriteFault) m m' talk lines session = session.read_cause
+stands_by o (Err fault.TooLong) m m' talk lines session = session.read_cause
+stands_by o (Err fault.NoMemory) m m' talk lines session = session.read_cause
 
 -- ---- none was held
 
@@ -93,7 +80,7 @@ input_same result talk same = stands_same (end_of result) talk same
 
 -- ---- over what
 
-puts_more :
+pub puts_more :
     (A B : Told) (end : End) (result : Status) (talk : Talk) (old new : SinkState)
     → ((ended : Result (Unit {0}) SessionFault) (lines : List (List ℕ)) → A ended lines → B ended lines)
     → PutsBy A end result talk old new → PutsBy B end result talk old new
@@ -109,25 +96,6 @@ puts_more A B Starved result talk old new more (inl p) = inl p
 puts_more A B Starved result talk old new more (inr p) =
     inr (record { lines = p.lines; holds = more (Err fault.NoMemory) p.lines p.holds; puts = p.puts })
 puts_more A B Unasked result talk old new more p = absurd p
-
--- the machine of an image
-pub image_puts :
-    (state : State (List ℕ)) (past : History MachineFields) (result : Status) (talk : Talk) (old new : SinkState)
-    → past ≡ new_history state
-    → PutsBy (IsHeld past_turning past talk) (end_of result) result talk old new
-    → PutsBy (HoldsImage talk state) (end_of result) result talk old new
-image_puts state past result talk old new is puts =
-    subst (λ (h : History MachineFields). PutsBy (IsHeld past_turning h talk) (end_of result) result talk old new) is puts
-
--- a booted system
-pub folder_puts :
-    (system : SuperFields) (result : Status) (talk : Talk) (old new : SinkState)
-    → IsFresh system
-    → PutsBy (IsHeld super_turning system talk) (end_of result) result talk old new
-    → PutsBy (HoldsFolder talk system.lib) (end_of result) result talk old new
-folder_puts system result talk old new fresh puts =
-    puts_more (IsHeld super_turning system talk) (HoldsFolder talk system.lib) (end_of result) result talk old new
-    (λ ended lines held. record { system = system; booted = fresh; held = held }) puts
 
 -- ---- with the folder, in which nothing changes
 
@@ -209,14 +177,6 @@ pub performs_put :
     → Performs (session_kind Holds talk) (Ok d) result (record { folder = f; sink = s }) (record { folder = f; sink = s' })
 performs_put Holds d result talk f s s' p = ends_put Holds d (end_of result) result talk f s s' p
 
--- over the system to which a folder boots
-pub performs_booted :
-    (given : FolderFields) (result : Status) (talk : Talk) (f : FolderState) (s s' : SinkState)
-    → PutsBy (HoldsFolder talk given.lib) (end_of result) result talk s s'
-    → Performs (folder_kind talk) (Ok given) result (record { folder = f; sink = s }) (record { folder = f; sink = s' })
-performs_booted given result talk f s s' p =
-    performs_put (λ (g : FolderFields). HoldsFolder talk g.lib) given result talk f s s' p
-
 -- ---- what takes input
 
 takes_answered :
@@ -249,7 +209,7 @@ takes_by Holds status.NoMemory talk s s' (inr p) =
     inr (record { ended = Err fault.NoMemory; lines = p.lines; holds = p.holds; status = refl })
 takes_by Holds status.Usage talk s s' p = absurd p
 
-takes_over :
+pub takes_over :
     {D : Type 0} (Holds : D → Told) (p : Reading (Early D)) (d : D) (result : Status) (talk : Talk) (f f' : FolderState) (s s' : SinkState) (before after : List Asked)
     → Reads p (Ok d) f f' before after → PutsBy (Holds d) (end_of result) result talk s s'
     → TakesInput Holds p result talk before after
@@ -259,36 +219,3 @@ takes_over Holds p d result talk f f' s s' before after reads puts =
       | inl same ↦ inl same
       | inr end ↦ inr (record { asked = reads.asked; passed = reads.passed; given = d; came = reads.comes; session = end })
     ]
-
--- a session over the machine of an image
-pub image_takes :
-    (name : List ℕ) (state : State (List ℕ)) (result : Status) (talk : Talk) (f f' : FolderState) (s s' : SinkState) (before after : List Asked)
-    → Reads (state_reads name) (Ok state) f f' before after → PutsBy (HoldsImage talk state) (end_of result) result talk s s'
-    → ImageTakes name result talk before after
-image_takes name state result talk f f' s s' before after reads puts =
-    takes_over (HoldsImage talk) (state_reads name) state result talk f f' s s' before after reads puts
-
--- over a booted system
-pub folder_takes :
-    (given : FolderFields) (result : Status) (talk : Talk) (f f' : FolderState) (s s' : SinkState) (before after : List Asked)
-    → Reads (folder_reads None) (Ok given) f f' before after → PutsBy (HoldsFolder talk given.lib) (end_of result) result talk s s'
-    → FolderTakes result talk before after
-folder_takes given result talk f f' s s' before after reads puts =
-    takes_over (λ (g : FolderFields). HoldsFolder talk g.lib) (folder_reads None) given result talk f f' s s' before after reads puts
-
--- no session
-pub image_takes_nothing :
-    (name : List ℕ) (result : Status) (talk : Talk) (before after : List Asked) → talk.after ≡ talk.before
-    → ImageTakes name result talk before after
-image_takes_nothing name result talk before after same = inl same
-
-pub folder_takes_nothing :
-    (result : Status) (talk : Talk) (before after : List Asked) → talk.after ≡ talk.before
-    → FolderTakes result talk before after
-folder_takes_nothing result talk before after same = inl same
-
--- what a session over an image, or over a system, takes by `using`
-pub ruleset over = (none_puts, input_same, image_puts, folder_puts)
-
--- nothing was taken of the input, where a file was refused
-pub ruleset performs = (performs_put, performs_booted, input_same, image_takes, folder_takes, image_takes_nothing, folder_takes_nothing)

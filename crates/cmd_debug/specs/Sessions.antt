@@ -1,5 +1,5 @@
 -- What is due to a session, and what is written of it by how it ends.
-use Rattle.std.specs.Prelude.{ℕ, ◌≡◌, ⊤, ◌⊎◌, List, ◌++◌, codes, None, Result, Ok, Err}
+use Rattle.std.specs.Prelude.{ℕ, ◌≡◌, ⊤, ◌⊎◌, List, ◌++◌, None, Result, Ok, Err}
 use Rattle.m36_outside.specs.SinkState.{SinkState}
 use Rattle.m36_model.specs.Store.{State}
 use Rattle.m36_reading.specs.declared.status.Code.TheVariants.{S1}
@@ -18,8 +18,9 @@ use Rattle.m36_ran.specs.Ran.{state_reads}
 use Rattle.m36_booted.specs.Folder.{FolderFields, folder_reads}
 use Rattle.m36_debug.specs.declared.fault.SessionFault.{SessionFault}
 use Rattle.m36_debug.specs.declared.fault.SessionFault.TheVariants as fault
+use Rattle.m36_debug.specs.SessionProgram.{stdin_name}
 use Rattle.m36_debug.specs.SessionSays.{WroteBy}
-use Rattle.m36_sessions.specs.Held.{Talk, IsUntaken, HoldsImage, HoldsFolder}
+use Rattle.cmd_debug.specs.Held.{Talk, IsUntaken, HoldsImage, HoldsFolder}
 
 -- how a session ended, and the lines that are said of it
 abbrev pub Told : Type 1
@@ -30,9 +31,6 @@ Told = Result (Unit {0}) SessionFault → List (List ℕ) → Type 0
 -- S1: there is more input than a session takes
 abbrev pub too_long : List ℕ → Status
 too_long name = status_of (refused name S1 0)
-
-abbrev pub stdin_name : List ℕ
-stdin_name = codes "stdin"
 
 -- by how a session ended; the standard input has this name
 abbrev pub session_status : Result (Unit {0}) SessionFault → List ℕ → Status

@@ -1,0 +1,3 @@
+pub mod SessionEnds
+pub mod DebugSteps
+pub mod Bridge

@@ -1,0 +1,32 @@
+-- What `debug FILE` and `debug` do, as programs: the image is read and decoded, or the folder is
+-- read and booted; then a session is held over the machine.
+use Rattle.std.specs.Prelude.{ℕ, List, None}
+use Rattle.m36_model.specs.Store.{State}
+use Rattle.m36_super.specs.BootSays.{IsBooted}
+use Rattle.m36_super.specs.Library.{Library}
+use Rattle.m36_program.specs.Program.{some, wants, then_with}
+use Rattle.m36_booted.specs.Folder.{FolderFields}
+use Rattle.m36_debug.specs.SessionProgram.{Talk, session}
+use Rattle.cmd_image.specs.ImageProgram.{image_state}
+use Rattle.cmd_folder.specs.FolderProgram.{folder_given}
+use Rattle.cmd_debug.specs.Held.{new_history, past_turning, super_turning}
+
+-- A session over the machine of an image. Memory may run out before it.
+unfoldable pub on_image : State (List ℕ) → Talk
+on_image state = wants (session past_turning (new_history state))
+
+-- `debug FILE`
+unfoldable pub debug_image : List ℕ → Talk
+debug_image name = then_with (image_state name) on_image
+
+-- A session over the system to which a folder boots, of which there is one. Memory may run out
+-- before it.
+unfoldable pub on_library : Library → Talk
+on_library lib = some (IsBooted lib) (λ system. wants (session super_turning system))
+
+abbrev pub on_folder : FolderFields → Talk
+on_folder given = on_library given.lib
+
+-- `debug`
+unfoldable pub debug_folder : Talk
+debug_folder = then_with (folder_given None) on_folder

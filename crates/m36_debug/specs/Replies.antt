@@ -1,0 +1,86 @@
+-- What a session answers to a piece of input and to the end of the input.
+use Rattle.std.specs.Prelude.{ℕ, ◌≡◌, List}
+use Rattle.m36_text.specs.Lines.{open_rest}
+use Rattle.m36_debug.specs.LinesTaken.{IsLines, IsUnbroken}
+use Rattle.m36_debug.specs.Session.{Turning, Standing, standing, Event, Waiting, Over}
+use Rattle.m36_debug.specs.Session.{Follow, lines_said, lines_in}
+use Rattle.m36_debug.specs.Sitting.{SittingFields}
+
+-- In a session over a machine some events happen, one after another: these lines are taken in them,
+-- and these are written of them.
+pub record Happens {M : Type 0} (o : Turning M) (s : Standing) (m : M)
+    (lines written : List (List ℕ)) (s' : Standing) (m' : M) : Type 0 where
+  pub events : List (Event M)
+  pub follow : Follow o s m events s' m'
+  pub took : lines_in events ≡ lines
+  pub said : lines_said o s events ≡ written
+
+-- the answers to some lines, and what they leave
+pub data Reply (M : Type 0) : Type 0 where
+  -- all lines were answered: what is written, the part of a line that is kept, and the session and
+  -- the machine as they are now
+  All : List (List ℕ) → List ℕ → SittingFields → M → Reply M
+  -- the last line that was answered is `quit`
+  Quits : List (List ℕ) → Reply M
+  -- after some of what they say the session can't go on
+  Breaks : List (List ℕ) → Reply M
+
+-- ---- a piece of input
+
+-- All whole lines of a text are answered, and what follows them is kept.
+pub record RepliesAll {M : Type 0} (o : Turning M) (s : Standing) (m : M) (text : List ℕ)
+    (written : List (List ℕ)) (kept : List ℕ) (sitting : SittingFields) (m' : M) : Type 0 where
+  pub lines : List (List ℕ)
+  pub is : IsLines text lines kept
+  pub unbroken : IsUnbroken kept
+  pub happens : Happens o s m lines written (standing sitting Waiting) m'
+
+-- The first lines of it are, the last of which is `quit`.
+pub record RepliesQuit {M : Type 0} (o : Turning M) (s : Standing) (m : M) (text : List ℕ)
+    (written : List (List ℕ)) : Type 0 where
+  pub lines : List (List ℕ)
+  pub rest : List ℕ
+  pub is : IsLines text lines rest
+  pub sitting : SittingFields
+  pub machine : M
+  pub happens : Happens o s m lines written (standing sitting Over) machine
+
+-- Some of them are.
+pub record RepliesSome {M : Type 0} (o : Turning M) (s : Standing) (m : M) (text : List ℕ)
+    (written : List (List ℕ)) : Type 0 where
+  pub lines : List (List ℕ)
+  pub rest : List ℕ
+  pub is : IsLines text lines rest
+  pub stands : Standing
+  pub machine : M
+  pub happens : Happens o s m lines written stands machine
+
+-- the answers to the whole lines of a text
+abbrev pub IsReply : {M : Type 0} → Turning M → Standing → M → List ℕ → Reply M → Type 0
+IsReply o s m text (All written kept sitting m') =
+    RepliesAll o s m text written kept sitting m'
+IsReply o s m text (Quits written) = RepliesQuit o s m text written
+IsReply o s m text (Breaks written) = RepliesSome o s m text written
+
+-- ---- the end of the input
+
+-- The line that has begun is answered, if there is a part of it, and is `quit`.
+pub record LastQuits {M : Type 0} (o : Turning M) (s : Standing) (m : M) (begun : List ℕ)
+    (written : List (List ℕ)) : Type 0 where
+  pub sitting : SittingFields
+  pub machine : M
+  pub happens : Happens o s m (open_rest begun) written (standing sitting Over) machine
+
+-- Some of what it says is written.
+pub record LastBreaks {M : Type 0} (o : Turning M) (s : Standing) (m : M) (begun : List ℕ)
+    (written : List (List ℕ)) : Type 0 where
+  pub stands : Standing
+  pub machine : M
+  pub happens : Happens o s m (open_rest begun) written stands machine
+
+-- the answer to the line that has begun when the input ends, if there is a part of it
+abbrev pub IsLast : {M : Type 0} → Turning M → Standing → M → List ℕ → Reply M → Type 0
+IsLast o s m begun (All written kept sitting m') =
+    Happens o s m (open_rest begun) written (standing sitting Waiting) m'
+IsLast o s m begun (Quits written) = LastQuits o s m begun written
+IsLast o s m begun (Breaks written) = LastBreaks o s m begun written
