@@ -27,7 +27,7 @@ pub fn folder_command<F: Folder, L: Lines, S: Sink>(
     lines: &mut L,
     out: &mut S,
 ) -> Status
-    // All that happens, in order, is what the program says.
+    // All that the three objects record of the call, in some order, is what the program says.
     ensures performs { PerformsOver (folder_program command user.now) (early result)
         (objects F.asked F.wrote F.files F.read_faults F.write_faults L.given L.left L.faults
         S.taken S.written S.faults folder.old lines.old out.old)

@@ -31,7 +31,7 @@ pub fn print_command<F: Folder, L: Lines, S: Sink>(
     lines: &mut L,
     out: &mut S,
 ) -> Status
-    // All that happens, in order, is what the program says.
+    // All that the three objects record of the call, in some order, is what the program says.
     ensures performs { PerformsOver (print_program name.now) (early result)
         (objects F.asked F.wrote F.files F.read_faults F.write_faults L.given L.left L.faults
         S.taken S.written S.faults folder.old lines.old out.old)
@@ -64,7 +64,7 @@ pub fn access_command<F: Folder, L: Lines, S: Sink>(
     lines: &mut L,
     out: &mut S,
 ) -> Status
-    // All that happens, in order, is what the program says.
+    // All that the three objects record of the call, in some order, is what the program says.
     ensures performs { PerformsOver (access_program user.now) (early result)
         (objects F.asked F.wrote F.files F.read_faults F.write_faults L.given L.left L.faults
         S.taken S.written S.faults folder.old lines.old out.old)
@@ -97,7 +97,7 @@ pub fn alm_command<F: Folder, L: Lines, S: Sink>(
     lines: &mut L,
     out: &mut S,
 ) -> Status
-    // All that happens, in order, is what the program says.
+    // All that the three objects record of the call, in some order, is what the program says.
     ensures performs { PerformsOver (alm_program files.now) (early result)
         (objects F.asked F.wrote F.files F.read_faults F.write_faults L.given L.left L.faults
         S.taken S.written S.faults folder.old lines.old out.old)
@@ -130,7 +130,7 @@ pub fn bind_command<F: Folder, L: Lines, S: Sink>(
     lines: &mut L,
     out: &mut S,
 ) -> Status
-    // All that happens, in order, is what the program says.
+    // All that the three objects record of the call, in some order, is what the program says.
     ensures performs { PerformsOver (bind_program files.now) (early result)
         (objects F.asked F.wrote F.files F.read_faults F.write_faults L.given L.left L.faults
         S.taken S.written S.faults folder.old lines.old out.old)

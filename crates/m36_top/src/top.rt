@@ -233,8 +233,8 @@ pub fn m36<F: Folder, L: Lines, S: Sink>(
         (talk_of L.left L.given L.faults lines.old lines.new)
         (F.asked folder.old) (F.asked folder.new) }
 
-    // Every command but `make` does what its program says: all that the three objects record of the call, in one order. So
-    // `debug` puts the answers to the whole lines that it has before it takes more of the input.
+    // Every command but `make` does what its program says: all that the three objects record of the
+    // call, in some order, is what the program does.
     ensures performs { TopPerforms (command_of words.now) result
         (objects F.asked F.wrote F.files F.read_faults F.write_faults L.given L.left L.faults
         S.taken S.written S.faults folder.old lines.old out.old)
