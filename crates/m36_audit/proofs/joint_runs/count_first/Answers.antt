@@ -1,4 +1,4 @@
-use Rattle.std.proofs.Common.{◌*◌, ◌+◌, ◌^◌, ◌<◌, ℕ, length, sym, ◌∙◌, arith}
+use Rattle.std.proofs.Common.{◌*◌, ◌+◌, ◌^◌, ◌<◌, length, sym, ◌∙◌, arith}
 use Rattle.m36_audit.proofs.Noting.{dbr_at, dbr_of, value_at}
 use Rattle.m36_audit.proofs.SegmentRuns.{disorder_at}
 use Rattle.m36_audit.proofs.JointRuns.{not_first, no_words, runs_are}

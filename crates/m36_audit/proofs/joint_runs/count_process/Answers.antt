@@ -1,4 +1,4 @@
-use Rattle.std.proofs.Common.{ℕ, length, arith}
+use Rattle.std.proofs.Common.{length, arith}
 use Rattle.m36_audit.proofs.Noting.{dbr_at}
 use Rattle.m36_audit.proofs.JointRuns.{process_counted}
 use Rattle.m36_audit.proofs.joint_runs.count_process.Goals as goal

@@ -1,9 +1,6 @@
-use Rattle.std.proofs.Common.{refl, ap, subst}
-use Rattle.std.specs.Prelude.{ℕ, List}
+use Rattle.std.proofs.Common.{refl, ap}
 use Rattle.m36_step.specs.declared.turns.Turn.TheVariants.{Linked}
 use Rattle.m36_super.specs.Coming.{Step}
-use Rattle.m36_super.specs.Services.{link_changes}
-use Rattle.m36_super.specs.Writing.{ArePut}
 use Rattle.m36_super.proofs.LinkTurns.{linked}
 use Rattle.m36_super.proofs.linking.snapped.Goals as goal
 
