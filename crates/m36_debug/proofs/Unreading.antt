@@ -35,7 +35,7 @@ pub record Unread (old new : Seen) : Type 0 where
   pub faults : new.read_faults ≡ old.read_faults
 
 unread_on : (old between new : Seen) → between.reads ≡ old.reads → between.read_faults ≡ old.read_faults → Unread between new → Unread old new
-unread_on old between new reads faults later = record { reads = later.reads ∙ reads; faults = later.faults ∙ faults }
+unread_on old between new same_reads same_faults later = record { reads = later.reads ∙ same_reads; faults = later.faults ∙ same_faults }
 
 pub no_reads : (events : List Event) (old new : Seen) → NoReads events → Follow events old new → Unread old new
 unfolding Follow
