@@ -12,4 +12,5 @@ pub mod SessionSteps
 pub mod SessionLaws
 pub mod Replied
 pub mod SessionBridge
+pub mod HeldLaws
 pub mod Unreading

@@ -1,7 +1,5 @@
 -- How a session's program goes: answers are put and it goes on, or ends; and a piece of input is taken, or not.
 use Rattle.std.proofs.Common.{◌≡◌, ◌≤◌, ◌⊎◌, ℕ, zero, suc, List, [], ◌∷◌, ◌++◌, length, Result, Ok, Err, refl, sym, ap, subst, ◌∙◌, inl, inr}
-use Rattle.std.proofs.lemmas.List.{append-nil}
-use Rattle.m36_outside.specs.declared.sink.Put.TheVariants.{Done, Failed}
 use Rattle.m36_world.specs.Did.{IsInput, IsInputFailed, IsOutput, IsOutputFailed}
 use Rattle.m36_world.specs.Follow.{Next, Follow, outputs}
 use Rattle.m36_world.specs.Seen.{Seen}
@@ -11,12 +9,10 @@ use Rattle.m36_world.proofs.Following.{follow_split}
 use Rattle.m36_reading.specs.declared.status.Status.{Status}
 use Rattle.m36_reading.specs.declared.status.Status.TheVariants.{ReadFault, WriteFault, NoMemory}
 use Rattle.m36_program.specs.Goes.{Goes, FailsWith}
-use Rattle.m36_program.specs.Program.{Program, done, puts_all}
-use Rattle.m36_program.specs.Trail.{pieces_of, put_of}
-use Rattle.m36_program.proofs.PieceLaws.{pieces_put, put_after}
+use Rattle.m36_program.specs.Program.{done, puts_all}
 use Rattle.m36_debug.specs.Replies.{Reply, All, Quits, Breaks}
 use Rattle.m36_debug.specs.Session.{Turning}
-use Rattle.m36_debug.specs.SessionProgram.{Talk, too_long, starves, takes_within, on_reply, replies, by_piece, session_from}
+use Rattle.m36_debug.specs.SessionProgram.{Talk, too_long, starves, takes_within, on_reply, replies, session_from}
 use Rattle.m36_debug.specs.SessionSays.{LinesSeen, input}
 use Rattle.m36_debug.specs.Sitting.{SittingFields}
 
@@ -26,7 +22,7 @@ use Rattle.m36_debug.specs.Sitting.{SittingFields}
 abbrev pub input_by : Seen → LinesSeen
 input_by seen = input seen.left seen.inputs seen.input_faults
 
-outputs_keep : (pieces : List (List ℕ)) (old new : Seen) → Follow (outputs pieces) old new → input_by new ≡ input_by old
+pub outputs_keep : (pieces : List (List ℕ)) (old new : Seen) → Follow (outputs pieces) old new → input_by new ≡ input_by old
 unfolding Follow
 outputs_keep [] old new follow = ap input_by follow
 outputs_keep (piece ∷ pieces) old new follow =

@@ -1,30 +1,24 @@
 -- What a session is to do next: it takes a piece of input, and puts the answers to its lines.
-use Rattle.std.proofs.Common.{◌≡◌, ◌≤◌, ℕ, zero, suc, List, [], ◌∷◌, ◌++◌, length, Result, Ok, Err, refl, sym, ap, subst, ◌∙◌, inl, inr, arith}
+use Rattle.std.proofs.Common.{◌≤◌, ℕ, List, [], ◌∷◌, ◌++◌, length, Ok, Err, refl, sym, subst, inl, inr}
 use Rattle.std.proofs.lemmas.List.{append_assoc}
 use Rattle.m36_text.specs.Lines.{open_rest}
-use Rattle.m36_outside.specs.declared.sink.Put.TheVariants.{Done, Failed}
 use Rattle.m36_world.specs.Did.{IsInput, IsInputFailed}
-use Rattle.m36_world.specs.Follow.{Follow, outputs}
 use Rattle.m36_world.specs.Seen.{Seen}
-use Rattle.m36_world.specs.declared.event.Event.{Event}
 use Rattle.m36_world.specs.declared.event.Event.TheVariants.{Input, InputFailed}
 use Rattle.m36_world.proofs.Following.{follow_on, follow_one, follow_none}
-use Rattle.m36_reading.specs.declared.status.Status.{Status}
-use Rattle.m36_reading.specs.declared.status.Status.TheVariants.{ReadFault, WriteFault, NoMemory, BadFile}
-use Rattle.m36_reading.specs.declared.status.Code.TheVariants.{S1}
+use Rattle.m36_reading.specs.declared.status.Status.TheVariants.{ReadFault, WriteFault, NoMemory}
 use Rattle.m36_program.specs.Goes.{Goes}
 use Rattle.m36_program.specs.Gathered.{Gathers, Loses}
 use Rattle.m36_program.specs.Performs.{Performs, Leads}
-use Rattle.m36_program.specs.Program.{Program, done, stops, some, wants, puts_all}
-use Rattle.m36_program.specs.Readers.{refused}
+use Rattle.m36_program.specs.Program.{done, some, puts_all}
 use Rattle.m36_program.proofs.LeadLaws.{leads_some, leads_empty, leads_gathers, leads_lost, leads_ends}
 use Rattle.m36_program.proofs.Performing.{goes_no_memory}
 use Rattle.m36_debug.specs.Parts.{EndSays}
-use Rattle.m36_debug.specs.PieceSays.{PieceSays, AnsweredAll, AnsweredQuit, AnsweredSome, AnsweredCut}
+use Rattle.m36_debug.specs.PieceSays.{AnsweredAll, AnsweredQuit, AnsweredSome, AnsweredCut}
 use Rattle.m36_debug.specs.Putting.{pending}
 use Rattle.m36_debug.specs.Replies.{Reply, All, Quits, Breaks, IsReply, IsLast}
-use Rattle.m36_debug.specs.Session.{Turning, Waiting, Over, Starved, standing, lines_said}
-use Rattle.m36_debug.specs.SessionProgram.{talking, Talk, stdin_name, too_long, starves, takes_within, on_reply, replies, at_end, by_piece, session_from, ended_by}
+use Rattle.m36_debug.specs.Session.{Turning, Waiting, Starved, standing, lines_said}
+use Rattle.m36_debug.specs.SessionProgram.{Talk, starves, takes_within, on_reply, replies, at_end, ended_by}
 use Rattle.m36_debug.specs.SessionSays.{answer_of}
 use Rattle.m36_debug.specs.Sitting.{SittingFields}
 use Rattle.m36_debug.specs.declared.turning.Ends.{Ends}

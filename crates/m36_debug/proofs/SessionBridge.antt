@@ -1,9 +1,7 @@
 -- A call that performs a session's program is a session by its events, as the clauses on input and output say.
-use Rattle.std.proofs.Common.{◌≡◌, ◌≤◌, ◌<◌, ◌+◌, ◌-◌, ◌⊎◌, ℕ, zero, suc, List, [], ◌∷◌, ◌++◌, length, Result, Ok, Err, refl, sym, ap, subst, ◌∙◌, ◌==◌, false, inl, inr, arith}
+use Rattle.std.proofs.Common.{◌≡◌, ◌≤◌, ◌+◌, ◌-◌, ◌⊎◌, ℕ, zero, suc, List, [], ◌∷◌, ◌++◌, length, Result, Ok, Err, refl, sym, ap, subst, ◌∙◌, ◌==◌, false, inl, inr, arith}
 use Rattle.std.proofs.lemmas.List.Elements.{All-nil}
 use Rattle.std.proofs.lemmas.List.{append-nil, append_assoc}
-use Rattle.m36_text.specs.Lines.{open_rest}
-use Rattle.m36_outside.specs.Piece.{preceded}
 use Rattle.m36_outside.specs.SinkState.{SinkState}
 use Rattle.m36_outside.specs.Putting.{PutsPieces}
 use Rattle.m36_outside.specs.declared.sink.Put.{Put}
@@ -12,7 +10,7 @@ use Rattle.m36_world.specs.Did.{IsInput, IsInputFailed}
 use Rattle.m36_world.specs.Follow.{Follow, outputs}
 use Rattle.m36_world.specs.Seen.{Seen}
 use Rattle.m36_world.specs.declared.event.Event.{Event}
-use Rattle.m36_world.specs.declared.event.Event.TheVariants.{Input, InputFailed, OutputFailed}
+use Rattle.m36_world.specs.declared.event.Event.TheVariants.{Input, OutputFailed}
 use Rattle.m36_reading.specs.declared.status.Status.{Status}
 use Rattle.m36_program.specs.Goes.{Goes}
 use Rattle.m36_program.specs.Program.{done}
@@ -22,18 +20,17 @@ use Rattle.m36_program.proofs.PieceLaws.{pieces_put, put_after, puts_longer}
 use Rattle.m36_program.proofs.ProgramLaws.{performs_text}
 use Rattle.m36_debug.specs.declared.fault.SessionFault.{SessionFault}
 use Rattle.m36_debug.specs.declared.fault.SessionFault.TheVariants as fault
-use Rattle.m36_debug.specs.LinesTaken.{IsUnbroken}
 use Rattle.m36_debug.specs.Replies.{Reply, All, Quits, Breaks, IsReply, IsLast, RepliesSome, LastBreaks}
 use Rattle.m36_debug.specs.Session.{Turning, Waiting, Over, standing}
-use Rattle.m36_debug.specs.SessionProgram.{Talk, too_long, takes_within, replies, at_end, by_piece, session_from, session, ended_by}
+use Rattle.m36_debug.specs.SessionProgram.{Talk, too_long, replies, at_end, by_piece, session_from, session, ended_by}
 use Rattle.m36_debug.specs.SessionSays.{LinesSeen, IsSession, WroteBy, put_by, bytes_limit}
 use Rattle.m36_debug.specs.Sitting.{SittingFields, new_sitting}
-use Rattle.m36_debug.proofs.Replied.{input_by, PutsNone, Wrote, Unwrote, written_in, Replied, WentOn, HasQuit, HasStarved, HasFailed, HasTaken, HasNotTaken, replies_go, takes_go, session_puts_none, done_puts_none, nothing_more}
-use Rattle.m36_debug.proofs.SessionLaws.{GotPiece, GotEnd, GotNothing, Going, Breaking, Unwritten, Starving, fault_of, going_start, going_unread, going_too_long, going_end, going_last_quit, going_last_breaks, going_on, going_quit, going_breaks}
+use Rattle.m36_debug.proofs.Replied.{input_by, written_in, Replied, HasTaken, HasNotTaken, replies_go, takes_go, session_puts_none, done_puts_none, nothing_more}
+use Rattle.m36_debug.proofs.SessionLaws.{GotPiece, GotEnd, GotNothing, Going, Unwritten, Starving, going_start, going_unread, going_too_long, going_end, going_last_quit, going_last_breaks, going_on, going_quit, going_breaks}
 
 -- ---- calls for input
 
-got_piece :
+pub got_piece :
     (piece : List ℕ) (most : ℕ) (old new : Seen) → IsInput piece old new → 1 ≤ length piece → length piece ≤ most
     → GotPiece piece most (input_by old) (input_by new)
 got_piece piece most old new did some within = record {
@@ -44,7 +41,7 @@ got_piece piece most old new did some within = record {
   faults = ap (λ s. s.input_faults) did.rest;
 }
 
-got_end : (old new : Seen) → IsInput [] old new → GotEnd (input_by old) (input_by new)
+pub got_end : (old new : Seen) → IsInput [] old new → GotEnd (input_by old) (input_by new)
 got_end old new did = record {
   at_end = did.end refl;
   left = did.left;
@@ -52,7 +49,7 @@ got_end old new did = record {
   faults = ap (λ s. s.input_faults) did.rest;
 }
 
-got_nothing : (old new : Seen) → IsInputFailed old new → GotNothing (input_by old) (input_by new)
+pub got_nothing : (old new : Seen) → IsInputFailed old new → GotNothing (input_by old) (input_by new)
 got_nothing old new did = record {
   left = ap (λ s. s.left) did.rest;
   gave = ap (λ s. s.inputs) did.rest;

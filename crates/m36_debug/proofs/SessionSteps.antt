@@ -1,21 +1,18 @@
 -- A session, piece by piece: what is left of its program.
-use Rattle.std.proofs.Common.{◌≡◌, ◌≤◌, ◌<◌, ◌+◌, ◌-◌, ℕ, zero, suc, List, [], ◌∷◌, ◌++◌, length, take, Result, Ok, Err, refl, sym, ap, subst, ◌∙◌, arith, length-take}
+use Rattle.std.proofs.Common.{◌≡◌, ◌≤◌, ◌<◌, ◌-◌, ℕ, zero, suc, List, [], ◌∷◌, ◌++◌, length, take, Ok, Err, refl, sym, ap, subst, ◌∙◌, arith, length-take}
 use Rattle.m36_text.specs.Lines.{open_rest}
 use Rattle.m36_world.specs.Did.{IsInput, IsInputFailed}
 use Rattle.m36_world.specs.Seen.{Seen}
 use Rattle.m36_world.proofs.Following.{follow_none}
-use Rattle.m36_reading.specs.declared.status.Status.TheVariants.{BadFile}
-use Rattle.m36_reading.specs.declared.status.Code.TheVariants.{S1}
 use Rattle.m36_program.specs.Goes.{Goes}
 use Rattle.m36_program.specs.Performs.{Performs, Leads}
-use Rattle.m36_program.specs.Readers.{refused}
 use Rattle.m36_program.proofs.LeadLaws.{leads_start, leads_as, leads_ends}
 use Rattle.m36_debug.specs.Parts.{EndSays}
 use Rattle.m36_debug.specs.PieceSays.{PieceSays, AnsweredAll, AnsweredQuit, AnsweredSome, AnsweredCut}
 use Rattle.m36_debug.specs.Putting.{pending}
 use Rattle.m36_debug.specs.Replies.{IsReply}
 use Rattle.m36_debug.specs.Session.{Turning, Waiting, Standing, standing}
-use Rattle.m36_debug.specs.SessionProgram.{Talk, stdin_name, too_long, takes_within, replies, at_end, by_piece, session_from, session, ended_by}
+use Rattle.m36_debug.specs.SessionProgram.{Talk, too_long, takes_within, replies, at_end, by_piece, session_from, session, ended_by}
 use Rattle.m36_debug.specs.SessionSays.{bytes_limit, answer_of}
 use Rattle.m36_debug.specs.Sitting.{SittingFields, new_sitting}
 use Rattle.m36_debug.specs.Taking.{IsTaken}
@@ -155,7 +152,7 @@ by_some :
 by_some end more [] some = absurd (omega (arith, some))
 by_some end more (byte ∷ bytes) some = ap (λ n. more n (byte ∷ bytes)) (let is : length bytes ≡ suc (length bytes) - 1 = omega arith in is)
 
-taken_length :
+pub taken_length :
     (count most : ℕ) (buffer : List ℕ) (old new : Seen) → IsTaken count most buffer old new → length (take count buffer) ≡ count
 taken_length count most buffer old new taken = omega (arith, length-take count buffer, taken.room)
 

@@ -1,7 +1,7 @@
 -- A session reads no file.
 use Rattle.std.specs.Prelude.{⊤}
-use Rattle.std.proofs.Common.{◌≡◌, ℕ, zero, suc, List, [], ◌∷◌, ◌++◌, Result, refl, sym, ap, subst, ◌∙◌, inl, inr}
-use Rattle.m36_world.specs.Did.{Did, IsFileWrite, IsOutput, IsOutputFailed, IsInput, IsInputFailed}
+use Rattle.std.proofs.Common.{◌≡◌, ℕ, zero, suc, List, [], ◌∷◌, ◌++◌, Result, sym, ap, subst, ◌∙◌, inl, inr}
+use Rattle.m36_world.specs.Did.{IsFileWrite, IsOutput, IsOutputFailed, IsInput, IsInputFailed}
 use Rattle.m36_world.specs.Follow.{Follow}
 use Rattle.m36_world.specs.Seen.{Seen}
 use Rattle.m36_world.specs.declared.event.Event.{Event}

@@ -21,6 +21,8 @@ use Rattle.m36_debug.specs.Session.{Turning, Doing, Waiting, Over, Standing, Eve
 use Rattle.m36_debug.specs.Session.{Follow, lines_said, lines_in}
 use Rattle.m36_debug.specs.SessionLines.{session_line, IsNotQuit}
 use Rattle.m36_debug.specs.Sitting.{new_sitting}
+use Rattle.m36_program.specs.Trail.{output_of}
+use Rattle.m36_world.specs.Seen.{Seen}
 
 -- the maximum number of bytes of a session
 abbrev pub bytes_limit : ℕ
@@ -155,3 +157,10 @@ pub record SessionSays {M : Type 0} (o : Turning M) (result : Result (Unit {0}) 
   pub lines : List (List ℕ)
   pub session : IsSession o result m m' before after lines
   pub wrote : WroteBy result old new lines
+
+-- the same of the input and the output of a world
+abbrev pub SaysInWorld :
+    {M : Type 0} → Turning M → Result (Unit {0}) SessionFault → M → M → Seen → Seen → Type 0
+SaysInWorld o result m m' old new =
+    SessionSays o result m m' (input old.left old.inputs old.input_faults)
+    (input new.left new.inputs new.input_faults) (output_of old) (output_of new)

@@ -11,7 +11,7 @@ ghost use Rattle.m36_debug.specs.Putting.{pending, PutsPieces};
 ghost use Rattle.m36_debug.specs.Session.{Waiting, standing, turning};
 ghost use Rattle.m36_debug.specs.SessionLines.{most_steps};
 ghost use Rattle.m36_debug.specs.SessionProgram.{session, ended_by};
-ghost use Rattle.m36_debug.specs.SessionSays.{answer_of};
+ghost use Rattle.m36_debug.specs.SessionSays.{SaysInWorld, answer_of};
 ghost use Rattle.m36_debug.specs.StepLimit.{StepsWithin};
 ghost use Rattle.m36_debug.specs.Taking.{TakesWithin};
 
@@ -138,8 +138,9 @@ fn reply_last<M: Stepper, W: World>(
 }
 
 /// A session: does what the lines say, up to `quit` or their end. The last line may lack its line
-/// feed. The answers to all whole lines are put before more input is taken. `step N` takes at most
-/// N steps, and `go` at most 100,000, whatever the machine is.
+/// feed. The answers to all whole lines are put before more input is taken. The machine takes no turn
+/// but those that the lines ask for: `step N` takes at most N steps, and `go` at most 100,000,
+/// whatever the machine is.
 pub fn debug<M: Stepper, W: World>(
     alloc: Global,
     m: &mut M,
@@ -147,6 +148,8 @@ pub fn debug<M: Stepper, W: World>(
 ) -> Result<(), SessionFault>
     ensures performs { Performs (session (turning M.regs M.content M.next M.went) m.old)
         (ended_by result) (W.seen world.old) (W.seen world.new) }
+    ensures says { SaysInWorld (turning M.regs M.content M.next M.went) result m.old m.new
+        (W.seen world.old) (W.seen world.new) }
     ensures limit { StepsWithin (turning M.regs M.content M.next M.went) }
 {
     step_limit::<M>();
