@@ -5,4 +5,3 @@ pub mod CatalogLaws
 pub mod OldReading
 pub mod OldReaders
 pub mod OldDoing
-pub mod ThreeObjects

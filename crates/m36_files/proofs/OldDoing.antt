@@ -35,7 +35,7 @@ use Rattle.m36_program.specs.Trail.{IsUnfailed, Trail, output_of}
 use Rattle.m36_program.proofs.PieceLaws.{reads_of}
 use Rattle.m36_program.proofs.SplitLaws.{goes_split}
 use Rattle.m36_program.proofs.TrailLaws.{goes_trail}
-use Rattle.m36_files.specs.Calling.{outside_by}
+use Rattle.m36_program.specs.Objects.{outside_by}
 use Rattle.m36_files.specs.Deciding.{by_refusal}
 use Rattle.m36_files.proofs.OldReading.{AreReads, ReadsSo, IsReader, given_value, given_refusal}
 

@@ -2,5 +2,4 @@ pub mod Deciding
 pub mod FileReaders
 pub mod EachFile
 pub mod Catalogs
-pub mod Calling
 pub mod Writing

@@ -104,11 +104,7 @@ fn lists_in(alloc: Global, catalog: &Catalog, bytes: &[u8]) -> Result<Acl, Refus
 }
 
 /// Reads the access lists for a catalog.
-pub fn read_lists<W: World>(
-    alloc: Global,
-    catalog: &Catalog,
-    world: &mut W,
-) -> Result<Acl, Status>
+pub fn read_lists<W: World>(alloc: Global, catalog: &Catalog, world: &mut W) -> Result<Acl, Status>
     ensures { (may : May) → Performs {may = may} (access_lists catalog.now) result
         (W.seen world.old) (W.seen world.new) }
 {

@@ -18,10 +18,9 @@
 //! What is worked out from the bytes of a file, without a read, is a rule: it gives a value or a
 //! refusal, and memory may run out for it (`decides`). [`decide`] makes the result of a call by it.
 //!
-//! `specs/Calling.antt` says what a call does that performs a program over a folder, an input and an
-//! output of the caller (`PerformsOver`). The older layer says the same call by a reading and by
-//! what is due (`Does`): `IsReader` (`proofs/OldReading.antt`) ties a reader to its reading, and
-//! `reader_does` (`proofs/OldDoing.antt`) a command that reads and then answers.
+//! The older layer says what a command does by a reading and by the answer to it (`Does`):
+//! `IsReader` (`proofs/OldReading.antt`) ties a reader to its reading, and `reader_does`
+//! (`proofs/OldDoing.antt`) a command that reads and then answers.
 #![tactic(auto)]
 
 pub mod catalogs;
