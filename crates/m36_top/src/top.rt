@@ -17,7 +17,7 @@ use crate::command::Command;
 use crate::words::command_of;
 use cmd_image::image_command;
 use m36_booted::folder_booted;
-use m36_made::make_folder;
+use cmd_make::make_folder;
 use m36_outside::{Folder, Lines, Sink, Text};
 use m36_ran::ImageCommand;
 use m36_reading::Status;

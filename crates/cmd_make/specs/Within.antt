@@ -1,0 +1,14 @@
+-- A program that writes no file and takes no input, as one that may.
+use Rattle.std.specs.Prelude.{◌≡◌, true, false}
+use Rattle.m36_program.specs.Program.{May, quiet, Program}
+use Rattle.m36_program.specs.Program.{done, stops, reads, writes, puts, takes, some, wants}
+
+unfoldable pub within : {may : May} {A : Type 0} → Program quiet A → Program may A
+within (done a) = done a
+within (stops status own) = stops status own
+within (reads name go) = reads name (λ found. within (go found))
+within (writes allowed name content rest) = absurd (cc)
+within (puts piece rest) = puts piece (within rest)
+within (takes allowed go) = absurd (cc)
+within (some Is go) = some Is (λ b. within (go b))
+within (wants rest) = wants (within rest)
