@@ -3,6 +3,7 @@ pub mod Beginning
 pub mod Exchanging
 pub mod Fitting
 pub mod LinesRead
+pub mod Naming
 pub mod Repeating
 pub mod EventsRun
 pub mod EventPieces

@@ -10,6 +10,10 @@
 //! what it writes is exactly the text of these events. Where the sink fails it is a first part of the text, and the
 //! processes stand behind a first part of the schedule.
 //!
+//! A caller with an output of another kind makes the events one by one: [`Procs::process_at`] is the process of each,
+//! [`Procs::event_into`] makes it and fills a record that the next event may fill again, and [`event_line`] and
+//! [`end_line`] are the lines.
+//!
 //! `specs/ProcsFile.antt` has the grammar of the text, and `specs/ScheduleText.antt` what a run writes. What events are is
 //! `m36_model:Schedule`. The processor is that of the Multics Processor Manual AL39; the text and the lines are this
 //! simulator's own.
@@ -21,7 +25,8 @@ mod process_set;
 pub mod procs;
 mod reader;
 mod reading;
-mod running;
+pub mod running;
 
 pub use fault::{Code, ProcsFault, WriteFault};
 pub use procs::Procs;
+pub use running::{end_line, event_line};

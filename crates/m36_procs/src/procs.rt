@@ -107,6 +107,39 @@ impl Procs {
         told
     }
 
+    /// How many events the schedule has.
+    pub fn events(&self) -> usize
+        ensures { result ≡ length self.now.schedule }
+    {
+        self.schedule.len()
+    }
+
+    /// The process that makes event i of the schedule, counted from 0.
+    #[tactic(auto, using(crate::proofs::Naming::named_at))]
+    pub fn process_at(&self, i: usize) -> u8
+        requires { i < length self.now.schedule }
+        ensures value { slice_get self.now.schedule i ≡ Some result }
+        ensures there { result < length self.now.state.regs }
+    {
+        self.schedule[i]
+    }
+
+    /// A record for `event_into` to fill, with no step in it yet.
+    pub fn new_record(&self) -> StepRecord {
+        self.processes.untold()
+    }
+
+    /// As `event`, into a record that an earlier event may have filled.
+    pub fn event_into(&mut self, i: usize, step: &mut StepRecord)
+        requires { i < length self.old.state.regs }
+        ensures says { EventSays i self.old.state self.new.state step.new }
+        ensures count { length self.new.state.regs ≡ length self.old.state.regs }
+        ensures schedule { self.new.schedule ≡ self.old.schedule }
+    {
+        let processes = &mut self.processes;
+        processes.step_into(i, step);
+    }
+
     /// Makes the events of the whole schedule, and writes a line for each and the last line. The error comes only where a
     /// line could not be written; then a first part of the text is written, and the events of a first part of the schedule
     /// were made. Each line is put in one piece.

@@ -17,9 +17,9 @@ use m36_outside::{Block, Put, Sink};
 use m36_text::decimal;
 use m36_trace::line;
 
-// The line of an event, with its line feed.
+/// The line of an event, with its line feed.
 #[tactic(auto, unfolding(crate::specs::ScheduleText::event_line))]
-fn event_line(process: u8, n: u64, told: &StepRecord) -> ArrayString<176>
+pub fn event_line(process: u8, n: u64, told: &StepRecord) -> ArrayString<176>
     ensures { result.bytes ≡ event_line n process told.now }
 {
     let mut text = ArrayString::new();
@@ -30,9 +30,9 @@ fn event_line(process: u8, n: u64, told: &StepRecord) -> ArrayString<176>
     text
 }
 
-// The last line, with its line feed.
+/// The last line, with its line feed.
 #[tactic(auto, unfolding(crate::specs::ScheduleText::end_line))]
-fn end_line(events: u64) -> ArrayString<40>
+pub fn end_line(events: u64) -> ArrayString<40>
     ensures { result.bytes ≡ end_line events }
 {
     let mut text = ArrayString::new();

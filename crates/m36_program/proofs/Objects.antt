@@ -96,18 +96,21 @@ performs_over program result status old new old' new' status_is none same_old sa
 same_outside : (seen other : Seen) → SameObjects seen other → outside_by seen ≡ outside_by other
 same_outside seen other same = ap outside_by (same_seen seen other same)
 
--- what the call does by the old layer, over the world, it does over the three objects
+-- What each call of the program over a world does by the old layer, a call does over the three objects.
 pub does_over :
-    {D : Type 0} (kind : Kind D) (p : Reading (Early D)) (s status : Status) (old new old' new' : Seen)
-    → status ≡ s → SameObjects old old' → SameObjects new new'
-    → Does kind p s (outside_by old) (outside_by new) old.reads new.reads
+    {may : May} {D : Type 0} (kind : Kind D) (p : Reading (Early D)) (program : Program may (Unit {0}))
+    (result : Result (Unit {0}) Status) (status : Status) (old new old' new' : Seen)
+    → status ≡ status_by result → SameObjects old old' → SameObjects new new' → Performs program result old new
+    → ((seen seen' : Seen) → Performs program result seen seen'
+    → Does kind p (status_by result) (outside_by seen) (outside_by seen') seen.reads seen'.reads)
     → Does kind p status (outside_by old') (outside_by new') old'.reads new'.reads
-does_over kind p s status old new old' new' status_is same_old same_new does =
+does_over kind p program result status old new old' new' status_is same_old same_new performs each =
+    let s = status_by result in
     subst (λ t. Does kind p t (outside_by old') (outside_by new') old'.reads new'.reads) (sym status_is)
     (subst (λ r. Does kind p s (outside_by old') (outside_by new') old'.reads r) same_new.reads
     (subst (λ r. Does kind p s (outside_by old') (outside_by new') r new.reads) same_old.reads
     (subst (λ o. Does kind p s (outside_by old') o old.reads new.reads) (same_outside new new' same_new)
-    (subst (λ o. Does kind p s o (outside_by new) old.reads new.reads) (same_outside old old' same_old) does))))
+    (subst (λ o. Does kind p s o (outside_by new) old.reads new.reads) (same_outside old old' same_old) (each old new performs)))))
 
 pub untaken_over :
     {may : May} (program : Program may (Unit {0})) (result : Result (Unit {0}) Status) (old new old' new' : Seen)

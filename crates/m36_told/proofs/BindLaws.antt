@@ -3,18 +3,14 @@ use Rattle.std.proofs.Common.{◌≡◌, ℕ, List, Result, Ok, Err, refl, sym, 
 use Rattle.obj36_parts.specs.PartsFields.{PartsFields}
 use Rattle.m36_bindfile.specs.declared.fault.BindFault.{BindFault}
 use Rattle.m36_bindfile.specs.declared.fault.BindFault.TheVariants as bind
-use Rattle.m36_bindfile.specs.BindFile.{bind_lines, names_by, Refuses}
+use Rattle.m36_bindfile.specs.BindFile.{Refuses}
 use Rattle.m36_reading.specs.declared.refusal.Refusal.{Refusal}
-use Rattle.m36_reading.specs.declared.refusal.Refusal.TheVariants.{NoMemory}
-use Rattle.m36_reading.specs.Reading.{decided, Early, then_with}
+use Rattle.m36_reading.specs.Reading.{Early}
 use Rattle.m36_reading.specs.Asking as asking
-use Rattle.m36_reading.specs.Asking.{Asked}
-use Rattle.m36_reading.specs.Outside.{FolderState}
-use Rattle.m36_reading.specs.Doing.{Reads}
-use Rattle.m36_reading.proofs.ReadLaws.{gives_by, memory_given, reads_stop, reads_nothing}
+use Rattle.m36_reading.proofs.ReadLaws.{gives_by, memory_given}
 use Rattle.m36_told.specs.declared.binding.BindFiles.{BindFiles}
 use Rattle.m36_told.specs.Told.{ToldFields}
-use Rattle.m36_told.specs.Binding.{bind_refused, names_told, bound_told, bind_told, names_read, text_read}
+use Rattle.m36_told.specs.Binding.{bind_refused, names_told, bound_told, bind_told}
 
 -- ---- answers that are refused
 
@@ -63,22 +59,3 @@ pub bound_refused :
     → lent ≡ files.bindfile → Refuses f given → asking.Refuses r (bind_refused lent f) → asking.Gives (Err r) (bind_told files given)
 bound_refused files lent given f r is refused refuses =
     handed PartsFields ToldFields (bind_told files) files.bindfile lent given f r (λ f. refl) is refused refuses
-
--- ---- the whole
-
-pub text_goes :
-    (files : BindFiles) (text : List ℕ) (names : List (List ℕ)) (result : Result ToldFields Refusal) (old new : FolderState) (before after : List Asked)
-    → names_told files.bindfile (names_by (bind_lines text)) ≡ Ok names → Reads (names_read files text names) result old new before after
-    → Reads (text_read files text) result old new before after
-unfolding text_read then_with
-text_goes files text names result old new before after is reads =
-    subst (λ (d : Early (List (List ℕ))). Reads (then_with (decided d) (λ ns. names_read files text ns)) result old new before after) (sym is) reads
-
-pub text_stops :
-    (files : BindFiles) (text : List ℕ) (r : Refusal) (old : FolderState) (before : List Asked)
-    → asking.Gives {A = List (List ℕ)} (Err r) (names_told files.bindfile (names_by (bind_lines text)))
-    → Reads (text_read files text) (Err r) old old before before
-unfolding text_read
-text_stops files text r old before gives =
-    reads_stop (List (List ℕ)) ToldFields (decided (names_told files.bindfile (names_by (bind_lines text)))) (λ ns. names_read files text ns) r old old before before
-    (reads_nothing (names_told files.bindfile (names_by (bind_lines text))) (Err r) old before gives)

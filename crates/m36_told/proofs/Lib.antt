@@ -1,7 +1,4 @@
-pub mod TextLines
 pub mod LineLaws
 pub mod SetLaws
-pub mod ToldLaws
 pub mod AlmLaws
 pub mod BindLaws
-pub mod AccessLaws

@@ -1,14 +1,13 @@
--- The lines of a text: the first one, those that are taken, and all of them joined.
-use Rattle.std.proofs.Common.{◌≡◌, ℕ, zero, suc, ◌+◌, ◌-◌, ◌<◌, ◌≤◌, ◌==◌, Bool, true, false, cond, List, [], ◌∷◌, ◌++◌, length, take, drop, get_or, Option, Some, None, refl, sym, ap, subst, ◌∙◌, arith}
+-- The lines of a text: the first one, and all of them joined.
+use Rattle.std.proofs.Common.{◌≡◌, ℕ, zero, suc, ◌+◌, ◌<◌, ◌≤◌, ◌==◌, Bool, true, false, cond, List, [], ◌∷◌, length, take, drop, get_or, Some, None, refl, sym, ap, subst, ◌∙◌, arith}
 use Rattle.std.specs.List.{position, position_or_len, onto_first}
 use Rattle.std.proofs.Math.Dec.{ltb}
 use Rattle.std.proofs.lemmas.Bool.{ltb-false}
 use Rattle.std.proofs.lemmas.List.{take_all, drop_all}
 use Rattle.std.proofs.lemmas.List.Quantifiers.{position-Some}
 use Rattle.std.proofs.lemmas.List.Sums.{fails_before_first}
-use Rattle.m36_outside.specs.Passing.{TakesPart, TakesSome, joined}
-use Rattle.m36_outside.proofs.LinesTaken.{CompletesLines, completes_lines_all, completes_lines_rest, completes_lines_cut, completes_no_lines, takes_some_of_line}
-use Rattle.m36_text.proofs.Splitting.{cond_none, rest_whole}
+use Rattle.m36_outside.specs.Passing.{joined}
+use Rattle.m36_text.proofs.Splitting.{cond_none}
 use Rattle.m36_told.specs.LinesIn.{lines_in}
 
 -- ---- the first line
@@ -58,39 +57,6 @@ first_all text none some =
     ∙ ap (λ r. take (length text) text ∷ lines_in r) (sym (drop_all (length text) text (omega arith)))
 
 pub ruleset first_line = (first_there, first_all)
-
--- ---- lines that are taken, one after another
-
--- at the beginning all are left
-pub lines_start : (text : List ℕ) (start : List (List ℕ)) → CompletesLines start start (lines_in text) (lines_in text)
-lines_start text start = completes_lines_all start (lines_in text)
-
--- the next one was taken
-pub line_taken :
-    (rest : List ℕ) (end : ℕ) (now next start all : List (List ℕ))
-    → CompletesLines now start (lines_in rest) all → lines_in rest ≡ take end rest ∷ lines_in (drop end rest) → next ≡ now ++ take end rest ∷ []
-    → CompletesLines next start (lines_in (take (length rest - end) (drop end rest))) all
-line_taken rest end now next start all so_far cut took =
-    subst (λ r. CompletesLines next start (lines_in r) all) (sym (rest_whole rest end))
-    (completes_lines_rest now next start (lines_in rest) (take end rest ∷ []) (lines_in (drop end rest)) all so_far cut took)
-
--- it was not taken whole
-pub line_part :
-    (rest : List ℕ) (end : ℕ) (written written' : Option (List ℕ)) (now new start all : List (List ℕ))
-    → CompletesLines now start (lines_in rest) all → lines_in rest ≡ take end rest ∷ lines_in (drop end rest)
-    → TakesPart written written' now new (take end rest) → TakesSome start new all
-line_part rest end written written' now new start all so_far cut part =
-    completes_lines_cut now new start (lines_in rest) (take end rest ∷ []) (lines_in (drop end rest)) all so_far cut (takes_some_of_line written written' now new (take end rest) part)
-
--- none is left
-pub lines_end :
-    (rest : List ℕ) (now start all : List (List ℕ))
-    → length rest ≡ 0 → CompletesLines now start (lines_in rest) all → now ≡ start ++ all
-unfolding lines_in
-lines_end [] now start all none so_far = completes_no_lines now start all so_far
-lines_end (b ∷ rest) now start all none so_far = absurd (omega (arith, none))
-
-pub ruleset lines_taken = (lines_start, line_taken, line_part, lines_end)
 
 -- ---- joined
 

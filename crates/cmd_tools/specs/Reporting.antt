@@ -1,0 +1,26 @@
+-- What a command works out is written and printed: the files, in order, and then the text.
+use Rattle.std.specs.Prelude.{ℕ, ◌≡◌, true, refl, List, [], ◌∷◌}
+use Rattle.m36_reading.specs.declared.setting.Set.{Set}
+use Rattle.m36_told.specs.LinesIn.{lines_in}
+use Rattle.m36_told.specs.Told.{ToldFields}
+use Rattle.m36_program.specs.Program.{May, Program, done, writes, puts_all}
+use Rattle.m36_files.specs.Writing.{writing}
+
+-- writes files, one after another
+unfoldable pub writes_all :
+    {may : May} {A : Type 0} → may.writes ≡ true → List Set → Program may A → Program may A
+writes_all allowed [] rest = rest
+writes_all allowed (file ∷ files) rest =
+    writes allowed file.name file.content (writes_all allowed files rest)
+
+-- a text, line by line, each line with its line feed
+unfoldable pub put_text : {may : May} → List ℕ → Program may (Unit {0})
+put_text text = puts_all (lines_in text) (done tt)
+
+-- files that are written
+unfoldable pub write_files : List Set → Program writing (Unit {0})
+write_files files = writes_all refl files (done tt)
+
+-- the files of a report, and then its text
+unfoldable pub write_report : ToldFields → Program writing (Unit {0})
+write_report report = writes_all refl report.sets (put_text report.text)

@@ -1,0 +1,77 @@
+-- `print NAME`, `access USER`, `alm NAME` and `bind NAME`, as programs: files are read, a report is
+-- worked out from them, its files are written, and its text is put, line by line. After the first
+-- write begins, memory may run out only in a write.
+use Rattle.std.specs.Prelude.{ℕ, List, [], Ok}
+use Rattle.m36_dir.specs.Catalog.{CatalogFields}
+use Rattle.m36_bindfile.specs.BindFile.{bind_lines, names_by}
+use Rattle.m36_bind.specs.Bound.{bound_of}
+use Rattle.m36_told.specs.declared.assembling.AlmFiles.{AlmFiles}
+use Rattle.m36_told.specs.declared.binding.BindFiles.{BindFiles}
+use Rattle.m36_told.specs.Accesses.{access_told}
+use Rattle.m36_told.specs.Assemblies.{assembly_of}
+use Rattle.m36_told.specs.Binding.{names_told, bind_told}
+use Rattle.m36_told.specs.Telling.{printed, told_by}
+use Rattle.m36_told.specs.Told.{ToldFields}
+use Rattle.m36_program.specs.Program.{May, quiet, Program, then_with}
+use Rattle.m36_program.specs.Readers.{file_bytes}
+use Rattle.m36_files.specs.Catalogs.{boot_catalog, access_lists}
+use Rattle.m36_files.specs.Deciding.{decides}
+use Rattle.m36_files.specs.EachFile.{each_onto}
+use Rattle.m36_files.specs.FileReaders.{file_object}
+use Rattle.m36_files.specs.Writing.{writing}
+use Rattle.cmd_tools.specs.Reporting.{put_text, write_report}
+
+-- ---- `print NAME`
+
+-- an object is read and printed
+unfoldable pub print_report : {may : May} → List ℕ → Program may ToldFields
+print_report name = then_with (file_object name) (λ parts. decides (Ok (printed name parts)))
+
+unfoldable pub print_program : List ℕ → Program quiet (Unit {0})
+print_program name = then_with (print_report name) (λ report. put_text report.text)
+
+-- ---- `access USER`
+
+-- the access lists are read: what a user may do with each segment of a catalog
+unfoldable pub lists_report : {may : May} → List ℕ → CatalogFields → Program may ToldFields
+lists_report user catalog =
+    then_with (access_lists catalog) (λ lists. decides (Ok (access_told user catalog lists)))
+
+-- the boot text is read, and then the access lists
+unfoldable pub access_report : {may : May} → List ℕ → Program may ToldFields
+access_report user = then_with boot_catalog (λ catalog. lists_report user catalog)
+
+unfoldable pub access_program : List ℕ → Program quiet (Unit {0})
+access_program user = then_with (access_report user) (λ report. put_text report.text)
+
+-- ---- `alm NAME`
+
+-- a source is read and assembled
+unfoldable pub alm_report : {may : May} → AlmFiles → Program may ToldFields
+alm_report files =
+    then_with (file_bytes files.source) (λ bytes. decides (told_by files (assembly_of bytes)))
+
+unfoldable pub alm_program : AlmFiles → Program writing (Unit {0})
+alm_program files = then_with (alm_report files) (λ report. write_report report)
+
+-- ---- `bind NAME`
+
+-- the components are read and bound
+unfoldable pub components_report :
+    {may : May} → BindFiles → List ℕ → List (List ℕ) → Program may ToldFields
+components_report files text names =
+    then_with (each_onto file_object [] names)
+    (λ objects. decides (bind_told files (bound_of text names objects)))
+
+-- the names of the components are taken from the bind file
+unfoldable pub text_report : {may : May} → BindFiles → List ℕ → Program may ToldFields
+text_report files text =
+    then_with (decides (names_told files.bindfile (names_by (bind_lines text))))
+    (λ names. components_report files text names)
+
+-- the bind file is read, and then its components
+unfoldable pub bind_report : {may : May} → BindFiles → Program may ToldFields
+bind_report files = then_with (file_bytes files.bindfile) (λ text. text_report files text)
+
+unfoldable pub bind_program : BindFiles → Program writing (Unit {0})
+bind_program files = then_with (bind_report files) (λ report. write_report report)

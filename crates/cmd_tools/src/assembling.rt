@@ -1,0 +1,105 @@
+//! The command `alm NAME`.
+
+ghost use Rattle.std.specs.Prelude.{◌≤◌, length, Ok};
+ghost use Rattle.m36_outside.specs.ReadAnswer.{file_limit};
+ghost use Rattle.alm_asm.specs.Assembly.{assembled};
+ghost use Rattle.m36_reading.specs.Asking.{Gives};
+ghost use Rattle.m36_told.specs.Assemblies.{with_parts, assembly_of};
+ghost use Rattle.m36_told.specs.Telling.{told_by, MadeSays};
+ghost use Rattle.m36_program.specs.Performs.{Performs};
+ghost use Rattle.m36_files.specs.Writing.{writing};
+ghost use Rattle.cmd_tools.specs.ToolPrograms.{alm_report, alm_program};
+
+use crate::report::{Report, report_file};
+use crate::reporting::write_report;
+use alm_asm::assemble;
+use alm_parse::{AlmFault, Lines36, parse};
+use m36_files::decide;
+use m36_list::listing;
+use m36_program::read_bytes;
+use m36_reading::{Refusal, Status};
+use m36_text::Name;
+use m36_told::objects::object_bytes;
+use m36_told::{AlmFiles, refuse_source};
+use m36_world::World;
+use obj36::Object;
+use std::alloc::Global;
+
+// The object that lines mean, and their listing, under the name of the object.
+fn listed(alloc: Global, name: &Name, lines: &Lines36, object: &Object) -> Result<Report, AlmFault>
+    ensures { MadeSays name.now result (Ok (record { source = lines.now; parts = object.now })) }
+{
+    let content = object_bytes(alloc, object)?;
+    let listing = listing(alloc, name.bytes(), lines, object)?;
+    let report = report_file(alloc, name, content, listing)?;
+    Ok(report)
+}
+
+/// The object and the listing of lines, under the name of the object.
+#[tactic(auto, using(m36_told::proofs::AlmLaws::made))]
+fn made_with(alloc: Global, name: &Name, lines: &Lines36) -> Result<Report, AlmFault>
+    ensures { MadeSays name.now result (with_parts lines.now (assembled lines.now)) }
+{
+    match assemble(alloc, lines) {
+        Ok(object) => {
+            let report = listed(alloc, name, lines, &object);
+            // Dropped by a call: so the drop is proved once for its type.
+            drop(object);
+            report
+        }
+        Err(fault) => Err(fault),
+    }
+}
+
+/// The object and the listing of a source of at most 16 MiB.
+fn made_of(alloc: Global, name: &Name, bytes: &[u8]) -> Result<Report, AlmFault>
+    requires { length bytes.now ≤ file_limit }
+    ensures { MadeSays name.now result (assembly_of bytes.now) }
+{
+    match parse(alloc, bytes) {
+        Ok(lines) => made_with(alloc, name, &lines),
+        Err(fault) => Err(fault),
+    }
+}
+
+/// The object and the listing of the bytes of a source, or why it is refused.
+#[tactic(auto, using(m36_told::proofs::AlmLaws::answering))]
+fn assembled_in(alloc: Global, files: &AlmFiles, bytes: &[u8]) -> Result<Report, Refusal>
+    requires { length bytes.now ≤ file_limit }
+    ensures { Gives result (told_by files.now (assembly_of bytes.now)) }
+{
+    match made_of(alloc, &files.object, bytes) {
+        Ok(report) => Ok(report),
+        Err(fault) => Err(refuse_source(alloc, files.source.bytes(), fault)),
+    }
+}
+
+// Reads a source, and gives its object and its listing.
+fn read_source<W: World>(alloc: Global, files: &AlmFiles, world: &mut W) -> Result<Report, Status>
+    ensures { Performs {may = writing} (alm_report files.now) result
+        (W.seen world.old) (W.seen world.new) }
+{
+    match read_bytes(alloc, files.source.bytes(), world) {
+        Ok(text) => {
+            let given = assembled_in(alloc, files, text.bytes());
+            drop(text);
+            decide(given)
+        }
+        Err(status) => Err(status),
+    }
+}
+
+/// `alm NAME`: assembles a source, writes the object, and then puts the listing.
+#[tactic(auto, using(crate::proofs::ToolSteps::assembles))]
+pub fn assemble_file<W: World>(alloc: Global, files: &AlmFiles, world: &mut W) -> Result<(), Status>
+    ensures { Performs (alm_program files.now) result (W.seen world.old) (W.seen world.new) }
+{
+    match read_source(alloc, files, world) {
+        Ok(report) => {
+            let answer = write_report(alloc, &report, world);
+            drop(report);
+            answer
+        }
+        Err(status) => Err(status),
+    }
+}

@@ -1,0 +1,250 @@
+//! The command `bind NAME`.
+
+ghost use Rattle.std.specs.Prelude.{◌≡◌, ◌≤◌, ◌∷◌, ◌++◌, [], length, OnOk, IfOk, Ok};
+ghost use Rattle.m36_outside.specs.ReadAnswer.{file_limit};
+ghost use Rattle.m36_bindfile.specs.BindFile.{bind_lines, names_by, BindSays};
+ghost use Rattle.m36_bind.specs.Bound.{bound_of};
+ghost use Rattle.m36_reading.specs.Asking.{Gives, Refuses};
+ghost use Rattle.m36_told.specs.Binding.{bind_refused, names_told, bound_told, bind_told};
+ghost use Rattle.m36_program.specs.Performs.{Performs};
+ghost use Rattle.m36_files.specs.EachFile.{read_onto, each_onto};
+ghost use Rattle.m36_files.specs.FileReaders.{file_object};
+ghost use Rattle.m36_files.specs.Writing.{writing};
+ghost use Rattle.cmd_tools.specs.ToolPrograms.{components_report, text_report, bind_report, bind_program};
+
+use crate::report::{Report, report_file};
+use crate::reporting::write_report;
+use m36_bind::{BindFault, bind, components};
+use m36_files::{decide, read_object};
+use m36_list::print;
+use m36_program::read_bytes;
+use m36_reading::{Code, Refusal, Status, refuse};
+use m36_text::{Name, Names};
+use m36_told::BindFiles;
+use m36_told::objects::object_bytes;
+use m36_word::NoMemory;
+use m36_world::World;
+use obj36::Object;
+use std::alloc::Global;
+use std::marker::Model;
+
+// Objects that were read.
+#[derive(Drop)]
+struct Objects {
+    items: Vec<Object>,
+}
+
+impl Model for Objects {
+    ghost use Rattle.std.specs.Prelude.{List};
+    ghost use Rattle.obj36_parts.specs.PartsFields.{PartsFields};
+
+    ghost Value = { List PartsFields };
+
+    ghost view = { λ o. o.items.items };
+}
+
+impl Objects {
+    fn new(alloc: Global) -> Objects
+        ensures { result ≡ [] }
+    {
+        Objects {
+            items: Vec::new(alloc),
+        }
+    }
+
+    fn push(&mut self, x: Object) -> Result<(), NoMemory>
+        ensures { OnOk result (self.new ≡ self.old ++ x ∷ []) }
+    {
+        self.items.push(x)?;
+        Ok(())
+    }
+
+    fn items(&self) -> &[Object]
+        ensures { result.now ≡ self.now }
+    {
+        self.items.as_slice()
+    }
+}
+
+// B1 to B5: a bind file that is refused, at a line.
+fn refuse_bind(alloc: Global, name: &[u8], fault: BindFault) -> Refusal
+    ensures { Refuses result (bind_refused name.now fault) }
+{
+    match fault {
+        BindFault::B1(line) => refuse(alloc, name, Code::B1, line),
+        BindFault::B2(line) => refuse(alloc, name, Code::B2, line),
+        BindFault::B3(line) => refuse(alloc, name, Code::B3, line),
+        BindFault::B4(line) => refuse(alloc, name, Code::B4, line),
+        BindFault::B5(line) => refuse(alloc, name, Code::B5, line),
+        BindFault::NoMemory => Refusal::NoMemory,
+    }
+}
+
+// The names of the components of a bind file.
+#[tactic(auto, using(m36_told::proofs::BindLaws::naming))]
+fn names_in(alloc: Global, file: &[u8], text: &[u8]) -> Result<Names, Refusal>
+    requires { length text.now ≤ file_limit }
+    ensures { Gives result (names_told file.now (names_by (bind_lines text.now))) }
+{
+    match components(alloc, text) {
+        Ok(names) => Ok(names),
+        Err(fault) => Err(refuse_bind(alloc, file, fault)),
+    }
+}
+
+// Objects with one more.
+fn with_object(mut objects: Objects, object: Object) -> Result<Objects, Refusal>
+    ensures { Gives result (Ok (objects ++ object ∷ [])) }
+{
+    objects.push(object)?;
+    Ok(objects)
+}
+
+// Reads one more object.
+fn read_one<W: World>(
+    alloc: Global,
+    objects: Objects,
+    name: &Name,
+    world: &mut W,
+) -> Result<Objects, Status>
+    ensures { Performs {may = writing} (read_onto file_object objects name.now) result
+        (W.seen world.old) (W.seen world.new) }
+{
+    match read_object(alloc, name.bytes(), world) {
+        Ok(object) => decide(with_object(objects, object)),
+        Err(status) => Err(status),
+    }
+}
+
+// Reads the objects of these names.
+fn read_objects<W: World>(alloc: Global, names: &[Name], world: &mut W) -> Result<Objects, Status>
+    ensures { Performs {may = writing} (each_onto file_object [] names.now) result
+        (W.seen world.old) (W.seen world.new) }
+{
+    let mut objects = Objects::new(alloc);
+    for name in names {
+        match read_one(alloc, objects, name, world) {
+            Ok(more) => objects = more,
+            Err(status) => return Err(status),
+        }
+    }
+    Ok(objects)
+}
+
+// The file and the print of a bound object.
+fn report_of(alloc: Global, name: &Name, object: &Object) -> Result<Report, Refusal>
+    ensures { Gives result (Ok (bound_told name.now object.now)) }
+{
+    let content = object_bytes(alloc, object)?;
+    let text = print(alloc, name.bytes(), object)?;
+    let report = report_file(alloc, name, content, text)?;
+    Ok(report)
+}
+
+// What these objects are bound to, or why they are not.
+fn bound_by(
+    alloc: Global,
+    text: &[u8],
+    names: &[Name],
+    objects: &[Object],
+) -> Result<Object, BindFault>
+    requires { length text.now ≤ file_limit }
+    ensures { BindSays result (bound_of text.now names.now objects.now) }
+{
+    bind(alloc, text, names, objects)
+}
+
+// The file and the print of what these objects are bound to, or why they are not.
+fn bound_in(
+    alloc: Global,
+    files: &BindFiles,
+    text: &[u8],
+    names: &[Name],
+    objects: &[Object],
+) -> Result<Report, Refusal>
+    requires { length text.now ≤ file_limit }
+    ensures { Gives result (bind_told files.now (bound_of text.now names.now objects.now)) }
+{
+    match bound_by(alloc, text, names, objects) {
+        Ok(object) => {
+            let report = report_of(alloc, &files.object, &object);
+            // Dropped by a call: so the drop is proved once for its type.
+            drop(object);
+            report
+        }
+        Err(fault) => Err(refuse_bind(alloc, files.bindfile.bytes(), fault)),
+    }
+}
+
+// Reads the components, and binds them.
+fn read_components<W: World>(
+    alloc: Global,
+    files: &BindFiles,
+    text: &[u8],
+    names: &[Name],
+    world: &mut W,
+) -> Result<Report, Status>
+    requires { length text.now ≤ file_limit }
+    ensures { Performs {may = writing} (components_report files.now text.now names.now) result
+        (W.seen world.old) (W.seen world.new) }
+{
+    match read_objects(alloc, names, world) {
+        Ok(objects) => {
+            let given = bound_in(alloc, files, text, names, objects.items());
+            drop(objects);
+            decide(given)
+        }
+        Err(status) => Err(status),
+    }
+}
+
+// Takes the names of the components from the bind file, reads the components, and binds them.
+fn read_text<W: World>(
+    alloc: Global,
+    files: &BindFiles,
+    text: &[u8],
+    world: &mut W,
+) -> Result<Report, Status>
+    requires { length text.now ≤ file_limit }
+    ensures { Performs {may = writing} (text_report files.now text.now) result
+        (W.seen world.old) (W.seen world.new) }
+{
+    match decide(names_in(alloc, files.bindfile.bytes(), text)) {
+        Ok(names) => {
+            let report = read_components(alloc, files, text, names.items(), world);
+            drop(names);
+            report
+        }
+        Err(status) => Err(status),
+    }
+}
+
+// Reads a bind file and the objects of its components, and gives the bound object and its print.
+fn read_bind<W: World>(alloc: Global, files: &BindFiles, world: &mut W) -> Result<Report, Status>
+    ensures { Performs {may = writing} (bind_report files.now) result
+        (W.seen world.old) (W.seen world.new) }
+{
+    match read_bytes(alloc, files.bindfile.bytes(), world) {
+        Ok(text) => {
+            let report = read_text(alloc, files, text.bytes(), world);
+            drop(text);
+            report
+        }
+        Err(status) => Err(status),
+    }
+}
+
+/// `bind NAME`: binds the components of a bind file, writes the object, and then puts its print.
+#[tactic(auto, using(crate::proofs::ToolSteps::binds))]
+pub fn bind_objects<W: World>(alloc: Global, files: &BindFiles, world: &mut W) -> Result<(), Status>
+    ensures { Performs (bind_program files.now) result (W.seen world.old) (W.seen world.new) }
+{
+    match read_bind(alloc, files, world) {
+        Ok(report) => {
+            let answer = write_report(alloc, &report, world);
+            drop(report);
+            answer
+        }
+        Err(status) => Err(status),
+    }
+}

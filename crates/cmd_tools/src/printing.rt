@@ -1,0 +1,55 @@
+//! The command `print NAME`.
+
+ghost use Rattle.std.specs.Prelude.{Ok};
+ghost use Rattle.m36_reading.specs.Asking.{Gives};
+ghost use Rattle.m36_told.specs.Telling.{printed};
+ghost use Rattle.m36_program.specs.Performs.{Performs};
+ghost use Rattle.m36_program.specs.Program.{quiet};
+ghost use Rattle.cmd_tools.specs.ToolPrograms.{print_report, print_program};
+
+use crate::report::Report;
+use crate::reporting::put_text;
+use m36_files::{decide, read_object};
+use m36_list::print;
+use m36_reading::{Refusal, Status};
+use m36_world::World;
+use obj36::Object;
+use std::alloc::Global;
+
+// The print of an object.
+fn printed(alloc: Global, name: &[u8], object: &Object) -> Result<Report, Refusal>
+    ensures { Gives result (Ok (printed name.now object.now)) }
+{
+    let text = print(alloc, name, object)?;
+    Ok(Report::of_text(alloc, text))
+}
+
+// Reads an object, and gives its print.
+fn read_print<W: World>(alloc: Global, name: &[u8], world: &mut W) -> Result<Report, Status>
+    ensures { Performs {may = quiet} (print_report name.now) result
+        (W.seen world.old) (W.seen world.new) }
+{
+    match read_object(alloc, name, world) {
+        Ok(object) => {
+            let given = printed(alloc, name, &object);
+            // Dropped by a call: so the drop is proved once for its type.
+            drop(object);
+            decide(given)
+        }
+        Err(status) => Err(status),
+    }
+}
+
+/// `print NAME`: reads an object, and puts its print.
+pub fn print_object<W: World>(alloc: Global, name: &[u8], world: &mut W) -> Result<(), Status>
+    ensures { Performs (print_program name.now) result (W.seen world.old) (W.seen world.new) }
+{
+    match read_print(alloc, name, world) {
+        Ok(report) => {
+            let answer = put_text(report.text(), world);
+            drop(report);
+            answer
+        }
+        Err(status) => Err(status),
+    }
+}

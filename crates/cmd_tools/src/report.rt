@@ -1,0 +1,78 @@
+//! What a command writes and prints.
+
+ghost use Rattle.std.specs.Prelude.{◌≡◌, [], ◌∷◌, IfOk};
+
+use m36_outside::Text;
+use m36_reading::Set;
+use m36_text::Name;
+use m36_word::NoMemory;
+use std::alloc::Global;
+use std::marker::Model;
+
+/// The files that a command writes, in order, and the text that it then puts: lines with their line
+/// feeds.
+#[derive(Drop)]
+pub struct Report {
+    files: Vec<Set>,
+    text: Text,
+}
+
+impl Model for Report {
+    ghost use Rattle.m36_told.specs.Told.{ToldFields};
+
+    ghost Value = { ToldFields };
+
+    ghost view = { λ r. record { sets = r.files.items; text = r.text } };
+}
+
+impl Report {
+    /// A text, and no file.
+    pub fn of_text(alloc: Global, text: Text) -> Report
+        ensures { result ≡ record { sets = []; text = text } }
+    {
+        Report {
+            files: Vec::new(alloc),
+            text,
+        }
+    }
+
+    /// A file, and a text. The error is want of memory alone.
+    pub fn of_file(alloc: Global, file: Set, text: Text) -> Result<Report, NoMemory>
+        ensures { IfOk result (λ report. report ≡ record { sets = file ∷ []; text = text }) }
+    {
+        let mut files = Vec::new(alloc);
+        files.push(file)?;
+        Ok(Report { files, text })
+    }
+
+    /// The files.
+    pub fn files(&self) -> &[Set]
+        ensures { result.now ≡ self.now.sets }
+    {
+        self.files.as_slice()
+    }
+
+    /// The text.
+    pub fn text(&self) -> &[u8]
+        ensures { result.now ≡ self.now.text }
+    {
+        self.text.bytes()
+    }
+}
+
+/// A file of a name, and a text. The error is want of memory alone.
+pub fn report_file(
+    alloc: Global,
+    name: &Name,
+    content: Text,
+    text: Text,
+) -> Result<Report, NoMemory>
+    ensures { IfOk result (λ report. report
+        ≡ record { sets = record { name = name.now; content = content } ∷ []; text = text }) }
+{
+    let file = Set {
+        name: name.copied(),
+        content,
+    };
+    Report::of_file(alloc, file, text)
+}

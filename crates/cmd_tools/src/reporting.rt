@@ -1,0 +1,68 @@
+//! Files are written, one after another, and a text is put, line by line.
+
+ghost use Rattle.std.specs.Prelude.{◌≡◌, ◌≤◌, ◌<◌, ◌∷◌, length, take, drop};
+ghost use Rattle.m36_told.specs.LinesIn.{lines_in};
+ghost use Rattle.m36_program.specs.Performs.{Performs};
+ghost use Rattle.m36_program.specs.Program.{May};
+ghost use Rattle.cmd_tools.specs.Reporting.{put_text, write_files, write_report};
+
+use crate::report::Report;
+use m36_program::{put_piece, write_file};
+use m36_reading::{Set, Status};
+use m36_text::place_of;
+use m36_world::World;
+use std::alloc::Global;
+
+// How many bytes the first line of a text has, with its line feed; all bytes where there is no line feed.
+#[tactic(auto, using(m36_told::proofs::LineLaws::first_line))]
+fn line_length(text: &[u8]) -> usize
+    requires { 0 < length text.now }
+    ensures cut { lines_in text.now ≡ take result text.now ∷ lines_in (drop result text.now) }
+    ensures some { 1 ≤ result }
+    ensures within { result ≤ length text.now }
+{
+    match place_of(text, b'\n') {
+        Some(place) => place + 1,
+        None => text.len(),
+    }
+}
+
+/// Puts a text, each line with its line feed in one piece.
+pub fn put_text<W: World>(text: &[u8], world: &mut W) -> Result<(), Status>
+    ensures { (may : May) → Performs {may = may} (put_text text.now) result
+        (W.seen world.old) (W.seen world.new) }
+{
+    let mut rest = text;
+    'lines: while !rest.is_empty() {
+        let end = line_length(rest);
+        match put_piece(&rest[..end], world) {
+            Ok(()) => {}
+            Err(status) => return Err(status),
+        }
+        rest = &rest[end..];
+    }
+    Ok(())
+}
+
+/// Writes files, one after another. After one that could not be written no other is.
+pub fn write_files<W: World>(alloc: Global, files: &[Set], world: &mut W) -> Result<(), Status>
+    ensures { Performs (write_files files.now) result (W.seen world.old) (W.seen world.new) }
+{
+    for file in files {
+        match write_file(alloc, file.name.bytes(), file.content.bytes(), world) {
+            Ok(()) => {}
+            Err(status) => return Err(status),
+        }
+    }
+    Ok(())
+}
+
+/// Writes the files of a report, and then puts its text.
+pub fn write_report<W: World>(alloc: Global, report: &Report, world: &mut W) -> Result<(), Status>
+    ensures { Performs (write_report report.now) result (W.seen world.old) (W.seen world.new) }
+{
+    match write_files(alloc, report.files(), world) {
+        Ok(()) => put_text(report.text(), world),
+        Err(status) => Err(status),
+    }
+}
