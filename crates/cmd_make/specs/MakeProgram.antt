@@ -33,12 +33,12 @@ summed_up ran =
     (ends (finish_status (Some ran.how)) (finish_may_end ran.how))
 
 -- a run of at most so many steps, and its lines
-unfoldable pub run_told : Library → ℕ → Booted → Program quiet (Unit {0})
-run_told lib steps first = then_with (run_from lib 0 steps first) summed_up
+unfoldable pub run_summed : Library → ℕ → Booted → Program quiet (Unit {0})
+run_summed lib steps first = then_with (run_from lib 0 steps first) summed_up
 
 -- The system is run, or it is not.
 abbrev pub runs_or_ends : Bool → Library → Booted → Program quiet (Unit {0})
-runs_or_ends true lib first = run_told lib run_limit first
+runs_or_ends true lib first = run_summed lib run_limit first
 runs_or_ends false lib first = ends (audit_status false) (audit_may_end false)
 
 -- The lines before the run, by what the audit finds. The system is run exactly where nothing is

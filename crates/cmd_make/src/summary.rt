@@ -12,7 +12,7 @@ ghost use Rattle.m36_program.specs.Program.{done, puts_all};
 ghost use Rattle.m36_ran.specs.Ran.{passes};
 ghost use Rattle.cmd_make.specs.Summary.{run_limit, segment_count, segments_line, sum_line};
 ghost use Rattle.cmd_make.specs.Summary.{head_pieces};
-ghost use Rattle.cmd_make.specs.MakeProgram.{summed_up, run_told, runs_or_ends, found_told, on_booted};
+ghost use Rattle.cmd_make.specs.MakeProgram.{summed_up, run_summed, runs_or_ends, found_told, on_booted};
 
 use crate::running::{RunEnd, run_quietly};
 use arrayvec::ArrayString;
@@ -99,9 +99,9 @@ fn sum_up<W: World>(end: RunEnd, regs: &Regs, world: &mut W) -> Result<(), Statu
 
 // Runs the system for at most so many steps, and puts the lines after the run.
 #[tactic(auto, using(crate::proofs::SummarySteps::runs))]
-fn run_and_tell<W: World>(system: &mut Super, steps: u32, world: &mut W) -> Result<(), Status>
+fn run_and_sum<W: World>(system: &mut Super, steps: u32, world: &mut W) -> Result<(), Status>
     requires { system.old.coming ≡ Step }
-    ensures { Performs (run_told system.old.lib steps (booted_of system.old)) result
+    ensures { Performs (run_summed system.old.lib steps (booted_of system.old)) result
         (W.seen world.old) (W.seen world.new) }
 {
     match run_quietly(system, steps) {
@@ -121,7 +121,7 @@ fn run_or_end<W: World>(
         (booted_of system.old)) result (W.seen world.old) (W.seen world.new) }
 {
     if findings.is_empty() {
-        run_and_tell(system, RUN_LIMIT, world)
+        run_and_sum(system, RUN_LIMIT, world)
     } else {
         Err(Status::AuditNo)
     }

@@ -331,7 +331,7 @@ by_answer write.NoMemory file files rest more goes result old between new did fo
     (first_unwritten write.NoMemory file files old new
     (subst (λ s. IsFileWrite file.name file.content write.NoMemory old s) (sym (ended_there more between new after.none follow)) did))
 
-files_go :
+pub files_go :
     (files : List Set) (rest : Program writing (Unit {0})) (events : List Event) (result : Result (Unit {0}) Status) (old new : Seen)
     → Goes (writes_all refl files rest) events result → Follow events old new → AfterFiles files rest result old new
 unfolding Goes writes_all Follow

@@ -119,7 +119,7 @@ files_end files i first old new past left =
 
 -- ---- a report
 
-then_rest :
+pub then_rest :
     (files : List Set) (rest : Program writing (Unit {0}))
     → then_with (write_files files) (λ u. rest) ≡ writes_all refl files rest
 unfolding then_with write_files writes_all
