@@ -13,10 +13,10 @@ use Rattle.m36_reading.specs.declared.status.Status.{Status}
 use Rattle.m36_reading.specs.declared.status.Status.TheVariants as status
 use Rattle.m36_reading.specs.Answers.{Answer}
 use Rattle.m36_reading.specs.Asking.{Came}
-use Rattle.m36_reading.specs.Doing.{Kind, IsAnswered, EndsBy, Does}
+use Rattle.m36_reading.specs.Doing.{IsAnswered, EndsBy, Does}
 use Rattle.m36_reading.specs.Ends.{end_of}
 use Rattle.m36_reading.specs.EachRead as old_each
-use Rattle.m36_reading.specs.Outside.{Outside, IsIdle}
+use Rattle.m36_reading.specs.Outside.{IsIdle}
 use Rattle.m36_reading.specs.Reading as old
 use Rattle.m36_reading.specs.Setting.{AllSet}
 use Rattle.m36_program.specs.Early.{early, status_by, MayEnd}
@@ -24,7 +24,7 @@ use Rattle.m36_program.specs.Goes.{Ends}
 use Rattle.m36_program.specs.Performs.{Performs}
 use Rattle.m36_program.specs.Program.{May}
 use Rattle.m36_program.specs.Trail.{NoneFailed, HasCause, FilesKept, pieces_of, put_of, output_of}
-use Rattle.m36_program.proofs.PieceLaws.{pieces_put, put_after, reads_of, PutsWhole, PutsPart, puts_longer}
+use Rattle.m36_program.proofs.PieceLaws.{pieces_put, put_after, reads_of, puts_longer}
 use Rattle.m36_program.proofs.ProgramLaws.{performs_cause, performs_files, performs_text}
 use Rattle.m36_catalog.specs.Catalogs.{access_reads}
 use Rattle.m36_catalog.specs.declared.access.Access.{Access}

@@ -1,13 +1,12 @@
 -- How the program of a command on a booted system goes: an answer that is so is put, whole or in part, or up to a link
 -- service that found no memory.
-use Rattle.std.proofs.Common.{◌≡◌, ◌⊎◌, ℕ, Bool, true, false, List, [], ◌∷◌, ◌++◌, Option, Some, None, Result, Err, refl, sym, ap, subst, ◌∙◌, inl, inr, arith}
+use Rattle.std.proofs.Common.{◌≡◌, ◌⊎◌, ℕ, ◌+◌, Bool, true, false, List, [], ◌∷◌, ◌++◌, Option, Some, None, Result, Err, refl, ap, subst, ◌∙◌, inl, inr, arith}
 use Rattle.std.proofs.lemmas.List.{append-nil}
 use Rattle.m36_outside.specs.Passing.{joined}
 use Rattle.m36_world.specs.declared.event.Event.{Event}
 use Rattle.m36_world.specs.declared.event.Event.TheVariants.{OutputFailed}
-use Rattle.m36_super.specs.Library.{Library}
 use Rattle.m36_super.specs.declared.coming.Coming.TheVariants.{Step}
-use Rattle.m36_super.specs.BootedRun.{Booted, AreTurns}
+use Rattle.m36_super.specs.BootedRun.{Booted}
 use Rattle.m36_super.specs.SuperFields.{SuperFields, booted_of}
 use Rattle.m36_super.specs.BootSays.{IsBooted}
 use Rattle.m36_super.proofs.BootTurns.{start_next}
@@ -15,26 +14,24 @@ use Rattle.m36_reading.specs.declared.status.Status.{Status}
 use Rattle.m36_reading.specs.declared.status.Status.TheVariants.{NoMemory}
 use Rattle.m36_reading.specs.Answers.{Answer}
 use Rattle.m36_program.specs.Early.{MayEnd}
-use Rattle.m36_program.specs.Goes.{Ends, Chosen, Goes}
+use Rattle.m36_program.specs.Goes.{Ends, Goes}
 use Rattle.m36_program.proofs.Answering.{puts_with}
 use Rattle.m36_program.proofs.PieceLaws.{reads_of, reads_after}
 use Rattle.m36_ran.specs.AuditText.{audit_pieces}
 use Rattle.m36_ran.specs.Ran.{is_run, passes, audit_status, audit_answer}
 use Rattle.m36_booted.specs.declared.command.FolderCommand.{FolderCommand}
 use Rattle.m36_booted.specs.declared.command.FolderCommand.TheVariants.{Audit, Run, Trace}
-use Rattle.m36_booted.specs.declared.command.FolderRun.{FolderRun}
-use Rattle.m36_booted.specs.declared.command.RunOutput.{RunOutput}
 use Rattle.m36_booted.specs.declared.command.RunOutput.TheVariants as output
 use Rattle.m36_booted.specs.declared.running.Finish.{Finish}
 use Rattle.m36_booted.specs.Booted.{run_behind, IsRunAnswer, IsAuditAnswer, IsRunBy, IsAnswerOf, IsFolderAnswer}
 use Rattle.m36_booted.specs.Folder.{FolderFields}
 use Rattle.m36_booted.specs.RunText.{steps_in, pieces_from, end_pieces, run_answer, run_pieces, finish_status}
-use Rattle.m36_booted.specs.Runs.{Extent, Whole, Begun, Starved, Reaches}
+use Rattle.m36_booted.specs.Runs.{Extent, Whole, Begun, Starved}
 use Rattle.cmd_image.specs.ImageProgram.{audit_may_end, audit_only}
-use Rattle.cmd_folder.specs.OnFolder.{IsFound, audit_and_run, run_by, on_run, by_command, running, on_system, on_folder}
+use Rattle.cmd_folder.specs.OnFolder.{audit_and_run, run_by, by_command, running, on_system, on_folder}
 use Rattle.cmd_folder.specs.RunProgram.{Running, finish_may_end, run_from}
-use Rattle.cmd_folder.proofs.PutsSplit.{PutsThen, PutsFirst, PutsAcross, PutsSplit, puts_split, PutIn, put_before, put_across}
-use Rattle.cmd_folder.proofs.RunGoes.{IsRunOf, RunGoes, no_turns, run_goes}
+use Rattle.cmd_folder.proofs.PutsSplit.{PutsSplit, puts_split, PutIn, put_before, put_across}
+use Rattle.cmd_folder.proofs.RunGoes.{IsRunOf, no_turns, run_goes}
 
 -- the status of an answer in an extent: an end of its own, or want of memory
 abbrev pub OwnIn : Extent → Status → Type 0

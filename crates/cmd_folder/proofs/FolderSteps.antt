@@ -1,5 +1,5 @@
 -- What is read and booted, the audit's text and the run, one after another.
-use Rattle.std.proofs.Common.{◌≡◌, ℕ, ◌+◌, ◌<◌, ◌≤◌, List, [], ◌∷◌, ◌++◌, length, drop, get_or, Option, Some, slice_get, Result, Ok, Err, refl, sym, ap, subst, ◌∙◌}
+use Rattle.std.proofs.Common.{◌≡◌, ℕ, ◌+◌, List, [], drop, Option, Some, slice_get, Result, Ok, Err, refl, sym, ap, subst, ◌∙◌}
 use Rattle.std.proofs.lemmas.Option.{slice_get_within, get_or_from_slice_get}
 use Rattle.m36_world.specs.Seen.{Seen}
 use Rattle.m36_desc.specs.Fields.{DbrFields}
@@ -16,7 +16,7 @@ use Rattle.m36_reading.specs.declared.status.Status.{Status}
 use Rattle.m36_reading.specs.declared.status.Status.TheVariants.{NoMemory}
 use Rattle.m36_reading.specs.Asking.{Gives}
 use Rattle.m36_program.specs.Performs.{Performs, Leads}
-use Rattle.m36_program.specs.Program.{May, quiet, Program, then_with, some, wants}
+use Rattle.m36_program.specs.Program.{May, quiet, Program}
 use Rattle.m36_program.proofs.Performing.{performs_some, performs_wants, performs_no_memory, performs_then, performs_stop}
 use Rattle.m36_catalog.specs.declared.access.Access.{Access}
 use Rattle.m36_files.specs.Deciding.{decides, by_refusal}
@@ -168,7 +168,7 @@ pub ruleset found = (fresh_next, audit_starved)
 
 pub folder_answered :
     (command : FolderCommand) (user : Option (List ℕ)) (given : FolderFields) (result : Result (Unit {0}) Status) (old between new : Seen)
-    → Performs (folder_given user) (Ok given) old between → Performs (on_folder command given) result between new
+    → Performs {may = quiet} (folder_given user) (Ok given) old between → Performs (on_folder command given) result between new
     → Performs (folder_program command user) result old new
 unfolding folder_program
 folder_answered command user given result old between new one two =
@@ -176,6 +176,6 @@ folder_answered command user given result old between new one two =
 
 pub folder_refused :
     (command : FolderCommand) (user : Option (List ℕ)) (status : Status) (old new : Seen)
-    → Performs (folder_given user) (Err status) old new → Performs (folder_program command user) (Err status) old new
+    → Performs {may = quiet} (folder_given user) (Err status) old new → Performs (folder_program command user) (Err status) old new
 unfolding folder_program
 folder_refused command user status old new one = performs_stop (folder_given user) (on_folder command) status old new one

@@ -1,18 +1,15 @@
 -- How a program goes that puts pieces and then goes on.
-use Rattle.std.proofs.Common.{◌≡◌, ◌⊎◌, ℕ, List, [], ◌∷◌, ◌++◌, Result, Err, refl, sym, ap, subst, ◌∙◌, inl, inr}
+use Rattle.std.proofs.Common.{◌≡◌, ◌⊎◌, ℕ, List, [], ◌∷◌, ◌++◌, Result, refl, sym, ap, subst, ◌∙◌, inl, inr}
 use Rattle.std.proofs.lemmas.List.{append-nil, append_assoc}
-use Rattle.m36_outside.specs.declared.sink.Put.{Put}
 use Rattle.m36_outside.specs.declared.sink.Put.TheVariants.{Done, Failed}
 use Rattle.m36_world.specs.declared.event.Event.{Event}
 use Rattle.m36_world.specs.declared.event.Event.TheVariants.{Output, OutputFailed}
 use Rattle.m36_world.specs.Follow.{outputs}
 use Rattle.m36_reading.specs.declared.status.Status.{Status}
-use Rattle.m36_reading.specs.declared.status.Status.TheVariants.{WriteFault}
-use Rattle.m36_program.specs.Early.{early}
 use Rattle.m36_program.specs.Goes.{FailsWith, Goes}
 use Rattle.m36_program.specs.Program.{quiet, Program, puts_all}
 use Rattle.m36_program.specs.Trail.{pieces_of, put_of}
-use Rattle.m36_program.proofs.PieceLaws.{reads_of, pieces_put, put_after, reads_after, PutsWhole, PutsPart}
+use Rattle.m36_program.proofs.PieceLaws.{reads_of, pieces_put, put_after, PutsWhole, PutsPart}
 use Rattle.m36_booted.specs.Runs.{Extent, Whole, Begun, Starved}
 
 -- ---- some of the pieces were put, or all

@@ -1,6 +1,6 @@
 -- How the program of a booted run goes: its turns are those of a booted run, which ends as it says, and what is put is what
 -- is written of them.
-use Rattle.std.proofs.Common.{◌≡◌, ◌≢◌, ◌⊎◌, ℕ, zero, suc, ◌+◌, ◌≤◌, Bool, true, false, List, [], ◌∷◌, ◌++◌, Option, Some, None, Result, Ok, Err, refl, sym, ap, subst, ◌∙◌, inl, inr, arith, append_assoc, add-zero, zero-add}
+use Rattle.std.proofs.Common.{◌≡◌, ◌≢◌, ◌⊎◌, ℕ, zero, suc, ◌+◌, ◌≤◌, Bool, true, false, List, [], ◌∷◌, ◌++◌, Option, Some, None, Result, Ok, Err, refl, sym, ap, subst, ◌∙◌, inl, inr, arith, append_assoc, add-zero}
 use Rattle.std.proofs.lemmas.List.{append-nil}
 use Rattle.m36_world.specs.declared.event.Event.{Event}
 use Rattle.m36_world.specs.declared.event.Event.TheVariants.{OutputFailed}
@@ -24,16 +24,16 @@ use Rattle.m36_reading.specs.declared.status.Status.TheVariants.{NoMemory}
 use Rattle.m36_program.specs.Early.{ends}
 use Rattle.m36_program.specs.Goes.{Ends, Goes}
 use Rattle.m36_program.specs.Program.{quiet, Program, puts_all}
-use Rattle.m36_program.proofs.PieceLaws.{reads_of, reads_after, PutsWhole, PutsPart}
+use Rattle.m36_program.proofs.PieceLaws.{reads_of, reads_after}
 use Rattle.m36_booted.specs.declared.running.Finish.{Finish}
 use Rattle.m36_booted.specs.declared.running.Finish.TheVariants.{Over, Limit}
 use Rattle.m36_booted.specs.RunText.{steps_of, steps_in, pieces_of, pieces_from, end_pieces, finish_status}
 use Rattle.m36_booted.proofs.Serving.{IsStep, IsLink}
-use Rattle.m36_booted.specs.Runs.{IsEvent, StandsBehind, Finishes, AwaitsLink, Extent, Whole, Begun, Starved, Reaches}
+use Rattle.m36_booted.specs.Runs.{IsEvent, Finishes, AwaitsLink, Extent, Whole, Begun, Starved, Reaches}
 use Rattle.m36_program.proofs.Answering.{puts_with}
-use Rattle.cmd_folder.specs.RunProgram.{Running, Made, IsMade, IsServed, finish_may_end, run_ends, puts_turn, after_service, then_on, serve_by, serve, run_from}
-use Rattle.cmd_folder.proofs.PutsSplit.{PutsThen, PutsFirst, PutsAcross, PutsSplit, puts_split, PutIn, put_before, put_across}
-use Rattle.cmd_folder.proofs.Serving.{console_over, ended_pieces}
+use Rattle.cmd_folder.specs.RunProgram.{Running, finish_may_end, run_ends, after_service, then_on, serve_by, serve, run_from}
+use Rattle.cmd_folder.proofs.PutsSplit.{PutsSplit, puts_split, PutIn, put_before, put_across}
+use Rattle.cmd_folder.proofs.Serving.{ended_pieces}
 
 -- Pieces are what is written of a run from a state on, before which so many steps were taken, with at most so many more: of
 -- all of it, of what was made so far, or up to a link service that found no memory.
@@ -232,17 +232,17 @@ linked_made :
 linked_made (Ok s) frames at before (turn.Linked note) after is found =
     record { event = tt; counts = refl; quiet = link_quiet (Ok s) frames at before (turn.Linked note) after is tt }
 linked_made (Ok s) frames at before turn.NoMemory after is found = absurd (found refl)
-linked_made (Ok s) frames at before (turn.Stepped told) after is found = absurd (subst IsLink is.told tt)
-linked_made (Ok s) frames at before (turn.Console text) after is found = absurd (subst IsLink is.told tt)
-linked_made (Ok s) frames at before (turn.Ended e) after is found = absurd (subst IsLink is.told tt)
-linked_made (Ok s) frames at before turn.Full after is found = absurd (subst IsLink is.told tt)
+linked_made (Ok s) frames at before (turn.Stepped told) after is found = absurd (subst IsLink (sym is.told) tt)
+linked_made (Ok s) frames at before (turn.Console text) after is found = absurd (subst IsLink (sym is.told) tt)
+linked_made (Ok s) frames at before (turn.Ended e) after is found = absurd (subst IsLink (sym is.told) tt)
+linked_made (Ok s) frames at before turn.Full after is found = absurd (subst IsLink (sym is.told) tt)
 linked_made (Err why) frames at before (turn.Linked note) after is found =
     record { event = tt; counts = refl; quiet = link_quiet (Err why) frames at before (turn.Linked note) after is tt }
 linked_made (Err why) frames at before turn.NoMemory after is found = absurd (found refl)
-linked_made (Err why) frames at before (turn.Stepped told) after is found = absurd (subst IsLink is.0 tt)
-linked_made (Err why) frames at before (turn.Console text) after is found = absurd (subst IsLink is.0 tt)
-linked_made (Err why) frames at before (turn.Ended e) after is found = absurd (subst IsLink is.0 tt)
-linked_made (Err why) frames at before turn.Full after is found = absurd (subst IsLink is.0 tt)
+linked_made (Err why) frames at before (turn.Stepped told) after is found = absurd (subst IsLink (sym is.0) tt)
+linked_made (Err why) frames at before (turn.Console text) after is found = absurd (subst IsLink (sym is.0) tt)
+linked_made (Err why) frames at before (turn.Ended e) after is found = absurd (subst IsLink (sym is.0) tt)
+linked_made (Err why) frames at before turn.Full after is found = absurd (subst IsLink (sym is.0) tt)
 
 -- A console service was made and a step follows, or the run has ended.
 pub record Printed (text : List ℕ) (told : Turn) (next : Coming) : Type 0 where
@@ -283,10 +283,10 @@ after_goes :
     (next : Coming) (run : Running) (taken left : ℕ) (b : Booted) (events : List Event) (result : Result (Unit {0}) Status)
     → GoesOn run taken left → IsQuiet next → b.coming ≡ next
     → Goes (after_service next run taken (λ b. run_from run taken left b) b) events result → RunGoes run taken left b events result
-after_goes Step run taken left b events result on quiet is goes = on b events result is goes
-after_goes (Link at) run taken left b events result on quiet is goes = absurd quiet
-after_goes Print run taken left b events result on quiet is goes = absurd quiet
-after_goes (coming.Over e) run taken left b events result on quiet is goes =
+after_goes Step run taken left b events result on silent is goes = on b events result is goes
+after_goes (Link at) run taken left b events result on silent is goes = absurd silent
+after_goes Print run taken left b events result on silent is goes = absurd silent
+after_goes (coming.Over e) run taken left b events result on silent is goes =
     ends_here run taken left b (Over e) events result (b, over_turn run.lib b e is) goes
 
 -- a service was made
@@ -394,7 +394,7 @@ step_goes run taken left b after told events result on next is goes =
     (puts_split (pieces_of run.output taken told) rest events result goes)
 
 pub run_goes : (run : Running) (left taken : ℕ) → GoesOn run taken left
-unfolding Goes run_from
+unfolding Goes run_from steps_in
 run_goes run zero taken b events result next goes = ends_here run taken 0 b Limit events result (refl, next) goes
 run_goes run (suc left) taken b events result next goes =
     step_goes run taken left b goes.value.after goes.value.turn events result (run_goes run left (taken + 1)) next goes.is goes.rest

@@ -1,5 +1,5 @@
 -- A run with a limit of steps, step by step: what is left of its program.
-use Rattle.std.proofs.Common.{◌≡◌, ℕ, zero, suc, ◌+◌, ◌-◌, ◌<◌, List, [], ◌++◌, Some, Result, Err, refl, sym, ap, subst, ◌∙◌, arith}
+use Rattle.std.proofs.Common.{◌≡◌, ℕ, suc, ◌+◌, ◌-◌, ◌<◌, List, [], ◌++◌, Some, Result, Err, refl, sym, ap, subst, ◌∙◌, arith}
 use Rattle.m36_world.specs.Seen.{Seen}
 use Rattle.m36_world.specs.Follow.{Follow, outputs}
 use Rattle.m36_model.specs.declared.endings.End.{End}
@@ -7,7 +7,7 @@ use Rattle.m36_super.specs.Library.{Library}
 use Rattle.m36_super.specs.BootedRun.{Booted}
 use Rattle.m36_super.specs.SuperFields.{SuperFields, booted_of}
 use Rattle.m36_reading.specs.declared.status.Status.{Status}
-use Rattle.m36_reading.specs.declared.status.Status.TheVariants.{WriteFault, NoMemory}
+use Rattle.m36_reading.specs.declared.status.Status.TheVariants.{WriteFault}
 use Rattle.m36_program.specs.Early.{early, ends}
 use Rattle.m36_program.specs.Gathered.{Loses}
 use Rattle.m36_program.specs.Performs.{Performs, Leads}
@@ -20,7 +20,7 @@ use Rattle.m36_booted.specs.declared.running.Finish.{Finish}
 use Rattle.m36_booted.specs.declared.running.Finish.TheVariants.{Over, Limit}
 use Rattle.m36_booted.specs.RunText.{end_pieces, finish_status}
 use Rattle.cmd_folder.specs.RunProgram.{Running, finish_may_end, run_ends, run_from}
-use Rattle.cmd_folder.specs.RunSays.{IsShown, run_of, from_step, GoesOn, IsOver, Fails}
+use Rattle.cmd_folder.specs.RunSays.{run_of, from_step, GoesOn, IsOver, Fails}
 use Rattle.cmd_folder.proofs.BlockLaws.{leads_on}
 
 -- ---- the end

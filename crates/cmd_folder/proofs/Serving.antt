@@ -1,11 +1,8 @@
 -- A step with its service, and a service alone: what is left of the run's program.
-use Rattle.std.proofs.Common.{◌≡◌, ◌≢◌, ℕ, suc, ◌+◌, Bool, true, false, List, [], ◌∷◌, ◌++◌, Result, Ok, Err, refl, sym, ap, subst, ◌∙◌}
-use Rattle.m36_outside.specs.declared.sink.Put.{Put}
-use Rattle.m36_outside.specs.declared.sink.Put.TheVariants as put
+use Rattle.std.proofs.Common.{◌≡◌, ℕ, suc, ◌+◌, Bool, true, false, List, [], ◌++◌, Result, Ok, Err, refl, sym, ap, subst, ◌∙◌}
 use Rattle.m36_world.specs.Seen.{Seen}
 use Rattle.m36_world.specs.Did.{IsOutputFailed}
 use Rattle.m36_world.specs.Follow.{Follow, outputs}
-use Rattle.m36_world.specs.declared.event.Event.{Event}
 use Rattle.m36_model.specs.Fields.{AtFields}
 use Rattle.m36_model.specs.declared.endings.End.{End}
 use Rattle.m36_model.specs.declared.outcome.Fault.{Fault}
@@ -19,7 +16,6 @@ use Rattle.m36_super.specs.declared.coming.Coming.TheVariants.{Step, Link, Print
 use Rattle.m36_super.specs.BootedRun.{Booted, IsConsoleTurn, IsTurnBy, IsTurn}
 use Rattle.m36_super.specs.SuperFields.{SuperFields, booted_of}
 use Rattle.m36_super.specs.SuperTurn.{SuperTurns}
-use Rattle.m36_reading.specs.declared.status.Status.{Status}
 use Rattle.m36_reading.specs.declared.status.Status.TheVariants.{WriteFault, NoMemory}
 use Rattle.m36_program.specs.Gathered.{Gathers, Loses}
 use Rattle.m36_program.specs.Goes.{Goes}
@@ -36,8 +32,8 @@ use Rattle.m36_booted.proofs.Serving.{turn_links, turn_prints, link_behind, prin
 use Rattle.cmd_folder.specs.declared.running.AfterTurn.{AfterTurn}
 use Rattle.cmd_folder.specs.declared.running.AfterTurn.TheVariants as after
 use Rattle.cmd_folder.specs.RunProgram.{Running, Made, IsMade, IsServed, run_ends, puts_turn, after_service, then_on, serve_by, serve, run_from}
-use Rattle.cmd_folder.specs.RunSays.{IsShown, run_of, from_step, from_service, GoesOn, IsOver, Fails, TurnSays, LinkBefore}
-use Rattle.cmd_folder.proofs.BlockLaws.{GoesAs, goes_under, leads_under, leads_on, performs_starved, performs_unput}
+use Rattle.cmd_folder.specs.RunSays.{IsShown, run_of, from_step, from_service, TurnSays, LinkBefore}
+use Rattle.cmd_folder.proofs.BlockLaws.{GoesAs, leads_under, leads_on, performs_starved, performs_unput}
 
 -- what is left of a run after a step that was taken
 abbrev on_from : Running → ℕ → ℕ → Booted → Program quiet (Unit {0})

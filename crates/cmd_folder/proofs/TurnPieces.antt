@@ -1,11 +1,10 @@
 -- What is added to a block for a turn, and at the end of a run.
-use Rattle.std.proofs.Common.{◌≡◌, ℕ, ◌<◌, List, [], ◌∷◌, ◌++◌, length, sym, ap, subst, arith}
-use Rattle.std.proofs.lemmas.List.{append-nil}
+use Rattle.std.proofs.Common.{◌≡◌, ℕ, ◌<◌, List, [], ◌∷◌, length, arith}
 use Rattle.m36_outside.specs.declared.sink.Put.{Put}
 use Rattle.m36_outside.specs.declared.sink.Put.TheVariants.{Done, Failed}
 use Rattle.m36_world.specs.Answers.{PutDid}
 use Rattle.m36_world.specs.Seen.{Seen}
-use Rattle.m36_program.specs.Gathered.{Gathers, Loses, Adds}
+use Rattle.m36_program.specs.Gathered.{Gathers, Adds}
 use Rattle.m36_program.proofs.Gathered.{gathers_put, loses_put}
 use Rattle.m36_booted.specs.RunText.{characters}
 use Rattle.cmd_folder.proofs.BlockLaws.{gathers_none, adds_then, loses_more}

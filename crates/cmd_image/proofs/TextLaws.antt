@@ -1,5 +1,5 @@
 -- Programs on a bare image are alike to themselves.
-use Rattle.std.proofs.Common.{◌≡◌, ℕ, zero, suc, ◌+◌, Bool, true, false, List, Result, Ok, Err, refl}
+use Rattle.std.proofs.Common.{ℕ, zero, suc, ◌+◌, Bool, true, false, List, Result, Ok, Err, refl}
 use Rattle.m36_model.specs.Store.{State}
 use Rattle.m36_model.specs.declared.outcome.Outcome.{Outcome}
 use Rattle.m36_model.specs.declared.outcome.Outcome.TheVariants.{Next, Faulted, Stopped}
@@ -12,12 +12,12 @@ use Rattle.m36_reading.specs.declared.status.Status.TheVariants as status
 use Rattle.m36_program.specs.Alike.{Alike}
 use Rattle.m36_program.specs.Early.{MayEnd, ends}
 use Rattle.m36_program.specs.Program.{Found, Content, Absent, TooLarge, quiet, Program, puts_all, some}
-use Rattle.m36_program.specs.Readers.{refused, refuses, bytes_found, file_bytes}
+use Rattle.m36_program.specs.Readers.{refuses, bytes_found, file_bytes}
 use Rattle.m36_program.proofs.AlikeLaws.{alike_wants, alike_then, alike_puts, alike_one, performs_quiet_text, performs_written}
 use Rattle.m36_ran.specs.AuditText.{audit_pieces}
 use Rattle.m36_ran.specs.Machine.{told, after}
 use Rattle.m36_ran.specs.Output.{status_after}
-use Rattle.m36_ran.specs.Ran.{code_of, passes, is_run, audit_status}
+use Rattle.m36_ran.specs.Ran.{passes, is_run, audit_status}
 use Rattle.m36_ran.specs.declared.command.ImageCommand.{ImageCommand}
 use Rattle.m36_ran.specs.declared.command.ImageCommand.TheVariants.{Bare, Audit}
 use Rattle.cmd_image.specs.ImageProgram.{decoded, decode, image_state, may_end_by, run_status, run_ends, after_step, run_from}

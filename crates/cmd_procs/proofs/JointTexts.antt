@@ -1,71 +1,28 @@
 -- Texts of joint audits, put line by line.
-use Rattle.std.proofs.Common.{◌≡◌, ℕ, ◌+◌, ◌<◌, ◌≤◌, List, [], ◌∷◌, ◌++◌, length, drop, get_or, Option, refl, subst, ◌∙◌, arith}
-use Rattle.std.proofs.lemmas.List.{append-nil, at_drop_more, at_drop_all}
-use Rattle.m36_outside.specs.Written.{Grew, GrewWithin}
-use Rattle.m36_outside.specs.Passing.{joined, TakesSome}
-use Rattle.m36_outside.proofs.LinesTaken.{CompletesLines, completes_lines_all, completes_lines_rest, completes_lines_cut, completes_no_lines}
-use Rattle.m36_outside.proofs.Completes.{Completes, completes_all, completes_rest, completes_cut, completes_none}
+use Rattle.std.proofs.Common.{◌≡◌, ℕ, ◌+◌, ◌<◌, ◌≤◌, List, [], ◌∷◌, length, drop, get_or, Result, Ok, Err, refl, sym, ap, subst, ◌∙◌, arith}
+use Rattle.std.proofs.lemmas.List.{at_drop_more, at_drop_all}
 use Rattle.m36_text.specs.Lines.{as_line}
 use Rattle.m36_audit.specs.declared.joint_verdict.JointFinding.{JointFinding}
 use Rattle.m36_audit.specs.Joints.{found_of, all_found}
+use Rattle.m36_world.specs.Seen.{Seen}
+use Rattle.m36_reading.specs.declared.status.Status.{Status}
+use Rattle.m36_program.specs.Performs.{Performs, Leads}
+use Rattle.m36_program.specs.Program.{quiet, Program, done, puts}
+use Rattle.m36_program.specs.Readers.{put_one}
+use Rattle.m36_program.proofs.LeadLaws.{leads_start, leads_as, leads_ends, leads_put, leads_unput}
+use Rattle.m36_program.proofs.Performing.{goes_done, performs_none}
+use Rattle.m36_program.proofs.PutLaws.{puts_none}
 use Rattle.m36_ran.specs.AuditText.{yes_line}
-use Rattle.cmd_procs.specs.JointText.{found_line, found_pieces, joint_text, joint_pieces}
+use Rattle.cmd_image.proofs.AuditPuts.{all_put, put_more, one_is}
+use Rattle.cmd_procs.specs.JointText.{found_line, found_pieces, joint_pieces}
 
-abbrev pub lines_of_findings : List JointFinding → List ℕ
-lines_of_findings findings = joined (found_pieces (all_found findings))
-
-line_first :
-    (f : JointFinding) (findings : List JointFinding)
-    → lines_of_findings (f ∷ findings) ≡ as_line (found_line (found_of f)) ++ lines_of_findings findings
-unfolding found_pieces
-line_first f findings = refl
-
-line_none : lines_of_findings [] ≡ []
-unfolding found_pieces
-line_none = refl
-
-line_at :
-    (findings : List JointFinding) (i : ℕ) (d : JointFinding)
-    → i < length findings
-    → lines_of_findings (drop i findings) ≡ as_line (found_line (found_of (get_or findings i d))) ++ lines_of_findings (drop (i + 1) findings)
-line_at findings i d inside =
-    at_drop_more lines_of_findings findings i d inside ∙ line_first (get_or findings i d) (drop (i + 1) findings)
-
--- at the beginning all lines are left
-pub findings_start : (findings : List JointFinding) (start : Option (List ℕ)) → Completes start start (lines_of_findings findings) (lines_of_findings findings)
-findings_start findings start = completes_all start (lines_of_findings findings)
-
--- the line of a finding was put
-pub finding_put :
-    (findings : List JointFinding) (i : ℕ) (d : JointFinding) (now next start : Option (List ℕ)) (all : List ℕ)
-    → i < length findings
-    → Completes now start (lines_of_findings (drop i findings)) all
-    → Grew now next (as_line (found_line (found_of (get_or findings i d))))
-    → Completes next start (lines_of_findings (drop (i + 1) findings)) all
-finding_put findings i d now next start all inside so_far grew =
-    completes_rest now next start (lines_of_findings (drop i findings)) (as_line (found_line (found_of (get_or findings i d)))) (lines_of_findings (drop (i + 1) findings)) all so_far (line_at findings i d inside) grew
-
--- it was not put whole
-pub finding_cut :
-    (findings : List JointFinding) (i : ℕ) (d : JointFinding) (now new start : Option (List ℕ)) (all : List ℕ)
-    → i < length findings
-    → Completes now start (lines_of_findings (drop i findings)) all
-    → GrewWithin now new (as_line (found_line (found_of (get_or findings i d))))
-    → GrewWithin start new all
-finding_cut findings i d now new start all inside so_far cut =
-    completes_cut now new start (lines_of_findings (drop i findings)) (as_line (found_line (found_of (get_or findings i d)))) (lines_of_findings (drop (i + 1) findings)) all so_far (line_at findings i d inside) cut
-
--- all lines were put
-pub findings_end :
-    (findings : List JointFinding) (i : ℕ) (now start : Option (List ℕ)) (all : List ℕ)
-    → length findings ≤ i → Completes now start (lines_of_findings (drop i findings)) all → Grew start now all
-findings_end findings i now start all past so_far =
-    completes_none now start all (subst (λ t. Completes now start t all) (at_drop_all lines_of_findings findings i past ∙ line_none) so_far)
-
--- ---- the same in pieces
+-- ---- the lines of findings
 
 abbrev pub pieces_of_findings : List JointFinding → List (List ℕ)
 pieces_of_findings findings = found_pieces (all_found findings)
+
+abbrev pub line_at : List JointFinding → ℕ → JointFinding → List ℕ
+line_at findings i d = as_line (found_line (found_of (get_or findings i d)))
 
 piece_first :
     (f : JointFinding) (findings : List JointFinding)
@@ -77,58 +34,74 @@ piece_none : pieces_of_findings [] ≡ []
 unfolding found_pieces
 piece_none = refl
 
-piece_at :
-    (findings : List JointFinding) (i : ℕ) (d : JointFinding)
-    → i < length findings
-    → pieces_of_findings (drop i findings) ≡ as_line (found_line (found_of (get_or findings i d))) ∷ pieces_of_findings (drop (i + 1) findings)
-piece_at findings i d inside =
-    at_drop_more pieces_of_findings findings i d inside ∙ piece_first (get_or findings i d) (drop (i + 1) findings)
+left_at :
+    (findings : List JointFinding) (i : ℕ) (d : JointFinding) → i < length findings
+    → all_put (pieces_of_findings (drop i findings)) ≡ puts (line_at findings i d) (all_put (pieces_of_findings (drop (i + 1) findings)))
+left_at findings i d inside =
+    ap all_put (at_drop_more pieces_of_findings findings i d inside ∙ piece_first (get_or findings i d) (drop (i + 1) findings))
+    ∙ put_more (line_at findings i d) (pieces_of_findings (drop (i + 1) findings))
 
-pub pieces_start :
-    (findings : List JointFinding) (start : List (List ℕ)) → CompletesLines start start (pieces_of_findings findings) (pieces_of_findings findings)
-pieces_start findings start = completes_lines_all start (pieces_of_findings findings)
+pub findings_start :
+    (findings : List JointFinding) (seen : Seen)
+    → Leads (all_put (pieces_of_findings findings)) (all_put (pieces_of_findings findings)) seen seen
+findings_start findings seen = leads_start (all_put (pieces_of_findings findings)) seen
 
-pub piece_put :
-    (findings : List JointFinding) (i : ℕ) (d : JointFinding) (now next start all : List (List ℕ))
-    → i < length findings
-    → CompletesLines now start (pieces_of_findings (drop i findings)) all
-    → next ≡ now ++ as_line (found_line (found_of (get_or findings i d))) ∷ []
-    → CompletesLines next start (pieces_of_findings (drop (i + 1) findings)) all
-piece_put findings i d now next start all inside so_far took =
-    completes_lines_rest now next start (pieces_of_findings (drop i findings)) (as_line (found_line (found_of (get_or findings i d))) ∷ []) (pieces_of_findings (drop (i + 1) findings)) all so_far (piece_at findings i d inside) took
+-- the line of a finding was put
+pub finding_put :
+    (findings : List JointFinding) (i : ℕ) (d : JointFinding) (first : Program quiet (Unit {0})) (old between new : Seen)
+    → i < length findings → Leads (all_put (pieces_of_findings (drop i findings))) first old between
+    → Performs {may = quiet} (put_one (line_at findings i d)) (Ok tt) between new
+    → Leads (all_put (pieces_of_findings (drop (i + 1) findings))) first old new
+finding_put findings i d first old between new inside left put =
+    leads_put (line_at findings i d) (all_put (pieces_of_findings (drop (i + 1) findings))) first old between new
+    (leads_as (all_put (pieces_of_findings (drop i findings))) _ first old between (left_at findings i d inside) left) put
 
-pub piece_cut :
-    (findings : List JointFinding) (i : ℕ) (d : JointFinding) (now new start all : List (List ℕ))
-    → i < length findings
-    → CompletesLines now start (pieces_of_findings (drop i findings)) all
-    → TakesSome now new (as_line (found_line (found_of (get_or findings i d))) ∷ [])
-    → TakesSome start new all
-piece_cut findings i d now new start all inside so_far cut =
-    completes_lines_cut now new start (pieces_of_findings (drop i findings)) (as_line (found_line (found_of (get_or findings i d))) ∷ []) (pieces_of_findings (drop (i + 1) findings)) all so_far (piece_at findings i d inside) cut
+-- it was not put
+pub finding_unput :
+    (findings : List JointFinding) (i : ℕ) (d : JointFinding) (first : Program quiet (Unit {0})) (s : Status) (old between new : Seen)
+    → i < length findings → Leads (all_put (pieces_of_findings (drop i findings))) first old between
+    → Performs {may = quiet} (put_one (line_at findings i d)) (Err s) between new
+    → Performs first (Err s) old new
+finding_unput findings i d first s old between new inside left put =
+    leads_unput (line_at findings i d) (all_put (pieces_of_findings (drop (i + 1) findings))) first s old between new
+    (leads_as (all_put (pieces_of_findings (drop i findings))) _ first old between (left_at findings i d inside) left) put
 
-pub pieces_end :
-    (findings : List JointFinding) (i : ℕ) (now start all : List (List ℕ))
-    → length findings ≤ i → CompletesLines now start (pieces_of_findings (drop i findings)) all → now ≡ start ++ all
-pieces_end findings i now start all past so_far =
-    completes_no_lines now start all (subst (λ t. CompletesLines now start t all) (at_drop_all pieces_of_findings findings i past ∙ piece_none) so_far)
+-- all lines were put
+pub findings_end :
+    (findings : List JointFinding) (i : ℕ) (first : Program quiet (Unit {0})) (old new : Seen)
+    → length findings ≤ i → Leads (all_put (pieces_of_findings (drop i findings))) first old new
+    → Performs first (Ok tt) old new
+findings_end findings i first old new past left =
+    let none : all_put (pieces_of_findings (drop i findings)) ≡ done tt =
+    ap all_put (at_drop_all pieces_of_findings findings i past ∙ piece_none) ∙ puts_none (done tt) in
+    leads_ends (done tt) first (Ok tt) old new new
+    (leads_as (all_put (pieces_of_findings (drop i findings))) (done tt) first old new none left)
+    (performs_none (done tt) (Ok tt) new (goes_done quiet tt))
 
-pub ruleset findings_in_turn = (findings_start, finding_put, finding_cut, findings_end, pieces_start, piece_put, piece_cut, pieces_end)
+pub ruleset findings_in_turn = (findings_start, finding_put, finding_unput, findings_end)
 
--- the text by whether there are findings
-pub text_of_none : (findings : List JointFinding) → length findings ≡ 0 → joint_text (all_found findings) ≡ yes_line
-text_of_none [] none = append-nil yes_line
-text_of_none (f ∷ findings) none = absurd (omega (arith, none))
+-- ---- the whole text
 
-pub text_of_some : (findings : List JointFinding) → 0 < length findings → joint_text (all_found findings) ≡ lines_of_findings findings
-text_of_some [] some = absurd (omega arith)
-text_of_some (f ∷ findings) some = refl
-
-pub pieces_of_none : (findings : List JointFinding) → length findings ≡ 0 → joint_pieces (all_found findings) ≡ yes_line ∷ []
+pieces_of_none : (findings : List JointFinding) → length findings ≡ 0 → joint_pieces (all_found findings) ≡ yes_line ∷ []
 pieces_of_none [] none = refl
 pieces_of_none (f ∷ findings) none = absurd (omega (arith, none))
 
-pub pieces_of_some : (findings : List JointFinding) → 0 < length findings → joint_pieces (all_found findings) ≡ pieces_of_findings findings
+pieces_of_some : (findings : List JointFinding) → 0 < length findings → joint_pieces (all_found findings) ≡ pieces_of_findings findings
 pieces_of_some [] some = absurd (omega arith)
 pieces_of_some (f ∷ findings) some = refl
 
-pub ruleset joint_texts = (text_of_none, text_of_some, pieces_of_none, pieces_of_some)
+pub yes_put :
+    (findings : List JointFinding) (result : Result (Unit {0}) Status) (old new : Seen)
+    → length findings ≡ 0 → Performs {may = quiet} (put_one yes_line) result old new
+    → Performs (all_put (joint_pieces (all_found findings))) result old new
+yes_put findings result old new none put =
+    subst (λ p. Performs p result old new) (one_is yes_line ∙ sym (ap all_put (pieces_of_none findings none))) put
+
+pub lines_put :
+    (findings : List JointFinding) (result : Result (Unit {0}) Status) (old new : Seen)
+    → 0 < length findings → Performs (all_put (pieces_of_findings findings)) result old new
+    → Performs (all_put (joint_pieces (all_found findings))) result old new
+lines_put findings result old new some put =
+    subst (λ p. Performs p result old new) (sym (ap all_put (pieces_of_some findings some))) put
+
+pub ruleset joint_texts = (yes_put, lines_put)

@@ -1,7 +1,9 @@
 pub mod JointTexts
-pub mod JointAnswers
-pub mod ProcsLaws
+pub mod ProcsSteps
+pub mod ScheduleLoop
+pub mod TextLaws
 pub mod DueLaws
 pub mod PiecesJoined
 pub mod YesAnswers
 pub mod Registers
+pub mod Bridge

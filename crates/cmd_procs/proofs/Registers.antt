@@ -9,10 +9,10 @@ use Rattle.m36_model.specs.Registers.{RegsFields}
 abbrev pub bases : List RegsFields → List DbrFields
 bases regs = map (λ g. g.dbr) regs
 
-drop_at : (regs : List RegsFields) (n : ℕ) (g : RegsFields) → slice_get regs n ≡ Some g → drop n regs ≡ g ∷ drop (suc n) regs
-drop_at [] n g h = cc
-drop_at (x ∷ regs) zero g h = let same : x ≡ g = cc in ap (λ (y : RegsFields). y ∷ regs) same
-drop_at (x ∷ regs) (suc n) g h = drop_at regs n g h
+pub drop_at : {A : Type 0} (xs : List A) (n : ℕ) (a : A) → slice_get xs n ≡ Some a → drop n xs ≡ a ∷ drop (suc n) xs
+drop_at [] n a h = cc
+drop_at (x ∷ xs) zero a h = let same : x ≡ a = cc in ap (λ y. y ∷ xs) same
+drop_at (x ∷ xs) (suc n) a h = drop_at xs n a h
 
 pub bases_more : (regs : List RegsFields) (n : ℕ) (g : RegsFields) (dbrs after : List DbrFields) → slice_get regs n ≡ Some g → after ≡ dbrs ++ g.dbr ∷ [] → dbrs ++ bases (drop n regs) ≡ bases regs → after ++ bases (drop (n + 1) regs) ≡ bases regs
 bases_more regs n g dbrs after at put so_far =

@@ -1,55 +1,55 @@
 //! The joint audit of processes, and their schedule.
 
-ghost use Rattle.std.specs.Prelude.{◌≡◌, ◌≤◌, ◌<◌, [], Ok, IfOk, length};
+ghost use Rattle.std.specs.Prelude.{◌≡◌, ◌≤◌, [], IfOk, length};
 ghost use Rattle.m36_model.specs.JointAudit.{AreJointFindings, most_processes};
 ghost use Rattle.m36_audit.specs.Joints.{all_found};
-ghost use Rattle.m36_reading.specs.Ends.{end_of};
-ghost use Rattle.m36_reading.specs.Outside.{sink_of, outside_of};
-ghost use Rattle.m36_reading.specs.Doing.{Does};
-ghost use Rattle.m36_ran.specs.Putting.{PutsBy, PutsSome};
+ghost use Rattle.m36_program.specs.Performs.{Performs};
 ghost use Rattle.m36_ran.specs.Ran.{is_run};
-ghost use Rattle.cmd_procs.specs.Scheduled.{procs_reads, run_answer, refused_answer, procs_answer, dbrs_of, AreIsolated, IsProcsDue, procs_kind};
+ghost use Rattle.cmd_procs.specs.Scheduled.{dbrs_of, AreIsolated};
+ghost use Rattle.cmd_procs.specs.ProcsProgram.{audit_only, audit_and_run, by_found, on_procs, procs_program};
 
 use crate::findings::put_joint;
 use crate::reading::read_procs;
+use crate::running::run;
 use m36_audit::{Joint, JointFinding, joint};
 use m36_desc::Dbr;
 use m36_model::Regs;
-use m36_outside::{Folder, Put, Sink};
 use m36_procs::Procs;
 use m36_reading::Status;
 use m36_word::NoMemory;
+use m36_world::World;
 use std::alloc::Global;
 
-/// Puts the audit text, and then runs the schedule.
-#[tactic(auto, using(crate::proofs::JointAnswers::answers))]
-fn run_audited<S: Sink>(findings: &[JointFinding], procs: &mut Procs, out: &mut S) -> Status
-    ensures { PutsBy (end_of result) result (run_answer (all_found findings.now) procs.old)
-        (sink_of S.written S.taken S.faults out.old) (sink_of S.written S.taken S.faults out.new) }
+/// Puts the audit's text, and then runs the schedule.
+#[tactic(auto, using(crate::proofs::ProcsSteps::audited))]
+fn run_audited<W: World>(
+    findings: &[JointFinding],
+    procs: &mut Procs,
+    world: &mut W,
+) -> Result<(), Status>
+    ensures { Performs (audit_and_run procs.old (all_found findings.now)) result
+        (W.seen world.old) (W.seen world.new) }
 {
-    match put_joint(findings, out) {
-        Put::Failed => Status::WriteFault,
-        Put::Done => match procs.run(out) {
-            Ok(_) => Status::Done,
-            Err(_) => Status::WriteFault,
-        },
+    match put_joint(findings, world) {
+        Ok(()) => run(procs, world),
+        Err(status) => Err(status),
     }
 }
 
-/// Puts the audit text alone.
-#[tactic(auto, using(crate::proofs::JointAnswers::answers))]
-fn refuse_run<S: Sink>(findings: &[JointFinding], out: &mut S) -> Status
-    ensures { PutsBy (end_of result) result (refused_answer (all_found findings.now))
-        (sink_of S.written S.taken S.faults out.old) (sink_of S.written S.taken S.faults out.new) }
+/// Puts the audit's text alone.
+#[tactic(auto, using(crate::proofs::ProcsSteps::refusing))]
+fn refuse_run<W: World>(findings: &[JointFinding], world: &mut W) -> Result<(), Status>
+    ensures { Performs (audit_only (all_found findings.now)) result
+        (W.seen world.old) (W.seen world.new) }
 {
-    match put_joint(findings, out) {
-        Put::Failed => Status::WriteFault,
-        Put::Done => Status::AuditNo,
+    match put_joint(findings, world) {
+        Ok(()) => Err(Status::AuditNo),
+        Err(status) => Err(status),
     }
 }
 
 // Whether the schedule is run.
-#[tactic(auto, using(crate::proofs::JointAnswers::passing))]
+#[tactic(auto, using(crate::proofs::ProcsSteps::passing))]
 fn is_run(findings: &[JointFinding], unaudited: bool) -> bool
     ensures { result ≡ is_run (all_found findings.now) unaudited }
 {
@@ -57,19 +57,19 @@ fn is_run(findings: &[JointFinding], unaudited: bool) -> bool
 }
 
 /// Does what the command says, by what the joint audit has found.
-fn answer_found<S: Sink>(
+fn answer_found<W: World>(
     findings: &[JointFinding],
     procs: &mut Procs,
     unaudited: bool,
-    out: &mut S,
-) -> Status
-    ensures { PutsBy (end_of result) result (procs_answer unaudited procs.old (all_found findings.now))
-        (sink_of S.written S.taken S.faults out.old) (sink_of S.written S.taken S.faults out.new) }
+    world: &mut W,
+) -> Result<(), Status>
+    ensures { Performs (by_found unaudited procs.old (all_found findings.now)) result
+        (W.seen world.old) (W.seen world.new) }
 {
     if is_run(findings, unaudited) {
-        run_audited(findings, procs, out)
+        run_audited(findings, procs, world)
     } else {
-        refuse_run(findings, out)
+        refuse_run(findings, world)
     }
 }
 
@@ -107,35 +107,44 @@ fn audited(alloc: Global, procs: &Procs) -> Result<Joint, NoMemory>
 }
 
 /// Audits processes, and does what the command says with them.
-#[tactic(auto, using(crate::proofs::ProcsLaws::dues))]
-fn with_procs<S: Sink>(alloc: Global, mut procs: Procs, unaudited: bool, out: &mut S) -> Status
-    ensures { PutsSome (IsProcsDue unaudited procs) (end_of result) result
-        (sink_of S.written S.taken S.faults out.old) (sink_of S.written S.taken S.faults out.new) }
+#[tactic(auto, using(crate::proofs::ProcsSteps::found))]
+fn with_procs<W: World>(
+    alloc: Global,
+    mut procs: Procs,
+    unaudited: bool,
+    world: &mut W,
+) -> Result<(), Status>
+    ensures { Performs (on_procs unaudited procs) result (W.seen world.old) (W.seen world.new) }
 {
     match audited(alloc, &procs) {
-        Ok(joint) => answer_found(joint.findings.as_slice(), &mut procs, unaudited, out),
-        Err(_) => Status::NoMemory,
+        Ok(verdict) => {
+            let findings = verdict.findings.as_slice();
+            let answer = answer_found(findings, &mut procs, unaudited, world);
+            // Dropped by calls: so each drop is proved once for its type.
+            drop(verdict);
+            drop(procs);
+            answer
+        }
+        Err(_) => {
+            drop(procs);
+            Err(Status::NoMemory)
+        }
     }
 }
 
 /// The command `procs FILE`, with or without `--unaudited`.
-#[tactic(auto, using(m36_reading::proofs::EndLaws::doing, crate::proofs::ProcsLaws::performs_put))]
-pub fn procs_file<F: Folder, S: Sink>(
+#[tactic(auto, unfolding(crate::specs::ProcsProgram::procs_program), using(m36_program::proofs::Performing::performing))]
+pub fn procs_file<W: World>(
     alloc: Global,
     name: &[u8],
     unaudited: bool,
-    folder: &mut F,
-    out: &mut S,
-) -> Status
-    ensures { Does (procs_kind unaudited) (procs_reads name.now) result
-        (outside_of F.files F.wrote F.read_faults F.write_faults S.written S.taken S.faults
-        folder.old out.old)
-        (outside_of F.files F.wrote F.read_faults F.write_faults S.written S.taken S.faults
-        folder.new out.new)
-        (F.asked folder.old) (F.asked folder.new) }
+    world: &mut W,
+) -> Result<(), Status>
+    ensures { Performs (procs_program unaudited name.now) result
+        (W.seen world.old) (W.seen world.new) }
 {
-    match read_procs(alloc, name, folder) {
-        Ok(procs) => with_procs(alloc, procs, unaudited, out),
-        Err(refusal) => refusal.status(),
+    match read_procs(alloc, name, world) {
+        Ok(procs) => with_procs(alloc, procs, unaudited, world),
+        Err(status) => Err(status),
     }
 }

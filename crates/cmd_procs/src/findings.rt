@@ -1,18 +1,20 @@
 //! The text of a joint audit.
 
-ghost use Rattle.std.specs.Prelude.{◌≡◌, ◌≤◌, ◌<◌, [], ◌∷◌, length};
-ghost use Rattle.m36_outside.specs.Passing.{TakesLines, joined};
-ghost use Rattle.m36_outside.specs.Put.{PutSays, PutHasCause};
+ghost use Rattle.std.specs.Prelude.{◌≡◌, ◌≤◌, length};
 ghost use Rattle.m36_text.specs.Lines.{as_line};
 ghost use Rattle.m36_audit.specs.Joints.{found_of, all_found};
-ghost use Rattle.cmd_procs.specs.JointText.{process_line, between_line, found_line, found_pieces, joint_text, joint_pieces};
+ghost use Rattle.m36_program.specs.Performs.{Performs};
+ghost use Rattle.m36_program.specs.Program.{quiet, done, puts_all};
+ghost use Rattle.m36_program.specs.Readers.{put_one};
+ghost use Rattle.cmd_procs.specs.JointText.{process_line, between_line, found_line, found_pieces, joint_pieces};
 
 use arrayvec::ArrayString;
+use cmd_image::findings::{put_line, put_yes};
 use m36_audit::JointFinding;
-use m36_outside::{Put, Sink};
-use m36_ran::findings::{place_text, put_yes};
-use m36_ran::running::put_line;
+use m36_ran::findings::place_text;
+use m36_reading::Status;
 use m36_text::{decimal, octal};
+use m36_world::World;
 
 /// The line of a finding of a process, without its line feed.
 #[tactic(auto, unfolding(crate::specs::JointText::process_line))]
@@ -56,45 +58,36 @@ fn found_line(finding: &JointFinding) -> ArrayString<160>
 }
 
 // Puts the line of a finding.
-fn put_found<S: Sink>(finding: &JointFinding, out: &mut S) -> Put
-    ensures says { PutSays result (S.written out.old) (S.written out.new)
-        (as_line (found_line (found_of finding.now))) }
-    ensures through { TakesLines result (S.taken out.old) (S.taken out.new)
-        (as_line (found_line (found_of finding.now)) ∷ []) }
-    ensures cause { PutHasCause result (S.faults out.old) (S.faults out.new) }
+fn put_found<W: World>(finding: &JointFinding, world: &mut W) -> Result<(), Status>
+    ensures { Performs {may = quiet} (put_one (as_line (found_line (found_of finding.now)))) result
+        (W.seen world.old) (W.seen world.new) }
 {
-    put_line(out, found_line(finding))
+    put_line(found_line(finding), world)
 }
 
-/// Puts a line for each finding.
+// Puts a line for each finding.
 #[tactic(auto, using(crate::proofs::JointTexts::findings_in_turn))]
-fn put_all<S: Sink>(findings: &[JointFinding], out: &mut S) -> Put
-    ensures says { PutSays result (S.written out.old) (S.written out.new)
-        (joined (found_pieces (all_found findings.now))) }
-    ensures through { TakesLines result (S.taken out.old) (S.taken out.new)
-        (found_pieces (all_found findings.now)) }
-    ensures cause { PutHasCause result (S.faults out.old) (S.faults out.new) }
+fn put_all<W: World>(findings: &[JointFinding], world: &mut W) -> Result<(), Status>
+    ensures { Performs {may = quiet} (puts_all (found_pieces (all_found findings.now)) (done tt))
+        result (W.seen world.old) (W.seen world.new) }
 {
     for finding in findings {
-        match put_found(finding, out) {
-            Put::Done => {}
-            Put::Failed => return Put::Failed,
+        match put_found(finding, world) {
+            Ok(()) => {}
+            Err(status) => return Err(status),
         }
     }
-    Put::Done
+    Ok(())
 }
 
 /// Puts the text of a joint audit, line by line.
 #[tactic(auto, using(crate::proofs::JointTexts::joint_texts))]
-pub(crate) fn put_joint<S: Sink>(findings: &[JointFinding], out: &mut S) -> Put
-    ensures says { PutSays result (S.written out.old) (S.written out.new)
-        (joint_text (all_found findings.now)) }
-    ensures through { TakesLines result (S.taken out.old) (S.taken out.new)
-        (joint_pieces (all_found findings.now)) }
-    ensures cause { PutHasCause result (S.faults out.old) (S.faults out.new) }
+pub fn put_joint<W: World>(findings: &[JointFinding], world: &mut W) -> Result<(), Status>
+    ensures { Performs {may = quiet} (puts_all (joint_pieces (all_found findings.now)) (done tt))
+        result (W.seen world.old) (W.seen world.new) }
 {
     if findings.is_empty() {
-        return put_yes(out);
+        return put_yes(world);
     }
-    put_all(findings, out)
+    put_all(findings, world)
 }

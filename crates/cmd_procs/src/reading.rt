@@ -1,40 +1,45 @@
 //! The processes and the schedule that a file writes out.
 
-ghost use Rattle.std.specs.Prelude.{◌≤◌, length};
+ghost use Rattle.std.specs.Prelude.{◌≤◌, [], length};
 ghost use Rattle.m36_outside.specs.ReadAnswer.{file_limit};
-ghost use Rattle.m36_procs.specs.ProcsFile.{procs_given};
-ghost use Rattle.m36_reading.specs.Asking.{Gives};
-ghost use Rattle.m36_reading.specs.Outside.{folder_of};
-ghost use Rattle.m36_reading.specs.Doing.{Reads};
-ghost use Rattle.cmd_procs.specs.Scheduled.{procs_by, procs_reads};
+ghost use Rattle.m36_program.specs.Goes.{Goes};
+ghost use Rattle.m36_program.specs.Performs.{Performs};
+ghost use Rattle.m36_program.specs.Program.{quiet};
+ghost use Rattle.cmd_procs.specs.ProcsProgram.{decode, procs_of};
 
-use m36_outside::Folder;
 use m36_procs::{Procs, ProcsFault};
-use m36_reading::{Code, Refusal, read_bytes, refuse};
+use m36_program::{read_bytes, refuse};
+use m36_reading::{Code, Status};
+use m36_world::World;
 use std::alloc::Global;
 
-/// The processes that the bytes of a file, of at most 16 MiB, write out: P1 or P2 where they are no text of processes.
-#[tactic(auto, using(crate::proofs::ProcsLaws::given))]
-pub fn procs_in(alloc: Global, name: &[u8], bytes: &[u8]) -> Result<Procs, Refusal>
+/// The processes that the bytes of a file write out: P1 or P2 where they are no text of processes.
+#[tactic(auto, using(crate::proofs::ProcsSteps::decoding))]
+fn decode(alloc: Global, name: &[u8], bytes: &[u8]) -> Result<Procs, Status>
     requires { length bytes.now ≤ file_limit }
-    ensures { Gives result (procs_by name.now (procs_given bytes.now)) }
+    ensures { Goes {may = quiet} (decode name.now bytes.now) [] result }
 {
     match Procs::read(alloc, bytes) {
         Ok(procs) => Ok(procs),
         Err(ProcsFault::P1(line)) => Err(refuse(alloc, name, Code::P1, line)),
         Err(ProcsFault::P2(line)) => Err(refuse(alloc, name, Code::P2, line)),
-        Err(ProcsFault::NoMemory) => Err(Refusal::NoMemory),
+        Err(ProcsFault::NoMemory) => Err(Status::NoMemory),
     }
 }
 
 /// Reads a text of processes.
-#[tactic(auto, using(m36_reading::proofs::ReadLaws::reads_early), unfolding(crate::specs::Scheduled::procs_reads))]
-pub fn read_procs<F: Folder>(alloc: Global, name: &[u8], folder: &mut F) -> Result<Procs, Refusal>
-    ensures { Reads (procs_reads name.now) result
-        (folder_of F.files F.wrote F.read_faults F.write_faults folder.old)
-        (folder_of F.files F.wrote F.read_faults F.write_faults folder.new)
-        (F.asked folder.old) (F.asked folder.new) }
+#[tactic(auto, using(crate::proofs::ProcsSteps::reading))]
+pub fn read_procs<W: World>(alloc: Global, name: &[u8], world: &mut W) -> Result<Procs, Status>
+    ensures { Performs {may = quiet} (procs_of name.now) result
+        (W.seen world.old) (W.seen world.new) }
 {
-    let text = read_bytes(alloc, name, folder)?;
-    procs_in(alloc, name, text.bytes())
+    match read_bytes(alloc, name, world) {
+        Ok(text) => {
+            let given = decode(alloc, name, text.bytes());
+            // Dropped by a call: so the drop is proved once for its type.
+            drop(text);
+            given
+        }
+        Err(status) => Err(status),
+    }
 }

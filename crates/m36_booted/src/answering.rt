@@ -5,6 +5,7 @@ ghost use Rattle.m36_model.specs.Audit.{AreFindings};
 ghost use Rattle.m36_audit.specs.Findings.{pairs};
 
 use m36_audit::{Verdict, audit};
+use m36_step::Stepper;
 use m36_super::Super;
 use m36_word::NoMemory;
 use std::alloc::Global;

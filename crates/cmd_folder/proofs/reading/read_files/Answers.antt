@@ -1,5 +1,5 @@
 -- A file was read after the others, or not.
-use Rattle.std.proofs.Common.{◌≡◌, ◌+◌, ◌≤◌, [], ap, ◌∙◌, rules, arith, length}
+use Rattle.std.proofs.Common.{◌≡◌, ◌+◌, [], ap, ◌∙◌, rules, arith, length}
 use Rattle.m36_files.specs.EachFile.{each_onto}
 use Rattle.m36_files.proofs.EachLaws.{each_start, each_end}
 use Rattle.cmd_folder.specs.FolderProgram.{segment_words}

@@ -7,7 +7,7 @@ use Rattle.m36_model.specs.JointAudit.{AreJointFindings}
 use Rattle.m36_model.specs.JointIsolation.{JointlyIsolated}
 use Rattle.m36_audit.specs.Joints.{all_found}
 use Rattle.cmd_procs.specs.Scheduled.{dbrs_of}
-use Rattle.cmd_procs.proofs.JointAnswers.{none_of}
+use Rattle.cmd_procs.proofs.ProcsSteps.{none_of}
 use Rattle.cmd_procs.proofs.answering.audited.Goals as goal
 
 pub returns-clause-found : goal.returns-clause-found

@@ -1,0 +1,71 @@
+-- What `procs FILE` does, as a program: the file is read and decoded, the text of the joint audit
+-- is put, and where the schedule is run, a line for each event and the last line.
+use Rattle.std.specs.Prelude.{ℕ, ◌≡◌, Bool, true, false, List, [], Result, Ok, Err}
+use Rattle.m36_model.specs.JointAudit.{JointFound, AreJointFindings}
+use Rattle.m36_model.specs.Schedule.{Processes}
+use Rattle.m36_procs.specs.ProcsFields.{ProcsFields}
+use Rattle.m36_procs.specs.ProcsFile.{procs_given}
+use Rattle.m36_procs.specs.ScheduleText.{schedule_pieces}
+use Rattle.m36_procs.specs.declared.fault.Code.{Code as ProcsCode}
+use Rattle.m36_reading.specs.declared.status.Status.TheVariants.{Done}
+use Rattle.m36_program.specs.Early.{ends}
+use Rattle.m36_program.specs.Program.{May, quiet, Program, done, puts_all, some, wants, then_with}
+use Rattle.m36_program.specs.Readers.{refused, refuses, file_bytes}
+use Rattle.m36_ran.specs.Ran.{is_run, audit_status}
+use Rattle.cmd_procs.specs.JointText.{joint_pieces}
+use Rattle.cmd_procs.specs.Scheduled.{code_of, dbrs_of, AreIsolated}
+
+-- ---- reading
+
+-- the processes of a text, or its refusal: P1 or P2
+abbrev pub decoded :
+    {may : May} → List ℕ → Result ProcsFields (ℕ × ProcsCode) → Program may ProcsFields
+decoded name (Ok p) = done p
+decoded name (Err refusal) = refuses (refused name (code_of refusal.1) refusal.0)
+
+-- the bytes of a text of processes are decoded
+unfoldable pub decode : {may : May} → List ℕ → List ℕ → Program may ProcsFields
+decode name bytes = wants (decoded name (procs_given bytes))
+
+-- the processes and the schedule that a file writes out
+unfoldable pub procs_of : {may : May} → List ℕ → Program may ProcsFields
+procs_of name = then_with (file_bytes name) (decode name)
+
+-- ---- the joint audit, and the run
+
+-- These are the findings of the joint audit; where there are none, every schedule of the processes
+-- is isolated.
+pub record IsFound (s : Processes (List ℕ)) (findings : List JointFound) : Type 0 where
+  pub found : AreJointFindings s.store (dbrs_of s) findings
+  pub isolated : findings ≡ [] → AreIsolated s
+
+-- the audit's text, and no run
+unfoldable pub audit_only : List JointFound → Program quiet (Unit {0})
+audit_only findings = puts_all (joint_pieces findings) (ends (audit_status false) tt)
+
+-- a line for each event of the schedule, and the last line
+unfoldable pub run_all : ProcsFields → Program quiet (Unit {0})
+run_all p = puts_all (schedule_pieces p.schedule p.state) (ends Done tt)
+
+-- the audit's text, and the run
+unfoldable pub audit_and_run : ProcsFields → List JointFound → Program quiet (Unit {0})
+audit_and_run p findings = puts_all (joint_pieces findings) (run_all p)
+
+-- by whether the schedule is run
+abbrev pub run_by : Bool → ProcsFields → List JointFound → Program quiet (Unit {0})
+run_by true p findings = audit_and_run p findings
+run_by false p findings = audit_only findings
+
+-- by what the joint audit finds
+abbrev pub by_found : Bool → ProcsFields → List JointFound → Program quiet (Unit {0})
+by_found unaudited p findings = run_by (is_run findings unaudited) p findings
+
+-- ---- the command
+
+-- What is done with processes. Memory may run out before anything is put, and not after that.
+unfoldable pub on_procs : Bool → ProcsFields → Program quiet (Unit {0})
+on_procs unaudited p = wants (some (IsFound p.state) (by_found unaudited p))
+
+-- `procs FILE`, with or without `--unaudited`
+unfoldable pub procs_program : Bool → List ℕ → Program quiet (Unit {0})
+procs_program unaudited name = then_with (procs_of name) (on_procs unaudited)
