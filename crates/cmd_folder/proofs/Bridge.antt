@@ -29,7 +29,6 @@ use Rattle.m36_program.proofs.ProgramLaws.{performs_cause, performs_files, perfo
 use Rattle.m36_catalog.specs.Catalogs.{access_reads}
 use Rattle.m36_catalog.specs.declared.access.Access.{Access}
 use Rattle.m36_program.specs.Objects.{outside_by}
-use Rattle.m36_program.proofs.Objects.{SameObjects, does_over}
 use Rattle.m36_files.specs.Catalogs.{catalog_access}
 use Rattle.m36_files.specs.Deciding.{decides}
 use Rattle.m36_files.specs.EachFile.{each_onto}
@@ -244,13 +243,3 @@ performs_does command user result old new performs =
     reader_does (folder_given user) (on_folder command) (folder_reads user) (folder_kind command) result old new (folder_reader user)
     (λ given events between goes call. folder_done command given result between new call (folder_put command given call.events result call.goes))
     performs
-
--- the same of a call over three objects
-pub does_called :
-    (command : FolderCommand) (user : Option (List ℕ)) (result : Result (Unit {0}) Status) (status : Status) (old new old' new' : Seen)
-    → status ≡ status_by result → SameObjects old old' → SameObjects new new'
-    → Performs (folder_program command user) result old new
-    → Does (folder_kind command) (folder_reads user) status (outside_by old') (outside_by new') old'.reads new'.reads
-does_called command user result status old new old' new' status_is same_old same_new performs =
-    does_over (folder_kind command) (folder_reads user) (status_by result) status old new old' new' status_is same_old same_new
-    (performs_does command user result old new performs)
