@@ -1,17 +1,18 @@
 //! The lines that are put of a folder that was made.
 
-ghost use Rattle.std.specs.Prelude.{◌≡◌, ◌<◌, [], ◌∷◌, length, Some};
-ghost use Rattle.m36_model.specs.Registers.{RegsFields};
+ghost use Rattle.std.specs.Prelude.{ℕ, ◌≡◌, ◌<◌, List, [], ◌∷◌, length, Some};
 ghost use Rattle.m36_text.specs.Lines.{as_line};
 ghost use Rattle.m36_super.specs.declared.coming.Coming.TheVariants.{Step};
 ghost use Rattle.m36_super.specs.SuperFields.{booted_of};
 ghost use Rattle.m36_audit.specs.Findings.{pairs};
-ghost use Rattle.m36_booted.specs.Systems.{IsFresh};
+ghost use Rattle.m36_program.specs.Early.{ends};
 ghost use Rattle.m36_program.specs.Performs.{Performs};
-ghost use Rattle.m36_program.specs.Program.{done, puts_all};
+ghost use Rattle.m36_program.specs.Program.{quiet, done, puts, puts_all};
 ghost use Rattle.m36_ran.specs.Ran.{passes};
-ghost use Rattle.cmd_make.specs.Summary.{run_limit, segment_count, segments_line, sum_line};
-ghost use Rattle.cmd_make.specs.Summary.{head_pieces};
+ghost use Rattle.m36_booted.specs.RunText.{finish_status};
+ghost use Rattle.m36_booted.specs.Systems.{IsFresh};
+ghost use Rattle.cmd_folder.specs.RunProgram.{finish_may_end};
+ghost use Rattle.cmd_make.specs.Summary.{segments_line, sum_line, head_pieces};
 ghost use Rattle.cmd_make.specs.MakeProgram.{summed_up, run_summed, runs_or_ends, found_told, on_booted};
 
 use crate::running::{RunEnd, run_quietly};
@@ -60,8 +61,8 @@ fn sum_line(regs: &Regs) -> ArrayString<160>
 // Puts the lines before the run.
 #[tactic(auto, using(crate::proofs::SummarySteps::heading))]
 fn put_head<W: World>(count: u64, findings: &[Finding], world: &mut W) -> Result<(), Status>
-    ensures { Performs (puts_all (head_pieces count (pairs findings.now)) (done tt)) result
-        (W.seen world.old) (W.seen world.new) }
+    ensures { Performs {may = quiet} (puts_all (head_pieces count (pairs findings.now)) (done tt))
+        result (W.seen world.old) (W.seen world.new) }
 {
     match put_line(segments_line(count), world) {
         Ok(()) => put_audit(findings, world),
@@ -72,7 +73,7 @@ fn put_head<W: World>(count: u64, findings: &[Finding], world: &mut W) -> Result
 // Puts the line of the registers that a run has left, and answers with the status of the run.
 #[tactic(auto, using(crate::proofs::SummarySteps::summing))]
 fn put_sum<W: World>(end: RunEnd, regs: &Regs, world: &mut W) -> Result<(), Status>
-    ensures { Performs (puts (as_line (sum_line regs.now))
+    ensures { Performs {may = quiet} (puts (as_line (sum_line regs.now))
         (ends (finish_status (Some end.how)) (finish_may_end end.how))) result
         (W.seen world.old) (W.seen world.new) }
 {
