@@ -10,7 +10,7 @@ use Rattle.m36_program.specs.Performs.{Performs}
 use Rattle.m36_program.specs.Program.{May, quiet, Program, then_with}
 use Rattle.m36_program.proofs.Performing.{performs_then, performs_stop}
 use Rattle.m36_files.specs.Deciding.{decides}
-use Rattle.m36_files.specs.Writing as may
+use Rattle.m36_files.specs.Writing as allows
 use Rattle.m36_files.proofs.DecidingLaws.{rule_given}
 use Rattle.m36_booted.specs.Folder.{FolderFields}
 use Rattle.cmd_tools.specs.Reporting.{writes_all, write_files}
@@ -62,7 +62,7 @@ unfolding write_and_boot
 written_then sets result old between new first second =
     subst (λ p. Performs p result old new) (then_rest sets (within (boot_made sets)))
     (performs_then (write_files sets) (λ u. within (boot_made sets)) tt result old between new first
-    (performs_within may.writing (boot_made sets) result between new second))
+    (performs_within allows.writing (boot_made sets) result between new second))
 
 pub not_written :
     (sets : List Set) (s : Status) (old new : Seen)
@@ -80,12 +80,12 @@ pub make_given :
     (seed : ℕ) (sets : List Set) (result : Result (Unit {0}) Status) (old new : Seen)
     → Gives (Ok sets) (sets_of seed) → Performs (write_and_boot sets) result old new → Performs (make_program seed) result old new
 unfolding make_program
-make_given seed sets result old new gives performs = given_then may.writing (sets_of seed) write_and_boot sets result old new gives performs
+make_given seed sets result old new gives performs = given_then allows.writing (sets_of seed) write_and_boot sets result old new gives performs
 
 pub make_refused :
     (seed : ℕ) (r : Refusal) (s : Status) (seen : Seen)
     → Gives {A = List Set} (Err r) (sets_of seed) → s ≡ status_of r → Performs (make_program seed) (Err s) seen seen
 unfolding make_program
-make_refused seed r s seen gives is = given_stop may.writing (sets_of seed) write_and_boot r s seen gives is
+make_refused seed r s seen gives is = given_stop allows.writing (sets_of seed) write_and_boot r s seen gives is
 
 pub ruleset making = (make_given, make_refused)

@@ -219,7 +219,7 @@ run_after lib first events result next (inr (inr across)) =
 -- the lines of a system that is not run
 unrun_put :
     (lib : Library) (first : Booted) (f : ℕ × ℕ) (findings : List (ℕ × ℕ)) (events : List Event) (result : Result (Unit {0}) Status)
-    → Goes (puts_all (head_pieces (segment_count lib) (f ∷ findings)) (ends (audit_status false) (audit_may_end false))) events result
+    → Goes {may = quiet} (puts_all (head_pieces (segment_count lib) (f ∷ findings)) (ends (audit_status false) (audit_may_end false))) events result
     → SummaryPut lib first (f ∷ findings) events result
 unfolding unrun_answer
 unrun_put lib first f findings events result goes =

@@ -126,14 +126,28 @@ end_unput text ran s old new is put =
 
 -- ---- the run
 
-pub run_ended :
+run_then :
     (lib : Library) (steps : ℕ) (first : Booted) (ran : Ran) (result : Result (Unit {0}) Status) (old new : Seen)
     → Goes (run_from lib 0 steps first) [] (Ok ran) → Performs (summed_up ran) result old new
     → Performs (run_summed lib steps first) result old new
 unfolding run_summed
-run_ended lib steps first ran result old new goes performs =
+run_then lib steps first ran result old new goes performs =
     performs_then (run_from lib 0 steps first) summed_up ran result old old new
     (performs_none (run_from lib 0 steps first) (Ok ran) old goes) performs
+
+-- a run that has left these registers
+abbrev left_with : Finish → ℕ → RegsFields → Ran
+left_with how steps regs = record { how = how; steps = steps; regs = regs }
+
+pub run_ended :
+    (lib : Library) (limit : ℕ) (first : Booted) (how : Finish) (steps : ℕ) (regs lent : RegsFields) (result : Result (Unit {0}) Status)
+    (old new : Seen)
+    → Goes (run_from lib 0 limit first) [] (Ok (left_with how steps regs)) → lent ≡ regs
+    → Performs (summed_up (left_with how steps lent)) result old new
+    → Performs (run_summed lib limit first) result old new
+run_ended lib limit first how steps regs lent result old new goes is performs =
+    run_then lib limit first (left_with how steps regs) result old new goes
+    (subst (λ r. Performs (summed_up (left_with how steps r)) result old new) is performs)
 
 pub run_stops :
     (lib : Library) (steps : ℕ) (first : Booted) (s : Status) (seen : Seen)
@@ -155,6 +169,8 @@ pub end_where_some :
 end_where_some [] lib first seen some = absurd (omega (arith, some))
 end_where_some (f ∷ findings) lib first seen some =
     performs_none (ends (audit_status false) (audit_may_end false)) (Err AuditNo) seen (goes_ends quiet (audit_status false) (audit_may_end false))
+
+pub ruleset deciding = (run_where_none, end_where_some)
 
 -- ---- by what the audit has found
 

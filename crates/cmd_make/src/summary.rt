@@ -84,7 +84,6 @@ fn put_sum<W: World>(end: RunEnd, regs: &Regs, world: &mut W) -> Result<(), Stat
 }
 
 // Puts the end line of a run, and the line of the registers that it has left.
-#[tactic(auto, using(crate::proofs::SummarySteps::ending))]
 fn sum_up<W: World>(end: RunEnd, regs: &Regs, world: &mut W) -> Result<(), Status>
     ensures { Performs (summed_up
         record { how = end.how; steps = end.steps; regs = regs.now }) result
@@ -99,7 +98,6 @@ fn sum_up<W: World>(end: RunEnd, regs: &Regs, world: &mut W) -> Result<(), Statu
 // ---- answers
 
 // Runs the system for at most so many steps, and puts the lines after the run.
-#[tactic(auto, using(crate::proofs::SummarySteps::runs))]
 fn run_and_sum<W: World>(system: &mut Super, steps: u32, world: &mut W) -> Result<(), Status>
     requires { system.old.coming ≡ Step }
     ensures { Performs (run_summed system.old.lib steps (booted_of system.old)) result
@@ -112,6 +110,7 @@ fn run_and_sum<W: World>(system: &mut Super, steps: u32, world: &mut W) -> Resul
 }
 
 // Runs the system where nothing is found.
+#[tactic(auto, using(crate::proofs::SummarySteps::deciding))]
 fn run_or_end<W: World>(
     system: &mut Super,
     findings: &[Finding],
