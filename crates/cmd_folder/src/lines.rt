@@ -163,12 +163,7 @@ pub(crate) fn add_printed<W: World>(
 
 // Adds the line of a denied segment, where the run has ended for want of a right to one.
 #[tactic(auto, using(crate::proofs::TurnPieces::adding), unfolding(m36_booted::specs::RunText::denied_pieces))]
-fn add_denied<W: World>(
-    denied: &DeniedLines,
-    how: Finish,
-    block: &mut Block,
-    world: &mut W,
-) -> Put
+fn add_denied<W: World>(denied: &DeniedLines, how: Finish, block: &mut Block, world: &mut W) -> Put
     ensures adds { Adds result block.old block.new (denied_pieces denied.now how)
         (W.seen world.old) (W.seen world.new) }
 {

@@ -190,7 +190,9 @@ pub fn run<W: World>(
     let mut taken: u32 = 0;
     let mut left = steps;
     'steps: while left > 0 {
-        match take_step(system, taken, output, &mut told, &mut text, &mut block, world) {
+        match take_step(
+            system, taken, output, &mut told, &mut text, &mut block, world,
+        ) {
             AfterTurn::Next => {}
             AfterTurn::Ended(end) => {
                 let ended = end_run(Finish::Over(end), taken + 1, denied, &mut block, world);

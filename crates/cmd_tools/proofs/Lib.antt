@@ -1,3 +1,5 @@
 pub mod ReportLaws
 pub mod ToolSteps
 pub mod Bridge
+pub mod AlikeReaders
+pub mod TextLaws

@@ -17,7 +17,9 @@
 //!
 //! [`print_command`], [`access_command`], [`alm_command`] and [`bind_command`] perform these programs
 //! over a folder, an input and an output of the caller (`PerformsOver`); the same calls do what the
-//! reading of the command and the answer to it say (`Does`), and take no input.
+//! reading of the command and the answer to it say (`Does`), and take no input. [`law_tool_text`]:
+//! over the same files all calls put first parts of one text, and those that come to their end put
+//! all of it.
 //!
 //! Formats are those of `m36_list` and `obj36`; the machine's words are those of the Multics
 //! Processor Manual AL39.
@@ -27,6 +29,7 @@ pub mod access;
 pub mod assembling;
 pub mod binding;
 pub mod calling;
+pub mod laws;
 pub mod printing;
 pub mod report;
 pub mod reporting;
@@ -35,5 +38,6 @@ pub use access::print_access;
 pub use assembling::assemble_file;
 pub use binding::bind_objects;
 pub use calling::{access_command, alm_command, bind_command, print_command};
+pub use laws::law_tool_text;
 pub use printing::print_object;
 pub use report::Report;

@@ -2,6 +2,8 @@
 
 ghost use Rattle.m36_top.specs.DueLaw.{DueLaw};
 ghost use Rattle.cmd_image.specs.OneText.{ImageTextLaw};
+ghost use Rattle.cmd_procs.specs.OneText.{ProcsTextLaw};
+ghost use Rattle.cmd_tools.specs.OneText.{ToolTextLaw};
 
 /// One answer at most is due to words and files that boot or make no folder and hold no session, and it can't be that none is.
 /// On a state of which all conditions of the audit hold it is the one without findings, and on every other state one by some
@@ -12,7 +14,10 @@ pub fn law_due()
     ensures { DueLaw }
 {}
 
-/// Over the same files what a call of `bare FILE` or `audit FILE` puts, however it ends, is a first part of one text.
+/// Over the same files what a call of `bare FILE`, `audit FILE`, `procs FILE`, `print`, `access`, `alm` or `bind` puts, however
+/// it ends, is a first part of one text.
 pub fn law_one_text()
-    ensures { ImageTextLaw }
+    ensures images { ImageTextLaw }
+    ensures processes { ProcsTextLaw }
+    ensures tools { ToolTextLaw }
 {}

@@ -15,15 +15,15 @@ ghost use Rattle.m36_top.specs.TopCall.{Through, TopOutput, InputBy, InputSays, 
 
 use crate::command::Command;
 use crate::words::command_of;
+use cmd_folder::folder_command;
 use cmd_image::image_command;
-use m36_booted::folder_booted;
-use cmd_make::make_folder;
+use cmd_make::make_command;
+use cmd_procs::procs_command;
+use cmd_tools::{access_command, alm_command, bind_command, print_command};
 use m36_outside::{Folder, Lines, Sink, Text};
 use m36_ran::ImageCommand;
 use m36_reading::Status;
-use cmd_procs::procs_file;
 use m36_sessions::{folder_session, image_session};
-use m36_told::{access_user, alm_file, bind_file, print_file};
 use std::alloc::Global;
 
 /// Does what a command says.
@@ -67,17 +67,19 @@ pub fn perform<F: Folder, L: Lines, S: Sink>(
         Command::Audit(file) => {
             image_command(alloc, file.bytes(), ImageCommand::Audit, folder, lines, out)
         }
-        Command::Booted(command, user) => folder_booted(alloc, *command, user, folder, out),
-        Command::Procs(file, unaudited) => {
-            procs_file(alloc, file.bytes(), *unaudited, folder, out)
+        Command::Booted(command, user) => {
+            folder_command(alloc, *command, user, folder, lines, out)
         }
-        Command::Access(user) => access_user(alloc, user, folder, out),
-        Command::Print(name) => print_file(alloc, name.bytes(), folder, out),
-        Command::Alm(files) => alm_file(alloc, files, folder, out),
-        Command::Bind(files) => bind_file(alloc, files, folder, out),
+        Command::Procs(file, unaudited) => {
+            procs_command(alloc, file.bytes(), *unaudited, folder, lines, out)
+        }
+        Command::Access(user) => access_command(alloc, user, folder, lines, out),
+        Command::Print(name) => print_command(alloc, name.bytes(), folder, lines, out),
+        Command::Alm(files) => alm_command(alloc, files, folder, lines, out),
+        Command::Bind(files) => bind_command(alloc, files, folder, lines, out),
         Command::DebugFolder => folder_session(alloc, folder, lines, out),
         Command::DebugImage(file) => image_session(alloc, file.bytes(), folder, lines, out),
-        Command::Make(seed) => make_folder(alloc, *seed, folder, out),
+        Command::Make(seed) => make_command(alloc, *seed, folder, lines, out),
     }
 }
 
@@ -231,7 +233,8 @@ pub fn m36<F: Folder, L: Lines, S: Sink>(
         (talk_of L.left L.given L.faults lines.old lines.new)
         (F.asked folder.old) (F.asked folder.new) }
 
-    // `bare` and `audit FILE` do what their programs say: all that the three objects record of the call, in one order.
+    // Every command but `debug` does what its program says: all that the three objects record of the call, in
+    // one order.
     ensures performs { TopPerforms (command_of words.now) result
         (objects F.asked F.wrote F.files F.read_faults F.write_faults L.given L.left L.faults
         S.taken S.written S.faults folder.old lines.old out.old)

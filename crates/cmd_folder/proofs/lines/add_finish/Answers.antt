@@ -9,12 +9,16 @@ use Rattle.cmd_folder.proofs.lines.add_finish.Goals as goal
 pub returns-in-Done : goal.returns-in-Done
 returns-in-Done g c =
     let seen = g.W.World.seen in
-    record { adds = adds_then c.add_denied.result c.args.block.now c.add_text.new.block c.add_denied.new.block (as_line (finish_line c.args.how.now c.args.steps) ∷ []) (denied_pieces c.args.denied.now c.args.how.now) _ _ _
-    (subst (λ (l : List ℕ). Gathers c.args.block.now c.add_text.new.block (as_line l ∷ []) (seen c.args.world.now) (seen c.add_text.new.world)) c.finish_line.ensures.text c.in-Done.ensures.adds)
-    c.add_denied.ensures.adds }
+    record {
+      adds = adds_then c.add_denied.result c.args.block.now c.add_text.new.block c.add_denied.new.block (as_line (finish_line c.args.how.now c.args.steps) ∷ []) (denied_pieces c.args.denied.now c.args.how.now) _ _ _
+          (subst (λ (l : List ℕ). Gathers c.args.block.now c.add_text.new.block (as_line l ∷ []) (seen c.args.world.now) (seen c.add_text.new.world)) c.finish_line.ensures.text c.in-Done.ensures.adds)
+          c.add_denied.ensures.adds;
+    }
 
 pub returns-in-Failed : goal.returns-in-Failed
 returns-in-Failed g c =
     let seen = g.W.World.seen in
-    record { adds = loses_more c.args.block.now (as_line (finish_line c.args.how.now c.args.steps) ∷ []) (denied_pieces c.args.denied.now c.args.how.now) _ _
-    (subst (λ (l : List ℕ). Loses (c.args.block.now ++ as_line l ∷ []) (seen c.args.world.now) (seen c.add_text.new.world)) c.finish_line.ensures.text c.in-Failed.ensures.adds) }
+    record {
+      adds = loses_more c.args.block.now (as_line (finish_line c.args.how.now c.args.steps) ∷ []) (denied_pieces c.args.denied.now c.args.how.now) _ _
+          (subst (λ (l : List ℕ). Loses (c.args.block.now ++ as_line l ∷ []) (seen c.args.world.now) (seen c.add_text.new.world)) c.finish_line.ensures.text c.in-Failed.ensures.adds);
+    }

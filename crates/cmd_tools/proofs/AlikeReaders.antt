@@ -1,0 +1,94 @@
+-- Readers are alike to themselves: over the same files they read the same, and give the same.
+use Rattle.std.proofs.Common.{◌≡◌, ℕ, List, [], ◌∷◌, ◌++◌, Option, Some, None, Result, Ok, Err, refl}
+use Rattle.m36_text.specs.Packing.{unpacked}
+use Rattle.obj36.specs.ObjectOf.{object_of}
+use Rattle.m36_dir.specs.Catalog.{CatalogFields, catalog_of}
+use Rattle.m36_acl.specs.AccessLists.{lists_of}
+use Rattle.m36_catalog.specs.Catalogs.{boot_name, catalog_by, acl_name, lists_by, as_given, for_user}
+use Rattle.m36_reading.specs.declared.refusal.Refusal.{Refusal}
+use Rattle.m36_reading.specs.declared.refusal.Refusal.TheVariants.{BadFile, ReadFault, NoMemory}
+use Rattle.m36_reading.specs.Readers.{words_by, object_by}
+use Rattle.m36_program.specs.Alike.{Alike}
+use Rattle.m36_program.specs.Program.{Found, Content, Absent, TooLarge, May, Program, done, then_with}
+use Rattle.m36_program.specs.Readers.{refuses, bytes_found, file_bytes}
+use Rattle.m36_program.proofs.AlikeLaws.{alike_wants, alike_then}
+use Rattle.m36_files.specs.Catalogs.{boot_catalog, access_lists, with_rights, catalog_access}
+use Rattle.m36_files.specs.Deciding.{decided, decides}
+use Rattle.m36_files.specs.EachFile.{read_onto, each_onto}
+use Rattle.m36_files.specs.FileReaders.{file_words, file_object}
+
+found_alike : (may : May) (name : List ℕ) (found : Found) → Alike {may = may} (bytes_found name found) (bytes_found name found)
+unfolding Alike refuses
+found_alike may name (Content bytes) = refl
+found_alike may name Absent = refl
+found_alike may name TooLarge = refl
+
+pub bytes_alike : (may : May) (name : List ℕ) → Alike {may = may} (file_bytes name) (file_bytes name)
+unfolding Alike file_bytes
+bytes_alike may name = (refl, λ found. found_alike may name found)
+
+decided_alike : (may : May) {A : Type 0} (rule : Result A Refusal) → Alike {may = may} (decided rule) (decided rule)
+unfolding Alike
+decided_alike may (Ok a) = refl
+decided_alike may (Err (BadFile bad)) = refl
+decided_alike may (Err ReadFault) = λ b is. absurd b
+decided_alike may (Err NoMemory) = λ b is. absurd b
+
+pub decides_alike : (may : May) {A : Type 0} (rule : Result A Refusal) → Alike {may = may} (decides rule) (decides rule)
+unfolding Alike decides
+decides_alike may rule = alike_wants (decided rule) (decided rule) (decided_alike may rule)
+
+pub done_alike : (may : May) {A : Type 0} (a : A) → Alike {may = may} (done a) (done a)
+unfolding Alike
+done_alike may a = refl
+
+-- a rule on what was read
+pub rule_alike :
+    (may : May) {A B : Type 0} (p : Program may A) (rule : A → Result B Refusal) → Alike p p
+    → Alike (then_with p (λ a. decides (rule a))) (then_with p (λ a. decides (rule a)))
+rule_alike may p rule alike =
+    alike_then p p (λ a. decides (rule a)) (λ a. decides (rule a)) alike (λ a. decides_alike may (rule a))
+
+pub words_alike : (may : May) (name : List ℕ) → Alike {may = may} (file_words name) (file_words name)
+unfolding file_words
+words_alike may name = rule_alike may (file_bytes name) (λ bytes. words_by name (unpacked bytes)) (bytes_alike may name)
+
+pub object_alike : (may : May) (name : List ℕ) → Alike {may = may} (file_object name) (file_object name)
+unfolding file_object
+object_alike may name = rule_alike may (file_words name) (λ words. object_by name (object_of words)) (words_alike may name)
+
+pub catalog_alike : (may : May) → Alike {may = may} boot_catalog boot_catalog
+unfolding boot_catalog
+catalog_alike may = rule_alike may (file_bytes boot_name) (λ text. catalog_by (catalog_of text)) (bytes_alike may boot_name)
+
+pub lists_alike : (may : May) (catalog : CatalogFields) → Alike {may = may} (access_lists catalog) (access_lists catalog)
+unfolding access_lists
+lists_alike may catalog = rule_alike may (file_bytes acl_name) (λ text. lists_by catalog (lists_of text)) (bytes_alike may acl_name)
+
+rights_alike :
+    (may : May) (user : Option (List ℕ)) (catalog : CatalogFields)
+    → Alike {may = may} (with_rights user catalog) (with_rights user catalog)
+unfolding with_rights
+rights_alike may None catalog = done_alike may (as_given catalog)
+rights_alike may (Some user) catalog =
+    rule_alike may (access_lists catalog) (λ lists. Ok (for_user user catalog lists)) (lists_alike may catalog)
+
+pub access_alike : (may : May) (user : Option (List ℕ)) → Alike {may = may} (catalog_access user) (catalog_access user)
+unfolding catalog_access
+access_alike may user =
+    alike_then boot_catalog boot_catalog (with_rights user) (with_rights user) (catalog_alike may) (rights_alike may user)
+
+onto_alike :
+    (may : May) {I A : Type 0} (one : I → Program may A) (so_far : List A) (item : I) → Alike (one item) (one item)
+    → Alike (read_onto one so_far item) (read_onto one so_far item)
+unfolding read_onto
+onto_alike may one so_far item alike = rule_alike may (one item) (λ a. Ok (so_far ++ a ∷ [])) alike
+
+pub each_alike :
+    (may : May) {I A : Type 0} (one : I → Program may A) (so_far : List A) (items : List I)
+    → ((item : I) → Alike (one item) (one item)) → Alike (each_onto one so_far items) (each_onto one so_far items)
+unfolding each_onto
+each_alike may one so_far [] each = done_alike may so_far
+each_alike may one so_far (item ∷ items) each =
+    alike_then (read_onto one so_far item) (read_onto one so_far item) (λ more. each_onto one more items) (λ more. each_onto one more items)
+    (onto_alike may one so_far item (each item)) (λ more. each_alike may one more items each)
