@@ -1,11 +1,9 @@
 -- A call that performs the program of the command does what is due to the files that the seed makes.
-use Rattle.std.proofs.Common.{◌≡◌, ◌⊎◌, ℕ, List, [], ◌++◌, Option, Result, Ok, Err, refl, sym, ap, subst, ◌∙◌, inl, inr}
+use Rattle.std.proofs.Common.{◌≡◌, ℕ, List, [], ◌++◌, Result, Ok, Err, refl, sym, ap, subst, ◌∙◌, inl, inr}
 use Rattle.std.proofs.lemmas.List.{append-nil}
 use Rattle.m36_outside.specs.Passing.{joined}
 use Rattle.m36_outside.specs.Putting.{PutsText, PutsPieces}
 use Rattle.m36_outside.specs.SinkState.{SinkState}
-use Rattle.m36_outside.specs.Written.{Grew}
-use Rattle.m36_outside.specs.declared.folder.WriteAnswer.TheVariants as write
 use Rattle.m36_outside.specs.declared.sink.Put.TheVariants.{Done, Failed}
 use Rattle.m36_outside.proofs.Grown.{grew_by_nothing}
 use Rattle.m36_world.specs.declared.event.Event.{Event}
@@ -19,24 +17,21 @@ use Rattle.m36_reading.specs.Answers.{Answer}
 use Rattle.m36_reading.specs.Asking.{Came}
 use Rattle.m36_reading.specs.Doing.{EndsBy, IsAnswered, Does}
 use Rattle.m36_reading.specs.Ends.{end_of}
-use Rattle.m36_reading.specs.Outside.{Outside}
-use Rattle.m36_reading.specs.Reading as old
 use Rattle.m36_reading.specs.Setting.{AllSet}
 use Rattle.m36_program.specs.Early.{early, status_by, MayEnd}
-use Rattle.m36_program.specs.Goes.{Ends, Goes}
 use Rattle.m36_program.specs.Objects.{outside_by}
 use Rattle.m36_program.specs.Performs.{Performs}
 use Rattle.m36_program.specs.Trail.{NoneFailed, HasCause, FilesKept, pieces_of, put_of, output_of}
-use Rattle.m36_program.proofs.PieceLaws.{pieces_put, put_after, reads_of, PutsWhole, PutsPart, puts_longer}
+use Rattle.m36_program.proofs.PieceLaws.{pieces_put, put_after, reads_of, puts_longer}
 use Rattle.m36_program.proofs.ProgramLaws.{performs_cause, performs_files, performs_text}
 use Rattle.m36_files.specs.Deciding.{decides}
 use Rattle.m36_files.specs.Writing.{writing}
 use Rattle.m36_files.proofs.OldReading.{IsReader, decides_reader}
 use Rattle.m36_files.proofs.OldDoing.{DoneBy, reader_does}
 use Rattle.m36_booted.specs.Runs.{Extent, Whole, Begun, Starved}
-use Rattle.cmd_folder.proofs.FolderGoes.{OwnIn, AnswerPut}
+use Rattle.cmd_folder.proofs.FolderGoes.{OwnIn}
 use Rattle.cmd_folder.proofs.PutsSplit.{PutIn}
-use Rattle.cmd_tools.proofs.Bridge.{FilesWritten, FileUnwritten, AfterFiles, Went, Fault, Full, files_go}
+use Rattle.cmd_tools.proofs.Bridge.{FilesWritten, AfterFiles, Went, Fault, Full, files_go}
 use Rattle.cmd_make.specs.Making.{sets_of, make_reads}
 use Rattle.cmd_make.specs.Made.{IsToldIn, behind_files, files_alone, made_kind}
 use Rattle.cmd_make.specs.MakeProgram.{boot_made, write_and_boot, make_program}

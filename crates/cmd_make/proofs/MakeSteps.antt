@@ -1,5 +1,5 @@
 -- The files are made, written and booted, one after another.
-use Rattle.std.proofs.Common.{◌≡◌, ℕ, List, Result, Ok, Err, refl, sym, ap, subst, ◌∙◌}
+use Rattle.std.proofs.Common.{◌≡◌, ℕ, List, Result, Ok, Err, refl, ap, subst}
 use Rattle.m36_world.specs.Seen.{Seen}
 use Rattle.m36_reading.specs.declared.refusal.Refusal.{Refusal}
 use Rattle.m36_reading.specs.declared.setting.Set.{Set}
@@ -13,7 +13,7 @@ use Rattle.m36_files.specs.Deciding.{decides}
 use Rattle.m36_files.specs.Writing as allows
 use Rattle.m36_files.proofs.DecidingLaws.{rule_given}
 use Rattle.m36_booted.specs.Folder.{FolderFields}
-use Rattle.cmd_tools.specs.Reporting.{writes_all, write_files}
+use Rattle.cmd_tools.specs.Reporting.{write_files}
 use Rattle.cmd_tools.proofs.ReportLaws.{then_rest}
 use Rattle.cmd_make.specs.Making.{sets_of}
 use Rattle.cmd_make.specs.Made.{boots_from}

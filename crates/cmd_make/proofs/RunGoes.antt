@@ -1,6 +1,6 @@
 -- How the program of a run goes of which nothing is written: nothing happens outside, and its turns are those of a booted
 -- run, which comes to its end, or to a link service that found no memory.
-use Rattle.std.proofs.Common.{◌≡◌, ◌≢◌, ◌⊎◌, ℕ, zero, suc, ◌+◌, ◌≤◌, Bool, true, false, List, [], ◌∷◌, Option, Some, None, Result, Ok, Err, refl, sym, ap, subst, ◌∙◌, inl, inr, arith, add-zero}
+use Rattle.std.proofs.Common.{◌≡◌, ◌≢◌, ◌⊎◌, ℕ, zero, suc, ◌+◌, ◌≤◌, Bool, true, false, List, [], ◌∷◌, Result, Ok, Err, refl, sym, ap, subst, ◌∙◌, inl, inr, arith, add-zero}
 use Rattle.m36_world.specs.declared.event.Event.{Event}
 use Rattle.m36_model.specs.Fields.{AtFields}
 use Rattle.m36_model.specs.StoreLaw.{Each}
@@ -26,9 +26,7 @@ use Rattle.m36_booted.specs.declared.running.Finish.TheVariants.{Over, Limit}
 use Rattle.m36_booted.specs.RunText.{steps_of, steps_in}
 use Rattle.m36_booted.specs.Runs.{IsEvent, Finishes, AwaitsLink}
 use Rattle.m36_booted.proofs.Serving.{IsStep, IsLink, ended_leaves}
-use Rattle.cmd_folder.specs.RunProgram.{Made, IsMade, IsServed}
-use Rattle.cmd_folder.proofs.Serving.{console_over}
-use Rattle.cmd_make.specs.QuietRun.{Ran, ran, after_service, then_on, serve_by, serve, run_from}
+use Rattle.cmd_make.specs.QuietRun.{Ran, ran, after_service, serve_by, serve, run_from}
 
 -- Turns of a booted run from a state on, with at most so many steps.
 pub record AreMade (lib : Library) (left : ℕ) (b : Booted) (turns : List Turn) (last : Booted) : Type 0 where

@@ -1,5 +1,5 @@
 -- A run with a limit of steps, step by step: what is left of its program.
-use Rattle.std.proofs.Common.{◌≡◌, ℕ, zero, suc, ◌+◌, ◌-◌, ◌<◌, List, [], Result, Ok, Err, refl, sym, ap, subst, ◌∙◌, arith}
+use Rattle.std.proofs.Common.{◌≡◌, ℕ, suc, ◌+◌, ◌-◌, ◌<◌, [], Result, Ok, Err, refl, sym, ap, subst, ◌∙◌, arith}
 use Rattle.m36_model.specs.declared.endings.End.{End}
 use Rattle.m36_super.specs.Library.{Library}
 use Rattle.m36_super.specs.BootedRun.{Booted}

@@ -1,5 +1,5 @@
 -- A step with its service, and a service alone: what is left of the run's program.
-use Rattle.std.proofs.Common.{◌≡◌, ◌≢◌, ℕ, List, [], Result, Ok, Err, refl, sym, ap, subst}
+use Rattle.std.proofs.Common.{◌≡◌, ℕ, List, [], Result, Ok, Err, refl, sym, ap, subst}
 use Rattle.m36_model.specs.Fields.{AtFields}
 use Rattle.m36_model.specs.declared.endings.End.{End}
 use Rattle.m36_model.specs.declared.record.StepRecord.{StepRecord}
@@ -15,7 +15,7 @@ use Rattle.m36_super.specs.SuperTurn.{SuperTurns}
 use Rattle.m36_reading.specs.declared.status.Status.{Status}
 use Rattle.m36_reading.specs.declared.status.Status.TheVariants.{NoMemory}
 use Rattle.m36_program.specs.Goes.{Goes}
-use Rattle.m36_program.specs.Program.{quiet, Program, some, wants}
+use Rattle.m36_program.specs.Program.{quiet, Program, some}
 use Rattle.m36_program.proofs.Performing.{goes_done, goes_some, goes_wants, goes_no_memory}
 use Rattle.m36_booted.specs.declared.running.Finish.TheVariants as finish
 use Rattle.m36_booted.proofs.Serving.{turn_links, turn_prints, link_behind, print_behind}
@@ -24,7 +24,7 @@ use Rattle.cmd_folder.proofs.Serving.{print_over}
 use Rattle.cmd_make.specs.declared.running.AfterTurn.{AfterTurn}
 use Rattle.cmd_make.specs.declared.running.AfterTurn.TheVariants as after
 use Rattle.cmd_make.specs.QuietRun.{Ran, ran, after_service, then_on, serve_by, serve, run_from}
-use Rattle.cmd_make.specs.RunSays.{IsLeft, from_step, from_service, GoesOn, IsOver, HasNoMemory, TurnSays, LinkBefore}
+use Rattle.cmd_make.specs.RunSays.{IsLeft, from_step, from_service, TurnSays, LinkBefore}
 
 -- what is left of a run after a step that was taken
 abbrev on_from : Library → ℕ → ℕ → Booted → Program quiet Ran

@@ -1,12 +1,10 @@
 -- How the program goes of what is told of the files that were made: an answer that is so is put, whole or in part, or up to a
 -- link service that found no memory; or no memory is found before anything is put.
-use Rattle.std.proofs.Common.{◌≡◌, ◌⊎◌, ℕ, ◌+◌, Bool, true, false, List, [], ◌∷◌, ◌++◌, Option, Some, None, Result, Ok, Err, refl, sym, ap, subst, ◌∙◌, inl, inr, arith, zero-add}
+use Rattle.std.proofs.Common.{◌≡◌, ◌⊎◌, ℕ, false, List, [], ◌∷◌, ◌++◌, Option, Some, None, Result, Ok, Err, refl, sym, ap, subst, ◌∙◌, inl, inr, arith, zero-add}
 use Rattle.std.proofs.lemmas.List.{append-nil}
-use Rattle.m36_outside.specs.Passing.{joined}
 use Rattle.m36_world.specs.declared.event.Event.{Event}
 use Rattle.m36_world.specs.declared.event.Event.TheVariants.{OutputFailed}
 use Rattle.m36_world.specs.Follow.{outputs}
-use Rattle.m36_model.specs.Registers.{RegsFields}
 use Rattle.m36_step.specs.declared.turns.Turn.{Turn}
 use Rattle.m36_super.specs.Library.{Library}
 use Rattle.m36_super.specs.declared.coming.Coming.TheVariants.{Step}
@@ -14,39 +12,37 @@ use Rattle.m36_super.specs.BootedRun.{Booted, AreTurns}
 use Rattle.m36_super.specs.SuperFields.{SuperFields, booted_of}
 use Rattle.m36_super.specs.BootSays.{IsBooted}
 use Rattle.m36_super.proofs.BootTurns.{start_next}
-use Rattle.m36_reading.specs.declared.refusal.Refusal.{Refusal}
 use Rattle.m36_reading.specs.declared.refusal.Refusal.TheVariants.{BadFile, ReadFault}
 use Rattle.m36_reading.specs.declared.refusal.Refusal.TheVariants as refusal
 use Rattle.m36_reading.specs.declared.setting.Set.{Set}
 use Rattle.m36_reading.specs.declared.status.Status.{Status}
 use Rattle.m36_reading.specs.declared.status.Status.TheVariants.{NoMemory}
 use Rattle.m36_reading.specs.declared.status.Status.TheVariants as status
-use Rattle.m36_reading.specs.Answers.{Answer, unwritten, status_of, IsDueBy}
+use Rattle.m36_reading.specs.Answers.{Answer, unwritten, IsDueBy}
 use Rattle.m36_reading.specs.Reading.{Early}
-use Rattle.m36_program.specs.Early.{early, ends}
+use Rattle.m36_program.specs.Early.{ends}
 use Rattle.m36_program.specs.Goes.{Ends, Goes}
-use Rattle.m36_program.specs.Program.{quiet, Program, puts_all, then_with}
-use Rattle.m36_program.specs.Split.{BothGo, FirstEnds, FailsAcross, Split}
+use Rattle.m36_program.specs.Program.{quiet, puts_all, then_with}
+use Rattle.m36_program.specs.Split.{Split}
 use Rattle.m36_program.proofs.Answering.{puts_with}
-use Rattle.m36_program.proofs.PieceLaws.{reads_of, reads_after, PutsWhole, PutsPart}
+use Rattle.m36_program.proofs.PieceLaws.{reads_of, reads_after}
 use Rattle.m36_program.proofs.SplitLaws.{goes_split}
 use Rattle.m36_files.specs.Deciding.{decided, decides}
-use Rattle.m36_ran.specs.Ran.{passes, audit_status}
+use Rattle.m36_ran.specs.Ran.{audit_status}
 use Rattle.m36_booted.specs.declared.running.Finish.{Finish}
 use Rattle.m36_booted.specs.Folder.{FolderFields}
 use Rattle.m36_booted.specs.RunText.{steps_in, finish_status}
 use Rattle.m36_booted.specs.Runs.{Extent, Whole, Begun, Starved, Reaches}
 use Rattle.m36_booted.specs.Runs as runs
 use Rattle.cmd_image.specs.ImageProgram.{audit_may_end}
-use Rattle.cmd_folder.specs.OnFolder.{IsFound}
 use Rattle.cmd_folder.specs.RunProgram.{finish_may_end}
 use Rattle.cmd_folder.proofs.FolderGoes.{OwnIn, AnswerPut}
-use Rattle.cmd_folder.proofs.PutsSplit.{PutsThen, PutsFirst, PutsAcross, PutsSplit, puts_split, PutIn, put_before, put_across}
-use Rattle.cmd_make.specs.Made.{boots_from, IsTold, IsToldIn}
-use Rattle.cmd_make.specs.MakeProgram.{summed_up, run_summed, runs_or_ends, found_told, on_system, on_booted, boot_made}
+use Rattle.cmd_folder.proofs.PutsSplit.{PutsSplit, puts_split, PutIn, put_before, put_across}
+use Rattle.cmd_make.specs.Made.{boots_from, IsToldIn}
+use Rattle.cmd_make.specs.MakeProgram.{summed_up, run_summed, found_told, on_system, on_booted, boot_made}
 use Rattle.cmd_make.specs.QuietRun.{Ran, run_from}
-use Rattle.cmd_make.specs.Summary.{run_limit, segment_count, head_pieces, end_pieces, run_answer, unrun_answer, run_told, IsSummaryBy, IsSummary}
-use Rattle.cmd_make.proofs.RunGoes.{AreMade, HasRun, HasStarved, RunBy, RunGoes, run_goes}
+use Rattle.cmd_make.specs.Summary.{run_limit, segment_count, head_pieces, end_pieces, run_answer, unrun_answer, IsSummaryBy, IsSummary}
+use Rattle.cmd_make.proofs.RunGoes.{AreMade, HasRun, HasStarved, run_goes}
 
 -- ---- a run, and its lines
 

@@ -1,5 +1,5 @@
 -- The lines that are put of a system, one after another, and the run between them.
-use Rattle.std.proofs.Common.{◌≡◌, ℕ, ◌<◌, Bool, true, false, List, [], ◌∷◌, length, Some, Result, Ok, Err, refl, sym, ap, subst, ◌∙◌, arith}
+use Rattle.std.proofs.Common.{◌≡◌, ℕ, ◌<◌, false, List, [], ◌∷◌, length, Some, Result, Ok, Err, refl, sym, ap, subst, ◌∙◌, arith}
 use Rattle.m36_text.specs.Lines.{as_line}
 use Rattle.m36_audit.specs.Findings.{pairs}
 use Rattle.m36_audit.specs.declared.verdict.Finding.{Finding}
@@ -25,7 +25,6 @@ use Rattle.m36_program.proofs.ProgramLaws.{goes_ends}
 use Rattle.m36_ran.specs.AuditText.{audit_pieces}
 use Rattle.m36_ran.specs.Ran.{passes, audit_status}
 use Rattle.m36_booted.specs.declared.running.Finish.{Finish}
-use Rattle.m36_booted.specs.Folder.{FolderFields}
 use Rattle.m36_booted.specs.Promise.{PassesBooted}
 use Rattle.m36_booted.specs.RunText.{finish_line, finish_status}
 use Rattle.m36_booted.specs.Systems.{IsFresh}
@@ -37,7 +36,7 @@ use Rattle.cmd_folder.specs.OnFolder.{IsFound}
 use Rattle.cmd_folder.specs.RunProgram.{finish_may_end}
 use Rattle.cmd_make.specs.MakeProgram.{summed_up, run_summed, runs_or_ends, found_told, on_system, on_booted}
 use Rattle.cmd_make.specs.QuietRun.{Ran, run_from}
-use Rattle.cmd_make.specs.Summary.{run_limit, segment_count, segments_line, head_pieces, sum_line, end_pieces}
+use Rattle.cmd_make.specs.Summary.{run_limit, segment_count, segments_line, head_pieces, sum_line}
 
 -- ---- a line, and what follows it
 

@@ -1,7 +1,7 @@
 -- What `make SEED` does, as a program: the files are made from the seed, written in order, and
 -- booted from memory, where nothing outside is asked; what they boot to is audited, and where the
 -- audit passes, run.
-use Rattle.std.specs.Prelude.{ℕ, refl, Bool, true, false, List, [], Some}
+use Rattle.std.specs.Prelude.{ℕ, refl, Bool, true, false, List, Some}
 use Rattle.m36_super.specs.Library.{Library}
 use Rattle.m36_super.specs.BootedRun.{Booted}
 use Rattle.m36_super.specs.SuperFields.{SuperFields, booted_of}

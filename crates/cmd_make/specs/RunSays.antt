@@ -1,6 +1,6 @@
 -- What the parts of a run answer of which nothing is written: what is left of its program after
 -- each.
-use Rattle.std.specs.Prelude.{ℕ, ◌≡◌, ◌+◌, List, [], Result, Ok, Err}
+use Rattle.std.specs.Prelude.{ℕ, ◌≡◌, [], Result, Ok, Err}
 use Rattle.m36_model.specs.declared.endings.End.{End}
 use Rattle.m36_reading.specs.declared.status.Status.{Status}
 use Rattle.m36_reading.specs.declared.status.Status.TheVariants as status
