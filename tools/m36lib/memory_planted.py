@@ -55,7 +55,7 @@ FULL_TABLES = (
 )
 
 TURNED = (
-    turned("m36_made/src/sets.rt", "use m36_word::NoMemory", "use m36_word::NoMemory as Full"),
+    turned("cmd_make/src/sets.rt", "use m36_word::NoMemory", "use m36_word::NoMemory as Full"),
     turned("m36_super/src/linking.rt", "Err(LinkFault::NoMemory) =>", "Err(_) =>"),
     turned("m36_booted/src/running.rt", "Turn::NoMemory => Progress::Starved,\n        _ =>",
            "_ => Progress::Starved,\n        Turn::NoMemory =>"),

@@ -28,7 +28,7 @@ use Rattle.m36_booted.specs.declared.command.RunOutput.{RunOutput}
 use Rattle.m36_booted.specs.declared.command.RunOutput.TheVariants as output
 use Rattle.m36_booted.specs.declared.running.Finish.TheVariants as finish
 use Rattle.m36_booted.specs.RunText.{pieces_of}
-use Rattle.m36_booted.proofs.Serving.{turn_links, turn_prints, link_behind, print_behind}
+use Rattle.m36_booted.proofs.Serving.{turn_prints, link_behind, print_behind}
 use Rattle.cmd_folder.specs.declared.running.AfterTurn.{AfterTurn}
 use Rattle.cmd_folder.specs.declared.running.AfterTurn.TheVariants as after
 use Rattle.cmd_folder.specs.RunProgram.{Running, Made, IsMade, IsServed, run_ends, puts_turn, after_service, then_on, serve_by, serve, run_from}
@@ -297,7 +297,7 @@ print_ends output taken before later e block seen is turns = record {
       (leads_start (puts_all block (served run taken left (booted_of before))) seen);
 }
 
-pub ruleset services = (turn_links, turn_prints, link_behind, serve_none, serve_over, link_starves, link_unput, link_lost, link_goes, print_lost, print_goes, print_ends)
+pub ruleset services = (turn_prints, link_behind, serve_none, serve_over, link_starves, link_unput, link_lost, link_goes, print_lost, print_goes, print_ends)
 
 -- ---- a step, and then a service
 

@@ -48,9 +48,9 @@ use Rattle.m36_booted.specs.RunText.{finish_status, steps_in}
 use Rattle.m36_booted.specs.RunText as booted
 use Rattle.m36_booted.specs.Runs.{Whole, Goes, Reaches}
 use Rattle.m36_booted.specs.Booted.{IsRunBy, IsAnswerOf, IsFolderAnswer}
-use Rattle.m36_made.specs.Made.{IsMadeDue}
-use Rattle.m36_made.specs.Summary.{run_limit, IsSummary, IsFoundAnswer}
-use Rattle.m36_made.specs.Summary as made
+use Rattle.cmd_make.specs.Made.{IsMadeDue}
+use Rattle.cmd_make.specs.Summary.{run_limit, IsSummary, IsFoundAnswer}
+use Rattle.cmd_make.specs.Summary as made
 use Rattle.m36_debug.specs.declared.fault.SessionFault.TheVariants as fault
 use Rattle.m36_debug.specs.LinesTaken.{whole_lines}
 use Rattle.m36_debug.specs.Session.{Turning}

@@ -15,8 +15,8 @@ use Rattle.cmd_procs.proofs.PiecesJoined.{procs_joined}
 use Rattle.m36_booted.specs.declared.running.Finish.TheVariants.{Over}
 use Rattle.m36_booted.specs.Runs.{Whole}
 use Rattle.m36_booted.proofs.DueLaws.{AreJoined, folder_due_law, folder_joined, one_run_here}
-use Rattle.m36_made.proofs.DueLaws.{made_due_law}
-use Rattle.m36_made.proofs.MadeLaws.{made_joined}
+use Rattle.cmd_make.proofs.DueLaws.{made_due_law}
+use Rattle.cmd_make.proofs.MadeLaws.{made_joined}
 use Rattle.m36_top.specs.declared.command.Command.{Command}
 use Rattle.m36_top.specs.Words.{command_of}
 use Rattle.cmd_debug.specs.Held.{Talk, HoldsImage, HoldsFolder}

@@ -18,7 +18,7 @@ use Rattle.m36_ran.specs.Ran.{state_reads}
 use Rattle.cmd_procs.specs.Scheduled.{procs_reads}
 use Rattle.m36_booted.specs.declared.command.FolderCommand.{FolderCommand}
 use Rattle.m36_booted.specs.Folder.{folder_reads}
-use Rattle.m36_made.specs.Making.{make_reads}
+use Rattle.cmd_make.specs.Making.{make_reads}
 use Rattle.cmd_debug.specs.Held.{Talk}
 use Rattle.m36_top.specs.declared.command.Command.{Command}
 use Rattle.m36_top.specs.declared.command.Command.TheVariants.{Bare, Audit, Booted, Procs, Access, Print, Alm, Bind, DebugFolder, DebugImage, Make}

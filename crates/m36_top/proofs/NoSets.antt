@@ -32,7 +32,7 @@ use Rattle.m36_booted.proofs.DueLaws.{folder_sets}
 use Rattle.cmd_procs.proofs.YesAnswers.{procs_sets}
 use Rattle.m36_top.specs.declared.command.Command.{Command}
 use Rattle.m36_top.specs.declared.command.Command.TheVariants.{Bare, Audit, Booted, Procs, Access, Print, Alm, Bind, DebugFolder, DebugImage, Make}
-use Rattle.m36_made.specs.Made.{files_alone}
+use Rattle.cmd_make.specs.Made.{files_alone}
 use Rattle.cmd_debug.specs.Held.{Talk, HoldsImage, HoldsFolder}
 use Rattle.cmd_debug.specs.Sessions.{Told as Holding, IsSessionDue, SessionWants}
 use Rattle.m36_top.specs.Dues.{Due, Told, Image, Folder, Schedule, ImageSession, FolderSession, Made, on_image, on_folder, on_procs, IsDueOf, IsBegunOf, WantsOf, FailsOf, due_kind}

@@ -25,8 +25,8 @@ use Rattle.m36_booted.specs.Folder.{folder_reads}
 use Rattle.m36_booted.specs.Booted.{folder_kind}
 use Rattle.m36_top.specs.declared.command.Command.{Command}
 use Rattle.m36_top.specs.declared.command.Command.TheVariants.{Bare, Audit, Booted, Procs, Access, Print, Alm, Bind, DebugFolder, DebugImage, Make}
-use Rattle.m36_made.specs.Making.{make_reads}
-use Rattle.m36_made.specs.Made.{made_kind}
+use Rattle.cmd_make.specs.Making.{make_reads}
+use Rattle.cmd_make.specs.Made.{made_kind}
 use Rattle.cmd_debug.specs.Held.{Talk}
 use Rattle.cmd_debug.specs.Sessions.{ImageTakes, FolderTakes, image_kind, folder_kind as session_folder_kind}
 use Rattle.m36_top.specs.Dues.{Due, Told, ImageSession, FolderSession, Made, on_image, on_folder, on_procs, due_kind}

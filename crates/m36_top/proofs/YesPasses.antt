@@ -17,8 +17,8 @@ use Rattle.cmd_procs.proofs.YesAnswers.{yes_passes as procs_pass}
 use Rattle.m36_booted.specs.Runs.{Whole, Begun}
 use Rattle.m36_booted.specs.Runs as runs
 use Rattle.m36_booted.proofs.YesAnswers.{yes_passes as folder_passes}
-use Rattle.m36_made.specs.Made.{files_alone}
-use Rattle.m36_made.proofs.MadeLaws.{yes_made, yes_begun, yes_some}
+use Rattle.cmd_make.specs.Made.{files_alone}
+use Rattle.cmd_make.proofs.MadeLaws.{yes_made, yes_begun, yes_some}
 use Rattle.m36_top.specs.declared.command.Command.{Command}
 use Rattle.cmd_debug.specs.Held.{Talk}
 use Rattle.m36_top.specs.Dues.{Due, Told, Image, Folder, Schedule, ImageSession, FolderSession, Made, IsDueOf, IsBegunOf, WantsOf, FailsOf, due_kind, Promises, yes_of}

@@ -7,7 +7,7 @@ use Rattle.m36_told.specs.Accesses.{user_reads}
 use Rattle.m36_ran.specs.Ran.{state_reads}
 use Rattle.cmd_procs.specs.Scheduled.{procs_reads}
 use Rattle.m36_booted.specs.Folder.{folder_reads}
-use Rattle.m36_made.specs.Making.{make_reads}
+use Rattle.cmd_make.specs.Making.{make_reads}
 use Rattle.m36_ran.specs.declared.command.ImageCommand.TheVariants as image
 use Rattle.m36_top.specs.declared.command.Command.{Command}
 use Rattle.m36_top.specs.declared.command.Command.TheVariants.{Bare, Audit, Booted, Procs}

@@ -35,8 +35,8 @@ use Rattle.m36_booted.specs.Folder.{FolderFields}
 use Rattle.m36_booted.specs.Runs.{Goes, Finishes}
 use Rattle.m36_procs.specs.ProcsFields.{ProcsFields}
 use Rattle.cmd_procs.specs.Scheduled.{dbrs_of}
-use Rattle.m36_made.specs.Made.{boots_from}
-use Rattle.m36_made.specs.Summary.{run_limit}
+use Rattle.cmd_make.specs.Made.{boots_from}
+use Rattle.cmd_make.specs.Summary.{run_limit}
 use Rattle.m36_debug.specs.LinesTaken.{whole_lines}
 use Rattle.m36_debug.specs.SessionLines.{IsNotQuit}
 use Rattle.m36_debug.specs.SessionSays.{bytes_limit}

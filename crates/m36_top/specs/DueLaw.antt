@@ -9,7 +9,7 @@ use Rattle.m36_reading.specs.Answers.{Answer, unwritten, IsDueBy}
 use Rattle.m36_ran.specs.DueLaw.{StateDueLaw}
 use Rattle.cmd_procs.specs.DueLaw.{ProcsDueLaw}
 use Rattle.m36_booted.specs.DueLaw.{FolderDueLaw}
-use Rattle.m36_made.specs.DueLaw.{MadeDueLaw}
+use Rattle.cmd_make.specs.DueLaw.{MadeDueLaw}
 use Rattle.m36_top.specs.declared.command.Command.{Command}
 use Rattle.m36_top.specs.Words.{command_of}
 use Rattle.cmd_debug.specs.Held.{Talk}

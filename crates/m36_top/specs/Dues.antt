@@ -17,7 +17,7 @@ use Rattle.m36_booted.specs.Promise.{PassesBooted}
 use Rattle.m36_booted.specs.declared.command.FolderCommand.{FolderCommand}
 use Rattle.m36_procs.specs.ProcsFields.{ProcsFields}
 use Rattle.cmd_procs.specs.Scheduled.{PassesJoint, procs_kind}
-use Rattle.m36_made.specs.Made.{PassesMade, head_of, made_kind}
+use Rattle.cmd_make.specs.Made.{PassesMade, head_of, made_kind}
 use Rattle.cmd_debug.specs.Held.{Talk}
 use Rattle.cmd_debug.specs.Sessions.{image_kind, folder_kind as session_kind}
 

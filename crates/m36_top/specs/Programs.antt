@@ -1,4 +1,4 @@
--- The programs of commands. `make` has none here: it is a reading and a kind alone.
+-- The programs of commands.
 use Rattle.std.specs.Prelude.{⊤, Option, Some, None}
 use Rattle.m36_world.specs.Seen.{Seen}
 use Rattle.m36_reading.specs.declared.status.Status.{Status}
@@ -7,6 +7,7 @@ use Rattle.m36_ran.specs.declared.command.ImageCommand.TheVariants as image
 use Rattle.cmd_image.specs.ImageProgram.{image_program}
 use Rattle.cmd_debug.specs.DebugProgram.{debug_image, debug_folder}
 use Rattle.cmd_folder.specs.FolderProgram.{folder_program}
+use Rattle.cmd_make.specs.MakeProgram.{make_program}
 use Rattle.cmd_procs.specs.ProcsProgram.{procs_program}
 use Rattle.cmd_tools.specs.ToolPrograms.{print_program, access_program, alm_program, bind_program}
 use Rattle.m36_program.specs.Objects.{PerformsOver}
@@ -37,7 +38,8 @@ CommandPerforms DebugFolder result old new =
     PerformsOver debug_folder (early result) old new
 CommandPerforms (DebugImage file) result old new =
     PerformsOver (debug_image file) (early result) old new
-CommandPerforms (Make seed) result old new = ⊤
+CommandPerforms (Make seed) result old new =
+    PerformsOver (make_program seed) (early result) old new
 
 abbrev pub TopPerforms : Option Command → Status → Seen → Seen → Type 0
 TopPerforms None result old new = ⊤

@@ -15,15 +15,15 @@ ghost use Rattle.m36_top.specs.TopCall.{Through, TopOutput, InputBy, InputSays, 
 
 use crate::command::Command;
 use crate::words::command_of;
+use cmd_debug::{folder_session, image_session};
 use cmd_folder::folder_command;
 use cmd_image::image_command;
+use cmd_make::make_command;
 use cmd_procs::procs_command;
 use cmd_tools::{access_command, alm_command, bind_command, print_command};
-use m36_made::make_folder;
 use m36_outside::{Folder, Lines, Sink, Text};
 use m36_ran::ImageCommand;
 use m36_reading::Status;
-use cmd_debug::{folder_session, image_session};
 use std::alloc::Global;
 
 /// Does what a command says.
@@ -79,7 +79,7 @@ pub fn perform<F: Folder, L: Lines, S: Sink>(
         Command::Bind(files) => bind_command(alloc, files, folder, lines, out),
         Command::DebugFolder => folder_session(alloc, folder, lines, out),
         Command::DebugImage(file) => image_session(alloc, file.bytes(), folder, lines, out),
-        Command::Make(seed) => make_folder(alloc, *seed, folder, out),
+        Command::Make(seed) => make_command(alloc, *seed, folder, lines, out),
     }
 }
 
@@ -233,8 +233,8 @@ pub fn m36<F: Folder, L: Lines, S: Sink>(
         (talk_of L.left L.given L.faults lines.old lines.new)
         (F.asked folder.old) (F.asked folder.new) }
 
-    // Every command but `make` does what its program says: all that the three objects record of the
-    // call, in some order, is what the program does.
+    // The command does what its program says: all that the three objects record of the call, in some
+    // order, is what the program does.
     ensures performs { TopPerforms (command_of words.now) result
         (objects F.asked F.wrote F.files F.read_faults F.write_faults L.given L.left L.faults
         S.taken S.written S.faults folder.old lines.old out.old)

@@ -6,7 +6,7 @@ use Rattle.cmd_image.specs.ImageProgram.{image_program}
 use Rattle.cmd_procs.specs.ProcsProgram.{procs_program}
 use Rattle.cmd_tools.specs.ToolPrograms.{print_program}
 use Rattle.cmd_debug.specs.DebugProgram.{debug_image}
-use Rattle.m36_top.specs.declared.command.Command.TheVariants.{Bare, Audit, Booted, Procs, Access, Print, Alm, Bind, DebugFolder, DebugImage}
+use Rattle.m36_top.specs.declared.command.Command.TheVariants.{Bare, Audit, Booted, Procs, Access, Print, Alm, Bind, DebugFolder, DebugImage, Make}
 use Rattle.m36_top.proofs.Performing.{as_command, performs_bare, performs_audit, performs_booted, performs_procs, performs_access, performs_print, performs_alm, performs_bind, performs_debug_folder, performs_debug_image, takes_debug_folder, takes_debug_image, performs_make}
 use Rattle.m36_top.proofs.Programs.{as_performs, as_input, as_takes, named, same_input}
 use Rattle.m36_top.proofs.top.perform.Goals as goal
@@ -317,13 +317,33 @@ returns-in-Make-clause-does g c =
     let s = g.S.Sink in
     let i = g.L.Lines in
     let at = outside_of f.files f.wrote f.read_faults f.write_faults s.written s.taken s.faults in
-    let talk = talk_of i.left i.given i.faults c.args.lines.now c.args.lines.now in
+    let talk = talk_of i.left i.given i.faults c.args.lines.now c.make_command.new.lines in
     let old = at c.args.folder.now c.args.out.now in
-    let new = at c.make_folder.new.folder c.make_folder.new.out in
+    let new = at c.make_command.new.folder c.make_command.new.out in
     let before = f.asked c.args.folder.now in
-    let after = f.asked c.make_folder.new.folder in
-    as_command talk c.args.command.now _ c.make_folder.result old new before after c.in-Make.is
-    (performs_make talk c.in-Make.seed c.make_folder.result old new before after c.make_folder.ensures)
+    let after = f.asked c.make_command.new.folder in
+    as_command talk c.args.command.now _ c.make_command.result old new before after c.in-Make.is
+    (performs_make talk c.in-Make.seed c.make_command.result old new before after c.make_command.ensures.does)
+
+pub returns-in-Make-clause-performs : goal.returns-in-Make-clause-performs
+returns-in-Make-clause-performs g c =
+    as_performs c.args.command.now (Make c.in-Make.seed) c.make_command.result _ _ c.in-Make.is
+    (c.make_command.ensures.performs)
+
+pub returns-in-Make-clause-input : goal.returns-in-Make-clause-input
+returns-in-Make-clause-input g c =
+    let i = g.L.Lines in
+    let kept = c.make_command.ensures.untaken in
+    as_input (talk_of i.left i.given i.faults c.args.lines.now c.make_command.new.lines) c.args.command.now (Make c.in-Make.seed) c.make_command.result c.in-Make.is
+    (same_input _ _ _ _ _ _ kept.left kept.inputs kept.faults)
+
+pub returns-in-Make-clause-takes : goal.returns-in-Make-clause-takes
+returns-in-Make-clause-takes g c =
+    let f = g.F.Folder in
+    let i = g.L.Lines in
+    let kept = c.make_command.ensures.untaken in
+    as_takes (talk_of i.left i.given i.faults c.args.lines.now c.make_command.new.lines) c.args.command.now (Make c.in-Make.seed) c.make_command.result (f.asked c.args.folder.now) (f.asked c.make_command.new.folder) c.in-Make.is
+    (same_input _ _ _ _ _ _ kept.left kept.inputs kept.faults)
 
 pub returns-in-DebugFolder-clause-performs : goal.returns-in-DebugFolder-clause-performs
 returns-in-DebugFolder-clause-performs g c =

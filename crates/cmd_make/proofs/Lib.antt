@@ -1,0 +1,13 @@
+pub mod Files
+pub mod ObjectLaws
+pub mod AllFiles
+pub mod MadeLaws
+pub mod DueLaws
+pub mod WithinLaws
+pub mod Serving
+pub mod RunLoop
+pub mod SummarySteps
+pub mod MakeSteps
+pub mod RunGoes
+pub mod SummaryGoes
+pub mod Bridge

@@ -1,0 +1,346 @@
+-- How the program of a run goes of which nothing is written: nothing happens outside, and its turns are those of a booted
+-- run, which comes to its end, or to a link service that found no memory.
+use Rattle.std.proofs.Common.{◌≡◌, ◌≢◌, ◌⊎◌, ℕ, zero, suc, ◌+◌, ◌≤◌, Bool, true, false, List, [], ◌∷◌, Result, Ok, Err, refl, sym, ap, subst, ◌∙◌, inl, inr, arith, add-zero}
+use Rattle.m36_world.specs.declared.event.Event.{Event}
+use Rattle.m36_model.specs.Fields.{AtFields}
+use Rattle.m36_model.specs.StoreLaw.{Each}
+use Rattle.m36_model.specs.declared.endings.End.{End}
+use Rattle.m36_model.specs.declared.endings.End.TheVariants as end
+use Rattle.m36_model.specs.declared.outcome.Fault.{Fault}
+use Rattle.m36_link.specs.Fields.{SnapFields}
+use Rattle.m36_link.specs.Snap.{RefusedFields, snap_of}
+use Rattle.m36_step.specs.declared.turns.Turn.{Turn}
+use Rattle.m36_step.specs.declared.turns.Turn.TheVariants as turn
+use Rattle.m36_super.specs.Library.{Library}
+use Rattle.m36_super.specs.declared.coming.Coming.{Coming}
+use Rattle.m36_super.specs.declared.coming.Coming.TheVariants.{Step, Link, Print}
+use Rattle.m36_super.specs.declared.coming.Coming.TheVariants as coming
+use Rattle.m36_super.specs.BootedRun.{Booted, IsStepTurn, IsLinkTurn, IsConsoleTurn, IsTurnBy, IsTurn, AreTurns}
+use Rattle.m36_super.specs.SuperTurn.{IsQuiet, link_quiet}
+use Rattle.m36_reading.specs.declared.status.Status.{Status}
+use Rattle.m36_reading.specs.declared.status.Status.TheVariants.{NoMemory}
+use Rattle.m36_program.specs.Goes.{Ends, Goes}
+use Rattle.m36_program.specs.Program.{quiet, Program}
+use Rattle.m36_booted.specs.declared.running.Finish.{Finish}
+use Rattle.m36_booted.specs.declared.running.Finish.TheVariants.{Over, Limit}
+use Rattle.m36_booted.specs.RunText.{steps_of, steps_in}
+use Rattle.m36_booted.specs.Runs.{IsEvent, Finishes, AwaitsLink}
+use Rattle.m36_booted.proofs.Serving.{IsStep, IsLink, ended_leaves}
+use Rattle.cmd_make.specs.QuietRun.{Ran, ran, after_service, serve_by, serve, run_from}
+
+-- Turns of a booted run from a state on, with at most so many steps.
+pub record AreMade (lib : Library) (left : ℕ) (b : Booted) (turns : List Turn) (last : Booted) : Type 0 where
+  pub are : AreTurns lib b turns last
+  pub events : Each IsEvent turns
+  pub few : steps_in turns ≤ left
+
+-- The run came to its end.
+pub record HasRun (lib : Library) (taken left : ℕ) (b : Booted) (r : Ran) : Type 0 where
+  pub turns : List Turn
+  pub last : Booted
+  pub made : AreMade lib left b turns last
+  pub finishes : Finishes r.how lib left turns last
+  pub steps : r.steps ≡ taken + steps_in turns
+  pub regs : r.regs ≡ last.state.regs
+
+-- It came to a link service that found no memory.
+pub record HasStarved (lib : Library) (left : ℕ) (b : Booted) (s : Status) : Type 0 where
+  pub turns : List Turn
+  pub last : Booted
+  pub made : AreMade lib left b turns last
+  pub waits : AwaitsLink last.coming
+  pub status : s ≡ NoMemory
+
+abbrev pub RunBy : Library → ℕ → ℕ → Booted → Result Ran Status → Type 0
+RunBy lib taken left b (Ok r) = HasRun lib taken left b r
+RunBy lib taken left b (Err s) = HasStarved lib left b s
+
+-- The program of a run went so.
+pub record RunGoes (lib : Library) (taken left : ℕ) (b : Booted) (events : List Event) (result : Result Ran Status) : Type 0 where
+  pub none : events ≡ []
+  pub run : RunBy lib taken left b result
+
+-- ---- no turn
+
+none_made : (lib : Library) (left : ℕ) (b : Booted) → AreMade lib left b [] b
+unfolding AreTurns steps_in
+none_made lib left b = record { are = refl; events = tt; few = omega arith }
+
+-- a run that ends here
+ends_here :
+    (lib : Library) (taken left : ℕ) (b later : Booted) (how : Finish) (events : List Event) (result : Result Ran Status)
+    → Finishes how lib left [] b → later.state.regs ≡ b.state.regs
+    → Ends (Ok (ran how taken later)) events result → RunGoes lib taken left b events result
+unfolding steps_in
+ends_here lib taken left b later how events result finishes regs goes = record {
+  none = goes.none;
+  run = subst (λ r. RunBy lib taken left b r) (sym goes.result_is) (record {
+    turns = [];
+    last = b;
+    made = none_made lib left b;
+    finishes = finishes;
+    steps = sym (add-zero taken);
+    regs = regs;
+  });
+}
+
+-- ---- a turn, and then the rest
+
+finishes_on :
+    (how : Finish) (lib : Library) (left all : ℕ) (told : Turn) (turns : List Turn) (last : Booted)
+    → all ≡ steps_of told + left → Finishes how lib left turns last → Finishes how lib all (told ∷ turns) last
+unfolding steps_in
+finishes_on (Over e) lib left all told turns last is finishes = finishes
+finishes_on Limit lib left all told turns last is finishes = (ap (λ n. steps_of told + n) finishes.0 ∙ sym is, finishes.1)
+
+made_first :
+    (lib : Library) (left all : ℕ) (b after : Booted) (told : Turn) (turns : List Turn) (last : Booted)
+    → IsTurn lib b told after → IsEvent told → all ≡ steps_of told + left → AreMade lib left after turns last
+    → AreMade lib all b (told ∷ turns) last
+unfolding AreTurns steps_in
+made_first lib left all b after told turns last is event all_is rest =
+    let few = rest.few in record {
+      are = (after, is, rest.are);
+      events = (event, rest.events);
+      few = omega (arith, all_is, few);
+    }
+
+run_first :
+    (lib : Library) (taken now left all : ℕ) (b after : Booted) (told : Turn) (result : Result Ran Status)
+    → IsTurn lib b told after → IsEvent told → all ≡ steps_of told + left → now ≡ taken + steps_of told
+    → RunBy lib now left after result → RunBy lib taken all b result
+unfolding steps_in
+run_first lib taken now left all b after told (Ok r) is event all_is now_is run =
+    let steps = steps_in run.turns in
+    let count : now + steps ≡ taken + (steps_of told + steps) = omega (arith, now_is) in
+    record {
+      turns = told ∷ run.turns;
+      last = run.last;
+      made = made_first lib left all b after told run.turns run.last is event all_is run.made;
+      finishes = finishes_on r.how lib left all told run.turns run.last all_is run.finishes;
+      steps = run.steps ∙ count;
+      regs = run.regs;
+    }
+run_first lib taken now left all b after told (Err s) is event all_is now_is run = record {
+  turns = told ∷ run.turns;
+  last = run.last;
+  made = made_first lib left all b after told run.turns run.last is event all_is run.made;
+  waits = run.waits;
+  status = run.status;
+}
+
+turn_goes :
+    (lib : Library) (taken now left all : ℕ) (b after : Booted) (told : Turn) (events : List Event) (result : Result Ran Status)
+    → IsTurn lib b told after → IsEvent told → all ≡ steps_of told + left → now ≡ taken + steps_of told
+    → RunGoes lib now left after events result → RunGoes lib taken all b events result
+turn_goes lib taken now left all b after told events result is event all_is now_is goes = record {
+  none = goes.none;
+  run = run_first lib taken now left all b after told result is event all_is now_is goes.run;
+}
+
+-- ---- which turns there are
+
+step_is :
+    (loaded : Bool) (frames : ℕ) (before : Booted) (told : Turn) (after : Booted)
+    → IsStepTurn loaded frames before told after → IsStep told
+step_is false frames before told after is = subst IsStep (sym is.takes.told) tt
+step_is true frames before told after is = subst IsStep (sym is.told) tt
+
+is_step : (lib : Library) (b after : Booted) (told : Turn) → b.coming ≡ Step → IsTurn lib b told after → IsStep told
+unfolding IsTurn
+is_step lib b after told is turns =
+    let so : IsTurnBy Step lib b told after = subst (λ c. IsTurnBy c lib b told after) is turns in
+    step_is b.loaded lib.catalog.frames b told after so
+
+step_event : (told : Turn) → IsStep told → IsEvent told
+step_event (turn.Stepped told) is = tt
+step_event (turn.Linked note) is = absurd is
+step_event (turn.Console text) is = absurd is
+step_event (turn.Ended e) is = absurd is
+step_event turn.Full is = absurd is
+step_event turn.NoMemory is = absurd is
+
+step_counts : (told : Turn) → IsStep told → steps_of told ≡ 1
+step_counts (turn.Stepped told) is = refl
+step_counts (turn.Linked note) is = absurd is
+step_counts (turn.Console text) is = absurd is
+step_counts (turn.Ended e) is = absurd is
+step_counts turn.Full is = absurd is
+step_counts turn.NoMemory is = absurd is
+
+-- A service was made, and the run goes on or ends.
+record IsServiceMade (told : Turn) (next : Coming) : Type 0 where
+  event : IsEvent told
+  counts : steps_of told ≡ 0
+  silent : IsQuiet next
+
+linked_made :
+    (answer : Result SnapFields RefusedFields) (frames : ℕ) (at : AtFields) (before : Booted) (told : Turn) (after : Booted)
+    → IsLinkTurn answer frames at before told after → told ≢ turn.NoMemory → IsServiceMade told after.coming
+linked_made (Ok s) frames at before (turn.Linked note) after is found =
+    record { event = tt; counts = refl; silent = link_quiet (Ok s) frames at before (turn.Linked note) after is tt }
+linked_made (Ok s) frames at before turn.NoMemory after is found = absurd (found refl)
+linked_made (Ok s) frames at before (turn.Stepped told) after is found = absurd (subst IsLink (sym is.told) tt)
+linked_made (Ok s) frames at before (turn.Console text) after is found = absurd (subst IsLink (sym is.told) tt)
+linked_made (Ok s) frames at before (turn.Ended e) after is found = absurd (subst IsLink (sym is.told) tt)
+linked_made (Ok s) frames at before turn.Full after is found = absurd (subst IsLink (sym is.told) tt)
+linked_made (Err why) frames at before (turn.Linked note) after is found =
+    record { event = tt; counts = refl; silent = link_quiet (Err why) frames at before (turn.Linked note) after is tt }
+linked_made (Err why) frames at before turn.NoMemory after is found = absurd (found refl)
+linked_made (Err why) frames at before (turn.Stepped told) after is found = absurd (subst IsLink (sym is.0) tt)
+linked_made (Err why) frames at before (turn.Console text) after is found = absurd (subst IsLink (sym is.0) tt)
+linked_made (Err why) frames at before (turn.Ended e) after is found = absurd (subst IsLink (sym is.0) tt)
+linked_made (Err why) frames at before turn.Full after is found = absurd (subst IsLink (sym is.0) tt)
+
+-- A console service was made and a step follows, or the run has ended.
+record PrintEnded (e : End) (told : Turn) (next : Coming) : Type 0 where
+  told_is : told ≡ turn.Ended e
+  next_is : next ≡ coming.Over e
+
+abbrev PrintMade : Turn → Coming → Type 0
+PrintMade told next = IsServiceMade told next ⊎ ((e : End) × PrintEnded e told next)
+
+printed :
+    (text : List ℕ) (told : Turn) (next : Coming) → told ≡ turn.Console text → next ≡ Step → IsServiceMade told next
+printed text told next told_is next_is = record {
+  event = subst IsEvent (sym told_is) tt;
+  counts = ap steps_of told_is;
+  silent = subst IsQuiet (sym next_is) tt;
+}
+
+print_made :
+    (many : Bool) (text : Result (List ℕ) Fault) (before : Booted) (told : Turn) (after : Booted)
+    → IsConsoleTurn many text before told after → PrintMade told after.coming
+print_made true text before told after is =
+    inr (end.Console, record { told_is = is.0; next_is = ap (λ (r : Booted). r.coming) is.1 })
+print_made false (Err f) before told after is =
+    inr (end.Fault f, record { told_is = is.0; next_is = ap (λ (r : Booted). r.coming) is.1 })
+print_made false (Ok text) before told after is =
+    inl (printed text told after.coming is.0 (ap (λ (r : Booted). r.coming) is.1))
+
+-- ---- services
+
+-- The program that follows a step or a service goes as a run.
+abbrev GoesOn : Library → ℕ → ℕ → Type 0
+GoesOn lib taken left =
+    (b : Booted) (events : List Event) (result : Result Ran Status)
+    → b.coming ≡ Step → Goes (run_from lib taken left b) events result → RunGoes lib taken left b events result
+
+abbrev then_by : Coming → Library → ℕ → ℕ → Booted → Program quiet Ran
+then_by next lib taken left b = after_service next taken (λ b. run_from lib taken left b) b
+
+abbrev served_by : Coming → Library → ℕ → ℕ → Booted → Program quiet Ran
+served_by next lib taken left b = serve_by next lib taken (λ b. run_from lib taken left b) b
+
+over_turn : (lib : Library) (b : Booted) (e : End) → b.coming ≡ coming.Over e → IsTurn lib b (turn.Ended e) b
+unfolding IsTurn
+over_turn lib b e is = subst (λ c. IsTurnBy c lib b (turn.Ended e) b) (sym is) (refl, refl)
+
+-- what follows a service
+after_goes :
+    (next : Coming) (lib : Library) (taken left : ℕ) (b : Booted) (events : List Event) (result : Result Ran Status)
+    → GoesOn lib taken left → IsQuiet next → b.coming ≡ next
+    → Goes (then_by next lib taken left b) events result → RunGoes lib taken left b events result
+unfolding Goes
+after_goes Step lib taken left b events result on silent is goes = on b events result is goes
+after_goes (Link at) lib taken left b events result on silent is goes = absurd silent
+after_goes Print lib taken left b events result on silent is goes = absurd silent
+after_goes (coming.Over e) lib taken left b events result on silent is goes =
+    ends_here lib taken left b b (Over e) events result (b, over_turn lib b e is) refl goes
+
+-- a service was made
+service_goes :
+    (lib : Library) (taken left : ℕ) (b after : Booted) (told : Turn) (events : List Event) (result : Result Ran Status)
+    → GoesOn lib taken left → IsTurn lib b told after → IsServiceMade told after.coming
+    → Goes (then_by after.coming lib taken left after) events result → RunGoes lib taken left b events result
+service_goes lib taken left b after told events result on is made goes =
+    let none = made.counts in
+    turn_goes lib taken taken left left b after told events result is made.event (omega (arith, none)) (omega (arith, none))
+    (after_goes after.coming lib taken left after events result on made.silent refl goes)
+
+print_goes :
+    (lib : Library) (taken left : ℕ) (b after : Booted) (told : Turn) (events : List Event) (result : Result Ran Status)
+    → GoesOn lib taken left → IsTurn lib b told after → PrintMade told after.coming
+    → Goes (then_by after.coming lib taken left after) events result → RunGoes lib taken left b events result
+unfolding Goes
+print_goes lib taken left b after told events result on is (inl made) goes =
+    service_goes lib taken left b after told events result on is made goes
+print_goes lib taken left b after told events result on is (inr over) goes =
+    let e = over.0 in
+    let ended : IsTurn lib b (turn.Ended e) after = subst (λ t. IsTurn lib b t after) over.1.told_is is in
+    let so : Goes (then_by (coming.Over e) lib taken left after) events result =
+    subst (λ c. Goes (then_by c lib taken left after) events result) over.1.next_is goes in
+    ends_here lib taken left b after (Over e) events result (after, ended) (ended_leaves lib b e after ended) so
+
+-- memory ran out for a link service
+starved_here :
+    (lib : Library) (taken left : ℕ) (b : Booted) (events : List Event) (result : Result Ran Status)
+    → AwaitsLink b.coming → Ends (Err NoMemory) events result → RunGoes lib taken left b events result
+starved_here lib taken left b events result waits ends = record {
+  none = ends.none;
+  run = subst (λ r. RunBy lib taken left b r) (sym ends.result_is)
+      (record { turns = []; last = b; made = none_made lib left b; waits = waits; status = refl });
+}
+
+link_goes :
+    (lib : Library) (taken left : ℕ) (b : Booted) (at : AtFields) (events : List Event) (result : Result Ran Status)
+    → GoesOn lib taken left → b.coming ≡ Link at
+    → Goes (served_by (Link at) lib taken left b) events result → RunGoes lib taken left b events result
+unfolding Goes IsTurn
+link_goes lib taken left b at events result on is (inl goes) =
+    let turns : IsTurnBy (Link at) lib b goes.value.turn goes.value.after =
+    subst (λ c. IsTurnBy c lib b goes.value.turn goes.value.after) is goes.is.is in
+    service_goes lib taken left b goes.value.after goes.value.turn events result on goes.is.is
+    (linked_made (snap_of b.known lib.catalog lib.files at) lib.catalog.frames at b goes.value.turn goes.value.after turns goes.is.found)
+    goes.rest
+link_goes lib taken left b at events result on is (inr ends) =
+    starved_here lib taken left b events result (subst AwaitsLink (sym is) tt) ends
+
+print_serves :
+    (lib : Library) (taken left : ℕ) (b : Booted) (events : List Event) (result : Result Ran Status)
+    → GoesOn lib taken left → b.coming ≡ Print
+    → Goes (served_by Print lib taken left b) events result → RunGoes lib taken left b events result
+unfolding Goes IsTurn
+print_serves lib taken left b events result on is goes =
+    let turns : IsTurnBy Print lib b goes.value.turn goes.value.after =
+    subst (λ c. IsTurnBy c lib b goes.value.turn goes.value.after) is goes.is in
+    print_goes lib taken left b goes.value.after goes.value.turn events result on goes.is
+    (print_made _ _ b goes.value.turn goes.value.after turns) goes.rest
+
+serves_by :
+    (next : Coming) (lib : Library) (taken left : ℕ) (b : Booted) (events : List Event) (result : Result Ran Status)
+    → GoesOn lib taken left → b.coming ≡ next
+    → Goes (served_by next lib taken left b) events result → RunGoes lib taken left b events result
+unfolding Goes
+serves_by Step lib taken left b events result on is goes = on b events result is goes
+serves_by (Link at) lib taken left b events result on is goes = link_goes lib taken left b at events result on is goes
+serves_by Print lib taken left b events result on is goes = print_serves lib taken left b events result on is goes
+serves_by (coming.Over e) lib taken left b events result on is goes =
+    ends_here lib taken left b b (Over e) events result (b, over_turn lib b e is) refl goes
+
+serve_goes :
+    (lib : Library) (taken left : ℕ) (b : Booted) (events : List Event) (result : Result Ran Status)
+    → GoesOn lib taken left → Goes (serve lib taken (λ b. run_from lib taken left b) b) events result
+    → RunGoes lib taken left b events result
+unfolding serve
+serve_goes lib taken left b events result on goes = serves_by b.coming lib taken left b events result on refl goes
+
+-- ---- the run
+
+step_goes :
+    (lib : Library) (taken left : ℕ) (b after : Booted) (told : Turn) (events : List Event) (result : Result Ran Status)
+    → GoesOn lib (taken + 1) left → b.coming ≡ Step → IsTurn lib b told after
+    → Goes (serve lib (taken + 1) (λ b. run_from lib (taken + 1) left b) after) events result
+    → RunGoes lib taken (suc left) b events result
+step_goes lib taken left b after told events result on next is goes =
+    let step = is_step lib b after told next is in
+    let one = step_counts told step in
+    turn_goes lib taken (taken + 1) left (suc left) b after told events result is (step_event told step)
+    (omega (arith, one)) (omega (arith, one))
+    (serve_goes lib (taken + 1) left after events result on goes)
+
+pub run_goes : (lib : Library) (left taken : ℕ) → GoesOn lib taken left
+unfolding Goes run_from steps_in
+run_goes lib zero taken b events result next goes = ends_here lib taken 0 b b Limit events result (refl, next) refl goes
+run_goes lib (suc left) taken b events result next goes =
+    step_goes lib taken left b goes.value.after goes.value.turn events result (run_goes lib left (taken + 1)) next goes.is goes.rest

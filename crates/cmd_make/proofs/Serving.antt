@@ -1,0 +1,193 @@
+-- A step with its service, and a service alone: what is left of the run's program.
+use Rattle.std.proofs.Common.{◌≡◌, ℕ, List, [], Result, Ok, Err, refl, sym, ap, subst}
+use Rattle.m36_model.specs.Fields.{AtFields}
+use Rattle.m36_model.specs.declared.endings.End.{End}
+use Rattle.m36_model.specs.declared.record.StepRecord.{StepRecord}
+use Rattle.m36_step.specs.LinkNoteFields.{LinkNoteFields}
+use Rattle.m36_step.specs.declared.turns.Turn.{Turn}
+use Rattle.m36_step.specs.declared.turns.Turn.TheVariants as turn
+use Rattle.m36_super.specs.Library.{Library}
+use Rattle.m36_super.specs.declared.coming.Coming.{Coming}
+use Rattle.m36_super.specs.declared.coming.Coming.TheVariants.{Step, Link, Print, Over}
+use Rattle.m36_super.specs.BootedRun.{Booted, IsTurn}
+use Rattle.m36_super.specs.SuperFields.{SuperFields, booted_of}
+use Rattle.m36_super.specs.SuperTurn.{SuperTurns}
+use Rattle.m36_reading.specs.declared.status.Status.{Status}
+use Rattle.m36_reading.specs.declared.status.Status.TheVariants.{NoMemory}
+use Rattle.m36_program.specs.Goes.{Goes}
+use Rattle.m36_program.specs.Program.{quiet, Program, some}
+use Rattle.m36_program.proofs.Performing.{goes_done, goes_some, goes_wants, goes_no_memory}
+use Rattle.m36_booted.specs.declared.running.Finish.TheVariants as finish
+use Rattle.m36_booted.proofs.Serving.{turn_prints, link_behind, print_behind}
+use Rattle.cmd_folder.specs.RunProgram.{Made, IsMade, IsServed}
+use Rattle.cmd_folder.proofs.Serving.{print_over}
+use Rattle.cmd_make.specs.declared.running.AfterTurn.{AfterTurn}
+use Rattle.cmd_make.specs.declared.running.AfterTurn.TheVariants as after
+use Rattle.cmd_make.specs.QuietRun.{Ran, ran, after_service, then_on, serve_by, serve, run_from}
+use Rattle.cmd_make.specs.RunSays.{IsLeft, from_step, from_service, TurnSays, LinkBefore}
+
+-- what is left of a run after a step that was taken
+abbrev on_from : Library → ℕ → ℕ → Booted → Program quiet Ran
+on_from lib taken left b = run_from lib taken left b
+
+-- the program of what follows a step
+abbrev served : Library → ℕ → ℕ → Booted → Program quiet Ran
+served lib taken left b = serve lib taken (λ b. run_from lib taken left b) b
+
+-- by what comes
+abbrev served_by : Coming → Library → ℕ → ℕ → Booted → Program quiet Ran
+served_by coming lib taken left b = serve_by coming lib taken (λ b. run_from lib taken left b) b
+
+-- and the program of what follows a service
+abbrev then_by : Coming → Library → ℕ → ℕ → Booted → Program quiet Ran
+then_by coming lib taken left b = after_service coming taken (λ b. run_from lib taken left b) b
+
+serve_is :
+    (coming : Coming) (lib : Library) (taken left : ℕ) (b : Booted)
+    → b.coming ≡ coming → served lib taken left b ≡ served_by coming lib taken left b
+unfolding serve
+serve_is coming lib taken left b is = ap (λ c. served_by c lib taken left b) is
+
+-- ---- a turn goes as the program says
+
+link_as :
+    (lib : Library) (taken left : ℕ) (b later : Booted) (note : LinkNoteFields) (at : AtFields)
+    → b.coming ≡ Link at → IsTurn lib b (turn.Linked note) later
+    → IsLeft (then_by later.coming lib taken left later) (served lib taken left b)
+link_as lib taken left b later note at is turns result goes =
+    let made : Made = record { turn = turn.Linked note; after = later } in
+    let go = then_on taken (λ b. run_from lib taken left b) in
+    subst (λ p. Goes p [] result) (sym (serve_is (Link at) lib taken left b is))
+    (goes_wants (some (IsServed lib b) go) [] result
+    (goes_some (IsServed lib b) go made [] result (record { is = turns; found = λ e. cc }) goes))
+
+print_as :
+    (lib : Library) (taken left : ℕ) (b later : Booted) (told : Turn)
+    → b.coming ≡ Print → IsTurn lib b told later
+    → IsLeft (then_by later.coming lib taken left later) (served lib taken left b)
+print_as lib taken left b later told is turns result goes =
+    let made : Made = record { turn = told; after = later } in
+    let go = then_on taken (λ b. run_from lib taken left b) in
+    subst (λ p. Goes p [] result) (sym (serve_is Print lib taken left b is))
+    (goes_some (IsMade lib b) go made [] result turns goes)
+
+step_as :
+    (lib : Library) (taken left : ℕ) (b later : Booted) (told : Turn)
+    → IsTurn lib b told later → IsLeft (served lib taken left later) (from_step lib b taken left)
+step_as lib taken left b later told turns result goes =
+    goes_some (IsMade lib b) (λ made. served lib taken left made.after) (record { turn = told; after = later }) [] result turns goes
+
+-- ---- by what comes after it
+
+then_next :
+    (lib : Library) (taken left : ℕ) (b later : Booted)
+    → later.coming ≡ Step → IsLeft (then_by later.coming lib taken left later) (served lib taken left b)
+    → IsLeft (run_from lib taken left later) (served lib taken left b)
+then_next lib taken left b later is on result goes =
+    on result (subst (λ c. Goes (then_by c lib taken left later) [] result) (sym is) goes)
+
+then_over :
+    (lib : Library) (taken left : ℕ) (b later : Booted) (e : End)
+    → later.coming ≡ Over e → IsLeft (then_by later.coming lib taken left later) (served lib taken left b)
+    → Goes (served lib taken left b) [] (Ok (ran (finish.Over e) taken later))
+then_over lib taken left b later e is on =
+    let result : Result Ran Status = Ok (ran (finish.Over e) taken later) in
+    on result (subst (λ c. Goes (then_by c lib taken left later) [] result) (sym is) (goes_done quiet (ran (finish.Over e) taken later)))
+
+-- ---- services
+
+pub serve_none : (s : SuperFields) → s.coming ≡ Step → TurnSays after.Next s.lib (from_service s.lib (booted_of s)) s
+serve_none s is = record {
+  leads = λ taken left result goes.
+      subst (λ p. Goes p [] result) (sym (serve_is Step s.lib taken left (booted_of s) is)) goes;
+  next = is;
+  same = refl;
+}
+
+pub serve_over :
+    (s : SuperFields) (e : End) → s.coming ≡ Over e → TurnSays (after.Ended e) s.lib (from_service s.lib (booted_of s)) s
+serve_over s e is = record {
+  goes = λ taken left.
+      subst (λ p. Goes p [] (Ok (ran (finish.Over e) taken (booted_of s)))) (sym (serve_is (Over e) s.lib taken left (booted_of s) is))
+      (goes_done quiet (ran (finish.Over e) taken (booted_of s)));
+}
+
+pub link_starves :
+    (before later : SuperFields) (at : AtFields)
+    → before.coming ≡ Link at → TurnSays after.NoMemory before.lib (from_service before.lib (booted_of before)) later
+link_starves before later at is = record {
+  goes = λ taken left.
+      subst (λ p. Goes p [] (Err NoMemory)) (sym (serve_is (Link at) before.lib taken left (booted_of before) is))
+      (goes_no_memory (some (IsServed before.lib (booted_of before)) (then_on taken (λ b. run_from before.lib taken left b))));
+}
+
+pub link_goes :
+    (p : AfterTurn) (before later : SuperFields) (note : LinkNoteFields) (at : AtFields)
+    → before.coming ≡ Link at → SuperTurns before (turn.Linked note) later → LinkBefore p later.coming
+    → TurnSays p before.lib (from_service before.lib (booted_of before)) later
+link_goes after.Next before later note at is turns next = record {
+  leads = λ taken left.
+      then_next before.lib taken left (booted_of before) (booted_of later) next
+      (link_as before.lib taken left (booted_of before) (booted_of later) note at is turns.0);
+  next = next;
+  same = turns.1;
+}
+link_goes (after.Ended e) before later note at is turns next = record {
+  goes = λ taken left.
+      then_over before.lib taken left (booted_of before) (booted_of later) e next
+      (link_as before.lib taken left (booted_of before) (booted_of later) note at is turns.0);
+}
+link_goes after.NoMemory before later note at is turns next = absurd next
+
+pub print_goes :
+    (before later : SuperFields) (told : List ℕ)
+    → before.coming ≡ Print → SuperTurns before (turn.Console told) later
+    → TurnSays after.Next before.lib (from_service before.lib (booted_of before)) later
+print_goes before later told is turns =
+    let next : later.coming ≡ Step = print_behind before later told is turns in record {
+      leads = λ taken left.
+          then_next before.lib taken left (booted_of before) (booted_of later) next
+          (print_as before.lib taken left (booted_of before) (booted_of later) (turn.Console told) is turns.0);
+      next = next;
+      same = turns.1;
+    }
+
+pub print_ends :
+    (before later : SuperFields) (e : End)
+    → before.coming ≡ Print → SuperTurns before (turn.Ended e) later
+    → TurnSays (after.Ended e) before.lib (from_service before.lib (booted_of before)) later
+print_ends before later e is turns = record {
+  goes = λ taken left.
+      then_over before.lib taken left (booted_of before) (booted_of later) e
+      (print_over before.lib (booted_of before) e (booted_of later) is turns.0)
+      (print_as before.lib taken left (booted_of before) (booted_of later) (turn.Ended e) is turns.0);
+}
+
+pub ruleset services = (turn_prints, link_behind, serve_none, serve_over, link_starves, link_goes, print_goes, print_ends)
+
+-- ---- a step, and then a service
+
+step_on :
+    (p : AfterTurn) (lib : Library) (b : Booted) (mid later : SuperFields) (told : StepRecord)
+    → IsTurn lib b (turn.Stepped told) (booted_of mid) → TurnSays p lib (from_service lib (booted_of mid)) later
+    → TurnSays p lib (from_step lib b) later
+step_on after.Next lib b mid later told turns says = record {
+  leads = λ taken left result goes.
+      step_as lib taken left b (booted_of mid) (turn.Stepped told) turns result (says.leads taken left result goes);
+  next = says.next;
+  same = says.same;
+}
+step_on (after.Ended e) lib b mid later told turns says = record {
+  goes = λ taken left. step_as lib taken left b (booted_of mid) (turn.Stepped told) turns _ (says.goes taken left);
+}
+step_on after.NoMemory lib b mid later told turns says = record {
+  goes = λ taken left. step_as lib taken left b (booted_of mid) (turn.Stepped told) turns _ (says.goes taken left);
+}
+
+pub step_goes :
+    (p : AfterTurn) (before mid later : SuperFields) (told : StepRecord)
+    → SuperTurns before (turn.Stepped told) mid → TurnSays p mid.lib (from_service mid.lib (booted_of mid)) later
+    → TurnSays p before.lib (from_step before.lib (booted_of before)) later
+step_goes p before mid later told turns says =
+    step_on p before.lib (booted_of before) mid later told turns.0
+    (subst (λ l. TurnSays p l (from_service l (booted_of mid)) later) turns.1 says)

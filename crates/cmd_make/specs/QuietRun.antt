@@ -1,0 +1,53 @@
+-- A run of a booted system of which no turn is written, as a program: turn by turn, and at its end
+-- how it ended, after how many steps, and the registers that it left.
+use Rattle.std.specs.Prelude.{ℕ, zero, suc, ◌+◌}
+use Rattle.m36_model.specs.Registers.{RegsFields}
+use Rattle.m36_super.specs.Library.{Library}
+use Rattle.m36_super.specs.declared.coming.Coming.{Coming}
+use Rattle.m36_super.specs.declared.coming.Coming.TheVariants.{Step, Link, Print}
+use Rattle.m36_super.specs.declared.coming.Coming.TheVariants as coming
+use Rattle.m36_super.specs.BootedRun.{Booted}
+use Rattle.m36_program.specs.Program.{quiet, Program, done, some, wants}
+use Rattle.m36_booted.specs.declared.running.Finish.{Finish}
+use Rattle.m36_booted.specs.declared.running.Finish.TheVariants.{Over, Limit}
+use Rattle.cmd_folder.specs.RunProgram.{Made, IsMade, IsServed}
+
+-- a run that has come to its end
+pub record Ran : Type 0 where
+  pub how : Finish
+  pub steps : ℕ
+  pub regs : RegsFields
+
+-- one that stops in this state
+abbrev pub ran : Finish → ℕ → Booted → Ran
+ran how steps b = record { how = how; steps = steps; regs = b.state.regs }
+
+-- what follows a service: a step, or the end of the run; a service follows no other
+abbrev pub after_service :
+    Coming → ℕ → (Booted → Program quiet Ran) → Booted → Program quiet Ran
+after_service Step taken on b = on b
+after_service (Link at) taken on b = on b
+after_service Print taken on b = on b
+after_service (coming.Over e) taken on b = done (ran (Over e) taken b)
+
+abbrev pub then_on : ℕ → (Booted → Program quiet Ran) → Made → Program quiet Ran
+then_on taken on made = after_service made.after.coming taken on made.after
+
+-- What follows a step: another one; a link service, for which memory may run out; a console
+-- service; or the end of the run.
+abbrev pub serve_by :
+    Coming → Library → ℕ → (Booted → Program quiet Ran) → Booted → Program quiet Ran
+serve_by Step lib taken on b = on b
+serve_by (Link at) lib taken on b = wants (some (IsServed lib b) (then_on taken on))
+serve_by Print lib taken on b = some (IsMade lib b) (then_on taken on)
+serve_by (coming.Over e) lib taken on b = done (ran (Over e) taken b)
+
+unfoldable pub serve :
+    Library → ℕ → (Booted → Program quiet Ran) → Booted → Program quiet Ran
+serve lib taken on b = serve_by b.coming lib taken on b
+
+-- At most so many more steps after those that were taken, each with its service.
+unfoldable pub run_from : Library → ℕ → ℕ → Booted → Program quiet Ran
+run_from lib taken zero b = done (ran Limit taken b)
+run_from lib taken (suc left) b =
+    some (IsMade lib b) (λ made. serve lib (taken + 1) (λ b. run_from lib (taken + 1) left b) made.after)

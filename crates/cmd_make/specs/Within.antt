@@ -1,0 +1,19 @@
+-- A program that writes no file and takes no input, as one that may.
+use Rattle.std.specs.Prelude.{Bool, true, false}
+use Rattle.std.proofs.Common.{subst}
+use Rattle.m36_program.specs.Program.{May, quiet, Program}
+use Rattle.m36_program.specs.Program.{done, stops, reads, writes, puts, takes, some, wants}
+
+abbrev IsFalse : Bool → Type 0
+IsFalse true = ⊥
+IsFalse false = Unit {0}
+
+unfoldable pub within : {may : May} {A : Type 0} → Program quiet A → Program may A
+within (done a) = done a
+within (stops status own) = stops status own
+within (reads name go) = reads name (λ found. within (go found))
+within (writes allowed name content rest) = absurd (subst IsFalse allowed tt)
+within (puts piece rest) = puts piece (within rest)
+within (takes allowed go) = absurd (subst IsFalse allowed tt)
+within (some Is go) = some Is (λ b. within (go b))
+within (wants rest) = wants (within rest)

@@ -1,0 +1,50 @@
+//! A call over a folder, an input and an output.
+
+ghost use Rattle.m36_reading.specs.Doing.{Does};
+ghost use Rattle.m36_reading.specs.Outside.{outside_of};
+ghost use Rattle.m36_program.specs.Early.{early};
+ghost use Rattle.m36_program.specs.Objects.{objects, PerformsOver};
+ghost use Rattle.m36_program.specs.Trail.{InputKept};
+ghost use Rattle.cmd_make.specs.Made.{made_kind};
+ghost use Rattle.cmd_make.specs.Making.{make_reads};
+ghost use Rattle.cmd_make.specs.MakeProgram.{make_program};
+
+use crate::answering::make_files;
+use m36_outside::{Folder, Lines, Sink};
+use m36_program::status_by;
+use m36_reading::Status;
+use m36_world::Borrowed;
+use std::alloc::Global;
+
+/// `make SEED`, and how that ended. Nothing is taken of the input.
+pub fn make_command<F: Folder, L: Lines, S: Sink>(
+    alloc: Global,
+    seed: u64,
+    folder: &mut F,
+    lines: &mut L,
+    out: &mut S,
+) -> Status
+    // All that happens, in order, is what the program says.
+    ensures performs { PerformsOver (make_program seed) (early result)
+        (objects F.asked F.wrote F.files F.read_faults F.write_faults L.given L.left L.faults
+        S.taken S.written S.faults folder.old lines.old out.old)
+        (objects F.asked F.wrote F.files F.read_faults F.write_faults L.given L.left L.faults
+        S.taken S.written S.faults folder.new lines.new out.new) }
+
+    // The folder is asked for nothing, the files are written, and what is due is answered.
+    ensures does { Does made_kind (make_reads seed) result
+        (outside_of F.files F.wrote F.read_faults F.write_faults S.written S.taken S.faults
+        folder.old out.old)
+        (outside_of F.files F.wrote F.read_faults F.write_faults S.written S.taken S.faults
+        folder.new out.new)
+        (F.asked folder.old) (F.asked folder.new) }
+    ensures untaken { InputKept
+        (objects F.asked F.wrote F.files F.read_faults F.write_faults L.given L.left L.faults
+        S.taken S.written S.faults folder.old lines.old out.old)
+        (objects F.asked F.wrote F.files F.read_faults F.write_faults L.given L.left L.faults
+        S.taken S.written S.faults folder.new lines.new out.new) }
+{
+    let mut world = Borrowed::new(folder, lines, out);
+    let outcome = make_files(alloc, seed, &mut world);
+    status_by(outcome)
+}

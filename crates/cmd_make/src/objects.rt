@@ -1,0 +1,94 @@
+//! The objects of sources that the generator draws.
+
+ghost use Rattle.std.specs.Prelude.{◌≡◌, ◌<◌, ◌≤◌, ◌^◌, length, Ok};
+ghost use Rattle.alm_asm.specs.Assembly.{assembled};
+ghost use Rattle.m36_text.specs.Texts.{name_limit};
+ghost use Rattle.m36_outside.specs.ReadAnswer.{file_limit};
+ghost use Rattle.m36_reading.specs.Asking.{Gives};
+ghost use Rattle.m36_told.specs.Assemblies.{with_parts, assembly_of};
+ghost use Rattle.cmd_make.specs.Making.{object_name, object_by, object_of, with_objects, ObjectSays};
+
+use crate::sets::Sets;
+use alm_asm::assemble;
+use alm_parse::{AlmFault, Lines36, parse};
+use m36_gen::File;
+use m36_outside::{FILE_LIMIT, Text};
+use m36_reading::{Code, Refusal, Set, refuse};
+use m36_text::Name;
+use m36_told::objects::object_bytes;
+use m36_told::refuse_source;
+use std::alloc::Global;
+
+// The name of the object of a source.
+#[tactic(auto, unfolding(crate::specs::Making::object_name))]
+fn object_name(source: &[u8]) -> Name
+    requires { length source.now ≤ name_limit }
+    ensures { result ≡ object_name source.now }
+{
+    match Name::new(&source[..source.len().saturating_sub(4)]) {
+        Some(name) => name,
+        None => unreachable!(),
+    }
+}
+
+// The packed words of the object of lines.
+#[tactic(auto, using(crate::proofs::ObjectLaws::made))]
+fn content_with(alloc: Global, lines: &Lines36) -> Result<Text, AlmFault>
+    ensures { ObjectSays result (with_parts lines.now (assembled lines.now)) }
+{
+    match assemble(alloc, lines) {
+        Ok(object) => Ok(object_bytes(alloc, &object)?),
+        Err(fault) => Err(fault),
+    }
+}
+
+// The packed words of the object of a source.
+#[tactic(auto, using(crate::proofs::ObjectLaws::parsing))]
+fn content_of(alloc: Global, source: &[u8]) -> Result<Text, AlmFault>
+    requires { length source.now < 2 ^ 32 }
+    ensures { ObjectSays result (assembly_of source.now) }
+{
+    match parse(alloc, source) {
+        Ok(lines) => content_with(alloc, &lines),
+        Err(fault) => Err(fault),
+    }
+}
+
+// The object of a source of at most 16 MiB.
+#[tactic(auto, using(crate::proofs::ObjectLaws::giving))]
+fn object_of_bytes(alloc: Global, name: &[u8], source: &[u8]) -> Result<Set, Refusal>
+    requires name { length name.now ≤ name_limit }
+    requires source { length source.now ≤ file_limit }
+    ensures { Gives result (object_by name.now (assembly_of source.now)) }
+{
+    match content_of(alloc, source) {
+        Ok(content) => Ok(Set {
+            name: object_name(name),
+            content,
+        }),
+        Err(fault) => Err(refuse_source(alloc, name, fault)),
+    }
+}
+
+/// The object that `alm` makes of a source.
+#[tactic(auto, unfolding(crate::specs::Making::object_of), using(m36_reading::proofs::ReadLaws::gives_refusal))]
+pub fn object_of(alloc: Global, source: &File) -> Result<Set, Refusal>
+    ensures { Gives result (object_of source.now) }
+{
+    let bytes = source.content.bytes();
+    if bytes.len() > FILE_LIMIT {
+        return Err(refuse(alloc, source.name.bytes(), Code::F2, 0));
+    }
+    object_of_bytes(alloc, source.name.bytes(), bytes)
+}
+
+/// Files, and the objects of sources behind them. The first source that is refused ends it.
+#[tactic(auto, using(crate::proofs::ObjectLaws::objects_in_turn))]
+pub fn with_objects(alloc: Global, mut sets: Sets, sources: &[File]) -> Result<Sets, Refusal>
+    ensures { Gives result (with_objects sets sources.now) }
+{
+    for source in sources {
+        sets.push(object_of(alloc, source)?)?;
+    }
+    Ok(sets)
+}

@@ -1,0 +1,128 @@
+//! A run of a booted system of which no turn is written.
+
+ghost use Rattle.std.specs.Prelude.{◌≡◌, []};
+ghost use Rattle.m36_super.specs.declared.coming.Coming.TheVariants.{Step, Link, Print};
+ghost use Rattle.m36_super.specs.SuperFields.{booted_of};
+ghost use Rattle.m36_super.specs.SuperTurn.{IsQuiet};
+ghost use Rattle.m36_program.specs.Goes.{Goes};
+ghost use Rattle.cmd_make.specs.QuietRun.{run_from};
+ghost use Rattle.cmd_make.specs.RunSays.{from_step, from_service, TurnSays, LinkBefore, ran_in};
+
+use m36_booted::running::Finish;
+use m36_model::{At, End, StepRecord};
+use m36_reading::Status;
+use m36_step::{Stepper, Turn};
+use m36_super::{Coming, Super};
+use m36_word::NoMemory;
+
+/// How a run has come to its end, and after how many steps.
+#[derive(Clone, Copy)]
+pub struct RunEnd {
+    /// The end.
+    pub how: Finish,
+    /// The steps.
+    pub steps: u32,
+}
+
+/// What follows a step with its service, or a service alone.
+#[derive(Clone, Copy)]
+pub enum AfterTurn {
+    /// A step follows.
+    Next,
+    /// The run has ended.
+    Ended(End),
+    /// The link service found no memory.
+    NoMemory,
+}
+
+// What follows a link service: a step, or the end where the link was refused.
+fn after_link(system: &Super) -> AfterTurn
+    requires { IsQuiet system.now.coming }
+    ensures { LinkBefore result system.now.coming }
+{
+    match system.coming() {
+        Coming::Step => AfterTurn::Next,
+        Coming::Over(end) => AfterTurn::Ended(end),
+        Coming::Link(_) | Coming::Print => unreachable!(),
+    }
+}
+
+// Makes a link service.
+#[tactic(auto, using(crate::proofs::Serving::services))]
+fn link(system: &mut Super, at: At) -> AfterTurn
+    requires { system.old.coming ≡ Link at }
+    ensures { TurnSays result system.old.lib (from_service system.old.lib (booted_of system.old))
+        system.new }
+{
+    match system.serve_link(at) {
+        Ok(_) => after_link(system),
+        Err(NoMemory) => AfterTurn::NoMemory,
+    }
+}
+
+// Makes a console service. What the console writes is not put.
+#[tactic(auto, using(crate::proofs::Serving::services))]
+fn print(system: &mut Super) -> AfterTurn
+    requires { system.old.coming ≡ Print }
+    ensures { TurnSays result system.old.lib (from_service system.old.lib (booted_of system.old))
+        system.new }
+{
+    match system.turn() {
+        Turn::Console(_) => AfterTurn::Next,
+        Turn::Ended(end) => AfterTurn::Ended(end),
+        _ => unreachable!(),
+    }
+}
+
+// Makes the service that comes next, if one does.
+#[tactic(auto, using(crate::proofs::Serving::services))]
+fn serve(system: &mut Super) -> AfterTurn
+    ensures { TurnSays result system.old.lib (from_service system.old.lib (booted_of system.old))
+        system.new }
+{
+    match system.coming() {
+        Coming::Step => AfterTurn::Next,
+        Coming::Link(at) => link(system, at),
+        Coming::Print => print(system),
+        Coming::Over(end) => AfterTurn::Ended(end),
+    }
+}
+
+// Takes a step with its service. The step fills a record that an earlier one may have filled.
+fn take_step(system: &mut Super, told: &mut StepRecord) -> AfterTurn
+    requires { system.old.coming ≡ Step }
+    ensures { TurnSays result system.old.lib (from_step system.old.lib (booted_of system.old))
+        system.new }
+{
+    system.step_told(told);
+    serve(system)
+}
+
+/// Runs a system for at most so many steps. The error is want of memory in a link service.
+pub fn run_quietly(system: &mut Super, steps: u32) -> Result<RunEnd, Status>
+    requires { system.old.coming ≡ Step }
+    ensures { Goes (run_from system.old.lib 0 steps (booted_of system.old)) []
+        (ran_in result system.new) }
+{
+    let mut told = system.untold();
+    let mut taken: u32 = 0;
+    let mut left = steps;
+    'steps: while left > 0 {
+        match take_step(system, &mut told) {
+            AfterTurn::Next => {}
+            AfterTurn::Ended(end) => {
+                return Ok(RunEnd {
+                    how: Finish::Over(end),
+                    steps: taken + 1,
+                });
+            }
+            AfterTurn::NoMemory => return Err(Status::NoMemory),
+        }
+        taken += 1;
+        left -= 1;
+    }
+    Ok(RunEnd {
+        how: Finish::Limit,
+        steps: taken,
+    })
+}

@@ -1,0 +1,168 @@
+//! The lines that are put of a folder that was made.
+
+ghost use Rattle.std.specs.Prelude.{ℕ, ◌≡◌, ◌<◌, List, [], ◌∷◌, length, Some};
+ghost use Rattle.m36_text.specs.Lines.{as_line};
+ghost use Rattle.m36_super.specs.declared.coming.Coming.TheVariants.{Step};
+ghost use Rattle.m36_super.specs.SuperFields.{booted_of};
+ghost use Rattle.m36_audit.specs.Findings.{pairs};
+ghost use Rattle.m36_program.specs.Early.{ends};
+ghost use Rattle.m36_program.specs.Performs.{Performs};
+ghost use Rattle.m36_program.specs.Program.{quiet, done, puts, puts_all};
+ghost use Rattle.m36_ran.specs.Ran.{passes};
+ghost use Rattle.m36_booted.specs.RunText.{finish_status};
+ghost use Rattle.m36_booted.specs.Systems.{IsFresh};
+ghost use Rattle.cmd_folder.specs.RunProgram.{finish_may_end};
+ghost use Rattle.cmd_make.specs.Summary.{segments_line, sum_line, head_pieces};
+ghost use Rattle.cmd_make.specs.MakeProgram.{summed_up, run_summed, runs_or_ends, found_told, on_booted};
+
+use crate::running::{RunEnd, run_quietly};
+use arrayvec::ArrayString;
+use cmd_image::findings::{put_audit, put_line};
+use m36_audit::Finding;
+use m36_booted::{audited, finish_line, finish_status};
+use m36_model::Regs;
+use m36_program::early;
+use m36_reading::Status;
+use m36_step::Stepper;
+use m36_super::Super;
+use m36_text::{decimal, octal};
+use m36_world::World;
+use std::alloc::Global;
+
+/// The most steps of the run.
+const RUN_LIMIT: u32 = 100000;
+
+// ---- lines
+
+// The line of the count of segments.
+#[tactic(auto, unfolding(crate::specs::Summary::segments_line))]
+fn segments_line(count: u64) -> ArrayString<160>
+    ensures text { result.bytes ≡ segments_line count }
+    ensures len { length result.bytes < 160 }
+{
+    let mut line = ArrayString::new();
+    line.push_str("segments ");
+    line.push_str(decimal(count).as_str());
+    line
+}
+
+// The line of what the programs have summed.
+#[tactic(auto, unfolding(crate::specs::Summary::sum_line))]
+fn sum_line(regs: &Regs) -> ArrayString<160>
+    ensures text { result.bytes ≡ sum_line regs.now }
+    ensures len { length result.bytes < 160 }
+{
+    let mut line = ArrayString::new();
+    line.push_str("x1 ");
+    line.push_str(octal(regs.x[1] as u64, 6).as_str());
+    line
+}
+
+// Puts the lines before the run.
+#[tactic(auto, using(crate::proofs::SummarySteps::heading))]
+fn put_head<W: World>(count: u64, findings: &[Finding], world: &mut W) -> Result<(), Status>
+    ensures { Performs {may = quiet} (puts_all (head_pieces count (pairs findings.now)) (done tt))
+        result (W.seen world.old) (W.seen world.new) }
+{
+    match put_line(segments_line(count), world) {
+        Ok(()) => put_audit(findings, world),
+        Err(status) => Err(status),
+    }
+}
+
+// Puts the line of the registers that a run has left, and answers with the status of the run.
+#[tactic(auto, using(crate::proofs::SummarySteps::summing))]
+fn put_sum<W: World>(end: RunEnd, regs: &Regs, world: &mut W) -> Result<(), Status>
+    ensures { Performs {may = quiet} (puts (as_line (sum_line regs.now))
+        (ends (finish_status (Some end.how)) (finish_may_end end.how))) result
+        (W.seen world.old) (W.seen world.new) }
+{
+    match put_line(sum_line(regs), world) {
+        Ok(()) => early(finish_status(end.how)),
+        Err(status) => Err(status),
+    }
+}
+
+// Puts the end line of a run, and the line of the registers that it has left.
+fn sum_up<W: World>(end: RunEnd, regs: &Regs, world: &mut W) -> Result<(), Status>
+    ensures { Performs (summed_up
+        record { how = end.how; steps = end.steps; regs = regs.now }) result
+        (W.seen world.old) (W.seen world.new) }
+{
+    match put_line(finish_line(end.how, end.steps), world) {
+        Ok(()) => put_sum(end, regs, world),
+        Err(status) => Err(status),
+    }
+}
+
+// ---- answers
+
+// Runs the system for at most so many steps, and puts the lines after the run.
+fn run_and_sum<W: World>(system: &mut Super, steps: u32, world: &mut W) -> Result<(), Status>
+    requires { system.old.coming ≡ Step }
+    ensures { Performs (run_summed system.old.lib steps (booted_of system.old)) result
+        (W.seen world.old) (W.seen world.new) }
+{
+    match run_quietly(system, steps) {
+        Ok(end) => sum_up(end, system.regs(), world),
+        Err(status) => Err(status),
+    }
+}
+
+// Runs the system where nothing is found.
+#[tactic(auto, using(crate::proofs::SummarySteps::deciding))]
+fn run_or_end<W: World>(
+    system: &mut Super,
+    findings: &[Finding],
+    world: &mut W,
+) -> Result<(), Status>
+    requires { system.old.coming ≡ Step }
+    ensures { Performs (runs_or_ends (passes (pairs findings.now)) system.old.lib
+        (booted_of system.old)) result (W.seen world.old) (W.seen world.new) }
+{
+    if findings.is_empty() {
+        run_and_sum(system, RUN_LIMIT, world)
+    } else {
+        Err(Status::AuditNo)
+    }
+}
+
+// Puts the lines of a system by what the audit of its core has found.
+fn answer_found<W: World>(
+    system: &mut Super,
+    findings: &[Finding],
+    world: &mut W,
+) -> Result<(), Status>
+    requires { system.old.coming ≡ Step }
+    ensures { Performs (found_told system.old.lib (booted_of system.old) (pairs findings.now)) result
+        (W.seen world.old) (W.seen world.new) }
+{
+    let count = system.catalog().count() as u64;
+    match put_head(count, findings, world) {
+        Ok(()) => run_or_end(system, findings, world),
+        Err(status) => Err(status),
+    }
+}
+
+/// Audits a booted system, runs it where nothing is found, and puts the lines of it.
+#[tactic(auto, using(crate::proofs::SummarySteps::found))]
+pub fn summarise<W: World>(alloc: Global, mut system: Super, world: &mut W) -> Result<(), Status>
+    requires { IsFresh system }
+    ensures { (denied : List (List ℕ))
+        → Performs (on_booted record { lib = system.lib; denied = denied }) result
+        (W.seen world.old) (W.seen world.new) }
+{
+    match audited(alloc, &system) {
+        Ok(verdict) => {
+            let answer = answer_found(&mut system, verdict.findings.as_slice(), world);
+            // Dropped by a call: so the drop is proved once for its type.
+            drop(verdict);
+            drop(system);
+            answer
+        }
+        Err(_) => {
+            drop(system);
+            Err(Status::NoMemory)
+        }
+    }
+}

@@ -1,8 +1,0 @@
-use Rattle.std.proofs.Common.{◌≡◌, drop}
-use Rattle.m36_outside.specs.FileList.{file_named}
-use Rattle.m36_made.specs.Making.{with_files, files_in}
-use Rattle.m36_made.proofs.folder.folder_of.Given as goal
-
--- the files that are left make, with those that are there, all of them
-abbrev pub invariant-loop-set : goal.invariant-loop-set
-invariant-loop-set l = with_files (drop l.set-index l.sets) (file_named l.folder.files) ≡ files_in l.sets
