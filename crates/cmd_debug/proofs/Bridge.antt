@@ -288,3 +288,12 @@ spoken_over Holds r result status old new old' new' is same_old same_new spoken 
     (subst (λ (o : Outside). Spoken Holds r result (input_by old) (input_by new) (outside_by old) o old'.reads new'.reads) (same_outside new new' same_new)
     (subst (λ (l : List Asked). Spoken Holds r result (input_by old) (input_by new) (outside_by old) (outside_by new) l new'.reads) same_old.reads
     (subst (λ (l : List Asked). Spoken Holds r result (input_by old) (input_by new) (outside_by old) (outside_by new) old.reads l) same_new.reads spoken))))))
+
+-- the same by the call, which has the two worlds
+pub spoken_called :
+    {D : Type 0} (Holds : Talk → D → Told) (r : Reading (Early D)) (program : Program_) (result : Result (Unit {0}) Status) (status : Status) (old new old' new' : Seen)
+    → status ≡ status_by result → SameObjects old old' → SameObjects new new' → Performs program result old new
+    → ((seen seen' : Seen) → Performs program result seen seen' → SpokenBy Holds r (status_by result) seen seen')
+    → SpokenBy Holds r status old' new'
+spoken_called Holds r program result status old new old' new' is same_old same_new performs each =
+    spoken_over Holds r (status_by result) status old new old' new' is same_old same_new (each old new performs)
