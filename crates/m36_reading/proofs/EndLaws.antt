@@ -1,4 +1,4 @@
--- Ends of a command: from its reading, and by more that is known of it.
+-- How a command ends, by how its reading ended, and by a weaker statement of that.
 use Rattle.std.proofs.Common.{◌≡◌, List, [], ◌∷◌, Some, Ok, Err, refl, sym, ap, subst, ◌∙◌, inl, inr}
 use Rattle.std.proofs.lemmas.List.{append-nil}
 use Rattle.m36_outside.specs.Files.{Files}
@@ -17,7 +17,7 @@ use Rattle.m36_reading.specs.Ends.{End, Answered, Cut, Unread, Starved, Unasked,
 use Rattle.m36_reading.specs.Doing.{Kind, Reads, EndsBy, Does, Performs}
 use Rattle.m36_reading.proofs.Comings.{comes_in}
 
--- More is known of what came of a reading.
+-- From one statement about the end of the reading to a weaker one.
 pub ends_more :
     {D : Type 0} (kind : Kind D) (Is Was : Coming (Early D) → Type 0) (end : End) (result : Status) (old new : Outside)
     → ((c : Coming (Early D)) → Is c → Was c) → EndsBy kind Is end result old new → EndsBy kind Was end result old new

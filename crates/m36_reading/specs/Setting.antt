@@ -1,6 +1,5 @@
 -- What writing files, one after another, does to a folder, by the answer.
-
--- All are written, each once.use Rattle.std.specs.Prelude.{◌≡◌, List, [], ◌∷◌, ◌++◌}
+use Rattle.std.specs.Prelude.{◌≡◌, List, [], ◌∷◌, ◌++◌}
 use Rattle.m36_outside.specs.WriteAnswer.{WriteSays, WriteHasCause}
 use Rattle.m36_outside.specs.declared.folder.WriteAnswer.{WriteAnswer}
 use Rattle.m36_outside.specs.declared.folder.WriteAnswer.TheVariants.{Written, Failed, NoMemory}
@@ -8,6 +7,7 @@ use Rattle.m36_reading.specs.declared.setting.Set.{Set}
 use Rattle.m36_reading.specs.Answers.{with_sets, write_of, writes_of}
 use Rattle.m36_reading.specs.Outside.{FolderState}
 
+-- All are written, each once.
 pub record AllSet (sets : List Set) (old new : FolderState) : Type 0 where
   pub files : new.files ≡ with_sets sets old.files
   pub wrote : new.wrote ≡ old.wrote ++ writes_of sets
