@@ -39,12 +39,13 @@
 //!   step of the state that the step before left, beginning with the state of the image. In a
 //!   booted folder each link service gives the pair of the search rules or its code, and each
 //!   console service the characters that the rules of access let it read.
-//! - `isolated`, `isolated_by_answers`: if `audit yes` is printed, all six conditions of the audit
-//!   hold of the image, and its tables isolate each ring from 1. That is: whatever programs run in
-//!   that ring and above, until a fault, a stop or a gate call no word outside the ring's write
-//!   brackets changes, and no word outside its read brackets affects a step. Of a booted folder the
-//!   same holds in every state of every run until an LDBR is executed, absent pages included. Of
-//!   processes all conditions of the joint audit hold, and they are isolated over every schedule.
+//! - `isolated`, `isolated_by_answers`: if the output of the call begins with the line `audit yes`
+//!   (with `make`, after its count of segments), all six conditions of the audit hold of the image,
+//!   and its tables isolate each ring from 1. That is: whatever programs run in that ring and
+//!   above, until a fault, a stop or a gate call no word outside the ring's write brackets changes,
+//!   and no word outside its read brackets affects a step. Of a booted folder the same holds in
+//!   every state of every run until an LDBR is executed, absent pages included. Of processes all
+//!   conditions of the joint audit hold, and they are isolated over every schedule.
 //! - `complete`, `read_cause`, `write_cause`, `sure`: ReadFault and WriteFault occur only after a
 //!   failure outside. Without one, a required answer is given, or memory runs out.
 //! - Memory may run out before anything is written or printed, while a file is written, after the

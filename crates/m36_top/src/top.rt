@@ -179,10 +179,11 @@ pub fn m36<F: Folder, L: Lines, S: Sink>(
     // Over a folder, an input and an output that never fail, ReadFault and WriteFault never occur.
     ensures sure { NeverFail F.read_faults F.write_faults L.faults S.faults → IsNoFault result }
 
-    // If `audit yes` is printed, all conditions of the audit hold, and the tables of the image
-    // isolate each ring. Of a booted folder the same holds in every state of every run until an
-    // LDBR is executed. Of processes all conditions of the joint audit hold, and they are isolated
-    // over every schedule. This is by the files that the folder shows.
+    // If the output of the call begins with the line `audit yes` (with `make`, after its count of
+    // segments), all conditions of the audit hold, and the tables of the image isolate each ring.
+    // Of a booted folder the same holds in every state of every run until an LDBR is executed. Of
+    // processes all conditions of the joint audit hold, and they are isolated over every schedule.
+    // This is by the files that the folder shows.
     ensures isolated { IfSome (F.files folder.old) (λ f. TopPasses (command_of words.now) f
         (outside_of F.files F.wrote F.read_faults F.write_faults S.written S.taken S.faults
         folder.old out.old)
