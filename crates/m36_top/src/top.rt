@@ -123,11 +123,11 @@ fn answer<F: Folder, L: Lines, S: Sink>(
 /// The simulator: does what the words of the command line ask for, and returns how that ended.
 ///
 /// `words` are those after the name of the program. The root doc of this crate says what each
-/// command does, and `specs/Words.antt` which words it takes. These have more to it:
+/// command does, and `specs/Words.antt` which words it takes. In addition:
 ///
 /// - `bare FILE`, `run` and `trace` take at most the steps of `--steps`, 100,000 by default.
-/// - `audit`, `run` and `trace` with `--user`: if the run ended because a right to a segment of the
-///   catalog was missing, the line `denied` of that segment follows the end line.
+/// - `run` and `trace` with `--user`: if the run ended because a right to a segment of the catalog
+///   was missing, the line `denied` of that segment follows the end line.
 /// - `procs FILE` prints a line for each event of the schedule, and the last line.
 /// - `print NAME` and `bind NAME` read objects as packed words. `alm NAME` and `bind NAME` write
 ///   them so.
