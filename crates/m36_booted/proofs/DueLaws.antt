@@ -1,4 +1,4 @@
--- What is due to a command on a folder.
+-- How many answers are required of a command on a folder.
 use Rattle.std.proofs.Common.{◌≡◌, ℕ, ◌+◌, ◌≤◌, Bool, true, false, ◌||◌, List, [], ◌∷◌, length, Option, Some, None, refl, sym, ap, subst, ◌∙◌, arith}
 use Rattle.m36_outside.specs.Passing.{joined}
 use Rattle.m36_model.specs.Audit.{AreFindings, IsAudited}
@@ -44,7 +44,7 @@ one_audit given due same is is_same =
 
 -- ---- by the conditions of the audit
 
--- what is due is by the findings of the one system
+-- A required answer is by the findings of the one system.
 record IsFoundBy (command : FolderCommand) (given : FolderFields) (system : SuperFields) (due : Answer) : Type 0 where
   pub findings : List (ℕ × ℕ)
   pub found : AreFindings system.core booted_dbr findings
@@ -87,7 +87,7 @@ failed_by command given system due booted is fails =
 
 -- ---- some answer
 
--- There is a list of findings: so an answer by each list will do.
+-- There is a list of findings, so it is enough to have an answer for each list.
 due_by :
     (command : FolderCommand) (given : FolderFields) (system : SuperFields) → IsBooted given.lib system
     → ((findings : List (ℕ × ℕ)) → AreFindings system.core booted_dbr findings → (due : Answer) × IsAnswerBy command given system findings due)
@@ -101,7 +101,7 @@ audit_due :
     (given : FolderFields) (system : SuperFields) → IsBooted given.lib system → ¬ ((due : Answer) → ¬ IsFolderAnswer Whole Audit given due)
 audit_due given system booted = due_by Audit given system booted (λ findings found. (audit_answer findings, refl))
 
--- where some condition fails something is found
+-- If some condition fails, something is found.
 fails_with :
     (system : SuperFields) (findings : List (ℕ × ℕ))
     → AreFindings system.core booted_dbr findings → ¬ IsAudited system.core booted_dbr → passes findings ≡ false
@@ -129,7 +129,7 @@ failed_due :
 failed_due command given system booted fails is =
     due_by command given system booted (λ findings found. unrun_of command given system findings (fails_with system findings found fails) is)
 
--- a run that comes to its end
+-- a run that finishes
 ran_by :
     (b : Bool) (denied : List (List ℕ)) (to : RunOutput) (limit : ℕ) (lib : Library) (first : Booted) (findings : List (ℕ × ℕ))
     (turns : List Turn) (last : Booted) (how : Finish)
@@ -212,9 +212,9 @@ one_run_here lib limit system turns same last end how how' booted goes goes' is 
     let fresh = fresh_of lib system booted in
     run_from lib lib limit (booted_of system) (booted_of system) turns same last end how how' (λ r. refl) refl fresh fresh goes goes' is is' plain
 
--- ---- one answer where such a run executes no ABSA and no LDBR
+-- ---- one answer if such a run executes no ABSA and no LDBR
 
--- a run that is told whole is that run
+-- An answer with a whole run has that run.
 pub record IsThatRun (turns same : List Turn) (last end : Booted) (how : Finish) (other : Option Finish) : Type 0 where
   pub turns_are : turns ≡ same
   pub end_is : Some how ≡ other

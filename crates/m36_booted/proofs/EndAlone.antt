@@ -1,4 +1,4 @@
--- A run of whose turns nothing is told, and which has no lines of segments: its end line is put alone.
+-- A run that prints nothing of its turns and has no lines `denied`: only its end line is put.
 use Rattle.std.proofs.Common.{◌≡◌, ℕ, ◌+◌, List, [], ◌∷◌, ◌++◌, slice_get, Option, Some, None, option_and_then, option_to_list, refl, ap, ◌∙◌}
 use Rattle.m36_step.specs.declared.turns.Turn.{Turn}
 use Rattle.m36_link.specs.Known.{place_of}
@@ -28,7 +28,7 @@ end_alone turns how =
     ap (λ (l : List (List ℕ)). l ++ (as_line (finish_line how (steps_in turns)) ∷ denied_pieces [] how)) (turns_untold 0 turns)
     ∙ ap (λ (l : List (List ℕ)). as_line (finish_line how (steps_in turns)) ∷ l) (none_denied how)
 
--- and nothing where the run has not come to its end
+-- If the run did not finish, nothing is put.
 pub none_alone : (turns : List Turn) → run_pieces [] output.Nothing turns None ≡ []
 unfolding run_pieces
 none_alone turns = ap (λ (l : List (List ℕ)). l ++ []) (turns_untold 0 turns)

@@ -16,7 +16,7 @@ pub no_turns : (lib : Library) (limit : ℕ) (first : Booted) → Goes lib limit
 unfolding AreTurns steps_in
 no_turns lib limit first = record { turns_are = refl; events = tt; few = omega arith }
 
--- more answers may be due
+-- from one property of answers to a weaker one
 pub puts_more :
     (A B : Extent → Answer → Type 0) (ending : Ending) (result : Status) (old new : SinkState)
     → ((extent : Extent) (due : Answer) → A extent due → B extent due)
@@ -29,7 +29,7 @@ puts_more A B ends.Starved result old new more (inr puts) =
 puts_more A B Unread result old new more puts = absurd puts
 puts_more A B Unasked result old new more puts = absurd puts
 
--- no memory was found for the audit
+-- Memory ran out in the audit.
 pub nothing_put :
     (IsAnswer : Extent → Answer → Type 0) (s : SinkState)
     → Puts IsAnswer (end_of status.NoMemory) status.NoMemory s s

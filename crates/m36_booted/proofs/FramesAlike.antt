@@ -1,4 +1,4 @@
--- The count of pageable frames shows in no flat turn, and not in the flat memory to which a folder boots.
+-- Neither flat turns nor the flat memory of a booted folder depend on the count of pageable frames.
 use Rattle.std.proofs.Common.{◌≡◌, ℕ, zero, suc, ◌+◌, Bool, true, false, List, ◌∷◌, Option, Some, None, Ok, Err, refl, sym, ap, ◌∙◌, if◌then◌else◌}
 use Rattle.std.specs.Prelude.{unwrap_or}
 use Rattle.m36_model.specs.Fields.{AtFields}

@@ -47,13 +47,13 @@ pub adds_are :
     → xs ≡ ys → AddsPieces answer xs old new → AddsPieces answer ys old new
 adds_are answer xs ys old new is adds = subst (λ pieces. AddsPieces answer pieces old new) is adds
 
--- what the sink took where pieces were added
+-- what the sink took while pieces were added
 taken_of :
     (xs : List (List ℕ)) (old new : BlockState) (a : AddsPieces put.Done xs old new)
     → PutsPieces put.Done a.adds.handed old.sink new.sink
 taken_of xs old new a = record { text = a.adds.grew; pieces = a.adds.took; faults = a.cause }
 
--- a put failed where pieces were added
+-- A put failed while pieces were added.
 pub lost_of :
     (xs : List (List ℕ)) (old new : BlockState)
     → AddsPieces put.Failed xs old new → PutsPieces put.Failed (old.pieces ++ xs) old.sink new.sink
@@ -64,14 +64,14 @@ losing :
     → PutsPieces put.Failed (old.pieces ++ xs) old.sink new.sink → AddsPieces put.Failed xs old new
 losing xs old new puts = record { adds = record { grew = puts.text; took = puts.pieces }; cause = puts.faults }
 
--- what is due with more behind it, by what the sink took and what is in the block
+-- The pieces to be put, followed by others, are those that the sink took and those in the block.
 due_behind :
     (xs ys : List (List ℕ)) (old new : BlockState) (a : AddsPieces put.Done xs old new)
     → old.pieces ++ (xs ++ ys) ≡ a.adds.handed ++ (new.pieces ++ ys)
 due_behind xs ys old new a =
     sym (append_assoc old.pieces xs ys) ∙ ap (λ l. l ++ ys) a.adds.due ∙ append_assoc a.adds.handed new.pieces ys
 
--- pieces were added, and then the block was put with others behind it
+-- Pieces were added, and then the block and others after it were put.
 pub put_behind :
     (answer : Put) (xs ys : List (List ℕ)) (old mid : BlockState) (new : SinkState)
     → AddsPieces put.Done xs old mid → PutsPieces answer (mid.pieces ++ ys) mid.sink new
@@ -117,7 +117,7 @@ pub first_then :
     → AddsPieces answer (line ∷ pieces) old new
 first_then answer line pieces old mid new one two = adds_then answer (line ∷ []) pieces old mid new one two
 
--- one could not be added, and so not the others behind it
+-- One could not be added, and so the others after it could not.
 pub first_cut :
     (line : List ℕ) (pieces : List (List ℕ)) (old new : BlockState)
     → AddsPieces put.Failed (line ∷ []) old new → AddsPieces put.Failed (line ∷ pieces) old new

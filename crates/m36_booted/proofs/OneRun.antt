@@ -1,4 +1,4 @@
--- A run of plain turns, and any run from a system that looks the same flat, are one: they make the same turns, and end the same way.
+-- A run of plain turns, and any run from a system with the same flat state, make the same turns and end the same way.
 use Rattle.std.proofs.Common.{◌≡◌, ℕ, ◌+◌, ◌≤◌, Bool, false, ◌⊎◌, List, [], ◌∷◌, length, refl, sym, ap, subst, ◌∙◌, arith, inl, inr}
 use Rattle.m36_model.specs.StoreLaw.{Each}
 use Rattle.m36_model.specs.Flat.{flat_store}
@@ -23,7 +23,7 @@ use Rattle.m36_booted.specs.DueLaw.{HasMemory}
 
 -- ---- a plain turn is that of the flat run
 
--- a state before a plain turn, or before the end
+-- a state of a run in which no LDBR was executed, with the invariant of such states
 pub record IsFresh (lib : Library) (r : Booted) : Type 0 where
   pub loaded : r.loaded ≡ false
   pub stands : Stands false lib.catalog.frames r.state
@@ -42,7 +42,7 @@ goes lib r turn mid fresh is plain =
       fresh = record { loaded = next; stands = subst (λ (b : Bool). Stands b lib.catalog.frames mid.state) next kept.stands };
     }
 
--- a turn that is made is that of the flat run, or both execute ABSA
+-- A turn that is made is that of the flat run, or both execute ABSA.
 abbrev IsLikeFlat : Turn → Turn → Type 0
 IsLikeFlat turn flat = (turn ≡ flat) ⊎ (LocatesInTurn turn × LocatesInTurn flat)
 
@@ -62,14 +62,14 @@ like_flat lib r turn mid fresh is has =
 event_has : (turn : Turn) → IsEvent turn → HasMemory turn
 event_has turn event e = subst IsEvent e event
 
--- one that is like a plain turn is it
+-- If a flat turn is plain, a turn like it is plain too.
 plain_like : (turn other flat : Turn) → turn ≡ flat → IsPlainTurn turn → IsLikeFlat other flat → IsPlainTurn other
 plain_like turn other flat is plain (inl h) = subst IsPlainTurn (is ∙ sym h) plain
 plain_like turn other flat is plain (inr h) = absurd (not_located turn (subst LocatesInTurn (sym is) h.1) plain)
 
 -- ---- what comes next
 
--- a step, where one comes next
+-- If a step is next, the flat turn is a step.
 steps_next : (coming : Coming) (lib : Library) (r : FlatRun) → coming ≡ Step → (e : StepRecord) × ((flat_turn_by coming lib r).turn ≡ Stepped e)
 unfolding flat_stepped
 steps_next Step lib r is = (record_of flat_store r.state, refl)
@@ -81,7 +81,7 @@ next_is : (lib : Library) (r : FlatRun) → r.coming ≡ Step → (e : StepRecor
 unfolding flat_turn
 next_is lib r is = steps_next r.coming lib r is
 
--- the end is told
+-- A turn that reports an end is the flat turn.
 end_told : (lib : Library) (r : Booted) (e : End) (after : Booted) → IsFresh lib r → IsTurn lib r (Ended e) after → Ended e ≡ (flat_turn lib (flat_run_of r)).turn
 end_told lib r e after fresh is = (goes lib r (Ended e) after fresh is tt).flat.turn_is
 
@@ -98,7 +98,7 @@ next_alike :
     → flat_turn lib (flat_run_of r) ≡ flat_turn other (flat_run_of s)
 next_alike lib other r s alike look = alike (flat_run_of r) ∙ ap (flat_turn other) look
 
--- how a run ends that has taken so many steps before
+-- how a run ends, before which `taken` steps were taken
 abbrev pub Ends : Finish → Library → ℕ → ℕ → List Turn → Booted → Type 0
 Ends (finish.Over e) lib limit taken turns last = (after : Booted) × IsTurn lib last (Ended e) after
 Ends finish.Limit lib limit taken turns last = (taken + steps_in turns ≡ limit) × (last.coming ≡ Step)
@@ -111,7 +111,7 @@ pub record IsOne (turns same : List Turn) (how end : Finish) (last last' : Boote
 no_end_and_step : (e : End) (told : StepRecord) (turn : Turn) → Ended e ≡ turn → turn ≡ Stepped told → ⊥
 no_end_and_step e told turn a b = let c : Ended e ≡ Stepped told = a ∙ b in absurd (cc)
 
--- both have ended
+-- Two runs that both end here end the same way.
 ends_one :
     (lib other : Library) (limit taken : ℕ) (r s : Booted) (how end : Finish)
     → AreAlike lib other → Look r s → IsFresh lib r → IsFresh other s
@@ -128,7 +128,7 @@ ends_one lib other limit taken r s finish.Limit (finish.Over f) alike look fresh
     absurd (no_end_and_step f next.0 _ (end_told other s f is'.0 fresh' is'.1) (sym (ap (λ (t : FlatTurn). t.turn) (next_alike lib other r s alike look)) ∙ next.1))
 ends_one lib other limit taken r s finish.Limit finish.Limit alike look fresh fresh' is is' = refl
 
--- no run goes on where another has ended
+-- No run continues where another has ended.
 step_counts : (turn : Turn) (told : StepRecord) → turn ≡ Stepped told → steps_of turn ≡ 1
 step_counts turn told is = ap steps_of is
 
@@ -164,7 +164,7 @@ not_on lib other limit taken left r s mid finish.Limit turn alike look fresh fre
     like_step next.0 turn (flat_turn other (flat_run_of s)).turn (sym (ap (λ (t : FlatTurn). t.turn) (next_alike lib other r s alike look)) ∙ next.1) like in
     omega (arith, one, few, is.0)
 
--- the ends are said of the states that stand
+-- An end in one state is an end in an equal state.
 ends_here : (how : Finish) (lib : Library) (limit taken : ℕ) (last r : Booted) → last ≡ r → Ends how lib limit taken [] last → Ends how lib limit taken [] r
 ends_here how lib limit taken last r is ends = subst (λ (b : Booted). Ends how lib limit taken [] b) is ends
 
@@ -181,8 +181,8 @@ few_first : (taken : ℕ) (turn : Turn) (more : List Turn) (limit : ℕ) → tak
 unfolding steps_in
 few_first taken turn more limit few = few
 
--- A turn, from a state that looks the same as one from which a plain turn is made, is plain too, and both leave states
--- that look the same.
+-- A turn from a state with the same flat state as one from which a plain turn is made is that plain turn, and both
+-- leave states with the same flat state.
 record IsNext (lib other : Library) (turn turn' : Turn) (mid mid' : Booted) : Type 0 where
   pub turn_is : turn ≡ turn'
   pub plain : IsPlainTurn turn'

@@ -1,4 +1,4 @@
--- Segments boot to one system at most.
+-- Segments boot at most one system.
 use Rattle.std.proofs.Common.{◌≡◌, ℕ, suc, false, List, [], ◌∷◌, length, Result, Ok, refl, sym, ap, ◌∙◌, arith}
 use Rattle.std.specs.Prelude.{slice_index}
 use Rattle.m36_model.specs.BootedCore.{wired_frames}

@@ -26,7 +26,7 @@ use Rattle.m36_booted.proofs.Gathering.{lost_of, put_behind, put_all}
 use Rattle.m36_booted.proofs.TurnsMade.{made_none, made_on}
 use Rattle.m36_booted.proofs.Serving.{ended_leaves}
 
--- A run of a system has taken some steps, has some left, and stands before a step.
+-- The invariant of the loop: the run has taken some steps, has some left, and a step is next.
 pub record IsUnderWay
     (output : RunOutput) (limit taken left : ℕ) (system now : SuperFields) (old new : BlockState)
     : Type 0 where
@@ -72,7 +72,7 @@ run_goes_on output limit taken left system now after old mid new way some goes =
   count = omega (arith, way.count, some);
 }
 
--- a run that is told so far
+-- a run up to here, to this extent
 ran_so :
     (extent : Extent) (how : Option Finish) (answer : Put) (denied : List (List ℕ)) (output : RunOutput) (limit steps : ℕ) (system after : SuperFields) (last : Booted) (turns : List Turn) (old new : SinkState)
     → AreTurns system.lib (booted_of system) turns last → Each IsEvent turns → steps_in turns ≡ steps → steps ≤ limit
@@ -111,7 +111,7 @@ run_cut denied output limit taken left system now after old mid new way some lea
           (lost_of (pieces_from output 0 made.turns) (block_of [] old) new made.puts)),
     )
 
--- the pieces of a run that has not come to its end were put
+-- The pieces of a run that did not finish were put.
 put_unended :
     (answer : Put) (denied : List (List ℕ)) (output : RunOutput) (turns : List Turn) (old : SinkState) (mid : BlockState) (new : SinkState)
     → AddsPieces put.Done (pieces_from output 0 turns) (block_of [] old) mid → PutsPieces answer mid.pieces mid.sink new
@@ -145,7 +145,7 @@ run_starved r denied output limit taken left system now after old mid next new w
     let made = with_step put.Done output taken system now leaves.last (block_of [] old) mid next way.made way.lib leaves.made in
     starved r denied output limit (taken + 1) system after leaves.last old next new made (omega (arith, way.count, some)) leaves.behind says
 
--- the end line behind what was made
+-- the end line after what was made
 ended :
     (answer : Put) (how : Finish) (denied : List (List ℕ)) (output : RunOutput) (steps : ℕ) (turns : List Turn) (old : SinkState) (mid : BlockState) (new : SinkState)
     → steps_in turns ≡ steps → AddsPieces put.Done (pieces_from output 0 turns) (block_of [] old) mid
@@ -194,7 +194,7 @@ run_limit r denied output limit taken left system now old mid new way none says 
     finished r Limit denied output limit taken system now (booted_of now) old mid new way.made (omega (arith, all))
     (way.made.count ∙ all, way.next) refl says
 
--- a run that has come to its end leaves the registers of the state behind its last turn
+-- A run that finished leaves the registers of the state after its last turn.
 pub regs_left :
     (how : Finish) (lib : Library) (last after : Booted)
     → StandsBehind (Some how) lib last after → after.state.regs ≡ last.state.regs

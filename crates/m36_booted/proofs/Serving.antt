@@ -102,7 +102,7 @@ turn_prints before after turn is turns =
     print_is _ _ (booted_of before) turn (booted_of after)
     (by_coming before.lib before after turn Print is turns.0)
 
--- ---- what comes behind them
+-- ---- what is next after them
 
 pub link_behind :
     (before after : SuperFields) (note : LinkNoteFields) (at : AtFields)
@@ -117,7 +117,7 @@ stays_starved :
 stays_starved (Ok s) frames at before after is = is
 stays_starved (Err why) frames at before after is = is
 
--- a link service that found no memory changes nothing
+-- A link service in which memory ran out changes nothing.
 pub link_waits :
     (before after : SuperFields) (at : AtFields)
     → before.coming ≡ Link at → SuperTurns before NoMemory after → Waits (booted_of before) (booted_of after)
@@ -157,7 +157,7 @@ unfolding IsTurn
 over_ends lib s e is =
     subst (λ c. IsTurnBy c lib (booted_of s) (Ended e) (booted_of s)) (sym is) (refl, refl)
 
--- ---- which registers stand behind a turn that ends the run
+-- ---- the registers after a turn that ends the run
 
 print_leaves :
     (many : Bool) (text : Result (List ℕ) Fault) (before : Booted) (e : End) (after : Booted)

@@ -1,4 +1,5 @@
--- Where an output begins with `audit yes`, the booted system passes its audit, and goes on doing so until an LDBR is executed.
+-- If an output begins with `audit yes`, the booted system passes its audit, and does so in every state until an LDBR is
+-- executed.
 use Rattle.std.proofs.Common.{◌≡◌, ℕ, Bool, true, false, List, [], ◌∷◌, ◌++◌, Result, Ok, Err, refl, sym, ap, subst, ◌∙◌}
 use Rattle.std.proofs.lemmas.List.{append-nil}
 use Rattle.std.proofs.lemmas.List.Folds.{concat-append}

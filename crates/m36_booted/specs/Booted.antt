@@ -1,5 +1,5 @@
--- What is due to a command on a folder that is booted: the text of what the audit of the booted
--- core finds, and, where the system is run, what is written of the run.
+-- The answers that are required of a command on a folder that boots: the text of the audit of the
+-- booted core and, if the system is run, the output of the run.
 use Rattle.std.specs.Prelude.{ℕ, ◌⊎◌, Bool, List}
 use Rattle.m36_model.specs.Audit.{AreFindings}
 use Rattle.m36_model.specs.BootedCore.{booted_dbr}
@@ -20,7 +20,7 @@ use Rattle.m36_booted.specs.RunText.{run_answer}
 use Rattle.m36_booted.specs.Runs.{Extent, Whole, Begun, Starved}
 use Rattle.m36_booted.specs.Runs.{Telling, IsRunTold, IsUnrunTold, IsRunToldBy}
 
--- the audit text, and what is written of a run behind it
+-- the audit text, and then the output of a run
 abbrev pub run_behind : List (ℕ × ℕ) → List (List ℕ) → RunOutput → Telling
 run_behind findings denied output turns last how =
     behind findings (run_answer denied output turns how)
@@ -42,6 +42,7 @@ IsRunBy runs extent denied output limit lib first findings due =
     IsRunToldBy runs extent lib limit first (run_behind findings denied output)
     (audit_answer findings) due
 
+-- the answer to each command by the findings of the audit
 abbrev pub IsAnswerOf :
     FolderCommand → Extent → List (List ℕ) → Library → Booted → List (ℕ × ℕ) → Answer → Type 0
 IsAnswerOf Audit extent denied lib first findings due = IsAuditAnswer extent findings due
@@ -52,8 +53,8 @@ IsAnswerOf (Trace run) extent denied lib first findings due =
     IsRunBy (is_run findings run.unaudited) extent denied output.Trace run.steps lib first
     findings due
 
--- An answer is by the system to which a folder boots, and by what the audit of its core finds, of
--- which there is one list.
+-- An answer by the system that a folder boots, and by the findings of the audit of its core, which
+-- are one list.
 pub record IsSystemAnswer
     (lib : Library) (IsBy : Booted → List (ℕ × ℕ) → Answer → Type 0) (due : Answer)
     : Type 0 where
@@ -63,16 +64,16 @@ pub record IsSystemAnswer
   pub found : AreFindings system.core booted_dbr findings
   pub answer : IsBy (booted_of system) findings due
 
--- the answer to a command
+-- the answers to a command, to this extent
 abbrev pub IsFolderAnswer : Extent → FolderCommand → FolderFields → Answer → Type 0
 IsFolderAnswer extent command given due =
     IsSystemAnswer given.lib (IsAnswerOf command extent given.denied given.lib) due
 
--- Memory was wanted by a link service, and the run up to it is written whole.
+-- Memory ran out in a link service, and everything before it is printed.
 abbrev pub IsStarvedRun : FolderCommand → FolderFields → Outside → Outside → Type 0
 IsStarvedRun command given old new = IsWrittenBy (IsFolderAnswer Starved command given) old new
 
--- Memory is wanted before anything is written, or by a link service.
+-- Memory runs out before anything is printed, or in a link service.
 abbrev pub FolderWants : FolderCommand → FolderFields → Outside → Outside → Type 0
 FolderWants command given old new = IsIdle old new ⊎ IsStarvedRun command given old new
 

@@ -1,4 +1,5 @@
--- What is due to a command on a folder that is booted, by the conditions of the audit and by runs.
+-- How many answers are required of a command on a folder that boots, by the conditions of the audit
+-- and by runs.
 use Rattle.std.specs.Prelude.{◌≡◌, ◌≢◌, ℕ, Bool, false, List, [], ◌∷◌, length}
 use Rattle.m36_outside.specs.Passing.{joined}
 use Rattle.m36_model.specs.Audit.{IsAudited}
@@ -19,37 +20,37 @@ use Rattle.m36_booted.specs.Folder.{FolderFields}
 use Rattle.m36_booted.specs.Runs.{Extent, Whole, Goes, Finishes}
 use Rattle.m36_booted.specs.Booted.{IsAnswerOf, IsFolderAnswer}
 
--- an answer by these findings of the audit of a system
+-- an answer with these findings of the audit of a system
 abbrev pub IsAnswerBy :
     FolderCommand → FolderFields → SuperFields → List (ℕ × ℕ) → Answer → Type 0
 IsAnswerBy command given system findings due =
     IsAnswerOf command Whole given.denied given.lib (booted_of system) findings due
 
--- an answer by some findings
+-- an answer with at least one finding
 pub record IsByFindings (command : FolderCommand) (given : FolderFields) (system : SuperFields)
     (due : Answer) : Type 0 where
   pub first : ℕ × ℕ
   pub others : List (ℕ × ℕ)
   pub answer : IsAnswerBy command given system (first ∷ others) due
 
--- the same segments, with so many pageable frames
+-- the same segments, with another count of pageable frames
 abbrev pub with_frames : Library → ℕ → Library
 with_frames lib frames =
     record { catalog = record lib.catalog { frames = frames }; files = lib.files }
 
--- whether the system is run though its audit fails
+-- Is the system run even if its audit fails?
 abbrev pub is_unaudited : FolderCommand → Bool
 is_unaudited Audit = false
 is_unaudited (Run run) = run.unaudited
 is_unaudited (Trace run) = run.unaudited
 
--- the most steps of a command that may run the system
+-- This is the limit of steps of a command that may run the system.
 abbrev pub HasLimit : FolderCommand → ℕ → Type 0
 HasLimit Audit limit = ⊥
 HasLimit (Run run) limit = limit ≡ run.steps
 HasLimit (Trace run) limit = limit ≡ run.steps
 
--- the turn does not want memory
+-- Memory did not run out in the turn.
 abbrev pub HasMemory : Turn → Type 0
 HasMemory turn = turn ≢ NoMemory
 
@@ -60,14 +61,18 @@ pub record AreOneRun
   pub end_is : how ≡ how_other
   pub left_is : flat_run_of last ≡ flat_run_of end
 
--- Segments boot to one system at most. One answer at most is due to `audit`. Where all conditions
--- of the audit hold of the core of the system, the answer is one without findings, and otherwise
--- one by some findings. It can't be that none is due to `audit`, nor to `run` and `trace` where
--- some condition fails and `--unaudited` is not given, nor where some turns are a run that comes
--- to its end. Whatever the counts of pageable frames, where some turns execute no ABSA and no LDBR,
--- as many others that find memory are the same turns, and where they are a run that comes to its
--- end, each run that does is this one; then one answer at most is due. The pieces of an answer, one
--- behind the other, are its text.
+-- - `system`: segments boot at most one system.
+-- - `audit`: at most one answer is required of `audit`.
+-- - `passed`, `failed`: if all conditions of the audit hold of the core of the system, an answer
+--   has no findings, and otherwise it has some.
+-- - `some_audit`, `some_failed`, `some_run`: it is not possible that no answer is required of
+--   `audit`; nor of `run` and `trace` if some condition fails and `--unaudited` is not given; nor
+--   of these if some turns are a run that finishes.
+-- - `turns`: take turns that execute no ABSA and no LDBR. Whatever the counts of pageable frames
+--   are, as many other turns in which memory does not run out are the same turns.
+-- - `runs`, `one_plain`: if such turns are a run that finishes, each run that finishes is this one;
+--   and at most one answer is required then.
+-- - `pieces`: the pieces of an answer, one after the other, are its text.
 pub record FolderDueLaw : Type 0 where
   pub system :
       (lib : Library) (system same : SuperFields)

@@ -1,7 +1,7 @@
 -- What a command on a folder reads: the boot text, for a user the access lists, and then the file
 -- of each segment in the order of the catalog. A file that two segments have is read twice. Then
--- the catalog, with the rights of the user, is booted with these files, or refused with a code of
--- the boot text.
+-- the catalog, with the rights of the user, is booted with these files, or refused with U1 to U4
+-- under the name of the boot text.
 use Rattle.std.specs.Prelude.{ℕ, List, [], Option, Result, Ok, Err}
 use Rattle.m36_dir.specs.Fields.{SegmentFields}
 use Rattle.m36_link.specs.Fields.{SnapFields}
@@ -22,10 +22,12 @@ use Rattle.m36_catalog.specs.Catalogs.{boot_refused, access_reads}
 unfoldable pub segment_words : SegmentFields → Reading (Early (List ℕ))
 segment_words segment = file_words segment.file
 
--- what is booted, and the line for each segment of the catalog that is told where a run ends for
--- want of a right to it; no lines without a user
+-- what is booted
 pub record FolderFields : Type 0 where
+  -- the catalog, with the words of the file of each segment
   pub lib : Library
+  -- for each segment the line `denied` that follows the end line if a right to it was missing; no
+  -- lines without a user
   pub denied : List (List ℕ)
 
 abbrev pub folder_with : Access → List (List ℕ) → FolderFields
@@ -47,6 +49,7 @@ abbrev pub booted_by : FolderFields → Result SnapFields BootFault → Early Fo
 booted_by given (Ok start) = Ok given
 booted_by given (Err fault) = Err (fault_refused fault)
 
+-- The folder boots, or is refused with a code.
 unfoldable pub boots : FolderFields → Early FolderFields
 boots given = booted_by given (boot_answer given.lib.catalog given.lib.files)
 
@@ -55,6 +58,6 @@ files_booted access =
     then_with (each_onto segment_words [] access.catalog.segments) (λ files.
     decided (boots (folder_with access files)))
 
--- all that is read and refused before the audit
+-- everything that is read and refused before the audit
 unfoldable pub folder_reads : Option (List ℕ) → Reading (Early FolderFields)
 folder_reads user = then_with (access_reads user) (λ access. files_booted access)

@@ -12,7 +12,7 @@ use Rattle.m36_super.specs.SuperFields.{SuperFields, booted_of}
 use Rattle.m36_super.specs.BootSays.{IsBooted}
 use Rattle.m36_ran.specs.Ran.{IsIsolated}
 
--- a state of a booted run in which no LDBR has been executed yet
+-- The state is reached by turns of a booted run in which no LDBR has been executed.
 pub record IsReached (lib : Library) (now : Booted) : Type 0 where
   pub system : SuperFields
   pub booted : IsBooted lib system
@@ -20,10 +20,10 @@ pub record IsReached (lib : Library) (now : Booted) : Type 0 where
   pub turns_are : AreTurns lib (booted_of system) turns now
   pub unloaded : now.loaded ≡ false
 
--- In every such state, the booted one too and whatever pages are in frames, all six conditions of
--- the audit hold of core; its tables isolate each ring from 1; and so do those of the flat memory
--- for which core and the words of absent pages stand, whose steps are those of the run, absent
--- pages included.
+-- In every such state, the booted one too, whatever pages are in frames: all six conditions of the
+-- audit hold of core; the tables in core isolate each ring from 1; and so do those of the flat
+-- memory that core and the words of absent pages represent. The steps over the flat memory are
+-- those of the run, absent pages included.
 pub record PassesBooted (lib : Library) : Type 0 where
   pub conditions : (now : Booted) → IsReached lib now → IsAudited now.state.memory.core booted_dbr
   pub isolates : (now : Booted) → IsReached lib now → IsIsolated now.state.memory.core booted_dbr

@@ -1,4 +1,4 @@
--- What is said of a sink where a booted system is audited and run.
+-- What a sink took of the audit and the run of a booted system.
 use Rattle.std.specs.Prelude.{◌⊎◌}
 use Rattle.m36_outside.specs.SinkState.{SinkState}
 use Rattle.m36_reading.specs.declared.status.Status.{Status}
@@ -9,25 +9,26 @@ use Rattle.m36_ran.specs.Putting.{IsPut, IsPartPut}
 use Rattle.m36_booted.specs.Runs.{Extent}
 use Rattle.m36_booted.specs.Runs as extent
 
--- an answer is put whole, with its status
+-- An answer is printed whole, and its status is the result.
 pub record PutsWhole
     (IsAnswer : Extent → Answer → Type 0) (result : Status) (old new : SinkState) : Type 0 where
   pub due : Answer
   pub is : IsAnswer extent.Whole due
   pub puts : IsPut due result old new
 
--- a first part of what was begun is put
+-- A first part of an answer is printed, perhaps of a run that did not finish.
 pub record PutsPart (IsAnswer : Extent → Answer → Type 0) (old new : SinkState) : Type 0 where
   pub due : Answer
   pub is : IsAnswer extent.Begun due
   pub puts : IsPartPut due old new
 
--- what goes before a link service is put whole
+-- Everything before a link service in which memory ran out is printed.
 pub record PutsBefore (IsAnswer : Extent → Answer → Type 0) (old new : SinkState) : Type 0 where
   pub due : Answer
   pub is : IsAnswer extent.Starved due
   pub whole : IsPutWhole due old new
 
+-- what was printed, by how the call ended
 abbrev pub Puts : (Extent → Answer → Type 0) → End → Status → SinkState → SinkState → Type 0
 Puts IsAnswer Answered result old new = PutsWhole IsAnswer result old new
 Puts IsAnswer Cut result old new = PutsPart IsAnswer old new

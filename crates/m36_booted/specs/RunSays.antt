@@ -1,4 +1,4 @@
--- What the parts of a booted run answer, and what they put.
+-- The contracts of the parts of a booted run: what they answer, and what they put.
 use Rattle.std.specs.Prelude.{ℕ, ◌≡◌, List, ◌++◌, Option, Some, None}
 use Rattle.m36_outside.specs.Gathered.{Adds}
 pub use Rattle.m36_outside.specs.Putting.{PutsPieces}
@@ -24,7 +24,7 @@ use Rattle.m36_booted.specs.RunText.{steps_in, pieces_from, end_pieces, run_piec
 use Rattle.m36_booted.specs.Runs.{IsEvent, Goes, AwaitsLink, Extent, Whole, Begun, Starved, Reaches}
 use Rattle.m36_booted.specs.Runs.{StandsBehind}
 
--- the pieces that are gathered in a block, and the sink to which it is handed over
+-- the pieces in a block, and the sink to which it is handed over
 pub record BlockState : Type 0 where
   pub pieces : List (List ℕ)
   pub sink : SinkState
@@ -32,8 +32,8 @@ pub record BlockState : Type 0 where
 abbrev pub block_of : List (List ℕ) → SinkState → BlockState
 block_of pieces sink = record { pieces = pieces; sink = sink }
 
--- Pieces are added to those of a block, of which the sink may take some on the way; or a first part
--- of all these is put where a put failed.
+-- Pieces are added to those of a block; the sink may take some of them meanwhile. If a put failed,
+-- a first part of all these pieces is put.
 pub record AddsPieces (answer : Put) (pieces : List (List ℕ)) (old new : BlockState) : Type 0 where
   pub adds :
       Adds answer old.pieces new.pieces pieces old.sink.written new.sink.written old.sink.taken
@@ -42,7 +42,7 @@ pub record AddsPieces (answer : Put) (pieces : List (List ℕ)) (old new : Block
 
 -- ---- turns
 
--- Turns are made, so many of them steps, and what is told of them is added.
+-- Turns are made, `steps` of them steps, and what they print is added to the block.
 pub record AreMade
     (answer : Put) (output : RunOutput) (taken steps : ℕ) (lib : Library) (before last : Booted)
     (old new : BlockState) : Type 0 where
@@ -52,7 +52,7 @@ pub record AreMade
   pub count : steps_in turns ≡ steps
   pub puts : AddsPieces answer (pieces_from output taken turns) old new
 
--- Behind them a step comes next.
+-- Turns are made, and a step is next.
 pub record GoesOn
     (output : RunOutput) (taken steps : ℕ) (before after : SuperFields) (old new : BlockState)
     : Type 0 where
@@ -61,7 +61,8 @@ pub record GoesOn
   pub next : after.coming ≡ Step
   pub lib : after.lib ≡ before.lib
 
--- The run ends behind a state, or could not be told, or waits for memory.
+-- Turns are made up to a state after which the run does not continue; `Behind` relates that state
+-- to the one in which the system is left.
 pub record Leaves
     (answer : Put) (Behind : Booted → Booted → Type 0) (output : RunOutput) (taken steps : ℕ)
     (before after : SuperFields) (old new : BlockState) : Type 0 where
@@ -69,19 +70,19 @@ pub record Leaves
   pub made : AreMade answer output taken steps before.lib (booted_of before) last old new
   pub behind : Behind last (booted_of after)
 
--- What follows a link service that was told: a step, or the end of the run.
+-- what follows a link service: a step, or the end of the run
 abbrev pub BehindSays : Progress → Coming → Type 0
 BehindSays progress.On coming = coming ≡ Step
 BehindSays (progress.Over e) coming = coming ≡ Over e
 BehindSays progress.Cut coming = ⊥
 BehindSays progress.Starved coming = ⊥
 
--- It waits for memory behind a state.
+-- Memory ran out in the link service that is next, and the system did not change.
 pub record Waits (last after : Booted) : Type 0 where
   pub stands : after ≡ last
   pub link : AwaitsLink last.coming
 
--- what a step with its service, or a service alone, comes to
+-- what a step with its service, or a service alone, did
 abbrev pub Progresses :
     Progress → RunOutput → ℕ → ℕ → SuperFields → SuperFields → BlockState → BlockState → Type 0
 Progresses progress.On output taken steps before after old new =
@@ -96,7 +97,7 @@ Progresses progress.Starved output taken steps before after old new =
 
 -- ---- the run
 
--- what putting the block and the end behind it answers
+-- what putting the block and then the end of the run does
 abbrev pub FinishSays :
     Ran → List (List ℕ) → Finish → ℕ → BlockState → SinkState → Type 0
 FinishSays (ran.Whole how) denied due steps old new =
@@ -106,12 +107,13 @@ FinishSays ran.Cut denied due steps old new =
     PutsPieces put.Failed (old.pieces ++ end_pieces denied (Some due) steps) old.sink new
 FinishSays ran.Starved denied due steps old new = ⊥
 
--- what putting the block answers where a link service found no memory
+-- what putting the block does after memory ran out in a link service
 abbrev pub StarvedSays : Ran → BlockState → SinkState → Type 0
 StarvedSays (ran.Whole how) old new = ⊥
 StarvedSays ran.Cut old new = PutsPieces put.Failed old.pieces old.sink new
 StarvedSays ran.Starved old new = PutsPieces put.Done old.pieces old.sink new
 
+-- A run was made to this extent: its turns, the state that it left, and what was put of its output.
 pub record IsRan
     (extent : Extent) (how : Option Finish) (answer : Put) (denied : List (List ℕ))
     (output : RunOutput) (limit : ℕ) (system after : SuperFields) (old new : SinkState)
@@ -123,6 +125,7 @@ pub record IsRan
   pub stands : StandsBehind how system.lib last (booted_of after)
   pub puts : PutsPieces answer (run_pieces denied output turns how) old new
 
+-- the contract of `run`
 abbrev pub RanSays :
     Ran → List (List ℕ) → RunOutput → ℕ → SuperFields → SuperFields → SinkState → SinkState → Type 0
 RanSays (ran.Whole how) denied output limit system after old new =

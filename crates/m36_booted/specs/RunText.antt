@@ -1,6 +1,6 @@
--- What is written of a booted run, in pieces: its trace, or the characters of its console, or
--- nothing, and then its end line. Behind a run for a user that ended for want of a right to a
--- segment of the catalog stands the line of that segment.
+-- The output of a booted run, in pieces: its trace, or the characters of its console, or nothing,
+-- and then its end line. If a run for a user ended because a right to a segment of the catalog was
+-- missing, the line `denied` of that segment follows.
 use Rattle.std.specs.Prelude.{ℕ, ◌+◌, Bool, ◌&&◌, ◌||◌, nat_eq, if◌then◌else◌, List, [], ◌∷◌, ◌++◌}
 use Rattle.std.specs.Prelude.{Option, Some, None, slice_get, option_and_then, option_to_list}
 use Rattle.m36_text.specs.Lines.{as_line}
@@ -28,7 +28,7 @@ use Rattle.m36_booted.specs.declared.running.Finish.TheVariants.{Over, Limit}
 
 -- ---- turns
 
--- for how many steps a turn counts
+-- the count of steps of a turn: 1 for a step, 0 for a service
 abbrev pub steps_of : Turn → ℕ
 steps_of turn = counted 0 turn
 
@@ -36,7 +36,7 @@ unfoldable pub steps_in : List Turn → ℕ
 steps_in [] = 0
 steps_in (turn ∷ turns) = steps_of turn + steps_in turns
 
--- The console's characters are put as they are, and nothing where there are none.
+-- The characters of the console are put as they are, as one piece; nothing if there are none.
 abbrev pub characters : List ℕ → List (List ℕ)
 characters [] = []
 characters (c ∷ text) = (c ∷ text) ∷ []
@@ -49,7 +49,8 @@ printed (Ended e) = []
 printed Full = []
 printed NoMemory = []
 
--- The pieces of a turn, before which so many steps were taken: in a trace its line.
+-- the pieces of a turn, before which `taken` steps were taken: in a trace its line, in a run with
+-- its console the characters
 abbrev pub pieces_of : RunOutput → ℕ → Turn → List (List ℕ)
 pieces_of output.Trace taken turn = turn_pieces taken turn
 pieces_of output.Console taken turn = printed turn
@@ -66,20 +67,21 @@ abbrev pub finish_line : Finish → ℕ → List ℕ
 finish_line (Over e) steps = run_end_line_of e steps
 finish_line Limit steps = end_line_of Next steps
 
--- the access violations for want of a right
+-- the access violations for a missing right
 abbrev pub is_no_right : ℕ → Bool
 is_no_right acv =
     nat_eq acv no_execute_right || nat_eq acv no_read_right || nat_eq acv no_write_right
 
--- a fault of these numbers is such an access violation
+-- Is a fault with these numbers such an access violation?
 abbrev pub is_want_of_right : ℕ → ℕ → Bool
 is_want_of_right number acv = nat_eq number access_violation && is_no_right acv
 
--- a fault for want of a right to execute, read or write: the segment
+-- the segment to which a right to execute, read or write was missing, if the fault is for that
 abbrev pub denied_at : Fault → Option ℕ
 denied_at fault =
     if is_want_of_right fault.number fault.acv then Some fault.at.seg else None
 
+-- the same by the end of a run
 abbrev pub denied_by : End → Option ℕ
 denied_by (end.Fault fault) = denied_at fault
 denied_by (end.Stop stop) = None
@@ -90,7 +92,7 @@ abbrev pub denied_segment : Finish → Option ℕ
 denied_segment (Over e) = denied_by e
 denied_segment Limit = None
 
--- the line that is told for such a segment of the catalog, if there is one
+-- the line `denied` of a segment of the catalog, if it has one
 abbrev pub line_for : List (List ℕ) → Option ℕ → Option (List ℕ)
 line_for denied seg =
     option_and_then (slice_get denied) (option_and_then place_of seg)
@@ -98,8 +100,7 @@ line_for denied seg =
 unfoldable pub denied_pieces : List (List ℕ) → Finish → List (List ℕ)
 denied_pieces denied how = option_to_list (line_for denied (denied_segment how))
 
--- the end line of a run with so many steps, and what goes behind it; a run that has not come to its
--- end has none
+-- the end line of a run of `steps` steps, and what follows it; nothing if the run did not finish
 abbrev pub ended_with : Option Finish → ℕ → (Finish → List (List ℕ)) → List (List ℕ)
 ended_with None steps rest = []
 ended_with (Some how) steps rest = as_line (finish_line how steps) ∷ rest how
@@ -107,7 +108,7 @@ ended_with (Some how) steps rest = as_line (finish_line how steps) ∷ rest how
 abbrev pub end_pieces : List (List ℕ) → Option Finish → ℕ → List (List ℕ)
 end_pieces denied how steps = ended_with how steps (denied_pieces denied)
 
--- a run that has not come to its end wants memory, if it is told at all
+-- the status of a run; a run that did not finish ran out of memory, or its output failed
 abbrev pub finish_status : Option Finish → Status
 finish_status None = status.NoMemory
 finish_status (Some (Over e)) = status_by (Some e)
@@ -115,6 +116,7 @@ finish_status (Some Limit) = status_by None
 
 -- ---- the run
 
+-- the whole output of these turns, and of the end if the run finished
 unfoldable pub run_pieces :
     List (List ℕ) → RunOutput → List Turn → Option Finish → List (List ℕ)
 run_pieces denied output turns how =

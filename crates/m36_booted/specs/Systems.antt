@@ -1,4 +1,4 @@
--- A system that was booted from a folder, as what its folder boots to.
+-- A booted system, and the folder that it was booted from.
 use Rattle.std.specs.Prelude.{Result, Ok}
 use Rattle.m36_text.specs.Results.{and_then}
 use Rattle.m36_super.specs.SuperFields.{SuperFields}
@@ -7,10 +7,11 @@ use Rattle.m36_reading.specs.declared.refusal.Refusal.{Refusal}
 use Rattle.m36_booted.specs.declared.reading.BootedFolder.{BootedFolder}
 use Rattle.m36_booted.specs.Folder.{FolderFields}
 
--- it stands as it was booted
+-- The system is as it was booted: no turn was made.
 abbrev pub IsFresh : SuperFields → Type 0
 IsFresh system = IsBooted system.lib system
 
+-- the folder of a system
 abbrev pub given_by : BootedFolder → FolderFields
 given_by booted = record { lib = booted.system.lib; denied = booted.denied }
 

@@ -10,7 +10,7 @@ use m36_super::Super;
 use m36_word::NoMemory;
 use std::alloc::Global;
 
-/// The audit of the core of a booted system.
+/// Audits the core of a booted system. Fails only with `NoMemory`.
 pub fn audited(alloc: Global, system: &Super) -> Result<Verdict, NoMemory>
     ensures { IfOk result
         (λ v. AreFindings system.now.core system.now.regs.dbr (pairs v.findings.items)) }

@@ -3,13 +3,13 @@
 /// A run of a booted system.
 #[derive(Clone, Copy)]
 pub struct FolderRun {
-    /// The most steps; at most 10,000,000.
+    /// The limit of steps; at most 10,000,000 from a command line.
     pub steps: u32,
-    /// Whether the system is run though its audit fails.
+    /// Whether the system is run even if its audit fails.
     pub unaudited: bool,
 }
 
-/// What is written of a run before its end line.
+/// What a run prints before its end line.
 #[derive(Clone, Copy)]
 pub enum RunOutput {
     /// The characters of the console, as they are.

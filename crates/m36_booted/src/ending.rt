@@ -1,4 +1,4 @@
-//! How a run has ended: its line and its status.
+//! The end line and the status of a run that finished.
 
 ghost use Rattle.std.specs.Prelude.{◌≡◌, ◌<◌, length, Some};
 ghost use Rattle.m36_booted.specs.RunText.{finish_line, finish_status};
@@ -11,7 +11,7 @@ use m36_reading::Status;
 use m36_trace::end_line;
 use m36_turns::run_end_line;
 
-/// The end line of a run of so many steps.
+/// The end line of a run, without its line feed; `steps` is the count of its steps.
 pub fn finish_line(how: Finish, steps: u32) -> ArrayString<160>
     ensures text { result.bytes ≡ finish_line how steps }
     ensures len { length result.bytes < 160 }
@@ -22,7 +22,7 @@ pub fn finish_line(how: Finish, steps: u32) -> ArrayString<160>
     }
 }
 
-/// The status of a run that has come to its end.
+/// The status of a run that finished.
 pub fn finish_status(how: Finish) -> Status
     ensures { result ≡ finish_status (Some how) }
 {

@@ -7,7 +7,8 @@ use m36_word::{NoMemory, Words};
 use std::alloc::Global;
 use std::marker::Model;
 
-/// The words of files, each of no more than a segment may have, in the order in which they were read.
+/// The words of files, each of no more than a segment may have, in the order in which they were
+/// read.
 #[derive(Drop)]
 pub struct SegmentFiles {
     pub(crate) items: Vec<Words>,
@@ -34,7 +35,7 @@ impl SegmentFiles {
         }
     }
 
-    /// Adds the words of a file at the end. Where no memory is found, nothing changes.
+    /// Adds the words of a file at the end. Fails only with `NoMemory`, and then nothing changes.
     pub fn push(&mut self, words: Words) -> Result<(), NoMemory>
         requires { length words ≤ segment_limit }
         ensures ok { OnOk result (self.new ≡ self.old ++ words ∷ []) }

@@ -1,4 +1,5 @@
-//! What is added to a block of a turn: a line, characters as they are, or nothing; and what stands at the end of a run.
+//! Adds what a turn prints to a block: a line, characters as they are, or nothing; and the end of a
+//! run.
 
 ghost use Rattle.std.specs.Prelude.{◌≡◌, ◌<◌, ◌+◌, [], ◌∷◌, ◌++◌, length, None, Some, MatchOption};
 ghost use Rattle.m36_text.specs.Lines.{as_line};
@@ -23,7 +24,7 @@ use m36_step::{ConsoleNote, LinkNote};
 use m36_trace::TraceText;
 use m36_turns::{console_line, link_line};
 
-// The fault of a reference that may not be made.
+// The number of the fault of a reference that is not allowed.
 const ACCESS_VIOLATION: u8 = 20;
 
 // Adds bytes as one piece.
@@ -47,7 +48,7 @@ fn add_text<S: Sink>(text: ArrayString<160>, block: &mut Block, out: &mut S) -> 
     add_line(block, text, out)
 }
 
-// The same of bytes.
+// As `add_text`, for a byte array.
 fn add_bytes<S: Sink, const N: usize>(
     mut text: ArrayVec<u8, N>,
     block: &mut Block,
@@ -62,7 +63,7 @@ fn add_bytes<S: Sink, const N: usize>(
     add_piece(text.as_slice(), block, out)
 }
 
-// Adds the characters of a console service, as they are; nothing where there are none.
+// Adds the characters of a console service, as they are, as one piece; nothing if there are none.
 #[tactic(auto, using(crate::proofs::Gathering::adding))]
 fn add_characters<S: Sink>(note: &ConsoleNote, block: &mut Block, out: &mut S) -> Put
     ensures { AddsPieces result (characters note.now)
@@ -77,7 +78,7 @@ fn add_characters<S: Sink>(note: &ConsoleNote, block: &mut Block, out: &mut S) -
     }
 }
 
-// Adds the line of step n, by the parts of it that are kept.
+// Adds the trace line of step n. `text` keeps the parts of the line before, which are used again.
 #[tactic(auto, using(crate::proofs::Gathering::adding))]
 fn add_trace<S: Sink>(
     n: u64,
@@ -93,7 +94,7 @@ fn add_trace<S: Sink>(
     m36_trace::add_step(text, n, told, block, out)
 }
 
-/// Adds what is told of a step before which so many were taken.
+/// Adds what a step prints, before which `taken` steps were taken.
 #[tactic(auto, using(crate::proofs::Gathering::adding))]
 pub(crate) fn add_step<S: Sink>(
     output: RunOutput,
@@ -114,7 +115,7 @@ pub(crate) fn add_step<S: Sink>(
     }
 }
 
-/// Adds what is told of a link service.
+/// Adds what a link service prints.
 #[tactic(auto, using(crate::proofs::Gathering::adding))]
 pub(crate) fn add_linked<S: Sink>(
     output: RunOutput,
@@ -134,7 +135,7 @@ pub(crate) fn add_linked<S: Sink>(
     }
 }
 
-/// Adds what is told of a console service.
+/// Adds what a console service prints.
 #[tactic(auto, using(crate::proofs::Gathering::nothing_added))]
 pub(crate) fn add_printed<S: Sink>(
     output: RunOutput,
@@ -154,21 +155,21 @@ pub(crate) fn add_printed<S: Sink>(
     }
 }
 
-// Whether an access violation is one for want of a right to execute, read or write.
+// Whether an access violation is a missing right to execute, read or write (ACV2, 4 or 6).
 fn is_no_right(acv: u8) -> bool
     ensures { result ≡ is_no_right acv }
 {
     matches!(acv, 2 | 4 | 6)
 }
 
-// Whether a fault of these numbers is such an access violation.
+// Whether a fault with these numbers is an access violation for a missing right.
 fn is_want_of_right(number: u8, acv: u8) -> bool
     ensures { result ≡ is_want_of_right number acv }
 {
     number == ACCESS_VIOLATION && is_no_right(acv)
 }
 
-// The segment to which a right was wanted, by a fault.
+// The segment to which a right was missing, if the fault is such an access violation.
 fn denied_at(fault: Fault) -> Option<u16>
     ensures { result ≡ denied_at fault }
 {
@@ -179,7 +180,7 @@ fn denied_at(fault: Fault) -> Option<u16>
     }
 }
 
-// The same by an end.
+// The segment to which a right was missing, if a run ended for that.
 fn denied_by(end: End) -> Option<u16>
     ensures { result ≡ denied_by end }
 {
@@ -189,7 +190,7 @@ fn denied_by(end: End) -> Option<u16>
     }
 }
 
-// The same by how a run has come to its end.
+// The same for a run that finished, perhaps at its limit.
 fn denied_segment(how: Finish) -> Option<u16>
     ensures { result ≡ denied_segment how }
 {
@@ -199,10 +200,11 @@ fn denied_segment(how: Finish) -> Option<u16>
     }
 }
 
-// The line of a segment of the catalog by its number.
+// The line `denied` of a segment by its number; None if it is not in the catalog, or has no line.
 #[tactic(auto, unfolding(m36_link::specs::Known::place_of))]
 fn line_of_segment(denied: &DeniedLines, seg: u16) -> Option<&[u8]>
-    ensures { MatchOption result (line_for denied.now (Some seg) ≡ None) (λ line. line_for denied.now (Some seg) ≡ Some line.now) }
+    ensures { MatchOption result (line_for denied.now (Some seg) ≡ None)
+        (λ line. line_for denied.now (Some seg) ≡ Some line.now) }
 {
     if seg < FIRST_SEGMENT {
         return None;
@@ -210,14 +212,16 @@ fn line_of_segment(denied: &DeniedLines, seg: u16) -> Option<&[u8]>
     denied.line((seg - FIRST_SEGMENT) as usize)
 }
 
-/// The line of the segment to which a right was wanted, where a run has ended so.
+/// The line `denied` of the segment to which a right was missing, if the run ended for that and the
+/// segment has such a line.
 pub fn denied_line(denied: &DeniedLines, how: Finish) -> Option<&[u8]>
-    ensures { MatchOption result (line_for denied.now (denied_segment how) ≡ None) (λ line. line_for denied.now (denied_segment how) ≡ Some line.now) }
+    ensures { MatchOption result (line_for denied.now (denied_segment how) ≡ None)
+        (λ line. line_for denied.now (denied_segment how) ≡ Some line.now) }
 {
     line_of_segment(denied, denied_segment(how)?)
 }
 
-// Adds what stands behind the end line.
+// Adds the line `denied` that follows the end line, if there is one.
 #[tactic(auto, using(crate::proofs::Gathering::adding), unfolding(crate::specs::RunText::denied_pieces))]
 fn add_denied<S: Sink>(denied: &DeniedLines, how: Finish, block: &mut Block, out: &mut S) -> Put
     ensures { AddsPieces result (denied_pieces denied.now how)
@@ -230,7 +234,7 @@ fn add_denied<S: Sink>(denied: &DeniedLines, how: Finish, block: &mut Block, out
     }
 }
 
-// Adds the end line of a run of so many steps, and what stands behind it.
+// Adds the end line of a run of `steps` steps, and the line `denied` if there is one.
 fn add_finish<S: Sink>(
     how: &Finish,
     steps: u32,
@@ -248,7 +252,7 @@ fn add_finish<S: Sink>(
     }
 }
 
-/// Puts what is in a block.
+/// Puts the pieces of a block.
 pub(crate) fn put_gathered<S: Sink>(block: &mut Block, out: &mut S) -> Put
     ensures { PutsPieces result block.old
         (sink_of S.written S.taken S.faults out.old) (sink_of S.written S.taken S.faults out.new) }
@@ -256,7 +260,8 @@ pub(crate) fn put_gathered<S: Sink>(block: &mut Block, out: &mut S) -> Put
     block.hand_over(out)
 }
 
-/// Puts what is in a block, and behind it the end line of a run of so many steps with what stands behind that.
+/// Puts the pieces of a block, then the end line of a run of `steps` steps, and the line `denied`
+/// if there is one.
 pub(crate) fn put_finish<S: Sink>(
     how: &Finish,
     steps: u32,

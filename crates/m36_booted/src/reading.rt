@@ -1,4 +1,4 @@
-//! The boot text of a folder and the files of its segments, and the system that they boot to.
+//! Reads the boot text of a folder and the files of its segments, and boots them.
 
 ghost use Rattle.std.specs.Prelude.{ℕ, ◌≡◌, ◌≤◌, ◌+◌, List, [], ◌∷◌, ◌++◌, Ok, length, IfOk};
 ghost use Rattle.obj36_parts.specs.ObjectSegment.{segment_limit};
@@ -24,15 +24,16 @@ use m36_super::Super;
 use m36_word::Words;
 use std::alloc::Global;
 
-/// What a folder boots to, and the line for each segment of its catalog that is told where a run ends for want of a right
-/// to it; no lines without a user.
+/// A booted folder.
 #[derive(Drop)]
 pub struct BootedFolder {
     pub system: Super,
+    /// For each segment of the catalog the line `denied` that is printed if a run ends because a
+    /// right to it was missing; no lines without a user.
     pub denied: DeniedLines,
 }
 
-/// The files, and one more.
+/// Adds the words of a file to those read before. Fails only with `NoMemory`.
 pub fn with_file(mut files: SegmentFiles, words: Words) -> Result<SegmentFiles, Refusal>
     requires { length words ≤ segment_limit }
     ensures gives { Gives result
@@ -43,7 +44,7 @@ pub fn with_file(mut files: SegmentFiles, words: Words) -> Result<SegmentFiles, 
     Ok(files)
 }
 
-// Reads the file of a segment behind those read before.
+// Reads the file of a segment, and adds its words to those read before.
 #[tactic(auto, using(m36_reading::proofs::ReadLaws::reads_early), unfolding(m36_reading::specs::EachRead::read_onto))]
 fn read_file<F: Folder>(
     alloc: Global,
@@ -61,7 +62,8 @@ fn read_file<F: Folder>(
     with_file(files, words)
 }
 
-/// Reads the file of each segment of a catalog: F1, F2, T3, T4 and F3 of each, before the next one is read.
+/// Reads the file of each segment of a catalog, in its order. Each is refused with F1, F2, T3, T4
+/// or F3 before the next is read.
 #[tactic(auto, using(crate::proofs::FolderReads::files_in_turn))]
 fn read_files<F: Folder>(
     alloc: Global,
@@ -81,7 +83,7 @@ fn read_files<F: Folder>(
     Ok(files)
 }
 
-// U1 to U4: a catalog and files that are not booted.
+// U1 to U4, for a catalog and files that do not boot; U2 and U4 at the number of the segment.
 fn refuse_fault(alloc: Global, fault: BootFault) -> Refusal
     ensures { Refuses result (fault_refused fault) }
 {
@@ -94,7 +96,7 @@ fn refuse_fault(alloc: Global, fault: BootFault) -> Refusal
     }
 }
 
-/// The system that a catalog boots to with its files.
+/// Boots a catalog with its files: U1 to U4 if they do not boot.
 #[tactic(auto, using(crate::proofs::FolderReads::booting))]
 pub fn boot_files(
     alloc: Global,
@@ -116,7 +118,7 @@ pub fn boot_files(
     }
 }
 
-// Reads the files of a catalog, and boots it.
+// Reads the files of a catalog, and boots them.
 #[tactic(auto, using(crate::proofs::FolderReads::boots_files))]
 fn read_booted<F: Folder>(
     alloc: Global,
@@ -132,14 +134,15 @@ fn read_booted<F: Folder>(
     match read_files(alloc, &access.catalog, folder) {
         Ok(files) => boot_files(alloc, access.catalog, access.denied, files),
         Err(refusal) => {
-            // Dropped by a call: so the drop is proved once for its type.
+            // Dropped by a call, so that the drop is proved once for its type.
             drop(access);
             Err(refusal)
         }
     }
 }
 
-/// Reads a folder, and boots it, for a user if there is one.
+/// Reads a folder and boots it, with the rights of a user if one is given. The system is as it was
+/// booted: no turn was made.
 #[tactic(auto, using(crate::proofs::FolderReads::folders))]
 pub fn read_system<F: Folder>(
     alloc: Global,

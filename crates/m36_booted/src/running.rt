@@ -1,5 +1,5 @@
-//! A run of a booted system. What is written of it is gathered in a block, which is handed over when it is full and at the
-//! end, however the run ends.
+//! A run of a booted system. What it prints is gathered in a block, which is handed over when it is
+//! full and when the run ends, unless a put failed before.
 
 ghost use Rattle.std.specs.Prelude.{◌≡◌, ◌<◌, ◌+◌, ◌^◌};
 ghost use Rattle.m36_reading.specs.Outside.{sink_of};
@@ -17,28 +17,28 @@ use m36_super::{Coming, Super};
 use m36_trace::TraceText;
 use m36_word::NoMemory;
 
-/// How a run has come to its end.
+/// How a run finished.
 #[derive(Clone, Copy)]
 pub enum Finish {
-    /// It has ended.
+    /// It ended.
     Over(End),
-    /// All steps that are allowed were taken, and another would follow.
+    /// It used up its limit of steps, and another step would follow.
     Limit,
 }
 
-/// What became of a run.
+/// The result of `run`.
 #[derive(Clone, Copy)]
 pub enum Ran {
-    /// It has come to its end, and all is written.
+    /// The run finished, and all of it is printed.
     Whole(Finish),
     /// The output could not be written.
     Cut,
-    /// A link service found no memory. All is written up to there.
+    /// Memory ran out in a link service. Everything before it is printed.
     Starved,
 }
 
-/// What a step with its service comes to, or a service alone. What is told of them is written or in
-/// the block but for `Cut`.
+/// How the run continues after a step with its service, or after a service. What they print is in
+/// the block or was put, except after `Cut`.
 #[derive(Clone, Copy)]
 pub enum Progress {
     /// A step follows.
@@ -47,11 +47,11 @@ pub enum Progress {
     Over(End),
     /// The output could not be written.
     Cut,
-    /// The link service found no memory.
+    /// Memory ran out in the link service.
     Starved,
 }
 
-// What follows a link service: a step, or the end where the link was refused.
+// What follows a link service: a step, or the end of the run if the link was refused.
 fn behind_link(system: &Super) -> Progress
     requires { IsQuiet system.now.coming }
     ensures { BehindSays result system.now.coming }
@@ -111,7 +111,7 @@ fn print<S: Sink>(
     }
 }
 
-// Makes the service that comes next, if one does.
+// Makes the service that is next, if the last step called for one.
 #[tactic(auto, using(crate::proofs::Serving::services))]
 fn serve<S: Sink>(
     system: &mut Super,
@@ -132,8 +132,8 @@ fn serve<S: Sink>(
     }
 }
 
-// Takes a step before which so many were taken, with its service. The step is told in a record that an earlier one may have
-// filled, and of its line only what is not that of an earlier one is spelled.
+// Takes a step, before which `taken` were taken, with its service. `told` is overwritten with the
+// record of the step. `text` keeps the parts of the line before, which are used again.
 #[tactic(auto, using(crate::proofs::Serving::stepping))]
 fn take_step<S: Sink>(
     system: &mut Super,
@@ -157,7 +157,7 @@ fn take_step<S: Sink>(
     }
 }
 
-// Puts what is in the block and the end of a run of so many steps.
+// Puts the pieces of the block, and then the end of a run of `steps` steps.
 fn write_end<S: Sink>(
     how: Finish,
     steps: u32,
@@ -166,7 +166,8 @@ fn write_end<S: Sink>(
     out: &mut S,
 ) -> Ran
     ensures { FinishSays result denied.now how steps
-        (block_of block.old (sink_of S.written S.taken S.faults out.old)) (sink_of S.written S.taken S.faults out.new) }
+        (block_of block.old (sink_of S.written S.taken S.faults out.old))
+        (sink_of S.written S.taken S.faults out.new) }
 {
     match put_finish(&how, steps, denied, block, out) {
         Put::Failed => Ran::Cut,
@@ -174,10 +175,11 @@ fn write_end<S: Sink>(
     }
 }
 
-// Puts what is in the block of a run in which a link service found no memory.
+// Puts the pieces of the block after memory ran out in a link service.
 fn write_starved<S: Sink>(block: &mut Block, out: &mut S) -> Ran
     ensures { StarvedSays result
-        (block_of block.old (sink_of S.written S.taken S.faults out.old)) (sink_of S.written S.taken S.faults out.new) }
+        (block_of block.old (sink_of S.written S.taken S.faults out.old))
+        (sink_of S.written S.taken S.faults out.new) }
 {
     match put_gathered(block, out) {
         Put::Failed => Ran::Cut,
@@ -185,9 +187,9 @@ fn write_starved<S: Sink>(block: &mut Block, out: &mut S) -> Ran
     }
 }
 
-/// Runs a system for at most so many steps, and writes what is told of each turn, and the end line, with the line of a
-/// segment behind it to which a right was wanted. The system then stands behind the turns that were made, also where the
-/// output fails.
+/// Runs a system for at most `steps` steps. Prints what `output` says of each turn, then the end
+/// line, and after it the line `denied` of a segment to which a right was missing. The system is
+/// left in the state after the turns that were made, also if the output fails.
 pub fn run<S: Sink>(
     system: &mut Super,
     steps: u32,

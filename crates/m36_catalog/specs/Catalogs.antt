@@ -1,5 +1,5 @@
--- What is read of a folder before the files of its segments: the boot text, which gives a catalog,
--- and for a user the access lists, by which its segments get their rights.
+-- What is read of a folder before the files of its segments: the boot text, which describes a
+-- catalog, and for a user the access lists, by which the segments get their rights.
 use Rattle.std.specs.Prelude.{ℕ, List, [], codes, Option, Some, None, Result, Ok, Err}
 pub use Rattle.m36_text.specs.FileNames.{boot_name}
 use Rattle.m36_dir.specs.Catalog.{CatalogFields, catalog_of}
@@ -33,10 +33,12 @@ catalog_refused (catalog.D5 line) = boot_refused code.D5 line
 catalog_refused (catalog.D6 line) = boot_refused code.D6 line
 catalog_refused catalog.NoMemory = NoMemory
 
+-- the catalog of the boot text, or its refusal
 abbrev pub catalog_by : Result CatalogFields CatalogFault → Early CatalogFields
 catalog_by (Ok catalog) = Ok catalog
 catalog_by (Err fault) = Err (catalog_refused fault)
 
+-- the reading of the boot text
 unfoldable pub catalog_reads : Reading (Early CatalogFields)
 catalog_reads =
     then_with (file_bytes boot_name) (λ text. decided (catalog_by (catalog_of text)))
@@ -55,6 +57,7 @@ lists_refused (acl.C1 line) = acl_refused code.C1 line
 lists_refused (acl.C2 line) = acl_refused code.C2 line
 lists_refused acl.NoMemory = NoMemory
 
+-- the lists, or C3 at the first line of a segment that the catalog does not have
 abbrev pub known_by : Lists → Option ℕ → Early (List AclSegmentFields)
 known_by lists None = Ok lists
 known_by lists (Some line) = Err (acl_refused code.C3 line)
@@ -64,15 +67,18 @@ abbrev pub lists_by : CatalogFields → Result (List AclSegmentFields) AclFault
 lists_by catalog (Ok lists) = known_by lists (first_unknown catalog lists)
 lists_by catalog (Err fault) = Err (lists_refused fault)
 
+-- the reading of the access lists for a catalog
 unfoldable pub lists_reads : CatalogFields → Reading (Early (List AclSegmentFields))
 lists_reads catalog =
     then_with (file_bytes acl_name) (λ text. decided (lists_by catalog (lists_of text)))
 
 -- ---- the catalog with the rights of a user
 
+-- a catalog with the rights of its boot text, without lines `denied`
 abbrev pub as_given : CatalogFields → Access
 as_given catalog = record { catalog = catalog; denied = [] }
 
+-- a catalog with the rights that the lists give to a user, and the line `denied` of each segment
 abbrev pub for_user : List ℕ → CatalogFields → Lists → Access
 for_user user catalog lists = record {
   catalog = granted lists user catalog;
@@ -83,5 +89,6 @@ unfoldable pub rights_read : Option (List ℕ) → CatalogFields → Reading (Ea
 rights_read None catalog = decided (Ok (as_given catalog))
 rights_read (Some user) catalog = mapped (for_user user catalog) (lists_reads catalog)
 
+-- the boot text, and then for a user the access lists
 unfoldable pub access_reads : Option (List ℕ) → Reading (Early Access)
 access_reads user = then_with catalog_reads (λ catalog. rights_read user catalog)

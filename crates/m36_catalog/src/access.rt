@@ -8,11 +8,12 @@ use m36_dir::Catalog;
 use m36_word::NoMemory;
 use std::alloc::Global;
 
-/// A catalog, and for each of its segments the line that is told where a run ends for want of a right to it; no lines where
-/// the rights are those of the boot text.
+/// A catalog with the rights that count for a run.
 #[derive(Drop)]
 pub struct Access {
     pub catalog: Catalog,
+    /// For each segment the line `denied` that is printed if a run ends because a right to it was
+    /// missing. There are no lines if the rights are those of the boot text.
     pub denied: DeniedLines,
 }
 
@@ -27,7 +28,7 @@ impl Access {
         }
     }
 
-    /// A catalog with the rights that access lists give to a user. The error is want of memory alone.
+    /// A catalog with the rights that access lists give to a user. Fails only with `NoMemory`.
     pub fn for_user(
         alloc: Global,
         user: &User,

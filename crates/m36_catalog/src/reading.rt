@@ -19,14 +19,14 @@ use m36_outside::Folder;
 use m36_reading::{Code, Refusal, read_bytes, refuse};
 use std::alloc::Global;
 
-/// Refuses the boot text.
+/// Refuses the boot text with a code, at a line or the number of a segment.
 pub fn refuse_boot(alloc: Global, code: Code, at: u32) -> Refusal
     ensures { Refuses result (boot_refused code at) }
 {
     refuse(alloc, b"boot", code, at)
 }
 
-// D1 to D6: a text that writes out no catalog.
+// D1 to D6, for a text that describes no catalog.
 fn refuse_catalog(alloc: Global, fault: CatalogFault) -> Refusal
     ensures { Refuses result (catalog_refused fault) }
 {
@@ -41,7 +41,7 @@ fn refuse_catalog(alloc: Global, fault: CatalogFault) -> Refusal
     }
 }
 
-// The catalog that the bytes of a boot text, of at most 16 MiB, write out.
+// The catalog that the bytes of a boot text, at most 16 MiB, describe.
 #[tactic(auto, using(crate::proofs::CatalogReads::catalogs))]
 fn catalog_in(alloc: Global, bytes: &[u8]) -> Result<Catalog, Refusal>
     requires { length bytes.now ≤ file_limit }
@@ -53,7 +53,7 @@ fn catalog_in(alloc: Global, bytes: &[u8]) -> Result<Catalog, Refusal>
     }
 }
 
-/// Reads the boot text: F1, F2, D1 to D6.
+/// Reads the boot text as a catalog: F1, F2, then D1 to D6 at their line.
 #[tactic(auto, using(crate::proofs::CatalogReads::catalog_in_turn))]
 pub fn read_catalog<F: Folder>(alloc: Global, folder: &mut F) -> Result<Catalog, Refusal>
     ensures { Reads catalog_reads result
@@ -65,14 +65,14 @@ pub fn read_catalog<F: Folder>(alloc: Global, folder: &mut F) -> Result<Catalog,
     catalog_in(alloc, text.bytes())
 }
 
-// Refuses the access lists.
+// Refuses the access lists with a code, at a line.
 fn refuse_acl(alloc: Global, code: Code, at: u32) -> Refusal
     ensures { Refuses result (acl_refused code at) }
 {
     refuse(alloc, b"acl", code, at)
 }
 
-// C1 and C2: a text that writes out no access lists.
+// C1 and C2, for a text that describes no access lists.
 fn refuse_lists(alloc: Global, fault: AclFault) -> Refusal
     ensures { Refuses result (lists_refused fault) }
 {
@@ -83,7 +83,7 @@ fn refuse_lists(alloc: Global, fault: AclFault) -> Refusal
     }
 }
 
-// C3: a segment that is not in the catalog.
+// C3 at the first line with a segment that the catalog does not have.
 fn known(alloc: Global, catalog: &Catalog, lists: Acl) -> Result<Acl, Refusal>
     ensures { Gives result (known_by lists (first_unknown catalog.now lists)) }
 {
@@ -93,7 +93,7 @@ fn known(alloc: Global, catalog: &Catalog, lists: Acl) -> Result<Acl, Refusal>
     }
 }
 
-// The access lists that the bytes of a text, of at most 16 MiB, write out for a catalog.
+// The access lists that the bytes of a text, at most 16 MiB, describe for a catalog.
 #[tactic(auto, using(crate::proofs::CatalogReads::lists_said))]
 fn lists_in(alloc: Global, catalog: &Catalog, bytes: &[u8]) -> Result<Acl, Refusal>
     requires { length bytes.now ≤ file_limit }
@@ -105,7 +105,7 @@ fn lists_in(alloc: Global, catalog: &Catalog, bytes: &[u8]) -> Result<Acl, Refus
     }
 }
 
-/// Reads the access lists for a catalog: F1, F2, C1 and C2, then C3.
+/// Reads the access lists for a catalog: F1, F2, then C1 and C2, then C3, each at its line.
 #[tactic(auto, using(crate::proofs::CatalogReads::lists_in_turn))]
 pub fn read_lists<F: Folder>(
     alloc: Global,
@@ -121,14 +121,14 @@ pub fn read_lists<F: Folder>(
     lists_in(alloc, catalog, text.bytes())
 }
 
-// The rights that lists give to a user.
+// A catalog with the rights that lists give to a user.
 fn with_rights(alloc: Global, user: &User, catalog: Catalog, lists: &Acl) -> Result<Access, Refusal>
     ensures { Gives result (Ok (for_user user.now catalog lists.now)) }
 {
     Ok(Access::for_user(alloc, user, catalog, lists)?)
 }
 
-// Reads the access lists, and gives a catalog the rights of a user.
+// Reads the access lists, and gives the catalog the rights of the user.
 #[tactic(auto, using(crate::proofs::CatalogReads::rights))]
 fn read_for_user<F: Folder>(
     alloc: Global,
@@ -145,7 +145,7 @@ fn read_for_user<F: Folder>(
     with_rights(alloc, user, catalog, &lists)
 }
 
-// The rights of a catalog under a user, if there is one.
+// A catalog with the rights of a user if one is given, and otherwise with its own.
 #[tactic(auto, using(crate::proofs::CatalogReads::rights))]
 fn read_rights<F: Folder>(
     alloc: Global,
@@ -164,7 +164,7 @@ fn read_rights<F: Folder>(
     }
 }
 
-/// Reads the boot text, and for a user the access lists.
+/// Reads the boot text, and then, if a user is given, the access lists.
 #[tactic(auto, using(crate::proofs::CatalogReads::accesses_in_turn))]
 pub fn read_access<F: Folder>(
     alloc: Global,

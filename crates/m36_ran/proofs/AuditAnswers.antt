@@ -1,10 +1,10 @@
--- Answers by what an audit has found: the audit text, and the run behind it.
+-- Whether there are findings.
 use Rattle.std.proofs.Common.{◌≡◌, ◌<◌, true, false, List, [], ◌∷◌, length, refl, arith}
 use Rattle.m36_audit.specs.Findings.{pairs}
 use Rattle.m36_audit.specs.declared.verdict.Finding.{Finding}
 use Rattle.m36_ran.specs.Ran.{passes}
 
--- nothing is found exactly where there are no findings
+-- An audit passes exactly if there are no findings.
 pub passes_none : (findings : List Finding) → length findings ≡ 0 → passes (pairs findings) ≡ true
 passes_none [] none = refl
 passes_none (f ∷ findings) none = absurd (omega (arith, none))

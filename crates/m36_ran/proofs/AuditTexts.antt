@@ -11,7 +11,7 @@ use Rattle.m36_audit.specs.Findings.{pairs}
 use Rattle.m36_audit.specs.declared.verdict.Finding.{Finding}
 use Rattle.m36_ran.specs.AuditText.{finding_line, finding_pieces, yes_line, audit_text, audit_pieces}
 
--- digits are those of the number without what stands before them
+-- The last digits of a number are those of its remainder.
 pub segment_digits : (v : ℕ) → octal_text 5 (v % 32768) ≡ octal_text 5 v
 unfolding octal_text digits
 segment_digits v =
@@ -71,7 +71,7 @@ pub finding_put :
 finding_put findings i d now next start all inside so_far grew =
     completes_rest now next start (lines_of_findings (drop i findings)) (as_line (finding_line ((get_or findings i d).condition, (get_or findings i d).place))) (lines_of_findings (drop (i + 1) findings)) all so_far (line_at findings i d inside) grew
 
--- it was not put whole
+-- The line was not put whole.
 pub finding_cut :
     (findings : List Finding) (i : ℕ) (d : Finding) (now new start : Option (List ℕ)) (all : List ℕ)
     → i < length findings

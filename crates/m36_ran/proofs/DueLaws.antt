@@ -1,4 +1,4 @@
--- What is due on a state: one answer.
+-- One answer is required on a state.
 use Rattle.std.proofs.Common.{◌≡◌, ℕ, zero, suc, ◌<◌, List, [], ◌∷◌, ◌++◌, Option, Some, None, refl, sym, ap, subst, ◌∙◌, arith, inl, inr}
 use Rattle.std.proofs.lemmas.Bool.{cases_lt}
 use Rattle.m36_desc.specs.Fields.{DbrFields}
@@ -14,7 +14,7 @@ use Rattle.m36_ran.specs.DueLaw.{IsByFindings, StateDueLaw}
 
 -- ---- some findings
 
--- no place below breaks a condition of which no least place is found
+-- If no least place breaks a condition, no place does.
 none_below : (Breaks : ℕ → Type 0) → ((x : Option ℕ) → ¬ Finds Breaks x) → (n p : ℕ) → p < n → Breaks p → ⊥
 none_below Breaks none zero p below breaks = absurd (omega arith)
 none_below Breaks none (suc n) p below breaks =

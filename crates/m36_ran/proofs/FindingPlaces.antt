@@ -15,7 +15,7 @@ use Rattle.m36_ran.specs.Laws.{IsWrittenWhole, PlacesAreWhole}
 
 -- ---- addresses wrap
 
--- an address, where there is one, has 24 bits
+-- An address, if there is one, has 24 bits.
 abbrev HasFewBits : Result ℕ Refusal → Type 0
 HasFewBits (Ok a) = a < 2 ^ 24
 HasFewBits (Err why) = ⊤
@@ -97,7 +97,7 @@ word_low core dbr seg w a found = subst LiesLow found (placed_low core dbr seg w
 
 -- ---- findings
 
--- a segment whose descriptor is there is one in bounds
+-- A segment that has a descriptor is in bounds.
 segment_few : (core : List ℕ) (dbr : DbrFields) (seg : ℕ) (d : SdwFields) → core_sdw core dbr seg ≡ Ok d → seg < 2 ^ 15
 segment_few core dbr seg d live = few_segments dbr seg (live_in_bounds core dbr seg d live)
 

@@ -1,4 +1,4 @@
--- Texts that are pieces, one behind the other: what is written of them, and that those of an answer on a state are.
+-- Texts that are the concatenation of pieces: what is written of them, and that the answers on a state have such texts.
 use Rattle.std.proofs.Common.{◌≡◌, ℕ, Bool, true, false, List, ◌++◌, Option, refl, sym, subst}
 pub use Rattle.std.proofs.lemmas.List.Folds.{concat-append as joined_on}
 use Rattle.m36_outside.specs.Passing.{joined}

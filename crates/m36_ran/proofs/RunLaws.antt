@@ -1,4 +1,4 @@
--- A run, step by step: what is left of its output, and how it will have ended.
+-- A run, step by step: what is left of its output, and its last outcome.
 use Rattle.std.proofs.Common.{◌≡◌, ℕ, zero, suc, ◌+◌, ◌-◌, ◌<◌, Bool, true, false, List, [], ◌∷◌, ◌++◌, map, length, refl, ap, ◌∙◌, arith, add-zero}
 use Rattle.m36_text.specs.Lines.{as_line}
 use Rattle.m36_model.specs.Store.{State}
@@ -49,7 +49,7 @@ pub run_last :
     (left : ℕ) (s : State (List ℕ)) → 0 < left → is_next (told s).outcome ≡ false → run left s ≡ told s ∷ []
 run_last left s some last = run_begins left s some ∙ ap (λ b. told s ∷ only_if b (run (left - 1) (after s))) last
 
--- what the first of some steps puts before the pieces of the others
+-- The last outcome of some steps, if the first has the outcome Next.
 pub last_after_next : (step : StepRecord) (steps : List StepRecord) → step.outcome ≡ Next → last_outcome (step ∷ steps) ≡ last_outcome steps
 last_after_next step [] next = next
 last_after_next step (other ∷ steps) next = refl

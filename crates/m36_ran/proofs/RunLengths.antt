@@ -1,4 +1,4 @@
--- A run that has come to no end has taken all its steps.
+-- A run that did not end used up its limit of steps.
 use Rattle.std.proofs.Common.{◌≡◌, ℕ, zero, suc, List, ◌∷◌, length, refl, sym, ap, ◌∙◌}
 use Rattle.m36_model.specs.Store.{State}
 use Rattle.m36_model.specs.Run.{is_next, only_if}

@@ -28,9 +28,9 @@ state_refused name given f r is refuses =
 
 pub ruleset states = (state_given_is, state_refused)
 
--- ---- the answer that is due
+-- ---- the required answer
 
--- an answer that is due is put
+-- A required answer is put.
 pub put_some : (IsDue : Answer → Type 0) (end : End) (due : Answer) (result : Status) (old new : SinkState) → IsDue due → PutsBy end result due old new → PutsSome IsDue end result old new
 put_some IsDue Answered due result old new is puts = record { due = due; is_due = is; puts = puts }
 put_some IsDue Cut due result old new is puts = record { due = due; is_due = is; puts = puts }

@@ -1,4 +1,4 @@
--- Where an output begins with `audit yes`, nothing was found.
+-- If an output begins with `audit yes`, nothing was found.
 use Rattle.std.proofs.Common.{◌≡◌, ℕ, Bool, true, false, List, [], ◌∷◌, ◌++◌, refl, sym, ap, subst, ◌∙◌, arith, get_or}
 use Rattle.std.proofs.lemmas.List.{append-nil}
 use Rattle.m36_outside.specs.Passing.{joined}
@@ -28,7 +28,7 @@ unfolding audit_answer
 answer_begins (Bare bare) state findings = bare_begins _ bare.steps state findings
 answer_begins Audit state findings = ([], sym (append-nil (audit_text findings)))
 
--- and that with a finding does not begin with `audit yes`
+-- With a finding it does not begin with `audit yes`.
 found_no :
     (f : ℕ × ℕ) (findings : List (ℕ × ℕ)) (more rest : List ℕ) → audit_text (f ∷ findings) ++ more ≡ yes_line ++ rest → ⊥
 unfolding finding_pieces finding_line

@@ -1,25 +1,25 @@
--- The text of an audit, in pieces, each line one: the line `audit yes`, or a line for each finding
--- with its condition and its place in octal.
+-- The text of an audit, each line one piece: the line `audit yes`, or a line for each finding with
+-- its condition and its place in octal.
 use Rattle.std.specs.Prelude.{ℕ, Bool, ◌||◌, ◌==◌, List, [], ◌∷◌, ◌++◌, codes, if◌then◌else◌}
 use Rattle.m36_outside.specs.Passing.{joined}
 use Rattle.m36_text.specs.Digits.{octal_text, decimal_text, segment_digits, core_word_digits}
 use Rattle.m36_text.specs.Lines.{as_line}
 
--- The first, the fifth and the sixth condition are broken by a segment, the others by a core word.
+-- A segment breaks the first, the fifth and the sixth condition; a core word breaks the others.
 abbrev pub is_of_segment : ℕ → Bool
 is_of_segment condition = condition == 1 || (condition == 5 || condition == 6)
 
--- in how many digits the place of a finding is written: the number of a segment, or the address of
--- a core word
+-- the count of octal digits of a place: of the number of a segment, or of the address of a core
+-- word
 abbrev pub place_digits : ℕ → ℕ
 place_digits condition = if is_of_segment condition then segment_digits else core_word_digits
 
--- a condition and its place of so many digits, as in `3 00000100`
+-- a condition and its place in this many digits, as in `3 00000100`
 abbrev pub place_text : ℕ → ℕ → ℕ → List ℕ
 place_text condition digits place =
     decimal_text condition ++ codes " " ++ octal_text digits place
 
--- that of a finding
+-- the condition and the place of a finding
 abbrev pub found_text : ℕ → ℕ → List ℕ
 found_text condition place = place_text condition (place_digits condition) place
 
@@ -34,7 +34,7 @@ finding_pieces (f ∷ findings) = as_line (finding_line f) ∷ finding_pieces fi
 abbrev pub yes_line : List ℕ
 yes_line = as_line (codes "audit yes")
 
--- the lines of findings of any kind, or the line `audit yes` where there are none
+-- the lines of findings of any kind, or the line `audit yes` if there are none
 abbrev pub yes_or : {A : Type 0} → (List A → List (List ℕ)) → List A → List (List ℕ)
 yes_or lines [] = yes_line ∷ []
 yes_or lines (f ∷ findings) = lines (f ∷ findings)

@@ -1,4 +1,4 @@
--- What is due to a command on a state, by the conditions of the audit.
+-- How many answers are required of a command on a state, by the conditions of the audit.
 use Rattle.std.specs.Prelude.{◌≡◌, ℕ, List, [], ◌∷◌}
 use Rattle.m36_model.specs.Store.{State}
 use Rattle.m36_model.specs.Audit.{IsAudited}
@@ -6,15 +6,16 @@ use Rattle.m36_reading.specs.Answers.{Answer}
 use Rattle.m36_ran.specs.declared.command.ImageCommand.{ImageCommand}
 use Rattle.m36_ran.specs.Ran.{state_answer, IsStateDue}
 
--- an answer by some findings
+-- an answer with at least one finding
 pub record IsByFindings (command : ImageCommand) (state : State (List ℕ))
     (due : Answer) : Type 0 where
   pub first : ℕ × ℕ
   pub others : List (ℕ × ℕ)
   pub answer : due ≡ state_answer command state (first ∷ others)
 
--- One answer at most is due on a state, and it can't be that none is. Where all conditions hold it
--- is that without findings, and on every other state it is one by some findings.
+-- At most one answer is required on a state (`one`), and it is not possible that none is (`some`).
+-- If all six conditions hold, it is the answer without findings (`passed`), and otherwise one with
+-- some findings (`failed`).
 pub record StateDueLaw : Type 0 where
   pub one :
       (command : ImageCommand) (state : State (List ℕ)) (due same : Answer)

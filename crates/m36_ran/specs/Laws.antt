@@ -14,24 +14,24 @@ use Rattle.m36_ran.specs.AuditText.{place_digits}
 
 -- ---- runs
 
--- A run whose last outcome is Next has taken all its steps.
+-- A run whose last outcome is Next used up its limit of steps.
 abbrev pub LimitIsMet : Type 0
 LimitIsMet =
     (steps : ℕ) (state : State (List ℕ))
     → last_outcome (run steps state) ≡ Next → length (run steps state) ≡ steps
 
--- the record of a turn, where it is a step
+-- the record of a turn if it is a step
 abbrev pub step_in : Turn → List StepRecord
 step_in (Stepped told) = told ∷ []
 step_in _ = []
 
--- the records of the steps among so many turns of a machine
+-- the records of the steps among a number of turns of a machine
 unfoldable pub steps_made : ℕ → MachineFields → List StepRecord
 steps_made zero m = []
 steps_made (suc n) m = step_in (machine_turn m) ++ steps_made n (machine_after m)
 
--- The steps of a run are those among as many turns of a machine from the same state on, which takes
--- no step once one has ended its run.
+-- The steps of a run are those among as many turns of a machine that begins in the same state. The
+-- machine takes no step after one that ended its run.
 abbrev pub RunsAreTurns : Type 0
 RunsAreTurns =
     (steps : ℕ) (state : State (List ℕ))
@@ -39,11 +39,11 @@ RunsAreTurns =
 
 -- ---- findings
 
--- the place of a finding has no more digits than are written of it
+-- The place of a finding has no more octal digits than are printed.
 abbrev pub IsWrittenWhole : ℕ × ℕ → Type 0
 IsWrittenWhole f = f.1 < 8 ^ place_digits f.0
 
--- The place of each finding of an audit is written whole.
+-- The place of each finding of an audit is printed whole.
 abbrev pub PlacesAreWhole : Type 0
 PlacesAreWhole =
     (core : List ℕ) (dbr : DbrFields) (findings : List (ℕ × ℕ))

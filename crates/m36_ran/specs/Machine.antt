@@ -1,11 +1,11 @@
--- The step of the machine that is run: the written step over core memory.
+-- The step of the machine that is run: the defined step over core memory.
 use Rattle.std.specs.Prelude.{ℕ, List}
 use Rattle.m36_model.specs.Store.{State}
 use Rattle.m36_model.specs.Core.{core_store}
 use Rattle.m36_model.specs.Step.{record_of, state_after}
 use Rattle.m36_model.specs.declared.record.StepRecord.{StepRecord}
 
--- the record of the step from a state
+-- the record of the step from this state
 abbrev pub told : State (List ℕ) → StepRecord
 told state = record_of core_store state
 

@@ -1,4 +1,4 @@
--- The output of a run, in pieces, each line one: its trace lines and its end line.
+-- The output of a run, each line one piece: its trace lines and its end line.
 use Rattle.std.specs.Prelude.{ℕ, ◌+◌, List, [], ◌∷◌, ◌++◌, Option, Some, None, length}
 use Rattle.m36_outside.specs.Passing.{joined}
 use Rattle.m36_text.specs.Lines.{as_line}
@@ -15,25 +15,25 @@ use Rattle.m36_reading.specs.declared.status.Status.{Status}
 use Rattle.m36_reading.specs.declared.status.Status.TheVariants.{Done, MachineStop, Steps}
 use Rattle.m36_ran.specs.Run.{run, last_outcome}
 
--- a trace line for each record, with the number of its step, of which the first is step n
+-- a trace line for each record, with the number of its step; the first is step n
 unfoldable pub trace_pieces : ℕ → List StepRecord → List (List ℕ)
 trace_pieces n [] = []
 trace_pieces n (step ∷ steps) = as_line (line_of n step) ∷ trace_pieces (n + 1) steps
 
--- what is written from there on where so many steps were taken before these
+-- the lines of these steps, before which `taken` were taken, and the end line
 abbrev pub pieces_from : ℕ → List StepRecord → List (List ℕ)
 pieces_from taken steps =
     trace_pieces (taken + 1) steps
     ++ as_line (end_line_of (last_outcome steps) (taken + length steps)) ∷ []
 
--- what a run of at most so many steps writes
+-- the lines of a run of at most `steps` steps
 unfoldable pub run_pieces : ℕ → State (List ℕ) → List (List ℕ)
 run_pieces steps state = pieces_from 0 (run steps state)
 
 unfoldable pub run_text : ℕ → State (List ℕ) → List ℕ
 run_text steps state = joined (run_pieces steps state)
 
--- The status of an end: DIS is the one without a fault, a refused service or another stop.
+-- The status of a run that ended: Done after DIS, otherwise MachineStop with the end.
 abbrev pub end_status : End → Status
 end_status (end.Fault fault) = MachineStop (end.Fault fault)
 end_status (end.Stop Dis) = Done
@@ -42,11 +42,11 @@ end_status (end.Stop Tag) = MachineStop (end.Stop Tag)
 end_status (end.Link code) = MachineStop (end.Link code)
 end_status end.Console = MachineStop end.Console
 
--- a run that has come to no end has taken all its steps
+-- the status of a run by its end; None if it did not end, and then it used up its limit of steps
 abbrev pub status_by : Option End → Status
 status_by None = Steps
 status_by (Some e) = end_status e
 
--- by the last outcome of a run
+-- the status by the last outcome of a run
 abbrev pub status_after : Outcome → Status
 status_after last = status_by (ended_by last)

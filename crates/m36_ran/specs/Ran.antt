@@ -1,5 +1,5 @@
--- What is due to a command on a bare image: the text of what its audit finds, and, where it is run,
--- the output of the run, both line by line.
+-- What is required of a command on a bare image: the text of its audit and, if it is run, the
+-- output of the run, both line by line.
 use Rattle.std.specs.Prelude.{◌≡◌, ℕ, Bool, true, false, ◌||◌, List, [], ◌∷◌, ◌++◌, Result, Ok, Err}
 use Rattle.m36_desc.specs.Fields.{DbrFields}
 use Rattle.m36_model.specs.Store.{State}
@@ -26,7 +26,7 @@ use Rattle.m36_ran.specs.AuditText.{audit_pieces}
 
 -- ---- reading
 
--- I1 to I3
+-- the code of a refused image, as one of all codes
 abbrev pub code_of : ImageCode → Code
 code_of image.I1 = code.I1
 code_of image.I2 = code.I2
@@ -36,24 +36,24 @@ abbrev pub state_by : List ℕ → Result (State (List ℕ)) refusal.Refusal →
 state_by name (Ok state) = Ok state
 state_by name (Err refusal) = Err (refused name (code_of refusal.code) refusal.line)
 
--- the state that a file writes out
+-- the state that a file describes
 unfoldable pub state_reads : List ℕ → Reading (Early (State (List ℕ)))
 state_reads name =
     then_with (file_bytes name) (λ bytes. decided (state_by name (state_given bytes)))
 
 -- ---- answers
 
--- a run of at most so many steps
+-- the output and the status of a run of at most `steps` steps
 unfoldable pub run_answer : ℕ → State (List ℕ) → Answer
 run_answer steps state =
     answer_with (run_pieces steps state) (status_after (last_outcome (run steps state)))
 
--- an audit, by what it finds: findings of any kind
+-- An audit passes if it has no findings, of whatever kind.
 abbrev pub passes : {A : Type 0} → List A → Bool
 passes [] = true
 passes (f ∷ findings) = false
 
--- What was audited is run where the audit passes, or `--unaudited` is given.
+-- What was audited is run if the audit passes or `--unaudited` is given.
 abbrev pub is_run : {A : Type 0} → List A → Bool → Bool
 is_run findings unaudited = passes findings || unaudited
 
@@ -61,10 +61,11 @@ abbrev pub audit_status : Bool → Status
 audit_status true = Done
 audit_status false = AuditNo
 
+-- the answer of an audit alone
 unfoldable pub audit_answer : List (ℕ × ℕ) → Answer
 audit_answer findings = answer_with (audit_pieces findings) (audit_status (passes findings))
 
--- The audit text, and the run behind it where it is to be made.
+-- the audit text, and then another answer with its status
 abbrev pub behind : List (ℕ × ℕ) → Answer → Answer
 behind findings answer = answer_with (audit_pieces findings ++ answer.pieces) answer.status
 
@@ -72,20 +73,20 @@ abbrev pub bare_by : Bool → ℕ → State (List ℕ) → List (ℕ × ℕ) →
 bare_by true steps state findings = behind findings (run_answer steps state)
 bare_by false steps state findings = audit_answer findings
 
--- by what the audit of the state finds
+-- the answer on a state by the findings of its audit
 abbrev pub state_answer : ImageCommand → State (List ℕ) → List (ℕ × ℕ) → Answer
 state_answer (Bare bare) state findings =
     bare_by (is_run findings bare.unaudited) bare.steps state findings
 state_answer Audit state findings = audit_answer findings
 
--- ---- what is due
+-- ---- required answers
 
--- the tables of a core isolate each ring from 1
+-- The tables of a core isolate each ring from 1.
 pub record IsIsolated (core : List ℕ) (dbr : DbrFields) : Type 0 where
   pub isolates : Isolated core_store (core_tables core dbr)
 
--- An answer is due to a command on a state: the one by the findings of the audit, of which there is
--- one list. Where there are none, the tables of the state isolate each ring.
+-- The required answer of a command on a state is the one by the findings of the audit, which are
+-- one list. If there are none, the tables of the state isolate each ring.
 pub record IsStateDue (command : ImageCommand) (state : State (List ℕ))
     (due : Answer) : Type 0 where
   pub findings : List (ℕ × ℕ)

@@ -7,21 +7,21 @@ use Rattle.m36_model.specs.declared.outcome.Outcome.{Outcome}
 use Rattle.m36_model.specs.declared.outcome.Outcome.TheVariants.{Next}
 use Rattle.m36_model.specs.declared.record.StepRecord.{StepRecord}
 
--- The records of at most so many steps, each of the state that the step before left. The run ends
--- after the first whose outcome is a fault or a stop.
+-- The records of at most `steps` steps, each from the state that the step before left. The run ends
+-- after the first step whose outcome is a fault or a stop.
 unfoldable pub run : ℕ → State (List ℕ) → List StepRecord
 run steps state = told core_store steps state
 
--- the last outcome; Next where no step is taken
+-- the last outcome; Next if no step is taken
 abbrev pub last_outcome : List StepRecord → Outcome
 last_outcome [] = Next
 last_outcome (step ∷ []) = step.outcome
 last_outcome (step ∷ next ∷ steps) = last_outcome (next ∷ steps)
 
--- the state that some steps leave; the one before them where no step is taken
+-- the state after some steps; `state` if there are none
 abbrev pub behind_steps : State (List ℕ) → List (Visited (List ℕ)) → State (List ℕ)
 behind_steps state steps = state_behind (λ (v : Visited (List ℕ)). v.after) state steps
 
--- the state that a run of at most so many steps leaves
+-- the state after a run of at most `steps` steps
 unfoldable pub last_state : ℕ → State (List ℕ) → State (List ℕ)
 last_state steps state = behind_steps state (visits core_store steps state)

@@ -17,7 +17,7 @@ use m36_step::Machine;
 use m36_word::NoMemory;
 use std::alloc::Global;
 
-/// The status by how a run has ended.
+/// The status of a run that ended so: Done after DIS, otherwise MachineStop with the end.
 pub fn end_status(end: End) -> Status
     ensures { result ≡ end_status end }
 {
@@ -30,7 +30,7 @@ pub fn end_status(end: End) -> Status
     }
 }
 
-/// The status by which a run ends, by its last outcome.
+/// The status of a run by its last outcome; Steps if that is Next, so that the run did not end.
 pub fn status_after(last: Outcome) -> Status
     ensures { result ≡ status_after last }
 {
@@ -50,7 +50,7 @@ pub fn machine_of(image: Image) -> Machine
     Machine::start(core, regs)
 }
 
-/// Whether the machine is run.
+/// Whether the machine is run: if the audit passes, or `--unaudited` is given.
 #[tactic(auto, using(crate::proofs::AuditAnswers::passing))]
 pub fn is_run(findings: &[Finding], bare: BareRun) -> bool
     ensures { result ≡ is_run (pairs findings.now) bare.unaudited }
@@ -58,7 +58,7 @@ pub fn is_run(findings: &[Finding], bare: BareRun) -> bool
     findings.is_empty() || bare.unaudited
 }
 
-// The audit of a core.
+// Audits a core. If nothing is found, the tables isolate each ring from 1.
 fn audited(alloc: Global, core: &Core, dbr: Dbr) -> Result<Verdict, NoMemory>
     ensures found { IfOk result (λ v. AreFindings core.now dbr (pairs v.findings.items)) }
     ensures isolated { IfOk result (λ v. pairs v.findings.items ≡ [] → IsIsolated core.now dbr) }
@@ -66,10 +66,13 @@ fn audited(alloc: Global, core: &Core, dbr: Dbr) -> Result<Verdict, NoMemory>
     audit(alloc, core, dbr)
 }
 
-/// The audit of an image.
+/// Audits the core of an image. If nothing is found, its tables isolate each ring from 1. Fails
+/// only with `NoMemory`.
 pub fn findings_in(alloc: Global, image: &Image) -> Result<Verdict, NoMemory>
-    ensures found { IfOk result (λ v. AreFindings image.now.store image.now.regs.dbr (pairs v.findings.items)) }
-    ensures isolated { IfOk result (λ v. pairs v.findings.items ≡ [] → IsIsolated image.now.store image.now.regs.dbr) }
+    ensures found { IfOk result
+        (λ v. AreFindings image.now.store image.now.regs.dbr (pairs v.findings.items)) }
+    ensures isolated { IfOk result
+        (λ v. pairs v.findings.items ≡ [] → IsIsolated image.now.store image.now.regs.dbr) }
 {
     let regs = &image.regs;
     audited(alloc, &image.core, regs.dbr)

@@ -14,14 +14,15 @@ use m36_audit::Finding;
 use m36_outside::{Put, Sink};
 use m36_text::{decimal, octal};
 
-/// The conditions that a segment breaks: the first, the fifth and the sixth.
+// Whether a segment breaks this condition (the first, the fifth and the sixth), or a core word.
 fn is_of_segment(condition: u8) -> bool
     ensures { result ≡ is_of_segment condition }
 {
     condition == 1 || condition == 5 || condition == 6
 }
 
-/// A segment in five digits, or a core word in eight.
+/// The place of a finding in octal: the number of a segment in five digits, or the address of a
+/// core word in eight. Higher digits are cut off; by `law_runs` the place of a finding has none.
 #[tactic(auto, using(crate::proofs::AuditTexts::digits_alone))]
 pub fn place_text(condition: u8, place: u32) -> ArrayString<22>
     ensures text { result.bytes ≡ octal_text (place_digits condition) place }
@@ -34,7 +35,7 @@ pub fn place_text(condition: u8, place: u32) -> ArrayString<22>
     }
 }
 
-/// The line of a finding, without its line feed.
+/// The line of a finding, as `audit no A3 00000100`, without its line feed.
 #[tactic(auto, unfolding(crate::specs::AuditText::finding_line))]
 pub fn finding_line(finding: &Finding) -> ArrayString<160>
     ensures text { result.bytes ≡ finding_line (pair_of finding.now) }
@@ -50,19 +51,22 @@ pub fn finding_line(finding: &Finding) -> ArrayString<160>
 
 // Puts the line of a finding.
 fn put_finding<S: Sink>(finding: &Finding, out: &mut S) -> Put
-    ensures says { PutSays result (S.written out.old) (S.written out.new) (as_line (finding_line (pair_of finding.now))) }
-    ensures through { TakesLines result (S.taken out.old) (S.taken out.new) (as_line (finding_line (pair_of finding.now)) ∷ []) }
+    ensures says { PutSays result (S.written out.old) (S.written out.new)
+        (as_line (finding_line (pair_of finding.now))) }
+    ensures through { TakesLines result (S.taken out.old) (S.taken out.new)
+        (as_line (finding_line (pair_of finding.now)) ∷ []) }
     ensures cause { PutHasCause result (S.faults out.old) (S.faults out.new) }
 {
     put_line(out, finding_line(finding))
 }
 
-/// Puts a line for each finding.
+// Puts a line for each finding, in order, up to the first put that fails.
 #[tactic(auto, using(crate::proofs::AuditTexts::findings_in_turn))]
 fn put_findings<S: Sink>(findings: &[Finding], out: &mut S) -> Put
     ensures says { PutSays result (S.written out.old) (S.written out.new)
         (joined (finding_pieces (pairs findings.now))) }
-    ensures through { TakesLines result (S.taken out.old) (S.taken out.new) (finding_pieces (pairs findings.now)) }
+    ensures through { TakesLines result (S.taken out.old) (S.taken out.new)
+        (finding_pieces (pairs findings.now)) }
     ensures cause { PutHasCause result (S.faults out.old) (S.faults out.new) }
 {
     for finding in findings {
@@ -85,11 +89,13 @@ pub fn put_yes<S: Sink>(out: &mut S) -> Put
     put_line(out, line)
 }
 
-/// Puts the text of an audit, line by line.
+/// Puts the text of an audit line by line: `audit yes`, or a line for each finding.
 #[tactic(auto, using(crate::proofs::AuditTexts::audit_texts))]
 pub fn put_audit<S: Sink>(findings: &[Finding], out: &mut S) -> Put
-    ensures says { PutSays result (S.written out.old) (S.written out.new) (audit_text (pairs findings.now)) }
-    ensures through { TakesLines result (S.taken out.old) (S.taken out.new) (audit_pieces (pairs findings.now)) }
+    ensures says { PutSays result (S.written out.old) (S.written out.new)
+        (audit_text (pairs findings.now)) }
+    ensures through { TakesLines result (S.taken out.old) (S.taken out.new)
+        (audit_pieces (pairs findings.now)) }
     ensures cause { PutHasCause result (S.faults out.old) (S.faults out.new) }
 {
     if findings.is_empty() {

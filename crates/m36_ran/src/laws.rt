@@ -2,8 +2,9 @@
 
 ghost use Rattle.m36_ran.specs.Laws.{LimitIsMet, RunsAreTurns, PlacesAreWhole};
 
-/// A run that has come to no end has taken all its steps. The steps of a run are those among as many turns of a machine
-/// from the same state on. The place of a finding has no more digits than are written of it.
+/// A run that did not end used up its limit of steps. The steps of a run are those among as many
+/// turns of a machine that begins in the same state. The place of a finding has no more digits than
+/// are printed.
 pub fn law_runs()
     ensures limit { LimitIsMet }
     ensures turns { RunsAreTurns }

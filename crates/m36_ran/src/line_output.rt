@@ -1,4 +1,4 @@
-//! Lines are put, or added to a block.
+//! Puts a line, or adds it to a block.
 
 ghost use Rattle.std.specs.Prelude.{◌<◌, [], ◌∷◌, length};
 ghost use Rattle.m36_outside.specs.Gathered.{Adds};
@@ -14,7 +14,8 @@ use m36_outside::{Block, Put, Sink};
 pub fn put_line<S: Sink>(out: &mut S, mut line: ArrayString<160>) -> Put
     requires { length line.bytes < 160 }
     ensures says { PutSays result (S.written out.old) (S.written out.new) (as_line line.bytes) }
-    ensures through { TakesLines result (S.taken out.old) (S.taken out.new) (as_line line.bytes ∷ []) }
+    ensures through { TakesLines result (S.taken out.old) (S.taken out.new)
+        (as_line line.bytes ∷ []) }
     ensures cause { PutHasCause result (S.faults out.old) (S.faults out.new) }
 {
     line.push_str("\n");

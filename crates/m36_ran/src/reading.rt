@@ -1,4 +1,4 @@
-//! The machine that a file writes out.
+//! Reads a file as a bare image.
 
 ghost use Rattle.std.specs.Prelude.{◌≡◌, ◌≤◌, length};
 ghost use Rattle.m36_outside.specs.ReadAnswer.{file_limit};
@@ -13,7 +13,7 @@ use m36_outside::Folder;
 use m36_reading::{Code, Refusal, read_bytes, refuse};
 use std::alloc::Global;
 
-/// The code of a refused image, as it is told.
+/// The code with which an image is refused, as one of all codes.
 pub fn code_of(code: ImageCode) -> Code
     ensures { result ≡ code_of code }
 {
@@ -24,7 +24,8 @@ pub fn code_of(code: ImageCode) -> Code
     }
 }
 
-/// The machine that the bytes of a file, of at most 16 MiB, write out: I1 to I3 where they are no bare image.
+/// The image that the bytes of a file, at most 16 MiB, describe: I1 to I3 at its line if they are
+/// no bare image.
 #[tactic(auto, using(crate::proofs::StateLaws::states))]
 pub fn state_in(alloc: Global, name: &[u8], bytes: &[u8]) -> Result<Image, Refusal>
     requires { length bytes.now ≤ file_limit }
@@ -39,7 +40,7 @@ pub fn state_in(alloc: Global, name: &[u8], bytes: &[u8]) -> Result<Image, Refus
     }
 }
 
-/// Reads a bare image.
+/// Reads a bare image: F1, F2, then I1 to I3.
 #[tactic(auto, using(m36_reading::proofs::ReadLaws::reads_early), unfolding(crate::specs::Ran::state_reads))]
 pub fn read_state<F: Folder>(alloc: Global, name: &[u8], folder: &mut F) -> Result<Image, Refusal>
     ensures { Reads (state_reads name.now) result
@@ -49,7 +50,7 @@ pub fn read_state<F: Folder>(alloc: Global, name: &[u8], folder: &mut F) -> Resu
 {
     let text = read_bytes(alloc, name, folder)?;
     let given = state_in(alloc, name, text.bytes());
-    // Dropped by a call: so the drop is proved once for its type.
+    // Dropped by a call, so that the drop is proved once for its type.
     drop(text);
     given
 }

@@ -1,4 +1,4 @@
--- What a reading comes to: one behind another, by the files, and mapped.
+-- How readings end: one after another, early, and by the files.
 use Rattle.std.proofs.Common.{◌≡◌, ℕ, ◌≤◌, ◌<◌, List, [], ◌∷◌, ◌++◌, length, cond, Some, Ok, Err, refl, sym, ap, subst, ◌∙◌}
 use Rattle.std.proofs.lemmas.Bool.{le-ltb, lt-ltb}
 use Rattle.m36_outside.specs.Files.{Files}
@@ -13,12 +13,12 @@ use Rattle.m36_reading.specs.Asking.{Asked, IsTold, AreTold, Coming, Came, Faile
 ok_same : {A : Type 0} (a b : A) → (let r : Early A = Ok a in r) ≡ Ok b → a ≡ b
 ok_same a b e = cc
 
--- memory may be wanted at any time
+-- Memory may run out at any time.
 at_once : {A : Type 0} (p : Reading A) → Comes p [] Wanting
 at_once (decided a) = tt
 at_once (asks name go) = tt
 
--- ---- one reading behind another
+-- ---- one reading after another
 
 goes_then :
     {A B : Type 0} (given : ReadAnswer) (P Q : Found → Type 0) (asked more : List Asked) (a : A) (c : Coming B)

@@ -8,7 +8,7 @@ use Rattle.m36_reading.specs.Doing.{Reads}
 use Rattle.m36_reading.specs.EachRead.{read_onto, each_onto}
 use Rattle.m36_reading.proofs.ReadLaws.{reads_then, reads_stop, reads_nothing}
 
--- what completes a reading that is left completes the whole
+-- Performing the rest of a reading performs the whole.
 pub record Completes
     {B : Type 0} (left whole : Reading (Early B)) (old now : FolderState) (before middle : List Asked)
     : Type 0 where
@@ -52,7 +52,7 @@ item_stopped {A = A} one done r item others rest whole old now next before middl
     (subst (λ (p : Reading (Early (List A))). Reads p (Err r) now next middle behind) (sym (first_read one done item others rest first))
     (reads_stop (List A) (List A) (read_onto one done item) (λ m. each_onto one m others) r now next middle behind read))
 
--- none is left
+-- No item is left.
 pub all_read :
     {I A : Type 0} (one : I → Reading (Early A)) (done : List A) (rest : List I) (whole : Reading (Early (List A))) (old now : FolderState)
     (before middle : List Asked)

@@ -1,4 +1,4 @@
--- Ends of a command: from its reading, and by more that is known of it.
+-- How a command ends, by how its reading ended, and by a weaker statement of that.
 use Rattle.std.proofs.Common.{◌≡◌, List, [], ◌∷◌, Some, Ok, Err, refl, sym, ap, subst, ◌∙◌, inl, inr}
 use Rattle.std.proofs.lemmas.List.{append-nil}
 use Rattle.m36_outside.specs.Files.{Files}
@@ -17,7 +17,7 @@ use Rattle.m36_reading.specs.Ends.{End, Answered, Cut, Unread, Starved, Unasked,
 use Rattle.m36_reading.specs.Doing.{Kind, Reads, EndsBy, Does, Performs}
 use Rattle.m36_reading.proofs.Comings.{comes_in}
 
--- More is known of what came of a reading.
+-- From one statement about the end of the reading to a weaker one.
 pub ends_more :
     {D : Type 0} (kind : Kind D) (Is Was : Coming (Early D) → Type 0) (end : End) (result : Status) (old new : Outside)
     → ((c : Coming (Early D)) → Is c → Was c) → EndsBy kind Is end result old new → EndsBy kind Was end result old new
@@ -39,7 +39,7 @@ ends_more kind Is Was Unasked result old new more e = absurd e
 same_folder : (old now : FolderState) → now.files ≡ old.files → now.wrote ≡ old.wrote → now.read_faults ≡ old.read_faults → now.write_faults ≡ old.write_faults → now ≡ old
 same_folder old now files wrote reads writes = λ i. record { files = files i; wrote = wrote i; read_faults = reads i; write_faults = writes i }
 
--- what is due is done
+-- The reading has a result, and the call then does what its kind requires.
 pub does_on :
     {D : Type 0} (kind : Kind D) (p : Reading (Early D)) (d : D) (result : Status) (old now : FolderState) (sink : SinkState) (new : Outside) (before after : List Asked)
     → Reads p (Ok d) old now before after → Performs kind (Ok d) result (record { folder = now; sink = sink }) new
@@ -53,7 +53,7 @@ does_on kind p d result old now sink new before after reads performs = record {
       (ends_more kind (λ c. c ≡ Came (Ok d)) (Comes p reads.asked) (end_of result) result (record { folder = now; sink = sink }) new (λ c is. subst (Comes p reads.asked) (sym is) reads.comes) performs);
 }
 
--- the same where what is due is done in the folder too, which is asked nothing by it
+-- The same if what follows the reading uses the folder too, and asks it nothing.
 pub does_told :
     {D : Type 0} (kind : Kind D) (p : Reading (Early D)) (d : D) (result : Status) (old now : FolderState) (sink : SinkState) (new : Outside) (before after last : List Asked)
     → Reads p (Ok d) old now before after → Performs kind (Ok d) result (record { folder = now; sink = sink }) new → last ≡ after
@@ -61,7 +61,7 @@ pub does_told :
 does_told kind p d result old now sink new before after last reads performs same =
     subst (λ l. Does kind p result (record { folder = old; sink = sink }) new before l) (sym same) (does_on kind p d result old now sink new before after reads performs)
 
--- the reading has ended early
+-- The reading ended early.
 idle_after : {D : Type 0} (p : Reading (Early D)) (r : Refusal) (old now : FolderState) (sink : SinkState) (before after : List Asked) → Reads p (Err r) old now before after → IsIdle (record { folder = old; sink = sink }) (record { folder = now; sink = sink })
 idle_after p r old now sink before after reads = record { kept = reads.kept; write_faults = reads.write_faults; none_put = record { written = refl; taken = refl; faults = refl } }
 
@@ -101,7 +101,7 @@ does_stop kind p NoMemory old now sink before after reads = record {
   ends = inl (record { wanting = reads.comes; idle = idle_after p NoMemory old now sink before after reads; read_faults = reads.cause });
 }
 
--- ---- made into another kind
+-- ---- converted to another kind
 
 abbrev map_early : {D E : Type 0} → (D → E) → Early D → Early E
 map_early make (Ok d) = Ok (make d)
@@ -148,7 +148,7 @@ comes_mapped make (asks name go) [] c came = map_wanting make c came
 comes_mapped make (asks name go) (ask ∷ asked) c came =
     (came.0, map_goes make ask.1 _ _ asked c (λ found x. comes_mapped make (go found) asked c x) came.1)
 
--- What is due of one kind is due of another.
+-- What one kind requires or allows, another requires or allows of the converted value.
 pub record IsKindOf {D E : Type 0} (kind : Kind D) (other : Kind E) (make : D → E) : Type 0 where
   pub due : (d : D) (due : Answer) → kind.IsDue d due → other.IsDue (make d) due
   pub begun : (d : D) (due : Answer) → kind.IsBegun d due → other.IsBegun (make d) due

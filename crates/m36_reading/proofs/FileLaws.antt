@@ -15,7 +15,7 @@ use Rattle.obj36.specs.ObjectOf.{object_of, IsObjectOf}
 use Rattle.m36_reading.specs.Readers.{refused, sized, words_by, object_refused, object_by}
 use Rattle.m36_reading.proofs.ReadLaws.{gives_by, memory_given}
 
--- more words than an object has, or not
+-- more words than a segment can have, or not
 pub sized_over :
     (name words : List ℕ) (r : Refusal)
     → segment_limit < length words → Refuses r (refused name code.F3 0) → Gives (Err r) (sized name words)

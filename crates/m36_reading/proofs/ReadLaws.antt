@@ -1,4 +1,4 @@
--- A read is carried into a reading.
+-- From a read, or a refusal, to the reading that makes it.
 use Rattle.std.proofs.Common.{◌≡◌, ℕ, ◌≤◌, List, [], ◌∷◌, ◌++◌, length, Option, Result, Ok, Err, refl, sym, ap, subst, ◌∙◌}
 use Rattle.std.specs.Prelude.{IfSome}
 use Rattle.std.proofs.lemmas.List.{append-nil, append_assoc}
@@ -32,7 +32,7 @@ refused_cause A NoMemory definition old new is same = same
 pub gives_by : (A : Type 0) (r given : Refusal) (definition : Early A) → definition ≡ Err given → Refuses r given → Gives (Err r) definition
 gives_by A r given definition is refused = subst (λ d. Gives (Err r) d) (sym is) (gives_refusal A r given refused)
 
--- memory may be wanted in the place of any definition
+-- NoMemory may be answered in place of any definition.
 pub memory_given : (A : Type 0) (r : Refusal) (definition : Early A) → Refuses r NoMemory → Gives (Err r) definition
 memory_given A (BadFile bad) definition is = absurd (cc)
 memory_given A ReadFault definition is = absurd is
@@ -125,7 +125,7 @@ bytes_starved name old new before after told files wrote stands writes passed = 
   write_faults = writes;
 }
 
--- ---- one reading behind another
+-- ---- one reading after another
 
 told_both : (files : Option Files) (asked more : List Asked) → AreTold files asked → AreTold files more → AreTold files (asked ++ more)
 told_both files [] more told also = also

@@ -8,11 +8,11 @@ use Rattle.m36_reading.specs.Answers.{with_sets, write_of, writes_of}
 use Rattle.m36_reading.specs.Outside.{FolderState}
 use Rattle.m36_reading.specs.Setting.{AllSet}
 
--- where no file is due nothing is written
+-- An answer without files writes nothing.
 pub writes_none : (wrote : List Wrote) (sets : List Set) → sets ≡ [] → wrote ++ writes_of sets ≡ wrote
 writes_none wrote sets none = ap (λ (s : List Set). wrote ++ writes_of s) none ∙ append-nil wrote
 
--- so all files of such an answer are written where the folder is as it was
+-- So all files of such an answer are written in a folder that is unchanged.
 pub none_set : (f : FolderState) (sets : List Set) → sets ≡ [] → AllSet sets f f
 none_set f sets none = record {
   files = sym (ap (λ (s : List Set). with_sets s f.files) none);

@@ -1,5 +1,5 @@
--- What is due to a command: the files that it writes, the text that it puts, in which pieces, and
--- its status.
+-- Answers to a command: the files that it writes, the text that it prints, in which pieces, and its
+-- status.
 use Rattle.std.specs.Prelude.{ℕ, ◌≡◌, List, [], ◌∷◌, Option, Some, Ok, Err}
 use Rattle.m36_outside.specs.Files.{Files, with_told_file}
 use Rattle.m36_outside.specs.FolderCalls.{Wrote}
@@ -13,20 +13,20 @@ use Rattle.m36_reading.specs.declared.refusal.Refusal.TheVariants.{BadFile, Read
 use Rattle.m36_reading.specs.declared.setting.Set.{Set}
 use Rattle.m36_reading.specs.Reading.{Early}
 
--- the files that are written, in order, all that is put then, the pieces in which it is put, and
--- the status
 pub record Answer : Type 0 where
+  -- the files that are written, in order, before anything is printed
   pub sets : List Set
   pub text : List ℕ
+  -- the pieces in which the text is printed
   pub pieces : List (List ℕ)
   pub status : Status
 
--- no file is written, and all that is put is these pieces
+-- an answer that writes no file and prints these pieces
 abbrev pub answer_with : List (List ℕ) → Status → Answer
 answer_with pieces status =
     record { sets = []; text = joined pieces; pieces = pieces; status = status }
 
--- a status with which nothing is written
+-- an answer that writes and prints nothing
 abbrev pub unwritten : Status → Answer
 unwritten status = answer_with [] status
 
@@ -35,12 +35,12 @@ status_of (BadFile bad) = status.BadFile bad
 status_of ReadFault = status.ReadFault
 status_of NoMemory = status.NoMemory
 
--- An answer is due by what a reading comes to: that of its kind, or the refusal alone.
+-- The answers that are required after a reading: those of the kind, or the refusal alone.
 abbrev pub IsDueBy : {D : Type 0} → (D → Answer → Type 0) → Early D → Answer → Type 0
 IsDueBy IsDue (Ok d) due = IsDue d due
 IsDueBy IsDue (Err refusal) due = due ≡ unwritten (status_of refusal)
 
--- the files, where they are told, with these written one after another
+-- the files, if they are shown, after these are written one after another
 abbrev pub with_sets : List Set → Option Files → Option Files
 with_sets [] files = files
 with_sets (set ∷ sets) files = with_sets sets (with_told_file set.name (Some set.content) files)

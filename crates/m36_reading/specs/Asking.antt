@@ -1,4 +1,4 @@
--- What a reading comes to by the answers of a folder, one after another and no others.
+-- The result of a reading by exactly these answers of a folder, one after another.
 use Rattle.std.specs.Prelude.{◌≡◌, ⊤, List, [], ◌∷◌, Option, IfSome, Result, Ok, Err}
 use Rattle.m36_outside.specs.Files.{Files}
 pub use Rattle.m36_outside.specs.FolderCalls.{Asked}
@@ -10,30 +10,30 @@ use Rattle.m36_reading.specs.declared.refusal.Refusal.TheVariants.{BadFile, Read
 use Rattle.m36_reading.specs.Reading.{Found, Content, Absent, TooLarge, Reading, decided, asks}
 use Rattle.m36_reading.specs.Reading.{Early, outcome_in}
 
--- The answer is that of the files, where these are told.
+-- An answer is that of the files, if they are shown; and no more than 16 MiB are read.
 pub record IsTold (files : Option Files) (ask : Asked) : Type 0 where
   pub told : IfSome files (λ f. ReadSays ask.1 (f ask.0))
   pub limit : IsWithinLimit ask.1
 
--- each answer is
+-- The same of each answer.
 abbrev pub AreTold : Option Files → List Asked → Type 0
 AreTold files [] = ⊤
 AreTold files (ask ∷ asked) = IsTold files ask × AreTold files asked
 
--- What came of a reading: what it comes to; or a read has failed; or memory was wanted, in a read
--- or behind one.
+-- How a reading ended: with a result, or because a read failed, or because memory ran out, in a
+-- read or after one.
 pub data Coming (A : Type 0) : Type 0 where
   Came : A → Coming A
   Failed : Coming A
   Wanting : Coming A
 
--- where the reading has come to an end
+-- after the reading is decided: its result, or memory ran out
 abbrev pub IsDecided : {A : Type 0} → A → Coming A → Type 0
 IsDecided a (Came b) = a ≡ b
 IsDecided a Failed = ⊥
 IsDecided a Wanting = ⊤
 
--- where it has not
+-- before it is decided: memory ran out
 abbrev pub IsWanting : {A : Type 0} → Coming A → Type 0
 IsWanting (Came a) = ⊥
 IsWanting Failed = ⊥
@@ -44,8 +44,8 @@ HasFailed (Came a) = ⊥
 HasFailed Failed = ⊤
 HasFailed Wanting = ⊥
 
--- by one answer: the reading goes on by what the folder has, and nothing is asked behind an answer
--- that has nothing
+-- One answer: the reading continues by what the folder has. After Failed or NoMemory nothing more
+-- is asked.
 abbrev pub GoesOn : {A : Type 0} → ReadAnswer → (Found → Type 0) → List Asked → Coming A → Type 0
 GoesOn (read.Read bytes) goes asked coming = goes (Content bytes)
 GoesOn read.Absent goes asked coming = goes Absent
@@ -53,7 +53,7 @@ GoesOn read.TooLarge goes asked coming = goes TooLarge
 GoesOn read.Failed goes asked coming = (asked ≡ []) × HasFailed coming
 GoesOn read.NoMemory goes asked coming = (asked ≡ []) × IsWanting coming
 
--- The reading asks for these names one after another, and by these answers it comes to this.
+-- The reading asks for these names one after another, and by these answers it ends so.
 abbrev pub Comes : {A : Type 0} → Reading A → List Asked → Coming A → Type 0
 Comes (decided a) [] coming = IsDecided a coming
 Comes (decided a) (ask ∷ asked) coming = ⊥
@@ -61,25 +61,24 @@ Comes (asks name go) [] coming = IsWanting coming
 Comes (asks name go) (ask ∷ asked) coming =
     (ask.0 ≡ name) × GoesOn ask.1 (λ found. Comes (go found) asked coming) asked coming
 
--- what came of a reading by the files, where they are told
+-- how a reading may end by the files of a folder that shows them
 abbrev pub ComesIn : {A : Type 0} → Files → Reading A → Coming A → Type 0
 ComesIn files p (Came a) = outcome_in files p ≡ a
 ComesIn files p Failed = ⊤
 ComesIn files p Wanting = ⊤
 
--- what a call that reads answers, as what came of the reading
+-- the result of a call that reads, as an end of its reading
 abbrev pub coming : {A : Type 0} → Result A Refusal → Coming (Early A)
 coming (Ok a) = Came (Ok a)
 coming (Err (BadFile bad)) = Came (Err (BadFile bad))
 coming (Err ReadFault) = Failed
 coming (Err NoMemory) = Wanting
 
--- What a call answers that reads nothing, beside its definition. Want of memory may come
--- at any time.
+-- The result of a call that reads nothing is the defined one, or NoMemory.
 abbrev pub Gives : {A : Type 0} → Result A Refusal → Early A → Type 0
 Gives result definition = IsDecided definition (coming result)
 
--- the same of a refusal alone
+-- The same for a refusal alone.
 abbrev pub Refuses : Refusal → Refusal → Type 0
 Refuses (BadFile bad) definition = definition ≡ BadFile bad
 Refuses ReadFault definition = ⊥

@@ -1,17 +1,17 @@
--- The statuses, sorted into the ends of which contracts speak.
+-- The statuses, sorted into five ends; contracts have one case for each.
 use Rattle.m36_reading.specs.declared.status.Status.{Status}
 use Rattle.m36_reading.specs.declared.status.Status.TheVariants.{Done, Usage, ReadFault, WriteFault}
 use Rattle.m36_reading.specs.declared.status.Status.TheVariants.{BadFile, AuditNo, MachineStop}
 use Rattle.m36_reading.specs.declared.status.Status.TheVariants.{Steps, NoMemory}
 
 pub data End : Type 0 where
-  -- what is due is answered, and written whole
+  -- a required answer is given, written and printed whole
   Answered : End
-  -- a file could not be written, or the output not whole
+  -- a file or the output could not be written whole
   Cut : End
   -- a file or the input could not be read
   Unread : End
-  -- memory was wanted
+  -- memory ran out
   Starved : End
   -- the words are no command
   Unasked : End

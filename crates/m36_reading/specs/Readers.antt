@@ -16,7 +16,7 @@ use Rattle.m36_reading.specs.Reading.{Found, Content, Absent, TooLarge, Reading,
 use Rattle.m36_reading.specs.Reading.{Early, then_with}
 use Rattle.obj36.specs.ObjectOf.{object_of}
 
--- a refused file by its name, a code, a place and a column
+-- the refusal of a file, by its name, a code, a place and a column
 abbrev pub refused_at : List ℕ → Code → ℕ → ℕ → Refusal
 refused_at name code at column =
     BadFile (record { name = name; code = code; at = at; column = column })
@@ -26,7 +26,7 @@ refused name code at = refused_at name code at 0
 
 -- ---- bytes
 
--- of a file as it is found
+-- the bytes of a file, or its refusal
 abbrev pub bytes_of : List ℕ → Found → Early (List ℕ)
 bytes_of name (Content bytes) = Ok bytes
 bytes_of name Absent = Err (refused name code.F1 0)
@@ -40,7 +40,7 @@ file_bytes name = asks name (bytes_by name)
 
 -- ---- words
 
--- F3: more words than a segment has
+-- F3 if there are more words than a segment can have
 abbrev pub sized : List ℕ → List ℕ → Early (List ℕ)
 sized name words =
     if nat_lt segment_limit (length words) then Err (refused name code.F3 0) else Ok words
@@ -56,7 +56,7 @@ file_words name = then_with (file_bytes name) (λ bytes. decided (words_by name 
 
 -- ---- objects
 
--- a list of words that is no object, by its first fault
+-- the refusal of words that are no object, by their first fault
 abbrev pub object_refused : List ℕ → ObjectFault → Refusal
 object_refused name (fault.O1 at) = refused name code.O1 at
 object_refused name (fault.O2 at) = refused name code.O2 at

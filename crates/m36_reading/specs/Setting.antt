@@ -1,4 +1,4 @@
--- What the writing of files, one after another, says.
+-- What writing files, one after another, does to a folder, by the answer.
 use Rattle.std.specs.Prelude.{◌≡◌, List, [], ◌∷◌, ◌++◌}
 use Rattle.m36_outside.specs.WriteAnswer.{WriteSays, WriteHasCause}
 use Rattle.m36_outside.specs.declared.folder.WriteAnswer.{WriteAnswer}
@@ -7,12 +7,13 @@ use Rattle.m36_reading.specs.declared.setting.Set.{Set}
 use Rattle.m36_reading.specs.Answers.{with_sets, write_of, writes_of}
 use Rattle.m36_reading.specs.Outside.{FolderState}
 
+-- All are written, each once.
 pub record AllSet (sets : List Set) (old new : FolderState) : Type 0 where
   pub files : new.files ≡ with_sets sets old.files
   pub wrote : new.wrote ≡ old.wrote ++ writes_of sets
   pub write_faults : new.write_faults ≡ old.write_faults
 
--- Those before one are written, and what the answer to the write of that one says is so.
+-- The files before `last` are written; the write of `last` was answered so; no other was tried.
 pub record SetsUpTo (answer : WriteAnswer) (sets : List Set) (old new : FolderState) : Type 0 where
   pub before : List Set
   pub last : Set
@@ -26,7 +27,7 @@ pub record SetsUpTo (answer : WriteAnswer) (sets : List Set) (old new : FolderSt
 abbrev pub SetFailed : List Set → FolderState → FolderState → Type 0
 SetFailed sets old new = SetsUpTo Failed sets old new
 
--- No memory was found for the write of one.
+-- Memory ran out in the write of one.
 abbrev pub SetWanting : List Set → FolderState → FolderState → Type 0
 SetWanting sets old new = SetsUpTo NoMemory sets old new
 

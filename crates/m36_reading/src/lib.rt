@@ -1,16 +1,24 @@
-//! What a command reads and owes, whatever the command.
+//! What a command reads, and which answers are required of it, for any command.
 //!
-//! A command is a *reading*: it asks a folder for files, one after another, and goes on by what the folder has
-//! (`specs/Reading.antt`). So it comes to a refusal, or to what is due. [`read_bytes`], [`read_words`] and [`read_object`]
-//! read one file, each with all the refusals that it has: F1, F2, then T3, T4, F3, then O1 to O8. A read that fails ends
-//! the command with ReadFault, and one that wants memory with NoMemory; neither is ever due.
+//! A *reading* (`specs/Reading.antt`) says what a command reads: it asks a folder for files, one
+//! after another, and continues by what the folder has. At its end it yields a refusal, or what the
+//! command has to do. [`read_bytes`], [`read_words`] and [`read_object`] read one file with all its
+//! refusals, in this order: F1, F2; then T3, T4, F3; then O1 to O8. If a read fails, the command
+//! ends with ReadFault; if memory runs out, with NoMemory. Neither is ever a required answer.
 //!
-//! What a command that is performed owes is said once (`Does` in `specs/Doing.antt`), by the kind of what is due: which
-//! answers are, and what may be written where memory is wanted. The statuses are sorted into ends (`specs/Ends.antt`): what
-//! is due is done whole; or a file could not be written, or the output not whole; or a file or the input could not be read;
-//! or memory was wanted.
+//! A *kind* says which answers are required of what a command has to do, which may be printed in
+//! part, and what may be written if memory runs out or the input could not be read. `Does`
+//! (`specs/Doing.antt`) is the contract of every call that performs a command, stated once for all
+//! kinds. It sorts the statuses into ends (`specs/Ends.antt`): a required answer is written and
+//! printed whole; a file could not be written, or the output not whole; a file or the input could
+//! not be read; or memory ran out.
 //!
-//! Packed words are those of `m36_text`, and objects those of `obj36`. No part of the manual speaks of this.
+//! Commands are also defined as programs (`m36_program`). A reading and a kind give the answer to
+//! given files, and a program what happens step by step. The calls that perform a command over a
+//! folder, an input and an output state both.
+//!
+//! Packed words are those of `m36_text`, and objects those of `obj36`. The manual has nothing about
+//! this.
 #![tactic(auto)]
 
 pub mod reading;

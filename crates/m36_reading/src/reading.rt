@@ -19,7 +19,8 @@ use obj36::{Object, ObjectFault};
 use obj36_parts::sections::SEGMENT_LIMIT;
 use std::alloc::Global;
 
-/// Refuses a file, at a place and a column of it, unless no memory is found for its name.
+/// Refuses a file with a code, at a place and a column of it. The refusal is NoMemory if there is
+/// no memory for the name.
 pub fn refuse_at(alloc: Global, name: &[u8], code: Code, at: u32, column: u32) -> Refusal
     ensures { Refuses result (refused_at name.now code at column) }
 {
@@ -34,14 +35,15 @@ pub fn refuse_at(alloc: Global, name: &[u8], code: Code, at: u32, column: u32) -
     }
 }
 
-/// Refuses a file that has no columns.
+/// As `refuse_at`, for a file without columns: the column is 0.
 pub fn refuse(alloc: Global, name: &[u8], code: Code, at: u32) -> Refusal
     ensures { Refuses result (refused name.now code at) }
 {
     refuse_at(alloc, name, code, at, 0)
 }
 
-/// Reads the bytes of a file: F1 where it is absent, and F2 where it has more than 16 MiB.
+/// Reads the bytes of a file: F1 if it is absent, F2 if it has more than 16 MiB. A read that fails
+/// is ReadFault.
 pub fn read_bytes<F: Folder>(alloc: Global, name: &[u8], folder: &mut F) -> Result<Text, Refusal>
     ensures reads { Reads (file_bytes name.now) result
         (folder_of F.files F.wrote F.read_faults F.write_faults folder.old)
@@ -58,7 +60,7 @@ pub fn read_bytes<F: Folder>(alloc: Global, name: &[u8], folder: &mut F) -> Resu
     }
 }
 
-// F3: more words than a segment has.
+// F3 if there are more words than a segment can have.
 #[tactic(auto, using(crate::proofs::FileLaws::sizes))]
 fn sized(alloc: Global, name: &[u8], words: Words) -> Result<Words, Refusal>
     ensures gives { Gives result (sized name.now words) }
@@ -70,8 +72,8 @@ fn sized(alloc: Global, name: &[u8], words: Words) -> Result<Words, Refusal>
     Ok(words)
 }
 
-/// The words into which the bytes of a file, of at most 16 MiB, unpack: T3 or T4 where they are no packed words, and F3
-/// where there are more than 2^18.
+/// Unpacks the bytes of a file, at most 16 MiB, into words: T3 or T4 if they are no packed words,
+/// F3 if there are more than 2^18 words.
 #[tactic(auto, using(crate::proofs::FileLaws::unpacking))]
 pub fn words_in(alloc: Global, name: &[u8], bytes: &[u8]) -> Result<Words, Refusal>
     requires { length bytes.now ≤ file_limit }
@@ -86,7 +88,7 @@ pub fn words_in(alloc: Global, name: &[u8], bytes: &[u8]) -> Result<Words, Refus
     }
 }
 
-/// Reads the words of a file.
+/// Reads a file and unpacks its words, at most 2^18: F1, F2, then T3, T4, F3.
 pub fn read_words<F: Folder>(alloc: Global, name: &[u8], folder: &mut F) -> Result<Words, Refusal>
     ensures reads { Reads (file_words name.now) result
         (folder_of F.files F.wrote F.read_faults F.write_faults folder.old)
@@ -98,7 +100,7 @@ pub fn read_words<F: Folder>(alloc: Global, name: &[u8], folder: &mut F) -> Resu
     words_in(alloc, name, text.bytes())
 }
 
-// O1 to O8: words that are no object.
+// O1 to O8, for words that are no object.
 fn refuse_object(alloc: Global, name: &[u8], fault: ObjectFault) -> Refusal
     ensures { Refuses result (object_refused name.now fault) }
 {
@@ -115,7 +117,7 @@ fn refuse_object(alloc: Global, name: &[u8], fault: ObjectFault) -> Refusal
     }
 }
 
-/// The object that the words of a file are, of fewer than 2^32: O1 to O8 where they are none.
+/// The object that the words of a file encode, fewer than 2^32 words: O1 to O8 if they encode none.
 pub fn object_in(alloc: Global, name: &[u8], words: &[Word]) -> Result<Object, Refusal>
     requires { length words.now < 2 ^ 32 }
     ensures { Gives result (object_by name.now (object_of words.now)) }
@@ -126,7 +128,7 @@ pub fn object_in(alloc: Global, name: &[u8], words: &[Word]) -> Result<Object, R
     }
 }
 
-/// Reads the object of a file.
+/// Reads a file and decodes its object: F1, F2, then T3, T4, F3, then O1 to O8.
 pub fn read_object<F: Folder>(alloc: Global, name: &[u8], folder: &mut F) -> Result<Object, Refusal>
     ensures { Reads (file_object name.now) result
         (folder_of F.files F.wrote F.read_faults F.write_faults folder.old)

@@ -1,4 +1,4 @@
-//! Why a command gets no further than its files.
+//! Why a command ends while it reads its files.
 
 ghost use Rattle.std.specs.Prelude.{◌≡◌};
 ghost use Rattle.m36_reading.specs.Answers.{status_of};
@@ -7,14 +7,14 @@ ghost use Rattle.m36_reading.specs.declared.refusal.Refusal.TheVariants as refus
 use crate::status::{Bad, Status};
 use m36_word::NoMemory;
 
-/// Why a command gets no further than its files.
+/// Why a command ends while it reads its files.
 #[derive(Drop)]
 pub enum Refusal {
     /// A file is refused.
     BadFile(Bad),
     /// A file could not be read.
     ReadFault,
-    /// No memory was found.
+    /// Memory ran out.
     NoMemory,
 }
 
@@ -27,7 +27,8 @@ impl From<NoMemory> for Refusal {
 }
 
 impl Refusal {
-    /// The status with which the command ends. Nothing is put, and no file is written but those of `make`.
+    /// The status with which the command ends. Then nothing is printed, and no file is written
+    /// except those of `make`.
     pub fn status(self) -> Status
         ensures { result ≡ status_of self }
     {

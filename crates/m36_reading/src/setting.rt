@@ -7,6 +7,6 @@ use m36_text::Name;
 #[derive(Drop)]
 pub struct Set {
     pub name: Name,
-    /// All that it has then.
+    /// The whole content of the file after the write.
     pub content: Text,
 }

@@ -14,9 +14,9 @@ pub enum Code {
     F2,
     /// The file unpacks into more than 2^18 words.
     F3,
-    /// The count of the bytes is that of no packed words.
+    /// No whole number of words packs into this count of bytes.
     T3,
-    /// The last four bits, behind the last word, are not zero.
+    /// The last four bits, after the last word, are not zero.
     T4,
     /// The standard input, named `stdin`, is longer than a session may be.
     S1,
@@ -26,26 +26,28 @@ pub enum Code {
     I2,
     /// Core words at a place that is not above every earlier one, or outside core.
     I3,
-    /// A text of processes: a line not of its form, out of order or missing, an N or an address against its rule, or too many
-    /// events.
+    /// A text of processes: a line not of its form, out of order or missing, an N or an address
+    /// against its rule, or too many events.
     P1,
     /// A number of no process.
     P2,
     /// A line of a boot text that is not of its form, or out of its order.
     D1,
-    /// A name that stands a second time in one directory.
+    /// A name that the directory already has.
     D2,
     /// A working directory or a library that has no segment.
     D3,
-    /// Ring brackets that are not in order, or a gate that may not be executed or is called from no outer ring.
+    /// Ring brackets that are not in order, or a gate that may not be executed or is called from no
+    /// outer ring.
     D4,
-    /// A segment, a further name of one, or a library too many.
+    /// Too many segments, further names of one, or libraries.
     D5,
     /// A boot text that ends without a start.
     D6,
-    /// A line of access lists that is not of its form, has no segment above it, or is a term too many.
+    /// A line of access lists that is not of its form, a term with no segment above it, or one term
+    /// too many.
     C1,
-    /// A segment that stands twice in access lists, or a term that stands twice below one.
+    /// A segment that access lists have twice, or a term that one segment has twice.
     C2,
     /// A segment of access lists that the boot text does not have.
     C3,
@@ -53,13 +55,14 @@ pub enum Code {
     U1,
     /// A gate without entries, or with more than 16,383.
     U2,
-    /// The start is not found, lacks its entry, may not be executed in its ring, or its linkage section is too long.
+    /// The start is not found, lacks its entry, may not be executed in its ring, or its linkage
+    /// section is too long.
     U3,
     /// A gate, or the segment of the start, that is no object.
     U4,
     /// There are fewer than seven words; the count.
     O1,
-    /// The map is not where the last word tells it to be, or a word of it is not as it must be.
+    /// The map is not where the last word says, or a word of it is not as it must be.
     O2,
     /// A section ends past the map or is too short; its map word.
     O3,
@@ -75,10 +78,10 @@ pub enum Code {
     O8,
     /// A byte that no source may have there.
     E1,
-    /// A label or an operand that is not of its form; or an operation that lacks its operand, or has one that it may not
-    /// have.
+    /// A label or an operand that is not of its form; or an operation that lacks its operand, or
+    /// has one that it may not have.
     E2,
-    /// An operation that there is not.
+    /// An operation that does not exist.
     E3,
     /// A number out of its range.
     E4,
@@ -86,8 +89,9 @@ pub enum Code {
     E5,
     /// A symbol that is not defined.
     E6,
-    /// A value that does not fit its field, or what no object can say: an expression, a link out of reach, words in a
-    /// section that may not have them, or a name of a definition that is no such label.
+    /// A value that does not fit its field, or something that no object can express: an expression,
+    /// a link out of reach, words in a section that may not have them, or a name of a definition
+    /// that is no such label.
     E7,
     /// A section, or an object, that grows too long.
     E8,
@@ -95,7 +99,7 @@ pub enum Code {
     B1,
     /// An object that is not among those that were read.
     B2,
-    /// A name that stands twice, or that two objects define.
+    /// A name that the bind file has twice, or that two objects define.
     B3,
     /// A bound object that is too large, or a part of a word that does not fit where it goes.
     B4,
@@ -109,10 +113,14 @@ pub struct Bad {
     /// The file's name.
     pub name: Text,
     pub code: Code,
-    /// The place that the code speaks of: for an image or a text of processes its line, counted from 1; for T3 the count
-    /// of the bytes, and for T4 the place of the last one; for an object the place of a word, counted from 0, and for O1
-    /// the count of the words; for a source, a bind file, a boot text or access lists the line, counted from 1; for U2
-    /// and U4 the number of the segment; for B4, U1 and U3, for the standard input, and for a file as a whole, 0.
+    /// What the code is about, by the file and the code:
+    ///
+    /// - an image, a text of processes, a source, a bind file, a boot text, access lists: the line,
+    ///   counted from 1;
+    /// - T3: the count of the bytes; T4: the place of the last byte;
+    /// - an object: the place of a word, counted from 0; O1: the count of the words;
+    /// - U2 and U4: the number of the segment;
+    /// - B4, U1, U3, the standard input, and a file as a whole: 0.
     pub at: u32,
     /// The column of a source, in bytes counted from 1; 0 for every other file.
     pub column: u32,
@@ -121,26 +129,32 @@ pub struct Bad {
 /// How the top call ended.
 #[derive(Drop)]
 pub enum Status {
-    /// The files and the output are written whole. What was run came to DIS, or to the end of its schedule; what was audited
-    /// alone passes; or nothing was to be run or audited; or a session has come to `quit` or to the end of its input.
+    /// The files and the output are written whole. The run ended with DIS, or reached the end of
+    /// its schedule; or what was only audited passes; or nothing was to be run or audited; or a
+    /// session reached `quit` or the end of its input.
     Done,
     /// The words are no command. Nothing was read or written.
     Usage,
-    /// The file could not be read; or the input of a session could not, and what is said of it is written up to there.
+    /// A file could not be read, and nothing is written; or the input of a session could not, and
+    /// the answers up to there are printed.
     ReadFault,
-    /// The output could not be written, of which a first part is; or a file could not, and nothing of the output is.
+    /// The output could not be written, and a first part of it is printed; or a file could not, and
+    /// nothing is printed.
     WriteFault,
-    /// The file is refused, and nothing is written; but behind S1 the answers of the session are, and the files of `make`
-    /// where the folder that they are is refused.
+    /// A file is refused, and nothing is written or printed. Exceptions: with S1 the answers of the
+    /// session before it are printed; and `make` has written its files if the folder that they are
+    /// is refused.
     BadFile(Bad),
-    /// The audit fails, and the machine was not to be run all the same. What it finds is written whole.
+    /// The audit fails, and nothing is run. What it finds is printed whole.
     AuditNo,
-    /// The machine ended with a fault, or stopped otherwise than by DIS, or a link or console service was refused.
+    /// The run ended with a fault or a stop other than DIS, or a link or console service was
+    /// refused.
     MachineStop(End),
-    /// All steps that are allowed were taken, and none ended the run.
+    /// The run used up its limit of steps and did not end.
     Steps,
-    /// No memory was found. Nothing was written; or it was wanted to write a file, behind the files of `make`, in a link service
-    /// of a booted run, or in a session, and then it is written up to there.
+    /// Memory ran out. Nothing is written or printed, unless it ran out in the write of a file,
+    /// after the files of `make`, in a link service of a booted run, or in a session: then
+    /// everything before is written and printed.
     NoMemory,
 }
 

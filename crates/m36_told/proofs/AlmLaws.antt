@@ -1,4 +1,4 @@
--- What `alm` tells, from its parts.
+-- The report of `alm`, from its parts.
 use Rattle.std.proofs.Common.{◌≡◌, ℕ, List, Result, Ok, Err, sym, ap, subst, ◌∙◌}
 use Rattle.alm_parse.specs.SourceFields.{Source}
 use Rattle.alm_parse.specs.Sources.{parsed, Refuses}
@@ -35,7 +35,7 @@ made_refused source given alm.NoMemory is = tt
 
 pub ruleset made = (made_parts, made_refused)
 
--- a text that is read as a source
+-- a text that parses as a source
 pub made_read :
     (name bytes : List ℕ) (source : Source) (result : Result ToldFields AlmFault)
     → parsed bytes ≡ Ok source → MadeSays name result (with_parts source (assembled source)) → MadeSays name result (assembly_of bytes)

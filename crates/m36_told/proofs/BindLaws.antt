@@ -1,4 +1,4 @@
--- What `bind` tells, from its parts.
+-- The report of `bind`, from its parts.
 use Rattle.std.proofs.Common.{◌≡◌, ℕ, List, Result, Ok, Err, refl, sym, ap, subst, ◌∙◌}
 use Rattle.obj36_parts.specs.PartsFields.{PartsFields}
 use Rattle.m36_bindfile.specs.declared.fault.BindFault.{BindFault}
@@ -12,9 +12,9 @@ use Rattle.m36_told.specs.declared.binding.BindFiles.{BindFiles}
 use Rattle.m36_told.specs.Told.{ToldFields}
 use Rattle.m36_told.specs.Binding.{bind_refused, names_told, bound_told, bind_told}
 
--- ---- answers that are refused
+-- ---- refusals
 
--- a definition that hands a refusal of the bind file on
+-- a definition that passes on the refusal of the bind file
 refused_by :
     (A B : Type 0) (make : Result A BindFault → Early B) (file lent : List ℕ) (given : Result A BindFault) (f : BindFault) (r : Refusal)
     → make (Err f) ≡ Err (bind_refused file f) → lent ≡ file → given ≡ Err f → asking.Refuses r (bind_refused lent f) → asking.Gives (Err r) (make given)

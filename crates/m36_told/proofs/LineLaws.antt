@@ -12,7 +12,7 @@ use Rattle.m36_told.specs.LinesIn.{lines_in}
 
 -- ---- the first line
 
--- it ends at the first line feed
+-- The first line ends at the first line feed.
 cut_there :
     (xs : List ℕ) (i : ℕ)
     → i < length xs → (get_or xs i 0 == 10) ≡ true → ((k : ℕ) → k < i → (get_or xs k 0 == 10) ≡ false)
@@ -24,7 +24,7 @@ cut_there (x ∷ xs) (suc i) within here before =
     ap (λ t. cond t ((x ∷ []) ∷ lines_in xs) (onto_first x (lines_in xs))) (before 0 (omega arith))
     ∙ ap (onto_first x) (cut_there xs i (omega arith) here (λ k below. before (suc k) (omega arith)))
 
--- or it is all, where there is none
+-- Without a line feed it is the whole text.
 cut_nowhere :
     (xs : List ℕ) → 0 < length xs → ((k : ℕ) → k < length xs → (get_or xs k 0 == 10) ≡ false) → lines_in xs ≡ xs ∷ []
 unfolding lines_in
@@ -68,7 +68,7 @@ joined_by : (t : Bool) (b : ℕ) (lines : List (List ℕ)) → joined (cond t ((
 joined_by true b lines = refl
 joined_by false b lines = joined_first b lines
 
--- the lines of a text are the text
+-- The lines of a text, joined, are the text.
 pub lines_joined : (text : List ℕ) → joined (lines_in text) ≡ text
 unfolding lines_in
 lines_joined [] = refl

@@ -25,7 +25,7 @@ sets_more sets i set old now next inside at so_far written =
     written ∙ ap (with_told_file set.name (Some set.content)) so_far ∙ sym (with_sets_end (take i sets) set old)
     ∙ ap (λ s. with_sets (take i sets ++ (s ∷ [])) old) at ∙ ap (λ l. with_sets l old) (sym (take_more sets i set inside))
 
--- a write under a name that is the file's, of a content that is the file's
+-- a write with the name and the content of the file
 abbrev wrote_with : WriteAnswer → List Wrote → List ℕ → List ℕ → List Wrote
 wrote_with answer was name content = was ++ (name, content, answer) ∷ []
 
@@ -49,7 +49,7 @@ writes_more sets i set name content start was next inside at named filled so_far
     ∙ ap (λ w. start ++ w) (sym (writes_end (take i sets) set))
     ∙ ap (λ s. start ++ writes_of (take i sets ++ (s ∷ []))) at ∙ ap (λ l. start ++ writes_of l) (sym (take_more sets i set inside))
 
--- the files before one, that file, and those behind it
+-- the files before one, that file, and those after it
 parted : (sets : List Set) (i : ℕ) (set : Set) → i < length sets → set ≡ get_or sets i set → sets ≡ take i sets ++ (set ∷ drop (i + 1) sets)
 parted sets i set inside at = sym (take-append-drop i sets) ∙ ap (λ l. take i sets ++ l) (drop_more sets i set inside ∙ ap (λ s. s ∷ drop (i + 1) sets) (sym at))
 

@@ -1,4 +1,4 @@
--- What `alm` makes of a source.
+-- The object that a source means, and its bytes.
 use Rattle.std.specs.Prelude.{ℕ, List, Result, Ok, Err, ◌≡◌}
 use Rattle.m36_text.specs.Packing.{packed}
 use Rattle.m36_text.specs.Results.{and_then}
@@ -10,7 +10,7 @@ use Rattle.obj36_parts.specs.PartsFields.{PartsFields}
 use Rattle.obj36_parts.specs.ObjectSegment.{words_of}
 use Rattle.m36_reading.specs.declared.setting.Set.{Set}
 
--- a source in its lines, and the parts of the object that it means
+-- a source as lines, and the parts of the object that it means
 pub record Assembly : Type 0 where
   pub source : Source
   pub parts : PartsFields
@@ -18,7 +18,7 @@ pub record Assembly : Type 0 where
 abbrev pub with_parts : Source → Result PartsFields AlmFault → Result Assembly AlmFault
 with_parts source made = and_then made (λ parts. Ok (record { source = source; parts = parts }))
 
--- The text is read as a source first, and the source assembled then: the first refusal counts.
+-- The text is first parsed, and then assembled; the first refusal is reported.
 abbrev pub assembly_by : Result Source AlmFault → Result Assembly AlmFault
 assembly_by read = and_then read (λ source. with_parts source (assembled source))
 
@@ -29,20 +29,20 @@ assembly_of bytes = assembly_by (parsed bytes)
 unfoldable pub object_bytes : PartsFields → List ℕ
 object_bytes parts = packed (words_of parts)
 
--- the file that an object is
+-- the file with an object
 abbrev pub object_set : List ℕ → PartsFields → Set
 object_set name parts = record { name = name; content = object_bytes parts }
 
--- ---- what the making of something of a source says
+-- ---- the contract of a call that makes something of a source
 
--- this is made of the assembly, of which there is one
+-- The source assembles, and this is made of it.
 pub record IsMadeOf {A : Type 0} (make : Assembly → A) (made : A)
     (given : Result Assembly AlmFault) : Type 0 where
   pub assembly : Assembly
   pub is : given ≡ Ok assembly
   pub made_is : made ≡ make assembly
 
--- or the source is refused
+-- This is made of the source, or the source is refused.
 abbrev pub MakingSays :
     {A : Type 0} → (Assembly → A) → Result A AlmFault → Result Assembly AlmFault → Type 0
 MakingSays make (Ok made) given = IsMadeOf make made given

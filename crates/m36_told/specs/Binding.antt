@@ -1,5 +1,4 @@
--- What the command `bind NAME` tells, by what it reads: the bind file, and then the objects of its
--- components.
+-- `bind NAME`: what it reads, the bind file and then the objects of its components, and its report.
 use Rattle.std.specs.Prelude.{ℕ, List, [], ◌∷◌, Result, Ok, Err}
 use Rattle.obj36_parts.specs.PartsFields.{PartsFields}
 use Rattle.m36_list.specs.Print.{print_of}
@@ -17,7 +16,7 @@ use Rattle.m36_told.specs.declared.binding.BindFiles.{BindFiles}
 use Rattle.m36_told.specs.Told.{ToldFields}
 use Rattle.m36_told.specs.Assemblies.{object_set}
 
--- a bind file that is refused, at a line
+-- the refusal of a bind file, at a line
 abbrev pub bind_refused : List ℕ → BindFault → Refusal
 bind_refused name (bind.B1 line) = refused name code.B1 line
 bind_refused name (bind.B2 line) = refused name code.B2 line
@@ -26,12 +25,12 @@ bind_refused name (bind.B4 line) = refused name code.B4 line
 bind_refused name (bind.B5 line) = refused name code.B5 line
 bind_refused name bind.NoMemory = NoMemory
 
--- the names of the components
+-- the names of the components, or the refusal of the bind file
 abbrev pub names_told : List ℕ → Result (List (List ℕ)) BindFault → Early (List (List ℕ))
 names_told file (Ok names) = Ok names
 names_told file (Err fault) = Err (bind_refused file fault)
 
--- the object is written, and then its print is put
+-- The object is written, and then printed.
 abbrev pub bound_told : List ℕ → PartsFields → ToldFields
 bound_told name parts = record { sets = object_set name parts ∷ []; text = print_of name parts }
 
@@ -39,12 +38,13 @@ abbrev pub bind_told : BindFiles → Result PartsFields BindFault → Early Told
 bind_told files (Ok parts) = Ok (bound_told files.object parts)
 bind_told files (Err fault) = Err (bind_refused files.bindfile fault)
 
--- the components of these names are read, and bound
+-- The components of these names are read, and bound.
 unfoldable pub names_read : BindFiles → List ℕ → List (List ℕ) → Reading (Early ToldFields)
 names_read files text names =
     then_with (each_onto file_object [] names)
     (λ objects. decided (bind_told files (bound_of text names objects)))
 
+-- The names are those of the `object` lines of the bind file; the components are read after them.
 unfoldable pub text_read : BindFiles → List ℕ → Reading (Early ToldFields)
 text_read files text =
     then_with (decided (names_told files.bindfile (names_by (bind_lines text))))

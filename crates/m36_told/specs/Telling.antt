@@ -1,4 +1,4 @@
--- What the commands `print NAME` and `alm NAME` tell, by what they read.
+-- `print NAME` and `alm NAME`: what they read, and their reports.
 use Rattle.std.specs.Prelude.{ℕ, List, [], ◌∷◌, Result, Ok, Err}
 use Rattle.alm_parse.specs.declared.fault.AlmFault.{AlmFault}
 use Rattle.alm_parse.specs.declared.fault.AlmFault.TheVariants as alm
@@ -24,7 +24,7 @@ print_reads name = mapped (printed name) (file_object name)
 
 -- ---- `alm NAME`
 
--- a source that is refused, at a line and a column
+-- the refusal of a source, at a line and a column
 abbrev pub source_refused : List ℕ → AlmFault → Refusal
 source_refused name (alm.E1 line column) = refused_at name code.E1 line column
 source_refused name (alm.E2 line column) = refused_at name code.E2 line column
@@ -36,7 +36,7 @@ source_refused name (alm.E7 line column) = refused_at name code.E7 line column
 source_refused name (alm.E8 line column) = refused_at name code.E8 line column
 source_refused name alm.NoMemory = NoMemory
 
--- the object is written, and then the listing is put
+-- The object is written, and then the listing is printed.
 abbrev pub assembly_told : List ℕ → Assembly → ToldFields
 assembly_told name a =
     record { sets = object_set name a.parts ∷ []; text = listing_of name a.source a.parts }
@@ -49,8 +49,8 @@ unfoldable pub alm_reads : AlmFiles → Reading (Early ToldFields)
 alm_reads files =
     then_with (file_bytes files.source) (λ bytes. decided (told_by files (assembly_of bytes)))
 
--- ---- what the parts of `alm` say
+-- ---- the contract of the part of `alm` that works without files
 
--- the object and the listing of what a source means
+-- The result is the report of what a source means, or the refusal of the source.
 abbrev pub MadeSays : List ℕ → Result ToldFields AlmFault → Result Assembly AlmFault → Type 0
 MadeSays name result given = MakingSays (assembly_told name) result given

@@ -1,5 +1,5 @@
--- Answers that are told: the files that are written, and the text that is put behind them, line by
--- line.
+-- Reports: files that are written, and a text that is then printed line by line; the status is
+-- Done.
 use Rattle.std.specs.Prelude.{ℕ, ◌≡◌, List}
 use Rattle.m36_reading.specs.declared.setting.Set.{Set}
 use Rattle.m36_reading.specs.declared.status.Status.TheVariants.{Done}
@@ -10,6 +10,7 @@ use Rattle.m36_reading.specs.Outside.{Outside}
 use Rattle.m36_reading.specs.Doing.{Kind, fails_never}
 use Rattle.m36_told.specs.LinesIn.{lines_in}
 
+-- a report: the files that are written, and the text that is printed
 pub record ToldFields : Type 0 where
   pub sets : List Set
   pub text : List ℕ
@@ -18,12 +19,12 @@ abbrev pub told_answer : ToldFields → Answer
 told_answer told =
     record { sets = told.sets; text = told.text; pieces = lines_in told.text; status = Done }
 
--- the one answer that is due
+-- the one required answer
 abbrev pub IsToldDue : ToldFields → Answer → Type 0
 IsToldDue told due = due ≡ told_answer told
 
--- Memory may be wanted for the writing of a file: then those before it are written, no other write
--- is tried, and nothing is put.
+-- If memory runs out in the write of a file, the files before it are written, no other write is
+-- tried, and nothing is printed.
 pub record ToldWants (told : ToldFields) (old new : Outside) : Type 0 where
   pub set : SetWanting told.sets old.folder new.folder
   pub none_put : IsNotPut old.sink new.sink

@@ -1,4 +1,4 @@
-//! The files of `alm NAME`, and its source that is refused.
+//! The files of `alm NAME`, and the refusal of its source.
 
 ghost use Rattle.m36_reading.specs.Asking.{Refuses};
 ghost use Rattle.m36_told.specs.Telling.{source_refused};
@@ -17,7 +17,7 @@ pub struct AlmFiles {
     pub object: Name,
 }
 
-/// E1 to E8: a source that is refused, at a line and a column.
+/// The refusal of a source: E1 to E8 at the line and the column of the fault, or NoMemory.
 pub fn refuse_source(alloc: Global, name: &[u8], fault: AlmFault) -> Refusal
     ensures { Refuses result (source_refused name.now fault) }
 {

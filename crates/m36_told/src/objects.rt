@@ -1,4 +1,4 @@
-//! The file that an object is.
+//! The bytes of an object.
 
 ghost use Rattle.std.specs.Prelude.{◌≡◌, IfOk};
 ghost use Rattle.m36_told.specs.Assemblies.{object_bytes};
@@ -9,7 +9,7 @@ use m36_word::NoMemory;
 use obj36::Object;
 use std::alloc::Global;
 
-/// The bytes of an object: its words, packed. The error is want of memory alone.
+/// The bytes of an object: its words, packed. Fails only with `NoMemory`.
 pub fn object_bytes(alloc: Global, object: &Object) -> Result<Text, NoMemory>
     ensures { IfOk result (λ bytes. bytes ≡ object_bytes object.now) }
 {

@@ -1,4 +1,4 @@
-//! Files that are written one after another.
+//! Writes files one after another.
 
 ghost use Rattle.std.specs.Prelude.{◌≡◌};
 ghost use Rattle.m36_reading.specs.Outside.{folder_of};
@@ -8,7 +8,8 @@ use m36_outside::{Folder, WriteAnswer};
 use m36_reading::Set;
 use std::alloc::Global;
 
-/// Writes files, one after another. Behind one that could not be written none is.
+/// Writes files in order, each once. After the first that could not be written, or for which memory
+/// ran out, no other is tried, and that answer is returned.
 #[tactic(auto, using(crate::proofs::SetLaws::setting))]
 pub fn write_sets<F: Folder>(alloc: Global, sets: &[Set], folder: &mut F) -> WriteAnswer
     ensures says { SetsSay result sets.now

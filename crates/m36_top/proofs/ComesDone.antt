@@ -1,4 +1,5 @@
--- Where what a command needs is so, it comes to Done; and where nothing ever fails, to no fault.
+-- If a command's needs are met, its required answers have the status Done; and if nothing ever
+-- fails, there is no fault.
 use Rattle.std.proofs.Common.{◌≡◌, ℕ, ◌+◌, ◌<◌, Bool, true, false, ◌||◌, ◌⊎◌, List, [], ◌∷◌, ◌++◌, length, take, Option, Some, None, Ok, Err, inl, inr, refl, sym, ap, subst, ◌∙◌, arith, length-append}
 use Rattle.std.specs.Prelude.{IfSome, All}
 use Rattle.std.proofs.lemmas.List.{take-append-le}
@@ -182,7 +183,7 @@ folder_done command given due is needs =
 
 -- ---- sessions
 
--- what was taken of an input that is told
+-- What was taken of an input that shows its bytes is a prefix of them.
 taken_of : (left pieces : List ℕ) (after : Option (List ℕ)) → Some left ≡ preceded pieces after → (rest : List ℕ) × (left ≡ pieces ++ rest)
 taken_of left pieces None same = absurd (cc)
 taken_of left pieces (Some rest) same = (rest, cc)
@@ -310,7 +311,7 @@ no_write true old new a b c d (inl rose) = no_rise old.sink.faults new.sink.faul
 no_write true old new a b c d (inr rose) = no_rise old.folder.write_faults new.folder.write_faults a b rose
 no_write false old new a b c d rose = no_rise old.sink.faults new.sink.faults c d rose
 
--- every count stands at 0
+-- Every count is 0, before and after.
 pub record AllZero (talk : Talk) (old new : Outside) : Type 0 where
   pub reads : (old.folder.read_faults ≡ 0) × (new.folder.read_faults ≡ 0)
   pub writes : (old.folder.write_faults ≡ 0) × (new.folder.write_faults ≡ 0)

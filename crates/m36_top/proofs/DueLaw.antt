@@ -1,4 +1,4 @@
--- One answer is due.
+-- How many answers are required.
 use Rattle.std.proofs.Common.{◌≡◌, Option, Some, None, Ok, Err, inl, inr, refl, sym, subst, ◌∙◌}
 use Rattle.m36_outside.specs.Files.{Files}
 use Rattle.m36_reading.specs.declared.status.Status.TheVariants.{Usage}
@@ -76,7 +76,7 @@ command_joined : (command : Option Command) (files : Files) (talk : Talk) (due :
 command_joined None files talk due is = subst AreJoined (sym is) refl
 command_joined (Some command) files talk due is = by_joined talk (outcome_in files (reads command)) due is
 
--- ---- a run that comes to DIS
+-- ---- a run that ends with DIS
 
 one_comes : OneComesToDis
 one_comes lib limit system turns last booted goes ends plain same end how goes' ends' =

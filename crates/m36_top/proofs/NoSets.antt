@@ -39,7 +39,7 @@ use Rattle.m36_top.specs.Dues.{Due, Told, Image, Folder, Schedule, ImageSession,
 use Rattle.m36_top.specs.Commands.{reads, writes_files}
 use Rattle.m36_top.specs.TopCall.{WriteRose, WritesStand, WriteCauseBy, KeepsBy}
 
--- ---- what holds of all that a reading can come to
+-- ---- what holds of all results of a reading
 
 abbrev pub Always : {A : Type 0} → (A → Type 0) → Reading A → Type 0
 Always P (decided a) = P a
@@ -77,7 +77,7 @@ always_mapped P Q make (decided (Ok a)) on stop always = on a always
 always_mapped P Q make (decided (Err r)) on stop always = stop r
 always_mapped P Q make (asks name go) on stop always = λ found. always_mapped P Q make (go found) on stop (always found)
 
--- ---- no file is due
+-- ---- the required answers write no file
 
 abbrev NoSets : Talk → Early Due → Type 0
 NoSets talk (Ok d) =

@@ -1,4 +1,4 @@
--- A command is performed by what performs its kind.
+-- Performing what its kind requires performs the command.
 use Rattle.std.proofs.Common.{◌≡◌, ℕ, Bool, List, Option, Some, None, refl, sym, subst, ◌∙◌}
 use Rattle.std.specs.Prelude.{◌↔◌}
 use Rattle.m36_reading.specs.declared.status.Status.{Status}

@@ -31,7 +31,7 @@ pub as_takes :
     → command ≡ same → CommandTakes same result talk before after → CommandTakes command result talk before after
 as_takes talk command same result before after is none = subst (λ c. CommandTakes c result talk before after) (sym is) none
 
--- a file under the name that is lent
+-- The name that is passed to the call is that of the command.
 pub named :
     {may : May} (program : List ℕ → Program may (Unit {0})) (name lent : List ℕ) (result : Status) (old new : Seen)
     → lent ≡ name → PerformsOver (program lent) (early result) old new → PerformsOver (program name) (early result) old new
@@ -46,7 +46,7 @@ pub same_input :
 same_input left left' given given' faults faults' l g f =
     ap (λ x. input x given' faults') l ∙ ap (λ x. input left x faults') g ∙ ap (λ x. input left given x) f
 
--- ---- by what the words ask for
+-- ---- by the command of the words
 
 pub some_performs :
     (asked : Option Command) (command : Command) (result : Status) (old new : Seen)

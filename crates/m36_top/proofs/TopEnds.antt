@@ -1,4 +1,4 @@
--- What follows of the top call from how its command ends.
+-- The clauses of the top call, derived from how its command ends.
 use Rattle.std.proofs.Common.{◌≡◌, Bool, ◌⊎◌, List, Option, Some, None, refl, sym, subst, inl, inr}
 use Rattle.std.specs.Prelude.{IfSome}
 use Rattle.m36_outside.specs.Files.{Files}

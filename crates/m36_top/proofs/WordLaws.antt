@@ -23,7 +23,7 @@ pub words_more :
 words_more words i g h all word inside so_far at read =
     sym (words_begin g word (drop (i + 1) words) (Some h) read) ∙ ap (λ w. with_words g (w ∷ drop (i + 1) words)) at ∙ sym (at_drop_more (with_words g) words i word inside) ∙ so_far
 
--- a word makes the list no command
+-- With this word the list is no command.
 pub words_fail :
     (words : List (List ℕ)) (i : ℕ) (g : Given) (all : Option Given) (word : List ℕ)
     → i < length words → with_words g (drop i words) ≡ all → word ≡ get_or words i word → with_word g word ≡ None

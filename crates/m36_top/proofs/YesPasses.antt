@@ -1,4 +1,4 @@
--- Where `audit yes` is written, the image passes its audit.
+-- If `audit yes` is printed, what the command audits passes.
 use Rattle.std.proofs.Common.{◌≡◌, ℕ, ◌<◌, ◌⊎◌, List, [], ◌∷◌, ◌++◌, length, Option, Some, Ok, Err, refl, sym, ap, subst, ◌∙◌, arith, append_assoc, length-append, inl, inr}
 use Rattle.m36_outside.specs.Files.{Files}
 use Rattle.m36_outside.specs.Written.{appended, Grew, GrewWithin}
@@ -36,7 +36,7 @@ cancel (x ∷ xs) ys zs e = cancel xs ys zs (cc)
 some_same : (xs ys : List ℕ) → Some xs ≡ Some ys → xs ≡ ys
 some_same xs ys e = cc
 
--- what is written first where something is promised is some text
+-- The beginning with which something is promised is not empty.
 yes_is_some : (d : Due) → 0 < length (yes_of d)
 yes_is_some (Told told) = omega arith
 yes_is_some (Image image) = omega arith
@@ -46,7 +46,7 @@ yes_is_some (ImageSession state) = omega arith
 yes_is_some (FolderSession given) = omega arith
 yes_is_some (Made sets) = yes_some sets
 
--- nothing written is no text
+-- If nothing was printed, nothing begins so.
 says_nothing : (opening : List ℕ) (old new : Option (List ℕ)) → 0 < length opening → new ≡ old → SaysYes opening old new → ⊥
 says_nothing opening old new some same told_yes =
     let e : told_yes.before ≡ told_yes.before ++ (opening ++ told_yes.rest) = some_same _ _ (sym told_yes.was ∙ sym same ∙ told_yes.is) in
@@ -55,7 +55,7 @@ says_nothing opening old new some same told_yes =
 pub yes_nothing : (old new : Option (List ℕ)) → new ≡ old → SaysYes yes_line old new → ⊥
 yes_nothing old new same told_yes = says_nothing yes_line old new (omega arith) same told_yes
 
--- what was written begins with it
+-- The text that was printed begins so.
 yes_grew : (opening : List ℕ) (old new : Option (List ℕ)) (text : List ℕ) → Grew old new text → SaysYes opening old new → Begins opening text
 yes_grew opening old new text grew told_yes =
     let e : Some (told_yes.before ++ text) ≡ Some (told_yes.before ++ (opening ++ told_yes.rest)) = sym (ap (appended text) told_yes.was) ∙ sym grew ∙ told_yes.is in
@@ -66,7 +66,7 @@ yes_grew_within opening old new text cut told_yes =
     let b = yes_grew opening old new cut.part cut.grew told_yes in
     (b.0 ++ cut.rest, cut.whole ∙ ap (λ t. t ++ cut.rest) b.1 ∙ append_assoc opening b.0 cut.rest)
 
--- an answer is due that begins so
+-- A required answer begins so.
 due_passes : (talk : Talk) (d : Due) (due : Answer) → IsDueOf talk d due → Begins (yes_of d) due.text → Promises d
 due_passes talk (Told told) due is begins = tt
 due_passes talk (Image image) due is begins = yes_passes image.command image.state due begins.0 is begins.1
@@ -77,7 +77,7 @@ due_passes talk (ImageSession state) due is begins = tt
 due_passes talk (FolderSession given) due is begins = tt
 due_passes talk (Made sets) due is begins = yes_made Whole sets due begins.0 is begins.1
 
--- one was begun
+-- An answer that may be printed in part begins so.
 begun_passes : (talk : Talk) (d : Due) (due : Answer) → IsBegunOf talk d due → Begins (yes_of d) due.text → Promises d
 begun_passes talk (Told told) due is begins = tt
 begun_passes talk (Image image) due is begins = yes_passes image.command image.state due begins.0 is begins.1
@@ -138,7 +138,7 @@ fails_passes talk (ImageSession state) old new f = λ told_yes. tt
 fails_passes talk (FolderSession given) old new f = λ told_yes. tt
 fails_passes talk (Made sets) old new f = absurd f
 
--- by what a reading came to
+-- by the result of a reading
 pub ends_pass_by :
     (talk : Talk) (Is : Coming (Early Due) → Type 0) (given : Early Due) (end : End) (result : Status) (old new : Outside)
     → ((other : Early Due) → Is (Came other) → given ≡ other)
@@ -161,7 +161,7 @@ pub ends_pass :
 ends_pass talk command files end result old new e =
     ends_pass_by talk (ComesIn files (reads command)) (outcome_in files (reads command)) end result old new (λ other came. came) e
 
--- a reading comes to one end by the same answers
+-- By the same answers a reading has only one result.
 goes_one :
     {A : Type 0} (answer : ReadAnswer) (go : Found → Reading A) (asked : List Asked) (a b : A)
     → ((found : Found) → Comes (go found) asked (Came a) → Comes (go found) asked (Came b) → a ≡ b)

@@ -1,4 +1,4 @@
--- What each command reads, and what is due to it then.
+-- The reading of each command: what it reads, and what it then has to do.
 use Rattle.std.specs.Prelude.{Bool, true, false, None}
 use Rattle.m36_reading.specs.Reading.{Reading, Early, mapped}
 use Rattle.m36_told.specs.Telling.{print_reads, alm_reads}
@@ -29,7 +29,7 @@ reads DebugFolder = mapped FolderSession (folder_reads None)
 reads (DebugImage file) = mapped ImageSession (state_reads file)
 reads (Make seed) = mapped Made (make_reads seed)
 
--- which commands write a file
+-- Only `alm`, `bind` and `make` write files.
 abbrev pub writes_files : Command → Bool
 writes_files (Bare file run) = false
 writes_files (Audit file) = false
@@ -43,7 +43,7 @@ writes_files DebugFolder = false
 writes_files (DebugImage file) = false
 writes_files (Make seed) = true
 
--- which commands take input beside the folder
+-- Only sessions take input.
 abbrev pub takes_input : Command → Bool
 takes_input (Bare file run) = false
 takes_input (Audit file) = false

@@ -1,5 +1,5 @@
--- What each command needs beside its words and its files to answer Done, and that then it does, or
--- wants memory. And objects of which no call ever fails.
+-- What each command needs, besides accepted words and files, to answer Done; that it then does so
+-- or runs out of memory. And folders, inputs and outputs of which no call ever fails.
 use Rattle.std.specs.Prelude.{ℕ, ◌≡◌, ◌≢◌, ◌<◌, ◌⊎◌, ⊤, Bool, true, List, All, length, take}
 use Rattle.std.specs.Prelude.{Option, Some, None, Ok}
 use Rattle.m36_outside.specs.Files.{Files}
@@ -46,11 +46,11 @@ use Rattle.m36_top.specs.Dues.{Due, Told, Image, Folder, Schedule, ImageSession,
 use Rattle.m36_top.specs.Commands.{reads, writes_files, takes_input}
 use Rattle.m36_top.specs.TopCall.{ReadRose, WriteRose}
 
--- an audit passes, or what it audits is run all the same
+-- The audit passes, or `--unaudited` is given.
 abbrev pub MayRun : Type 0 → Bool → Type 0
 MayRun Passes unaudited = Passes ⊎ (unaudited ≡ true)
 
--- ---- an image: its audit passes, or it is run all the same, and its run comes to DIS
+-- ---- an image: its run is allowed and ends with DIS within its steps; or its audit passes
 
 abbrev pub ImageNeeds : ImageCommand → State (List ℕ) → Type 0
 ImageNeeds (image.Bare bare) state =
@@ -58,16 +58,16 @@ ImageNeeds (image.Bare bare) state =
     × (last_outcome (run bare.steps state) ≡ Stopped Dis)
 ImageNeeds image.Audit state = IsAudited state.store state.regs.dbr
 
--- ---- a folder: the same of each system to which it boots, and of each of its runs
+-- ---- a folder: the same of the system that it boots, and of each of its runs
 
--- Each run of at most so many steps comes to DIS.
+-- Each run of at most `limit` steps ends with DIS.
 abbrev pub ComesToDis : Library → ℕ → Booted → Type 0
 ComesToDis lib limit first =
     (turns : List Turn) (last : Booted) (how : Finish)
     → Goes lib limit first turns last → Finishes how lib limit turns last
     → how ≡ Over (end.Stop Dis)
 
--- Where one run does, and executes no ABSA and no LDBR, each does.
+-- If one run ends with DIS and executes no ABSA and no LDBR, each run ends with DIS.
 abbrev pub OneComesToDis : Type 0
 OneComesToDis =
     (lib : Library) (limit : ℕ) (system : SuperFields) (turns : List Turn) (last : Booted)
@@ -89,15 +89,15 @@ abbrev pub FolderNeeds : FolderCommand → FolderFields → Type 0
 FolderNeeds command given =
     (system : SuperFields) → IsBooted given.lib system → SystemNeeds command given.lib system
 
--- ---- processes: their joint audit passes, or the schedule is run all the same
+-- ---- processes: their joint audit passes, or `--unaudited` is given
 
 abbrev pub ScheduleNeeds : Bool → ProcsFields → Type 0
 ScheduleNeeds unaudited procs =
     MayRun (IsJointlyAudited procs.state.store (dbrs_of procs.state)) unaudited
 
--- ---- a session: its input is told, and is not too long
+-- ---- a session: the input shows its bytes, and they are not too many
 
--- There are more bytes than a session takes, and none of the whole lines among so many is `quit`.
+-- The input has more bytes than a session takes, and no whole line within that limit is `quit`.
 pub record IsTooLong (left : List ℕ) : Type 0 where
   pub more : bytes_limit < length left
   pub none : All IsNotQuit (whole_lines (take bytes_limit left))
@@ -107,7 +107,7 @@ pub record SessionNeeds (talk : Talk) : Type 0 where
   pub told : talk.before.left ≡ Some left
   pub short : ¬ IsTooLong left
 
--- ---- a folder that is made: it boots, and its audit passes, and its run comes to DIS
+-- ---- a folder that is made: it boots, its audit passes, and each of its runs ends with DIS
 
 abbrev pub MadeSystemNeeds : Library → SuperFields → Type 0
 MadeSystemNeeds lib system =
@@ -119,7 +119,7 @@ pub record MadeNeeds (sets : List Set) : Type 0 where
   pub needs :
       (system : SuperFields) → IsBooted given.lib system → MadeSystemNeeds given.lib system
 
--- ---- all commands; those that are told need nothing
+-- ---- all commands; print, access, alm and bind (`Told`) need nothing
 
 abbrev pub Needs : Talk → Due → Type 0
 Needs talk (Told told) = ⊤
@@ -130,8 +130,8 @@ Needs talk (ImageSession state) = SessionNeeds talk
 Needs talk (FolderSession given) = SessionNeeds talk
 Needs talk (Made sets) = MadeNeeds sets
 
--- Where the files are accepted, what the command needs is so, and nothing fails outside, it is done
--- or memory is wanted.
+-- If the files are accepted, the command's needs are met, and nothing fails outside, the status is
+-- Done, or memory runs out.
 abbrev pub ComesDone : Option Command → Files → Status → Talk → Outside → Outside → Type 0
 ComesDone None files result talk old new = ⊤
 ComesDone (Some command) files result talk old new =
@@ -141,7 +141,7 @@ ComesDone (Some command) files result talk old new =
 
 -- ---- objects that never fail
 
--- Of a folder, an input and a sink each count of faults is 0, whatever was called.
+-- Every folder, input and sink of these types has 0 as each count of faults, whatever was called.
 pub record NeverFail {F L S : Type 0} (reads writes : F → ℕ) (lines : L → ℕ) (puts : S → ℕ)
     : Type 0 where
   pub read_faults : (f : F) → reads f ≡ 0

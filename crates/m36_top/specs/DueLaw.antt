@@ -1,5 +1,4 @@
--- That one answer is due to words and files, but to those that boot or make a folder or hold a
--- session, and which by the conditions of the audit.
+-- How many answers are required of words and files, and which by the conditions of the audit.
 use Rattle.std.specs.Prelude.{ℕ, ◌≡◌, ⊤, List, Option, Some, None, Ok, Err}
 use Rattle.m36_outside.specs.Files.{Files}
 use Rattle.m36_outside.specs.Passing.{joined}
@@ -18,12 +17,13 @@ use Rattle.m36_top.specs.Dues.{IsDueOf}
 use Rattle.m36_top.specs.Commands.{reads}
 use Rattle.m36_top.specs.Done.{OneComesToDis}
 
+-- the answers that are required of words over some files: Usage alone if they are no command
 abbrev pub IsCommandDue : Option Command → Files → Talk → Answer → Type 0
 IsCommandDue None files talk due = due ≡ unwritten Usage
 IsCommandDue (Some command) files talk due =
     IsDueBy (IsDueOf talk) (outcome_in files (reads command)) due
 
--- no folder is booted or made, and no session held
+-- The reading boots or makes no folder, and no session is held.
 abbrev pub IsUnbooted : Early Due → Type 0
 IsUnbooted (Ok (Told told)) = ⊤
 IsUnbooted (Ok (Image image)) = ⊤
@@ -38,12 +38,11 @@ abbrev pub BootsNone : Option Command → Files → Type 0
 BootsNone None files = ⊤
 BootsNone (Some command) files = IsUnbooted (outcome_in files (reads command))
 
--- One answer at most is due to words and files that boot or make no folder and hold no session,
--- and it can't be that none is.
--- The pieces of an answer, one behind the other, are its text. To a command on an image, or on
--- processes, it is the one that the findings of the audit give; of those to a command on a folder,
--- and of those to `make`, laws of their own speak. Where one run of a system comes to DIS, and
--- executes no ABSA and no LDBR, each does.
+-- If words and files boot or make no folder and hold no session, at most one answer is required
+-- (`one`), and it is not possible that none is (`some`). The pieces of each required answer, one
+-- after the other, are its text. The answers on images, processes, folders, and of `make` have laws
+-- of their own, by the findings of the audit. If one run of a system ends with DIS and executes no
+-- ABSA and no LDBR, each run does (`comes`).
 pub record DueLaw : Type 0 where
   pub one :
       (words : List (List ℕ)) (files : Files) (talk : Talk) (due same : Answer)

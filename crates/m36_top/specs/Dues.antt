@@ -1,6 +1,6 @@
--- What is due to a command, in kinds: an answer that is told, one by what the audit of an image
--- finds, one by what the audit of a booted folder finds, one by what the joint audit of processes
--- finds, one by a session over an image or a booted folder, or one by the files that are made.
+-- What a command has to do once its files are read, by kinds: a report (`Told`); a command on an
+-- image, on a booted folder or on processes; a session over an image or a booted folder; or the
+-- files of `make`. Each kind states which answers are required.
 use Rattle.std.specs.Prelude.{ℕ, ⊤, Bool, List, ◌++◌}
 use Rattle.m36_model.specs.Store.{State}
 use Rattle.m36_reading.specs.declared.setting.Set.{Set}
@@ -26,12 +26,12 @@ pub record ImageDue : Type 0 where
   pub command : ImageCommand
   pub state : State (List ℕ)
 
--- a command on a folder, and what it is booted with
+-- a command on a folder, and the catalog and files with which it boots
 pub record FolderDue : Type 0 where
   pub command : FolderCommand
   pub given : FolderFields
 
--- processes with their schedule, and whether they are run though the audit fails
+-- processes with their schedule, and whether they are run even if the audit fails
 pub record ScheduleDue : Type 0 where
   pub unaudited : Bool
   pub procs : ProcsFields
@@ -54,7 +54,8 @@ on_folder command given = Folder (record { command = command; given = given })
 abbrev pub on_procs : Bool → ProcsFields → Due
 on_procs unaudited procs = Schedule (record { unaudited = unaudited; procs = procs })
 
--- what a kind says of one thing that is due
+-- a kind for one value: which answers are required, which may be printed in part if the output
+-- fails, what may be written if memory runs out, and what if the input could not be read
 pub record Case : Type 1 where
   pub IsDue : Answer → Type 0
   pub IsBegun : Answer → Type 0
@@ -69,7 +70,7 @@ case kind d = record {
   Fails = kind.Fails d;
 }
 
--- each by its kind, and by the input of the call
+-- by the kind; sessions also by the input of the call
 abbrev pub case_of : Talk → Due → Case
 case_of talk (Told told) = case told_kind told
 case_of talk (Image image) = case (state_kind image.command) image.state
@@ -79,19 +80,19 @@ case_of talk (ImageSession state) = case (image_kind talk) state
 case_of talk (FolderSession given) = case (session_kind talk) given
 case_of talk (Made sets) = case made_kind sets
 
--- which answer is due
+-- Is this answer required?
 abbrev pub IsDueOf : Talk → Due → Answer → Type 0
 IsDueOf talk d due = (case_of talk d).IsDue due
 
--- of which a first part may be put
+-- May a first part of this answer be printed if the output fails?
 abbrev pub IsBegunOf : Talk → Due → Answer → Type 0
 IsBegunOf talk d due = (case_of talk d).IsBegun due
 
--- what may be written where memory is wanted
+-- what may be written and printed if memory runs out
 abbrev pub WantsOf : Talk → Due → Outside → Outside → Type 0
 WantsOf talk d old new = (case_of talk d).Wants old new
 
--- and where the input could not be read
+-- what may be written and printed if the input could not be read
 abbrev pub FailsOf : Talk → Due → Outside → Outside → Type 0
 FailsOf talk d old new = (case_of talk d).Fails old new
 
@@ -103,8 +104,8 @@ due_kind talk = record {
   Fails = FailsOf talk;
 }
 
--- what `audit yes` promises: of the image, of the booted folder, of the processes, or of the folder
--- that is made, where the command audits any
+-- what `audit yes` promises of the image, the booted folder, the processes or the folder that is
+-- made; nothing if the command audits none
 abbrev pub Promises : Due → Type 0
 Promises (Told told) = ⊤
 Promises (Image image) = PassesAudit image.state
@@ -114,7 +115,7 @@ Promises (ImageSession state) = ⊤
 Promises (FolderSession given) = ⊤
 Promises (Made sets) = PassesMade sets
 
--- and what is written first where it is promised
+-- the beginning of the output with which that is promised
 abbrev pub yes_of : Due → List ℕ
 yes_of (Told told) = yes_line
 yes_of (Image image) = yes_line

@@ -16,7 +16,8 @@ use Rattle.m36_top.specs.declared.command.Command.TheVariants.{Bare, Audit, Boot
 use Rattle.m36_top.specs.declared.command.Command.TheVariants.{Access, Print, Alm, Bind}
 use Rattle.m36_top.specs.declared.command.Command.TheVariants.{DebugFolder, DebugImage, Make}
 
--- All that is recorded of the call is what the command's program says, in its order.
+-- What the folder, the input and the output record of the call are events by which the command's
+-- program goes to the status.
 abbrev pub CommandPerforms : Command → Status → Seen → Seen → Type 0
 CommandPerforms (Bare file run) result old new =
     PerformsOver (image_program (image.Bare run) file) (early result) old new

@@ -1,4 +1,4 @@
--- The line that tells how a call ended.
+-- The line that reports how a call ended.
 use Rattle.std.specs.Prelude.{ℕ, List, [], ◌++◌, codes}
 use Rattle.m36_text.specs.Digits.{decimal_text}
 use Rattle.m36_text.specs.Lines.{as_line}
@@ -9,7 +9,7 @@ use Rattle.m36_reading.specs.declared.status.Status.TheVariants.{Done, Usage, Re
 use Rattle.m36_reading.specs.declared.status.Status.TheVariants.{BadFile, AuditNo, MachineStop}
 use Rattle.m36_reading.specs.declared.status.Status.TheVariants.{Steps, NoMemory}
 
--- the file, the code, the place and the column, each behind a blank
+-- the name of the file, the code, the place and the column, each after a blank
 abbrev pub bad_place : Bad → List ℕ
 bad_place bad =
     ((((((codes " " ++ bad.name) ++ codes " ") ++ code_name bad.code) ++ codes " ")
@@ -27,11 +27,11 @@ details (MachineStop end) = []
 details Steps = []
 details NoMemory = []
 
--- `m36: `, the name of the status, and behind BadFile its details
+-- `m36: `, the name of the status, and after BadFile its details
 abbrev pub status_line : Status → List ℕ
 status_line status = as_line ((codes "m36: " ++ status_name status) ++ details status)
 
--- the line of the status on standard error: none where the call answered Done
+-- what is printed to standard error: the line of the status, or nothing after Done
 abbrev pub report_of : Status → List ℕ
 report_of Done = []
 report_of Usage = status_line Usage

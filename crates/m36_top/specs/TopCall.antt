@@ -1,4 +1,4 @@
--- What the top call says, by the command that its words are.
+-- The clauses of the top call, by the command that its words ask for (None: no command).
 use Rattle.std.specs.Prelude.{ℕ, ◌≡◌, ◌⊎◌, ⊤, Bool, true, false, ◌++◌, List, Option, Some, None}
 use Rattle.std.specs.Prelude.{Ok, Err}
 use Rattle.m36_outside.specs.Counts.{Rose}
@@ -19,24 +19,25 @@ use Rattle.m36_top.specs.declared.command.Command.TheVariants.{DebugFolder, Debu
 use Rattle.m36_top.specs.Dues.{Due, due_kind, Promises, yes_of}
 use Rattle.m36_top.specs.Commands.{reads, writes_files, takes_input}
 
--- no command
+-- Without a command the status is Usage, and nothing is written or printed.
 pub record IsUnasked (result : Status) (old new : Outside) : Type 0 where
   pub usage : result ≡ Usage
   pub idle : IsIdle old new
   pub read_faults : NoneUnread old new
 
--- A command is performed, by whatever answers the folder gives: what it was asked and answered
--- before the call, and after, differ by those that the command's reading asks for, one after
--- another and no others; what the folder was told to write differs by the files of an answer that
--- is due by them, or by a first part of these; and so do the pieces that the sink took by those of
--- the answer. Without a command nothing is asked, written or taken.
+-- A command is performed by the answers that the folder gives, whatever they are. In the call the
+-- folder is asked only for the files that the command's reading asks for, one after another. The
+-- writes of the call are the files of an answer that is required by the folder's answers, or a
+-- first part of them; the pieces that the sink took are those of this answer, or a first part of
+-- them. Without a command nothing is asked, written or printed.
 abbrev pub Through :
     Option Command → Status → Talk → Outside → Outside → List Asked → List Asked → Type 0
 Through None result talk old new before after = IsUnasked result old new × (after ≡ before)
 Through (Some command) result talk old new before after =
     Does (due_kind talk) (reads command) result old new before after
 
--- It ends by what its reading comes to in the files that the folder tells.
+-- A command ends as its kind requires by the result of its reading in the files that the folder
+-- shows.
 abbrev pub TopOutput : Option Command → Files → Status → Talk → Outside → Outside → Type 0
 TopOutput None files result talk old new = IsUnasked result old new
 TopOutput (Some command) files result talk old new =
@@ -44,13 +45,13 @@ TopOutput (Some command) files result talk old new =
 
 -- ---- the input
 
--- whether words take input beside the folder
+-- Does the command take input?
 abbrev pub may_take : Option Command → Bool
 may_take None = false
 may_take (Some command) = takes_input command
 
--- With a command that takes input its count of faults stands, but where it could not be read; with
--- every other nothing is taken of it.
+-- With a command that takes input the input's count of faults is unchanged unless the status is
+-- ReadFault. With every other command nothing is taken of the input.
 abbrev pub InputBy : Bool → End → Talk → Type 0
 InputBy true end talk = InputStands end talk
 InputBy false end talk = IsUntaken talk
@@ -58,7 +59,7 @@ InputBy false end talk = IsUntaken talk
 abbrev pub InputSays : Option Command → Status → Talk → Type 0
 InputSays command result talk = InputBy (may_take command) (end_of result) talk
 
--- Input is taken by a session alone, which is held over what the command's reading comes to.
+-- Only a session takes input, and it is held over what the command's reading yields.
 abbrev pub CommandTakes : Command → Status → Talk → List Asked → List Asked → Type 0
 CommandTakes DebugFolder result talk before after = FolderTakes result talk before after
 CommandTakes (DebugImage file) result talk before after = ImageTakes file result talk before after
@@ -70,16 +71,15 @@ TopTakes (Some command) result talk before after = CommandTakes command result t
 
 -- ---- causes
 
--- With a command that takes input, the count of the folder or that of the input rose; with every
--- other that of the folder.
+-- The folder's count of failed reads rose; or, with a command that takes input, the input's count
+-- of faults did.
 abbrev pub ReadRose : Bool → Talk → Outside → Outside → Type 0
 ReadRose true talk old new =
     Rose old.folder.read_faults new.folder.read_faults
     ⊎ Rose talk.before.faults talk.after.faults
 ReadRose false talk old new = Rose old.folder.read_faults new.folder.read_faults
 
--- A count of reads that failed rose in a call that ended so, and that of the folder stands after
--- any other.
+-- If the call ended with ReadFault, such a count rose. Otherwise that of the folder is unchanged.
 abbrev pub ReadCauseBy : Bool → End → Talk → Outside → Outside → Type 0
 ReadCauseBy takes Unread talk old new = ReadRose takes talk old new
 ReadCauseBy takes Answered talk old new = NoneUnread old new
@@ -91,17 +91,19 @@ abbrev pub ReadCause : Option Command → Status → Talk → Outside → Outsid
 ReadCause command result talk old new =
     ReadCauseBy (may_take command) (end_of result) talk old new
 
--- With a command that writes files, the count of the sink or that of the folder rose; with every
--- other that of the sink.
+-- The sink's count of failed puts rose; or, with a command that writes files, the folder's count of
+-- failed writes did.
 abbrev pub WriteRose : Bool → Outside → Outside → Type 0
 WriteRose true old new =
     Rose old.sink.faults new.sink.faults ⊎ Rose old.folder.write_faults new.folder.write_faults
 WriteRose false old new = Rose old.sink.faults new.sink.faults
 
+-- Both counts are unchanged.
 abbrev pub WritesStand : Outside → Outside → Type 0
 WritesStand old new =
     (new.sink.faults ≡ old.sink.faults) × (new.folder.write_faults ≡ old.folder.write_faults)
 
+-- If the call ended with WriteFault, such a count rose. Otherwise both are unchanged.
 abbrev pub WriteCauseBy : Bool → End → Outside → Outside → Type 0
 WriteCauseBy writes Cut old new = WriteRose writes old new
 WriteCauseBy writes Answered old new = WritesStand old new
@@ -109,7 +111,7 @@ WriteCauseBy writes Unread old new = WritesStand old new
 WriteCauseBy writes Starved old new = WritesStand old new
 WriteCauseBy writes Unasked old new = WritesStand old new
 
--- whether words write files
+-- Does the command write files?
 abbrev pub may_write : Option Command → Bool
 may_write None = false
 may_write (Some command) = writes_files command
@@ -119,7 +121,7 @@ WriteCause command result old new = WriteCauseBy (may_write command) (end_of res
 
 -- ---- completeness
 
--- With no fault outside what is due is done, unless want of memory stands in its place.
+-- If nothing failed outside, a required answer is given, or the status is NoMemory.
 abbrev pub Completes : Option Command → Files → Status → Talk → Outside → Outside → Type 0
 Completes None files result talk old new = result ≡ Usage
 Completes (Some command) files result talk old new =
@@ -130,7 +132,7 @@ Completes (Some command) files result talk old new =
 
 -- ---- files
 
--- Only the commands that write files write any.
+-- Unless the command writes files, no file changes and none is written.
 abbrev pub KeepsBy : Bool → Outside → Outside → Type 0
 KeepsBy true old new = ⊤
 KeepsBy false old new = IsKept old.folder new.folder
@@ -140,19 +142,20 @@ KeepsFiles command old new = KeepsBy (may_write command) old new
 
 -- ---- what `audit yes` promises
 
--- What is written begins with this text, which ends with the line `audit yes`.
+-- What the call printed begins with `yes`, a text that ends with the line `audit yes`.
 pub record SaysYes (yes : List ℕ) (old new : Option (List ℕ)) : Type 0 where
   pub before : List ℕ
   pub rest : List ℕ
   pub was : old ≡ Some before
   pub is : new ≡ Some (before ++ (yes ++ rest))
 
--- what is written does not begin with the line `audit yes`
+-- What the call printed does not begin with the line `audit yes`.
 abbrev pub SaysNoYes : Outside → Outside → Type 0
 SaysNoYes old new = ¬ SaysYes yes_line old.sink.written new.sink.written
 
--- Where what is written begins so, the image, the folder, the folder that is made or the processes
--- that the command audits pass. Nothing is owed for a command that audits none.
+-- If what the call printed begins so, what the command audits passes: the image, the folder, the
+-- folder that is made or the processes. A command that audits nothing promises nothing. If the
+-- files are refused, no `audit yes` is printed.
 abbrev pub YesPasses : Early Due → Outside → Outside → Type 0
 YesPasses (Ok due) old new =
     SaysYes (yes_of due) old.sink.written new.sink.written → Promises due
@@ -162,7 +165,7 @@ abbrev pub TopPasses : Option Command → Files → Outside → Outside → Type
 TopPasses None files old new = SaysNoYes old new
 TopPasses (Some command) files old new = YesPasses (outcome_in files (reads command)) old new
 
--- The same by what the folder answered, whether it tells its files or not.
+-- The same by the answers of the folder, whether it shows its files or not.
 pub record AnswersPass (command : Command) (old new : Outside)
     (before after : List Asked) : Type 0 where
   pub asked : List Asked

@@ -14,9 +14,9 @@
 --     debug FILE
 --     make SEED
 --
--- The first word is the command. Operands and options follow it in any order, and an option stands
--- at most once. Behind `--`, which may stand once, each word is an operand. `--steps N` may be
--- written `--steps=N`, and `--user USER` `--user=USER`; the value of either is the next word,
+-- The first word is the command. The operand and options follow it in any order, each option at
+-- most once. After `--`, which may be given once, each word is an operand. `--steps N` may be
+-- written `--steps=N`, and `--user USER` `--user=USER`; if not, the value is the next word,
 -- whatever it is. No other list of words is a command.
 --
 --     FILE, NAME   1 to 32 of `A-Z a-z 0-9 _ .`, not beginning with `.`; of `alm` and `bind` at
@@ -44,8 +44,8 @@ use Rattle.m36_top.specs.declared.command.Command.TheVariants.{Bare, Audit, Boot
 use Rattle.m36_top.specs.declared.command.Command.TheVariants.{Access, Print, Alm, Bind}
 use Rattle.m36_top.specs.declared.command.Command.TheVariants.{DebugFolder, DebugImage, Make}
 
--- operands: the files of all commands but `access`, which has a user; some texts are both, and each
--- seed is of the form of a file
+-- An operand is a file, or for `access` a user. Some texts are both, and a seed has the form of a
+-- file.
 abbrev pub operand_by : Option (List ℕ) → Option (List ℕ) → Option Operand
 operand_by file user =
     if is_none file && is_none user then None else Some (record { file = file; user = user })
@@ -53,7 +53,7 @@ operand_by file user =
 abbrev pub operand_of : List ℕ → Option Operand
 operand_of word = operand_by (name_of word) (user_of word)
 
--- the most steps that can be asked for, and how many there are without `--steps`
+-- the greatest value of `--steps`, and the limit of steps without it
 abbrev pub steps_limit : ℕ
 steps_limit = 10000000
 
@@ -64,13 +64,13 @@ default_steps = 100000
 abbrev pub steps_of : List ℕ → Option ℕ
 steps_of text = short_decimal_in 8 0 steps_limit text
 
--- what is given once at most, and is of its form
+-- the new value of something that may be given once; None if it was given before
 abbrev pub given_once : {A : Type 0} → Option A → Option A → Option A
 given_once None new = new
 given_once (Some old) new = None
 
--- What the words so far give, and one more. None is given for a word that makes the list no
--- command.
+-- Each of these adds one more word to the operand and options so far. None means that with this
+-- word the list is no command.
 abbrev pub with_operand : Given → List ℕ → Option Given
 with_operand g word =
     option_map (λ o. record g { operand = Some o }) (given_once g.operand (operand_of word))
@@ -89,14 +89,14 @@ with_unaudited g = if g.unaudited then None else Some (record g { unaudited = tr
 abbrev pub expecting : Given → Expects → Given
 expecting g e = record g { expects = e }
 
--- what stands before the value of an option that has it in the same word
+-- the beginning of a word with an option and its value
 abbrev pub steps_before : List ℕ
 steps_before = codes "--steps="
 
 abbrev pub user_before : List ℕ
 user_before = codes "--user="
 
--- a word begins with a text
+-- Does a word begin with a text?
 abbrev pub begins_with : List ℕ → List ℕ → Bool
 begins_with text word = nat_le (length text) (length word) && is_text text (take (length text) word)
 
@@ -108,7 +108,7 @@ is_steps_with_value word = begins_with steps_before word
 abbrev pub is_user_with_value : List ℕ → Bool
 is_user_with_value word = begins_with user_before word
 
--- options by their words, and operands
+-- one word where an option or the operand may follow
 abbrev pub with_any : Given → List ℕ → Option Given
 with_any g word =
     if is_text (codes "--") word then Some (expecting g expects.Operand)
@@ -203,12 +203,12 @@ access g = if has_no_option g then option_map Access (user_given g) else None
 abbrev pub print : Given → Option Command
 print g = if has_no_option g then option_map (λ name. Print name) (file_given g) else None
 
--- the most characters of the name of an object that is made: that of its bind file has no more than
--- a name may have, nor has that of its source, which is shorter
+-- the most characters of the name of an object of `alm` or `bind`: with the suffix `.bind`, or the
+-- shorter `.alm`, it is a name of at most 32
 abbrev pub made_name_limit : ℕ
 made_name_limit = name_limit - length bindfile_suffix
 
--- the names of which a file with a longer name is read too
+-- May a suffix be added to this name?
 abbrev pub may_be_longer : List ℕ → Bool
 may_be_longer name = nat_le (length name) made_name_limit
 
@@ -243,6 +243,7 @@ abbrev pub make : Given → Option Command
 make g =
     if has_no_option g then option_map Make (option_and_then seed_of (file_given g)) else None
 
+-- a command word, and the command that it makes of the operand and options
 abbrev pub Entry : Type 0
 Entry = List ℕ × (Given → Option Command)
 
@@ -253,13 +254,13 @@ commands =
     ∷ (codes "alm", alm) ∷ (codes "bind", bind) ∷ (codes "debug", debug)
     ∷ (codes "make", make) ∷ []
 
--- the command of a word
+-- the command by its word; None if no entry has the word
 abbrev pub command_in : List Entry → List ℕ → Given → Option Command
 command_in [] word g = None
 command_in (entry ∷ entries) word g =
     if is_text entry.0 word then entry.1 g else command_in entries word g
 
--- what a list of words asks for; none where it is no command
+-- the command that a list of words asks for; None if it is no command
 unfoldable pub command_of : List (List ℕ) → Option Command
 command_of [] = None
 command_of (word ∷ words) = option_and_then (command_in commands word) (with_words nothing words)

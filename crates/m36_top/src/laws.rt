@@ -1,21 +1,27 @@
-//! What is due to words and files, by the conditions of the audit.
+//! Laws of required answers: how many there can be, and that some commands have one text.
 
 ghost use Rattle.m36_top.specs.DueLaw.{DueLaw};
 ghost use Rattle.cmd_image.specs.OneText.{ImageTextLaw};
 ghost use Rattle.cmd_procs.specs.OneText.{ProcsTextLaw};
 ghost use Rattle.cmd_tools.specs.OneText.{ToolTextLaw};
 
-/// One answer at most is due to words and files that boot or make no folder and hold no session, and it can't be that none is.
-/// On a state of which all conditions of the audit hold it is the one without findings, and on every other state one by some
-/// findings. A folder boots to one system at most, and its runs make the same turns up to the first that executes ABSA or
-/// LDBR; where one run executes neither and comes to DIS, each run does. A folder that was made is told of by the conditions
-/// of the audit of the system to which it boots.
+/// How many answers can be required of words and files.
+///
+/// If they boot or make no folder and hold no session, at most one answer is required, and it is
+/// not possible that none is. If all conditions of the audit hold of an image, it is the answer
+/// without findings, and otherwise one with some findings; the same holds of processes and the
+/// joint audit.
+///
+/// A folder boots at most one system, and its runs make the same turns up to the first that
+/// executes ABSA or LDBR. If one run executes neither and ends with DIS, each run does. What `make`
+/// prints of a folder follows from the audit of the system that it boots.
 pub fn law_due()
     ensures { DueLaw }
 {}
 
-/// Over the same files what a call of `bare FILE`, `audit FILE`, `procs FILE`, `print`, `access`, `alm` or `bind` puts, however
-/// it ends, is a first part of one text.
+/// `bare FILE`, `audit FILE`, `procs FILE`, `print`, `access`, `alm` and `bind` have one text each:
+/// over the same files, what a call prints, however it ends, is a first part of what any call
+/// prints that ends as the program says, without a fault and without running out of memory.
 pub fn law_one_text()
     ensures images { ImageTextLaw }
     ensures processes { ProcsTextLaw }

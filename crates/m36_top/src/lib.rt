@@ -1,47 +1,85 @@
-//! The simulator as one call: the words of the command line, a folder of files, the lines of an input and a place for the
-//! output in; a status out.
+//! The whole simulator as one call: [`m36`] takes the words of the command line, a folder of files,
+//! an input and an output, and returns a status.
 //!
-//! `bare FILE` and `audit FILE` read a bare image, a text that writes out the core of a machine, its descriptor segment
-//! base register and where it starts. Both audit it and write what the audit finds. `bare` then runs the machine, unless
-//! the audit has failed and `--unaudited` is not given, for at most 100,000 steps or as many as `--steps` gives. A trace
-//! line is written for each step, and an end line. `audit`, `run` and `trace` boot the folder: they read its boot text and
-//! the files of its segments, lay them in core, and audit it; `run` and `trace` then run the system, with its pages, links
-//! and console, and write its characters or a line for each turn, and an end line. With `--user` the segments have the
-//! rights that the access lists of the folder give to that user; `access USER` writes them, a line for each segment. `procs
-//! FILE` reads a text of several processes on one core and their schedule, audits them together, and makes the events of
-//! the schedule in the same way.
-//! `print NAME` unpacks an object and writes its print.
-//! `alm NAME` assembles the source NAME.alm, writes the object as the file NAME, and then the listing.
-//! `bind NAME` binds the objects that NAME.bind names, writes the bound object as the file NAME, and then its print.
-//! `debug FILE` reads a bare image, and `debug` boots the folder; a session is then held by the lines of the input.
-//! `make SEED` makes a folder from a seed and writes it; boots it, audits its core, and runs it where the audit passes.
+//! # The commands
 //!
-//! What [`m36`] promises, whatever its arguments:
+//! - `bare FILE` and `audit FILE` read a bare image: a text that gives the core of a machine, its
+//!   descriptor segment base register and where it starts. Both audit it and print what the audit
+//!   finds. If the audit passes, or `--unaudited` is given, `bare` then runs the machine for at
+//!   most the steps of `--steps` (100,000 by default). It prints a trace line for each step, and an
+//!   end line.
+//! - `audit`, `run` and `trace` boot the folder: they read its boot text and the files of its
+//!   segments, lay them in core, audit it, and print what the audit finds. `run` and `trace` then
+//!   run the system with its pages, links and console. `run` prints the characters of the console,
+//!   `trace` a line for each step and each service, and both the end line. With `--user` the
+//!   segments have the rights that the access lists of the folder give to that user.
+//! - `access USER` prints these rights, one line for each segment.
+//! - `procs FILE` reads a text of several processes on one core and their schedule, audits them
+//!   together, and makes the events of the schedule under the same condition.
+//! - `print NAME` prints an object. `alm NAME` assembles the source NAME.alm, writes the object as
+//!   the file NAME, and prints the listing. `bind NAME` binds the objects that NAME.bind names,
+//!   writes the bound object as the file NAME, and prints it.
+//! - `debug FILE` reads a bare image, and `debug` boots the folder. Each then holds a session,
+//!   whose lines it takes from the input.
+//! - `make SEED` makes a folder from a seed and writes its files. It then boots and audits them,
+//!   and runs the system if the audit passes.
 //!
-//! - Each trace line that is written is the line of the written step of the state that the step before left, from the
-//!   image of the file on.
-//! - Of a booted folder each step is the written step of its state, each link service gives the pair of the search rules or
-//!   its code, and each console service the characters that the rules of access let it read. Where `audit yes` is written,
-//!   the next promise holds in every state of the run until an LDBR is executed, absent pages included.
-//! - Where `audit yes` is written, all six conditions of the audit hold of the image, and its tables isolate each ring from
-//!   1: whatever stands in it and above, until a fault, a stop or a gate call, no word outside its write brackets changes,
-//!   and none outside its read brackets affects a step. Of processes all conditions of the joint audit hold, and the same is
-//!   so over every schedule of them.
-//! - What is written is a first part of the stated output, and the whole of it where the call answers Done, BadFile, AuditNo,
-//!   MachineStop or Steps. Each answer comes exactly where it is due, in the order words, file, image, audit, run; a fault
-//!   has its cause outside; and want of memory alone may stand in the place of an answer, with nothing written, or with all
-//!   that goes before a link service or a line of a session that found none, and with the files that were written before.
-//! - Where the files are accepted and so is what the command needs beside them, as an audit that passes and a run that comes
-//!   to DIS, the call answers Done, or no memory was found; over objects that never fail no fault comes. `specs/Done.antt`
-//!   has what each command needs.
-//! - No file is read but those that the command asks for, one after another, and each line is put as one piece: whatever the
-//!   folder and the sink are, those of the system too (clause `through`).
+//! # What the call promises
 //!
-//! A command is a reading: it asks the folder for files, one after another, and comes to what is due. `specs/Words.antt`
-//! has the set of commands, `specs/Commands.antt` what each reads, `specs/Dues.antt` the kinds of what is due, and
-//! `specs/TopCall.antt` what the call says.
+//! The names are those of the clauses of [`m36`]. They hold for all arguments: for every folder,
+//! input and output, those of the system too. Clauses by the files of the folder hold if the folder
+//! shows its files to the contract, as a folder in memory does.
 //!
-//! Files, texts and statuses are this simulator's own; the machine is that of the Multics Processor Manual AL39.
+//! - `through`, `output`: only the files that the command asks for are read, one after another.
+//!   What is written and printed is a required answer, or a first part of one if the output or the
+//!   write of a file fails. It is the whole answer if the status is Done, BadFile, AuditNo,
+//!   MachineStop or Steps. Each line is printed as one piece. What may end the command is decided
+//!   in this order: words, files, image, audit, run.
+//! - The required answers are defined by the machine. Each trace line is the line of the defined
+//!   step of the state that the step before left, beginning with the state of the image. In a
+//!   booted folder each link service gives the pair of the search rules or its code, and each
+//!   console service the characters that the rules of access let it read.
+//! - `isolated`, `isolated_by_answers`: if the output of the call begins with the line `audit yes`
+//!   (with `make`, after its count of segments), all six conditions of the audit hold of the image,
+//!   and its tables isolate each ring from 1. That is: whatever programs run in that ring and
+//!   above, until a fault, a stop or a gate call no word outside the ring's write brackets changes,
+//!   and no word outside its read brackets affects a step. Of a booted folder the same holds in
+//!   every state of every run until an LDBR is executed, absent pages included. Of processes all
+//!   conditions of the joint audit hold, and they are isolated over every schedule.
+//! - `complete`, `read_cause`, `write_cause`, `sure`: ReadFault and WriteFault occur only after a
+//!   failure outside. Without one, a required answer is given, or memory runs out.
+//! - Memory may run out before anything is written or printed, while a file is written, after the
+//!   files of `make`, in a link service, or in a session. What was written and printed before
+//!   stays.
+//! - `done`: if also the files are accepted, and the command's needs are met (`specs/Done.antt`),
+//!   the status is Done, or memory ran out. An audit needs to pass, for example, and a run to end
+//!   with DIS.
+//! - `files`, `input`, `takes`: only `alm`, `bind` and `make` write files, and only a session takes
+//!   input.
+//! - `performs`: the command does what its program says, with this status.
+//! - `usage` and the clauses after it: words that are no command change nothing.
+//!
+//! # How a command is defined
+//!
+//! A command is a program (`m36_program`): a value that says, step by step, which files the command
+//! reads and writes, what it prints and takes, and where memory may run out. `specs/Programs.antt`
+//! names the program of each command; the programs and the calls that perform them are in the
+//! crates `cmd_image`, `cmd_folder`, `cmd_procs`, `cmd_tools`, `cmd_make` and `cmd_debug`.
+//! `performs` is stated by them. It says of the folder, the input and the output together that
+//! their calls are the events of the program in some common order, but not which order that was:
+//! the three have no common clock.
+//!
+//! The clauses about answers are stated by a second definition: a command is a reading, which asks
+//! the folder for files and yields a refusal or what the command has to do, and a kind, which says
+//! which answers are required then (`m36_reading`).
+//!
+//! `specs/Words.antt` has the words of the commands, `specs/Commands.antt` the reading of each,
+//! `specs/Dues.antt` the kinds, and `specs/TopCall.antt` and `specs/Done.antt` the clauses of the
+//! call. [`law_due`] says how many answers may be required, and [`law_one_text`] that the calls of
+//! some commands all print first parts of one text.
+//!
+//! Files, texts and statuses are this simulator's own; the machine is that of the Multics Processor
+//! Manual AL39.
 #![tactic(auto)]
 
 pub mod command;

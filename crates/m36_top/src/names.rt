@@ -9,7 +9,8 @@ use m36_acl::User;
 use m36_dir::words::name_of;
 use m36_text::Name;
 
-/// An operand: the file that it names, and the user that it is. Some texts are both.
+/// An operand, read both as a name of a file and as a user. Some texts are both, and none is
+/// neither.
 #[derive(Drop)]
 pub struct Operand {
     pub file: Option<Name>,
@@ -25,7 +26,7 @@ fn operand_by(file: Option<Name>, user: Option<User>) -> Option<Operand>
     Some(Operand { file, user })
 }
 
-/// The operand that a word is; none where it is neither a file nor a user.
+/// A word as an operand; None if it is neither the name of a file nor a user.
 pub fn operand_of(word: &[u8]) -> Option<Operand>
     ensures { result ≡ operand_of word.now }
 {

@@ -1,4 +1,4 @@
-//! The line that tells how a call ended.
+//! The line that reports how a call ended.
 
 ghost use Rattle.std.specs.Prelude.{◌≡◌, IfOk};
 ghost use Rattle.m36_top.specs.StatusLine.{bad_place, details, status_line, report_of};
@@ -9,7 +9,7 @@ use m36_text::decimal;
 use m36_word::NoMemory;
 use std::alloc::Global;
 
-// The file, the code, the place and the column.
+// The name of the file, the code, the place and the column, each after a blank.
 fn bad_place(alloc: Global, bad: &Bad) -> Result<Text, NoMemory>
     ensures { IfOk result (λ text. text ≡ bad_place bad.now) }
 {
@@ -24,7 +24,7 @@ fn bad_place(alloc: Global, bad: &Bad) -> Result<Text, NoMemory>
     Ok(text)
 }
 
-// What is told behind the name of a status.
+// What follows the name of a status in its line: of BadFile the refusal, of the others nothing.
 fn details(alloc: Global, status: &Status) -> Result<Text, NoMemory>
     ensures { IfOk result (λ text. text ≡ details status.now) }
 {
@@ -41,8 +41,8 @@ fn details(alloc: Global, status: &Status) -> Result<Text, NoMemory>
     }
 }
 
-/// The line of a status, with its line feed: `m36: ` and the name of the status; behind BadFile stand the name of the
-/// file, the code, the place and the column. The error is want of memory alone.
+/// The line of a status, with its line feed: `m36: ` and the name of the status; after BadFile the
+/// name of the file, the code, the place and the column. Fails only with `NoMemory`.
 fn status_line(alloc: Global, status: &Status) -> Result<Text, NoMemory>
     ensures { IfOk result (λ line. line ≡ status_line status.now) }
 {
@@ -54,8 +54,8 @@ fn status_line(alloc: Global, status: &Status) -> Result<Text, NoMemory>
     Ok(line)
 }
 
-/// What the program prints to standard error of the status: its line, and nothing where it is Done. The error is want of
-/// memory alone.
+/// What the program prints to standard error: the line of the status, or nothing if it is Done.
+/// Fails only with `NoMemory`.
 pub fn report(alloc: Global, status: &Status) -> Result<Text, NoMemory>
     ensures { IfOk result (λ text. text ≡ report_of status.now) }
 {

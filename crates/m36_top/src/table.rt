@@ -1,4 +1,4 @@
-//! The commands by their words.
+//! The table of commands: what each command word makes of the operand and the options.
 
 ghost use Rattle.std.specs.Prelude.{◌≡◌};
 ghost use Rattle.m36_top.specs.Words.{file_given, user_given, bare, runs_nothing, has_no_option, audit_of, audit, folder_run, run, trace, procs, access, print, alm_of, alm, bind_of, bind, debug_of, debug, seed_of, make, commands, command_in};
@@ -12,10 +12,10 @@ use m36_ran::BareRun;
 use m36_text::{Name, short_decimal_in};
 use m36_told::{AlmFiles, BindFiles};
 
-/// The most steps of a run where no number is given.
+/// The most steps of a run without `--steps`.
 const DEFAULT_STEPS: u32 = 100000;
 
-/// The most characters of an object's name that `alm` or `bind` is given.
+/// The most characters of NAME of `alm` and `bind`: with `.bind` it is a name of at most 32.
 const LONGEST_MADE_NAME: usize = 27;
 
 /// The most digits of a seed.
@@ -62,7 +62,7 @@ fn has_no_option(given: &Given) -> bool
     runs_nothing(given) && given.user.is_none()
 }
 
-// `audit`, of a file or of the folder.
+// `audit FILE`, which takes no user, or `audit` of the folder.
 fn audit_of(operand: Option<Operand>, user: Option<User>) -> Option<Command>
     ensures { result ≡ audit_of operand user }
 {
@@ -197,7 +197,7 @@ fn bind(given: Given) -> Option<Command>
     }
 }
 
-// `debug`, of a file or of the folder.
+// `debug FILE`, or `debug` of the folder.
 fn debug_of(operand: Option<Operand>) -> Option<Command>
     ensures { result ≡ debug_of operand }
 {
@@ -218,7 +218,7 @@ fn debug(given: Given) -> Option<Command>
     }
 }
 
-// The seed that a text writes; none where it is not of its form.
+// The seed of 1 to 18 decimal digits; None if the text is not of this form.
 fn seed_of(text: &[u8]) -> Option<u64>
     ensures { result ≡ seed_of text.now }
 {
@@ -237,7 +237,8 @@ fn make(given: Given) -> Option<Command>
     }
 }
 
-/// The command of a word.
+/// The command that a command word makes of what follows it; None if there is no such word, or if
+/// the command does not take this operand and these options.
 pub(crate) fn command_in(word: &[u8], given: Given) -> Option<Command>
     ensures { result ≡ command_in commands word.now given }
 {

@@ -26,7 +26,7 @@ use m36_ran::ImageCommand;
 use m36_reading::Status;
 use std::alloc::Global;
 
-/// Does what a command says.
+/// Performs a command: by its reading and its kind (`does`), and by its program (`performs`).
 #[tactic(auto, using(crate::proofs::Performing::performing))]
 pub fn perform<F: Folder, L: Lines, S: Sink>(
     alloc: Global,
@@ -83,7 +83,7 @@ pub fn perform<F: Folder, L: Lines, S: Sink>(
     }
 }
 
-// What the words ask for.
+// As `m36`, with only those clauses from which the others follow.
 #[tactic(auto, using(crate::proofs::Performing::asking, crate::proofs::Programs::asking))]
 fn answer<F: Folder, L: Lines, S: Sink>(
     alloc: Global,
@@ -120,25 +120,19 @@ fn answer<F: Folder, L: Lines, S: Sink>(
     }
 }
 
-/// The simulator: does what the words of the command line ask for, and answers how that ended.
+/// The simulator: does what the words of the command line ask for, and returns how that ended.
 ///
-/// `words` leaves out the name of the program. `audit FILE` reads the file as a bare image, audits it, and writes the
-/// audit text. `bare FILE` does so too; where the audit passes, or `--unaudited` is given, it then runs the image for
-/// at most the steps that `--steps` gives, 100,000 by default, and writes a trace line for each and the end line.
-/// `audit` boots the folder, audits the core of the booted system, and writes the audit text. `run` and `trace` do so
-/// too; where the audit passes, or `--unaudited` is given, they then run the system with its services: `run` writes the
-/// characters of its console, `trace` a line for each step and each service, and both the end line. With `--user` these
-/// three give the segments the rights that the access lists give to that user; where a run ended for want of a right to
-/// a segment of the catalog, its line stands behind the end line. `access USER` writes what the user may do with each
-/// segment. `procs FILE` reads the file as a text of processes, audits them together, and writes the audit text; where
-/// the audit passes, or `--unaudited` is given, it then makes the events of the schedule, and writes a line for each
-/// and the last line. `print NAME` unpacks the words of the file, reads them as an object, and writes its print. `alm
-/// NAME` assembles the source NAME.alm, writes the words of the object, packed, as the file NAME, and then the listing.
-/// `bind NAME` reads NAME.bind and the objects that it names, writes the words of the bound object, packed, as the file
-/// NAME, and then its print. `debug FILE` reads the file as a bare image, and `debug` boots the folder; a session is then
-/// held over the machine by the lines of the input. `make SEED` writes the folder that the seed makes, and boots it; it
-/// writes how many segments that has, and audits its core; where the audit passes, it runs the system, and writes how that
-/// ended and what it left in X1.
+/// `words` are those after the name of the program. The root doc of this crate says what each
+/// command does, and `specs/Words.antt` which words it takes. In addition:
+///
+/// - `bare FILE`, `run` and `trace` take at most the steps of `--steps`, 100,000 by default.
+/// - `run` and `trace` with `--user`: if the run ended because a right to a segment of the catalog
+///   was missing, the line `denied` of that segment follows the end line.
+/// - `procs FILE` prints a line for each event of the schedule, and the last line.
+/// - `print NAME` and `bind NAME` read objects as packed words. `alm NAME` and `bind NAME` write
+///   them so.
+/// - `make SEED` prints how many segments the folder has and what the audit finds. If the audit
+///   passes, it runs the system, and prints how the run ended and what it left in X1.
 #[tactic(auto, using(crate::proofs::TopEnds::tops))]
 pub fn m36<F: Folder, L: Lines, S: Sink>(
     alloc: Global,
@@ -147,7 +141,8 @@ pub fn m36<F: Folder, L: Lines, S: Sink>(
     lines: &mut L,
     out: &mut S,
 ) -> Status
-    // What is asked, answered, written and put, and in which pieces, by what the folder answers, told or not.
+    // What is read, answered, written and printed, and in which pieces, by the answers of the
+    // folder, whether it shows its files or not.
     ensures through { Through (command_of words.now) result
         (talk_of L.left L.given L.faults lines.old lines.new)
         (outside_of F.files F.wrote F.read_faults F.write_faults S.written S.taken S.faults
@@ -156,7 +151,7 @@ pub fn m36<F: Folder, L: Lines, S: Sink>(
         folder.new out.new)
         (F.asked folder.old) (F.asked folder.new) }
 
-    // The same by the files that the folder tells.
+    // How the command ends, and what is written and printed, by the files that the folder shows.
     ensures output { IfSome (F.files folder.old) (λ f. TopOutput (command_of words.now) f result
         (talk_of L.left L.given L.faults lines.old lines.new)
         (outside_of F.files F.wrote F.read_faults F.write_faults S.written S.taken S.faults
@@ -164,7 +159,7 @@ pub fn m36<F: Folder, L: Lines, S: Sink>(
         (outside_of F.files F.wrote F.read_faults F.write_faults S.written S.taken S.faults
         folder.new out.new)) }
 
-    // With no fault outside what is due is done, or no memory was found.
+    // If nothing fails outside, a required answer is given, or memory runs out.
     ensures complete { IfSome (F.files folder.old) (λ f. Completes (command_of words.now) f result
         (talk_of L.left L.given L.faults lines.old lines.new)
         (outside_of F.files F.wrote F.read_faults F.write_faults S.written S.taken S.faults
@@ -172,8 +167,8 @@ pub fn m36<F: Folder, L: Lines, S: Sink>(
         (outside_of F.files F.wrote F.read_faults F.write_faults S.written S.taken S.faults
         folder.new out.new)) }
 
-    // Where the files are accepted, and so is what the command needs beside them, the answer is then Done, or no memory was
-    // found.
+    // If also the files are accepted and the command's needs are met, the status is Done, or memory
+    // runs out.
     ensures done { IfSome (F.files folder.old) (λ f. ComesDone (command_of words.now) f result
         (talk_of L.left L.given L.faults lines.old lines.new)
         (outside_of F.files F.wrote F.read_faults F.write_faults S.written S.taken S.faults
@@ -181,19 +176,21 @@ pub fn m36<F: Folder, L: Lines, S: Sink>(
         (outside_of F.files F.wrote F.read_faults F.write_faults S.written S.taken S.faults
         folder.new out.new)) }
 
-    // Over objects that never fail, ReadFault and WriteFault never come.
+    // Over a folder, an input and an output that never fail, ReadFault and WriteFault never occur.
     ensures sure { NeverFail F.read_faults F.write_faults L.faults S.faults → IsNoFault result }
 
-    // Where `audit yes` is written all conditions of the audit hold, and the tables of the image isolate each ring; of a
-    // booted folder the same holds in every state of its run, until an LDBR is executed; of processes all conditions of the
-    // joint audit hold, and every schedule of them is isolated.
+    // If the output of the call begins with the line `audit yes` (with `make`, after its count of
+    // segments), all conditions of the audit hold, and the tables of the image isolate each ring.
+    // Of a booted folder the same holds in every state of every run until an LDBR is executed. Of
+    // processes all conditions of the joint audit hold, and they are isolated over every schedule.
+    // This is by the files that the folder shows.
     ensures isolated { IfSome (F.files folder.old) (λ f. TopPasses (command_of words.now) f
         (outside_of F.files F.wrote F.read_faults F.write_faults S.written S.taken S.faults
         folder.old out.old)
         (outside_of F.files F.wrote F.read_faults F.write_faults S.written S.taken S.faults
         folder.new out.new)) }
 
-    // The same of the image that the folder's answers write out, also where it does not tell its files.
+    // The same by the answers of the folder, also if it does not show its files.
     ensures isolated_by_answers { TopAnswersPass (command_of words.now)
         (outside_of F.files F.wrote F.read_faults F.write_faults S.written S.taken S.faults
         folder.old out.old)
@@ -201,15 +198,16 @@ pub fn m36<F: Folder, L: Lines, S: Sink>(
         folder.new out.new)
         (F.asked folder.old) (F.asked folder.new) }
 
-    // No command but `alm`, `bind` and `make` changes a file, or writes one, also where the folder does not tell its
-    // files.
+    // Only `alm`, `bind` and `make` write files, also if the folder does not show its files. With
+    // any other command no file that it shows changes.
     ensures files { KeepsFiles (command_of words.now)
         (outside_of F.files F.wrote F.read_faults F.write_faults S.written S.taken S.faults
         folder.old out.old)
         (outside_of F.files F.wrote F.read_faults F.write_faults S.written S.taken S.faults
         folder.new out.new) }
 
-    // A fault has a cause outside.
+    // With ReadFault a count of failed reads rose; with WriteFault one of failed writes or puts
+    // did. With any other status these counts are unchanged; that of the input is under `input`.
     ensures read_cause { ReadCause (command_of words.now) result
         (talk_of L.left L.given L.faults lines.old lines.new)
         (outside_of F.files F.wrote F.read_faults F.write_faults S.written S.taken S.faults
@@ -222,26 +220,27 @@ pub fn m36<F: Folder, L: Lines, S: Sink>(
         (outside_of F.files F.wrote F.read_faults F.write_faults S.written S.taken S.faults
         folder.new out.new) }
 
-    // No command but `debug` takes anything of the input, and with it the count of faults of the input stands unless the
-    // input could not be read.
+    // Only `debug` takes anything from the input. With it the input's count of faults is unchanged
+    // unless the status is ReadFault.
     ensures input { InputSays (command_of words.now) result
         (talk_of L.left L.given L.faults lines.old lines.new) }
 
-    // Of the input of `debug` nothing is taken but by a session over the image, or over the system, that its reading comes
-    // to: nothing where a file is refused or could not be read, or memory is wanted before the session.
+    // What `debug` takes is taken by a session over the image, or over the system, that its reading
+    // yields. It takes nothing if a file is refused or could not be read, or if memory runs out
+    // before the session.
     ensures takes { TopTakes (command_of words.now) result
         (talk_of L.left L.given L.faults lines.old lines.new)
         (F.asked folder.old) (F.asked folder.new) }
 
-    // The command does what its program says: all that the three objects record of the call, in some
-    // order, is what the program does.
+    // The command does what its program says: what the folder, the input and the output each record
+    // of the call are, in some common order, events by which the program goes to this status.
     ensures performs { TopPerforms (command_of words.now) result
         (objects F.asked F.wrote F.files F.read_faults F.write_faults L.given L.left L.faults
         S.taken S.written S.faults folder.old lines.old out.old)
         (objects F.asked F.wrote F.files F.read_faults F.write_faults L.given L.left L.faults
         S.taken S.written S.faults folder.new lines.new out.new) }
 
-    // Where the words are no command, nothing is touched.
+    // The status is Usage exactly if the words are no command, and then nothing changes.
     ensures usage { (result ≡ Status.Usage) ↔ (command_of words.now ≡ None) }
     ensures folder_untouched { command_of words.now ≡ None → folder.new ≡ folder.old }
     ensures sink_untouched { command_of words.now ≡ None → out.new ≡ out.old }

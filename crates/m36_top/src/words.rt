@@ -13,7 +13,7 @@ use m36_text::short_decimal_in;
 /// The most digits of a number of steps.
 const MOST_DIGITS: usize = 8;
 
-/// The most steps that can be asked for.
+/// The greatest number that `--steps` accepts.
 const MOST_STEPS: u64 = 10000000;
 
 /// What the next word is read as.
@@ -25,11 +25,11 @@ pub enum Expects {
     Steps,
     /// The value of `--user`.
     User,
-    /// An operand, behind `--`.
+    /// An operand, after `--`.
     Operand,
 }
 
-/// What the words behind the command word give.
+/// The operand and the options that were read so far, after the command word.
 #[derive(Drop)]
 pub struct Given {
     /// The operand.
@@ -39,11 +39,12 @@ pub struct Given {
     /// The value of `--steps`.
     pub steps: Option<u32>,
     pub expects: Expects,
-    /// Whether `--unaudited` stands.
+    /// Whether `--unaudited` is given.
     pub unaudited: bool,
 }
 
-/// The value of `--steps`; none where it is not of its form.
+/// The value of `--steps`: 1 to 8 decimal digits, at most 10,000,000. None if the text is not of
+/// this form.
 pub fn steps_of(text: &[u8]) -> Option<u32>
     ensures value { result ≡ steps_of text.now }
     ensures most { IfSome result (λ n. n ≤ steps_limit) }
@@ -64,7 +65,7 @@ fn nothing() -> Given
     }
 }
 
-// Each of these answers None where the word makes the list no command.
+// The `with_` functions add one word. None means that with this word the list is no command.
 
 fn with_operand(mut given: Given, word: &[u8]) -> Option<Given>
     ensures { result ≡ with_operand given word.now }
@@ -126,7 +127,7 @@ fn is_steps_with_value(word: &[u8]) -> bool
     word.len() >= 8 && &word[..8] == b"--steps=".as_slice()
 }
 
-// What stands behind `--steps=`.
+// What follows `--steps=`.
 #[tactic(auto, using(m36_text::proofs::Splitting::rest_whole))]
 fn value_of_steps(word: &[u8]) -> &[u8]
     requires { length steps_before ≤ length word.now }
@@ -142,7 +143,7 @@ fn is_user_with_value(word: &[u8]) -> bool
     word.len() >= 7 && &word[..7] == b"--user=".as_slice()
 }
 
-// What stands behind `--user=`.
+// What follows `--user=`.
 #[tactic(auto, using(m36_text::proofs::Splitting::rest_whole))]
 fn value_of_user(word: &[u8]) -> &[u8]
     requires { length user_before ≤ length word.now }
@@ -197,7 +198,7 @@ fn ended(given: Given) -> Option<Given>
     }
 }
 
-// What all words behind the command word give.
+// The operand and the options of all words after the command word.
 #[tactic(auto, using(crate::proofs::WordLaws::words_in_turn))]
 fn read_given(words: &[Text]) -> Option<Given>
     ensures { result ≡ with_words nothing words.now }
@@ -209,7 +210,7 @@ fn read_given(words: &[Text]) -> Option<Given>
     ended(given)
 }
 
-/// What the words ask for; None exactly where they are no command.
+/// The command that the words ask for; None exactly if they are no command.
 #[tactic(auto, unfolding(crate::specs::Words::command_of))]
 pub fn command_of(words: &[Text]) -> Option<Command>
     ensures { result ≡ command_of words.now }

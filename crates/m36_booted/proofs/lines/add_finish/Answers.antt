@@ -1,4 +1,4 @@
--- The end line was added, and what stands behind it; or the end line was not.
+-- The end line and what follows it were added, or the end line was not.
 use Rattle.std.proofs.Common.{List, ℕ, [], ◌∷◌, subst}
 use Rattle.m36_outside.specs.declared.sink.Put.{Put}
 use Rattle.m36_text.specs.Lines.{as_line}

@@ -1,4 +1,4 @@
--- A file was read behind the others.
+-- A file was read after the others.
 use Rattle.std.proofs.Common.{◌≡◌, ◌+◌, ap, ◌∙◌, rules}
 use Rattle.m36_booted.proofs.FolderReads.{files_more}
 use Rattle.m36_booted.proofs.reading.read_files.Goals as goal

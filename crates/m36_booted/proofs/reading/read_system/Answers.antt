@@ -1,4 +1,4 @@
--- Who may do what was read.
+-- The catalog with its rights was read.
 use Rattle.m36_booted.proofs.FolderReads.{folder_given}
 use Rattle.m36_booted.proofs.reading.read_system.Goals as goal
 

@@ -1,4 +1,4 @@
--- The line of the step was added, and the service made behind it.
+-- The line of the step was added, and then its service was made.
 use Rattle.m36_reading.specs.Outside.{sink_of}
 use Rattle.m36_booted.specs.RunSays.{block_of}
 use Rattle.m36_booted.proofs.Serving.{step_goes}

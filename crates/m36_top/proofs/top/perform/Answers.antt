@@ -1,4 +1,4 @@
--- Each command does what its kind does, and what its program says.
+-- Each command does what its kind requires, and what its program says.
 use Rattle.m36_reading.specs.Outside.{outside_of}
 use Rattle.cmd_debug.specs.Held.{talk_of}
 use Rattle.m36_ran.specs.declared.command.ImageCommand.TheVariants as image

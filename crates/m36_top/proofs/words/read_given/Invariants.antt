@@ -2,6 +2,6 @@ use Rattle.std.proofs.Common.{◌≡◌, drop}
 use Rattle.m36_top.specs.Words.{with_words, nothing}
 use Rattle.m36_top.proofs.words.read_given.Given as goal
 
--- What is given so far comes, with the words that are left, to what all words give.
+-- What is read so far, continued with the words that are left, is what all words give.
 abbrev pub invariant-loop-word : goal.invariant-loop-word
 invariant-loop-word l = with_words l.given (drop l.word-index l.words) ≡ with_words nothing l.words
