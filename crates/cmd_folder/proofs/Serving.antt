@@ -39,7 +39,7 @@ use Rattle.cmd_folder.proofs.BlockLaws.{GoesAs, leads_under, leads_on, performs_
 abbrev on_from : Running → ℕ → ℕ → Booted → Program quiet (Unit {0})
 on_from run taken left b = run_from run taken left b
 
--- the program of what follows a step, by what comes
+-- the program after a step, by what is next
 abbrev served : Running → ℕ → ℕ → Booted → Program quiet (Unit {0})
 served run taken left b = serve run taken (λ b. run_from run taken left b) b
 
