@@ -90,7 +90,7 @@ pub puts_then :
 puts_then Done old now new first second one two = puts_on old now new first second one two
 puts_then Failed old now new first second one two = puts_more old now new first second one two
 
--- Of the lines `all`, put from `start` on, `left` are left to put behind `now`.
+-- The lines `all` are being put from `start` on: at `now` the lines `left` are left.
 pub record Putting (now start : Pending) (left all : List (List ℕ)) : Type 0 where
   pub whole : (new : Pending) → PutsPieces Done left now new → PutsPieces Done all start new
   pub cut : (new : Pending) → PutsPieces Failed left now new → PutsPieces Failed all start new

@@ -1,4 +1,4 @@
--- How a session's program goes: answers are put and it goes on, or ends; and a piece of input is taken, or not.
+-- The events of a session's program: answers are put, and it continues or ends; a piece of input is taken, or not.
 use Rattle.std.proofs.Common.{◌≡◌, ◌≤◌, ◌⊎◌, ℕ, zero, suc, List, [], ◌∷◌, ◌++◌, length, Result, Ok, Err, refl, sym, ap, subst, ◌∙◌, inl, inr}
 use Rattle.m36_world.specs.Did.{IsInput, IsInputFailed, IsOutput, IsOutputFailed}
 use Rattle.m36_world.specs.Follow.{Next, Follow, outputs}

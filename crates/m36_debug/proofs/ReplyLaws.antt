@@ -1,4 +1,4 @@
--- What a session is to do next: it takes a piece of input, and puts the answers to its lines.
+-- What is left of a session's program after a piece was taken and the answers to its lines were put.
 use Rattle.std.proofs.Common.{◌≤◌, ℕ, List, [], ◌∷◌, ◌++◌, length, Ok, Err, refl, sym, subst, inl, inr}
 use Rattle.std.proofs.lemmas.List.{append_assoc}
 use Rattle.m36_text.specs.Lines.{open_rest}

@@ -1,4 +1,4 @@
--- Laws of a session that goes on piece by piece: what it is, by its events, and which lines they say.
+-- Laws of a session that continues piece by piece: its events so far, and the lines that they write.
 use Rattle.std.proofs.Common.{◌≡◌, ◌+◌, ◌≤◌, ℕ, List, [], ◌∷◌, ◌++◌, length, take, All, Option, Some, None, inl, inr, refl, sym, ap, subst, ◌∙◌, arith, length-append}
 use Rattle.std.specs.Prelude.{Result, Ok, Err}
 use Rattle.std.specs.Io.KnownBytes.{IsAtEnd}
@@ -41,7 +41,7 @@ happens_on o s m lines others written more s1 m1 s2 m2 one two = record {
 
 -- ---- calls for input
 
--- a piece that has a byte, and at most so many
+-- a piece of 1 to `most` bytes was taken
 pub record GotPiece (piece : List ℕ) (most : ℕ) (old new : LinesSeen) : Type 0 where
   pub within : length piece ≤ most
   pub some : 1 ≤ length piece
@@ -56,7 +56,7 @@ pub record GotEnd (old new : LinesSeen) : Type 0 where
   pub gave : new.given ≡ old.given ++ [] ∷ []
   pub faults : new.faults ≡ old.faults
 
--- nothing
+-- no piece was taken
 pub record GotNothing (old new : LinesSeen) : Type 0 where
   pub left : new.left ≡ old.left
   pub gave : new.given ≡ old.given
@@ -141,8 +141,8 @@ stops_ended ((byte ∷ piece) ∷ pieces) old new all stands = stops_ended piece
 
 -- ---- a session that continues
 
--- All whole lines so far were answered, what follows them has begun the next one, and so many more
--- bytes may come.
+-- All whole lines so far were answered. `begun` is the part of a line after them, and at most `left` more bytes may be
+-- taken.
 pub record Going {M : Type 0} (o : Turning M) (m m' : M) (before after : LinesSeen) (left : ℕ) (begun : List ℕ) (sitting : SittingFields) (written : List (List ℕ))
     : Type 0 where
   pub pieces : List (List ℕ)

@@ -31,11 +31,11 @@ abbrev answered : {M : Type 0} → Turning M → ℕ → ℕ → List ℕ → Li
 answered o left taken piece begun s m =
     replies (IsReply o (standing s Waiting) m (begun ++ piece)) (session_from o left taken)
 
--- by the next piece, where a byte may come
+-- by the next piece, if one more byte may be taken
 abbrev on_piece : {M : Type 0} → Turning M → ℕ → List ℕ → SittingFields → M → List ℕ → Talk
 on_piece o left begun s m = by_piece (at_end o begun s m) (λ taken piece. answered o left taken piece begun s m)
 
--- and where none may come
+-- by the next piece, if no more byte may be taken
 abbrev on_last_piece : {M : Type 0} → Turning M → List ℕ → SittingFields → M → List ℕ → Talk
 on_last_piece o begun s m = by_piece (at_end o begun s m) (λ taken piece. too_long)
 
