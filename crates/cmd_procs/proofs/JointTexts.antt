@@ -1,4 +1,4 @@
--- Texts of joint audits, put line by line.
+-- Laws of the text of a joint audit that is put line by line.
 use Rattle.std.proofs.Common.{◌≡◌, ℕ, ◌+◌, ◌<◌, ◌≤◌, List, [], ◌∷◌, length, drop, get_or, Result, Ok, Err, refl, sym, ap, subst, ◌∙◌, arith}
 use Rattle.std.proofs.lemmas.List.{at_drop_more, at_drop_all}
 use Rattle.m36_text.specs.Lines.{as_line}

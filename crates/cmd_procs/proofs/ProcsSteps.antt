@@ -1,4 +1,4 @@
--- The command on processes, from its parts.
+-- The command performs its program, since its parts do.
 use Rattle.std.proofs.Common.{◌≡◌, ℕ, ◌<◌, Bool, true, false, List, [], ◌∷◌, length, Result, Ok, Err, refl, sym, subst, arith}
 use Rattle.m36_model.specs.JointAudit.{JointFound, AreJointFindings}
 use Rattle.m36_audit.specs.Joints.{all_found}
