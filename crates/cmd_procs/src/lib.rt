@@ -10,7 +10,8 @@
 //! 4. If nothing was found, or with `--unaudited`, the schedule is run: a line is put for each of
 //!    its steps, and the last line.
 //!
-//! Memory does not run out once a line was put. [`procs_file`] performs this program over any world.
+//! Memory does not run out once a line was put. [`procs_file`] performs this program over any
+//! world.
 //!
 //! [`procs_command`] performs it over a folder, an input and an output of the caller
 //! (`PerformsOver`): the three records of the call are the parts of one list of events that the

@@ -8,7 +8,7 @@
 //! | [`read_object`] | `file_object` | its object | as `read_words`, then O1 to O8 |
 //! | [`read_catalog`] | `boot_catalog` | the catalog of the boot text | F1, F2, D1 to D6 |
 //! | [`read_lists`] | `access_lists` | the access lists for a catalog | F1, F2, C1 to C3 |
-//! | [`read_access`] | `catalog_access` | the catalog with the rights of a user | as the two before |
+//! | [`read_access`] | `catalog_access` | the catalog with a user's rights | as the two before |
 //!
 //! Each has the clause `(may : May) → Performs {may = may} (..) result ..`, so any command may use
 //! it, also one that writes files. `each_onto` (`specs/EachFile.antt`) is the program that reads
