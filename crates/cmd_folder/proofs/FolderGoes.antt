@@ -1,5 +1,5 @@
 -- What the program of a command on a booted system puts: an answer of its kind, whole, or a prefix of it, or up to a
--- link service that found no memory.
+-- link service that ran out of memory.
 use Rattle.std.proofs.Common.{◌≡◌, ◌⊎◌, ℕ, ◌+◌, Bool, true, false, List, [], ◌∷◌, ◌++◌, Option, Some, None, Result, Err, refl, ap, subst, ◌∙◌, inl, inr, arith}
 use Rattle.std.proofs.lemmas.List.{append-nil}
 use Rattle.m36_outside.specs.Passing.{joined}

@@ -14,7 +14,7 @@ use Rattle.m36_booted.specs.Runs.{Extent, Whole, Begun, Starved}
 
 -- ---- some of the pieces were put, or all
 
--- All of them were put, and then the rest went on.
+-- All of them were put, and then the rest of the program followed.
 pub record PutsThen (pieces : List (List ℕ)) (rest : Program quiet (Unit {0})) (events : List Event) (result : Result (Unit {0}) Status)
     : Type 0 where
   pub more : List Event

@@ -35,7 +35,7 @@ use Rattle.cmd_folder.proofs.PutsSplit.{PutsSplit, puts_split, PutIn, put_before
 use Rattle.cmd_folder.proofs.Serving.{ended_pieces}
 
 -- The pieces are what is written of a run from state b: of the whole run, of its first turns, or up to a link service
--- that found no memory. `taken` steps were taken before b, and at most `left` follow.
+-- that ran out of memory. `taken` steps were taken before b, and at most `left` follow.
 pub record IsRunOf
     (extent : Extent) (run : Running) (taken left : ℕ) (b : Booted) (how : Option Finish) (pieces : List (List ℕ)) : Type 0 where
   pub turns : List Turn
@@ -219,7 +219,7 @@ step_counts (turn.Ended e) is = absurd is
 step_counts turn.Full is = absurd is
 step_counts turn.NoMemory is = absurd is
 
--- A link service that found memory was made, and the run goes on or ends.
+-- A link service was performed without running out of memory, and the run continues or ends.
 pub record IsServiceMade (told : Turn) (next : Coming) : Type 0 where
   pub event : IsEvent told
   pub counts : steps_of told ≡ 0

@@ -144,7 +144,7 @@ serve_over output taken s e block seen is = record {
       (ap (puts_all block) (serve_is (Over e) run taken left (booted_of s) is)) (leads_start (puts_all block (served run taken left (booted_of s))) seen);
 }
 
--- a link service found no memory: the lines before it were put, or not
+-- a link service ran out of memory: the lines before it were put, or not
 pub link_starves :
     (output : RunOutput) (taken : ℕ) (before later : SuperFields) (at : AtFields) (block block' : List (List ℕ)) (old new : Seen)
     → before.coming ≡ Link at → Follow (outputs block) old new

@@ -31,7 +31,7 @@ pub record IsFound (lib : Library) (system : SuperFields) (findings : List (ℕ 
 
 -- ---- a command
 
--- puts the audit's text, and then runs the system for at most so many steps
+-- puts the audit's text, and then runs the system; the number is the limit of steps
 unfoldable pub audit_and_run :
     Running → ℕ → Booted → List (ℕ × ℕ) → Program quiet (Unit {0})
 audit_and_run run steps first findings =

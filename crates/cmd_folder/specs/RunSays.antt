@@ -62,7 +62,7 @@ pub record IsOver (e : End) (lib : Library) (output : RunOutput) (first : Rest) 
       → Leads (puts_all block (run_ends (run_of lib output denied) taken (Over e)))
       (first (run_of lib output denied) left) old new
 
--- The run can't go on: the output failed, or a link service found no memory.
+-- The run cannot continue: the output failed, or a link service ran out of memory.
 pub record Fails (status : Status) (lib : Library) (output : RunOutput) (first : Rest)
     (old new : Seen) : Type 0 where
   pub performs :

@@ -30,7 +30,7 @@
 //! requires that no text of the console waits in the block (`IsShown`), and the loop of [`run`]
 //! keeps that. So a reader of a pipe sees the characters while the program runs. The lines of a
 //! trace are gathered in a block. It is handed over when it is full, at the end, and when a link
-//! service finds no memory.
+//! service runs out of memory.
 #![tactic(auto)]
 
 pub mod answering;

@@ -34,7 +34,7 @@ pub enum AfterTurn {
     Ended(End),
     /// The output failed.
     WriteFailed,
-    /// The link service found no memory. The lines before it have been put.
+    /// A link service ran out of memory. The lines before it have been put.
     NoMemory,
 }
 
@@ -126,7 +126,7 @@ fn serve<W: World>(
 }
 
 // Takes a step and performs its service. `taken` is the count of steps before it. `told` and `text`
-// may have the record and the line of an earlier step: the record is overwritten, and of the line
+// may have the record and the line of an earlier step. The record is overwritten, and of the line
 // only the parts that differ are formatted again.
 #[tactic(auto, using(crate::proofs::Serving::stepping))]
 fn take_step<W: World>(

@@ -1,5 +1,5 @@
 -- The events of the program of a quiet run: there are none. Its turns are those of a booted run that ends, or that
--- reaches a link service that found no memory.
+-- reaches a link service that ran out of memory.
 use Rattle.std.proofs.Common.{◌≡◌, ◌≢◌, ◌⊎◌, ℕ, zero, suc, ◌+◌, ◌≤◌, Bool, true, false, List, [], ◌∷◌, Result, Ok, Err, refl, sym, ap, subst, ◌∙◌, inl, inr, arith, add-zero}
 use Rattle.m36_world.specs.declared.event.Event.{Event}
 use Rattle.m36_model.specs.Fields.{AtFields}
@@ -43,7 +43,7 @@ pub record HasRun (lib : Library) (taken left : ℕ) (b : Booted) (r : Ran) : Ty
   pub steps : r.steps ≡ taken + steps_in turns
   pub regs : r.regs ≡ last.state.regs
 
--- The run reached a link service that found no memory.
+-- The run reached a link service that ran out of memory.
 pub record HasStarved (lib : Library) (left : ℕ) (b : Booted) (s : Status) : Type 0 where
   pub turns : List Turn
   pub last : Booted
@@ -168,7 +168,7 @@ step_counts (turn.Ended e) is = absurd is
 step_counts turn.Full is = absurd is
 step_counts turn.NoMemory is = absurd is
 
--- A service was made, and the run goes on or ends.
+-- A service was performed, and the run continues or ends.
 record IsServiceMade (told : Turn) (next : Coming) : Type 0 where
   event : IsEvent told
   counts : steps_of told ≡ 0

@@ -1,4 +1,4 @@
--- What the program puts after the files: an answer, whole, or a prefix of it, or up to a link service that found no
+-- What the program puts after the files: an answer, whole, or a prefix of it, or up to a link service that ran out of
 -- memory; or memory runs out before anything is put.
 use Rattle.std.proofs.Common.{◌≡◌, ◌⊎◌, ℕ, false, List, [], ◌∷◌, ◌++◌, Option, Some, None, Result, Ok, Err, refl, sym, ap, subst, ◌∙◌, inl, inr, arith, zero-add}
 use Rattle.std.proofs.lemmas.List.{append-nil}

@@ -31,7 +31,7 @@ summed_up ran =
     puts_all (end_pieces (Some ran.how) ran.steps ran.regs)
     (ends (finish_status (Some ran.how)) (finish_may_end ran.how))
 
--- a run of at most so many steps, and the lines after it
+-- a run of at most `steps` steps, and the lines after it
 unfoldable pub run_summed : Library → ℕ → Booted → Program quiet (Unit {0})
 run_summed lib steps first = then_with (run_from lib 0 steps first) summed_up
 

@@ -47,7 +47,7 @@ pub record IsOver (e : End) (first : Rest) (after : SuperFields) : Type 0 where
   pub goes :
       (taken left : ℕ) → Goes (first taken left) [] (Ok (ran (Over e) taken (booted_of after)))
 
--- A link service found no memory.
+-- A link service ran out of memory.
 pub record HasNoMemory (first : Rest) : Type 0 where
   pub goes : (taken left : ℕ) → Goes (first taken left) [] (Err status.NoMemory)
 

@@ -29,7 +29,7 @@ pub enum AfterTurn {
     Next,
     /// The run has ended.
     Ended(End),
-    /// The link service found no memory.
+    /// A link service ran out of memory.
     NoMemory,
 }
 

@@ -172,7 +172,7 @@ written_in (All written kept s m) = written
 written_in (Quits written) = written
 written_in (Breaks written) = written
 
--- All lines were answered, and the session went on.
+-- All lines were answered, and the session continued.
 pub record WentOn {M : Type 0} (Is : Reply M → Type 0) (on : List ℕ → SittingFields → M → Talk) (events : List Event) (result : Result (Unit {0}) Status) (old new : Seen)
     : Type 0 where
   pub written : List (List ℕ)

@@ -33,7 +33,7 @@ too_long = stops (status.BadFile (refused stdin_name S1 0)) tt
 unfoldable pub starves : Talk
 starves = wants (some (λ (u : Unit {0}). ⊥) (λ u. done tt))
 
--- takes a piece of at most so many bytes, and continues with it
+-- takes a piece of at most `most` bytes, and continues with it
 unfoldable pub takes_within : ℕ → (List ℕ → Talk) → Talk
 takes_within most go =
     takes refl (λ piece. some (λ (u : Unit {0}). length piece ≤ most) (λ u. go piece))

@@ -11,7 +11,7 @@ use Rattle.m36_model.specs.Store.{State}
 use Rattle.m36_model.specs.declared.record.StepRecord.{StepRecord}
 use Rattle.m36_procs.specs.EventSays.{IsEvent}
 
--- Storing an element where it is already changes nothing.
+-- Storing an element at its own place changes nothing.
 pub set_kept : {A : Type 0} (xs : List A) (i : ℕ) (g : A) → g ≡ get_or xs i g → set xs i g ≡ xs
 set_kept xs i g is = ap (λ x. set xs i x) is ∙ set-get_or xs i g
 

@@ -28,10 +28,7 @@ impl Model for ProcessSet {
 
     ghost Value = { Processes (List ℕ) };
 
-    ghost view = { λ p. record {
-      regs = slice_set p.regs.items p.inside p.machine.state.regs;
-      store = p.machine.state.store;
-    } };
+    ghost view = { λ p. record { regs = slice_set p.regs.items p.inside p.machine.state.regs; store = p.machine.state.store } };
 
     ghost invariant = { λ p. p.inside < length p.regs.items };
 }
