@@ -183,7 +183,7 @@ library_spoke lib result old new performs =
 
 -- ---- what was read, and the session
 
--- What a call did, by what is observed before it and after it.
+-- What a call did: its reads, its answer and the input that it took, from the states before and after it.
 pub record Spoken {D : Type 0} (Holds : Talk → D → Told) (r : Reading (Early D)) (result : Status) (before after : LinesSeen) (old new : Outside) (asked asked' : List Asked)
     : Type 0 where
   pub does : Does (session_kind (Holds (talk_by before after)) (talk_by before after)) r result old new asked asked'

@@ -190,7 +190,7 @@ takes_answered Holds result talk s s' (inr p) =
 UntakenOrEnd : Told → Status → Talk → Type 0
 UntakenOrEnd Holds result talk = (talk.after ≡ talk.before) ⊎ IsSessionEnd Holds result
 
--- by what is put
+-- the clause on taking input, from what was put
 takes_by :
     (Holds : Told) (result : Status) (talk : Talk) (s s' : SinkState)
     → PutsBy Holds (end_of result) result talk s s' → UntakenOrEnd Holds result talk

@@ -19,7 +19,7 @@ use Rattle.m36_program.proofs.Gathered.{follow_pieces}
 use Rattle.m36_program.proofs.Performing.{goes_no_memory}
 use Rattle.m36_program.proofs.PutLaws.{goes_puts, loses_performs}
 
--- The second program goes by all events and results by which the first goes.
+-- Each list of events and result that the first program allows, the second allows.
 abbrev pub GoesAs : {may : May} {A : Type 0} → Program may A → Program may A → Type 0
 GoesAs {may} {A} p q = (events : List Event) (result : Result A Status) → Goes p events result → Goes q events result
 
@@ -79,7 +79,7 @@ performs_starved block p old new follow = record {
       (goes_puts block (wants p) [] (Err NoMemory) (goes_no_memory p));
 }
 
--- they were not put
+-- the pieces of a block were not all put
 pub performs_unput :
     {may : May} {A : Type 0} (block : List (List ℕ)) (p : Program may A) (old new : Seen)
     → IsOutputFailed block old new → Performs (puts_all block p) (Err WriteFault) old new

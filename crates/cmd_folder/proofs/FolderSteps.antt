@@ -131,7 +131,7 @@ run_unput run steps first findings status old new put =
 
 pub ruleset runs = (run_follows, run_unput)
 
--- ---- by what the audit of a booted system has found
+-- ---- by the findings of the audit of a booted system
 
 found_passes :
     (lib : Library) (system : SuperFields) (findings : List (ℕ × ℕ))

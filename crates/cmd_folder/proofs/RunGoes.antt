@@ -143,7 +143,7 @@ turn_first extent run taken now left all b after told how pieces is event all_is
           (end_pieces run.denied how (taken + (steps_of told + steps))));
     }
 
--- a turn was made, and no more was written whole
+-- a turn was made, and after it nothing was written whole
 turn_alone :
     (run : Running) (taken left all : ℕ) (b after : Booted) (told : Turn)
     → IsTurn run.lib b told after → IsEvent told → all ≡ steps_of told + left

@@ -96,7 +96,7 @@ fn answer_found<W: World>(
     }
 }
 
-// Audits a booted system, and performs a command on it. NoMemory if the audit finds no memory.
+// Audits a booted system, and performs a command on it. NoMemory if the audit runs out of memory.
 #[tactic(auto, using(crate::proofs::FolderSteps::found))]
 fn with_system<W: World>(
     alloc: Global,

@@ -1,5 +1,5 @@
 //! Runs a booted system. The lines of a trace are gathered in a block, which is handed over when it
-//! is full, at the end, and when a link service finds no memory. What the console writes is put
+//! is full, at the end, and when a link service runs out of memory. What the console writes is put
 //! before the code makes the next turn.
 
 ghost use Rattle.std.specs.Prelude.{◌≡◌, ◌<◌, ◌+◌, ◌^◌, ◌++◌, Some, [], ◌∷◌};

@@ -134,7 +134,7 @@ run_audited steps state image findings result old between new is put performs =
 
 pub ruleset audited = (run_unput, run_audited)
 
--- ---- by what the audit has found
+-- ---- by the findings of the audit
 
 pub found_in :
     (command : ImageCommand) (state : State (List ℕ)) (findings : List (ℕ × ℕ)) (result : Result (Unit {0}) Status) (old new : Seen)

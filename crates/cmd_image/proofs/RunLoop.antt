@@ -52,7 +52,7 @@ end_put block taken last status result old new put status_is is =
     (leads_as _ _ (puts_all block (run_ends taken last)) old old (ap (puts_all block) (sym (puts_one (as_line (end_line_of last taken)) (run_status last)))) (start_all block taken last old))
     put (subst (λ r. Goes (run_status last) [] r) (sym (is ∙ ap early status_is)) (status_goes last))
 
--- not all of them were put
+-- the lines of the block and the end line were not all put
 pub end_lost :
     (block : List (List ℕ)) (taken : ℕ) (last : Outcome) (old new : Seen)
     → Loses (block ++ as_line (end_line_of last taken) ∷ []) old new

@@ -171,7 +171,7 @@ end_where_some (f ∷ findings) lib first seen some =
 
 pub ruleset deciding = (run_where_none, end_where_some)
 
--- ---- by what the audit has found
+-- ---- by the findings of the audit
 
 pub found_put :
     (count : ℕ) (lib : Library) (first : Booted) (findings : List (ℕ × ℕ)) (result : Result (Unit {0}) Status) (old between new : Seen)

@@ -105,7 +105,7 @@ run_unput p findings s old new put = all_stop (joint_pieces findings) (run_all p
 
 pub ruleset audited = (run_put, run_unput)
 
--- ---- by what the audit has found
+-- ---- by the findings of the audit
 
 -- nothing is found exactly where there are no findings
 pub passes_none : (findings : List JointFinding) → length findings ≡ 0 → passes (all_found findings) ≡ true

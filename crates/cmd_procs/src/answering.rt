@@ -106,7 +106,7 @@ fn audited(alloc: Global, procs: &Procs) -> Result<Joint, NoMemory>
     Ok(verdict)
 }
 
-/// Audits processes, and performs the command on them. NoMemory if the audit finds no memory.
+/// Audits processes, and performs the command on them. NoMemory if the audit runs out of memory.
 #[tactic(auto, using(crate::proofs::ProcsSteps::found))]
 fn with_procs<W: World>(
     alloc: Global,

@@ -271,7 +271,7 @@ later_unwritten answer file files old between new did rest = record {
   faults = rest.faults ∙ ap (λ s. s.read_faults) did.rest;
 }
 
--- the first one was not written
+-- the first file was not written
 first_unwritten :
     (answer : WriteAnswer) (file : Set) (files : List Set) (old new : Seen) → IsFileWrite file.name file.content answer old new
     → FileUnwritten answer (file ∷ files) old new

@@ -108,14 +108,14 @@ putting_next now next start line left all before puts = record {
   cut = λ new rest. before.cut new (puts_more now next new (line ∷ []) left puts rest);
 }
 
--- it was not put as a whole
+-- the first of the lines that were left was not put as a whole
 pub putting_cut :
     (now new start : Pending) (line : List ℕ) (left all : List (List ℕ))
     → Putting now start (line ∷ left) all → PutsPieces Failed (line ∷ []) now new → PutsPieces Failed all start new
 putting_cut now new start line left all before cut =
     before.cut new (puts_longer now new (line ∷ []) left cut)
 
--- none is left
+-- no line is left to put
 pub putting_none : (now start : Pending) (all : List (List ℕ)) → Putting now start [] all → PutsPieces Done all start now
 putting_none now start all before = before.whole now (puts_nothing now)
 
@@ -153,7 +153,7 @@ pointer_put now next start n pointers i p all inside is before puts =
     putting_next now next start (pointer_line n p) (pointer_lines (n + 1) (drop (i + 1) pointers)) all
     (subst (λ l. Putting now start l all) (pointers_at n pointers i p inside is) before) puts
 
--- it was not put as a whole
+-- the line of the next pointer register was not put as a whole
 pub pointer_cut :
     (now new start : Pending) (n : ℕ) (pointers : List PtrFields) (i : ℕ) (p : PtrFields) (all : List (List ℕ))
     → i < length pointers → p ≡ get_or pointers i p
@@ -163,7 +163,7 @@ pointer_cut now new start n pointers i p all inside is before cut =
     putting_cut now new start (pointer_line n p) (pointer_lines (n + 1) (drop (i + 1) pointers)) all
     (subst (λ l. Putting now start l all) (pointers_at n pointers i p inside is) before) cut
 
--- all were put
+-- the lines of all pointer registers were put
 pub pointers_end :
     (now start : Pending) (n : ℕ) (pointers : List PtrFields) (i : ℕ) (all : List (List ℕ))
     → length pointers ≤ i → Putting now start (pointer_lines n (drop i pointers)) all → PutsPieces Done all start now

@@ -35,7 +35,7 @@ answered o left taken piece begun s m =
 abbrev on_piece : {M : Type 0} → Turning M → ℕ → List ℕ → SittingFields → M → List ℕ → Talk
 on_piece o left begun s m = by_piece (at_end o begun s m) (λ taken piece. answered o left taken piece begun s m)
 
--- by the next piece, if no more byte may be taken
+-- by the next piece, if no further byte may be taken
 abbrev on_last_piece : {M : Type 0} → Turning M → List ℕ → SittingFields → M → List ℕ → Talk
 on_last_piece o begun s m = by_piece (at_end o begun s m) (λ taken piece. too_long)
 
