@@ -166,5 +166,5 @@ ImageTakes name result talk before after =
 
 abbrev pub FolderTakes : Status → Talk → List Asked → List Asked → Type 0
 FolderTakes result talk before after =
-    TakesInput (λ (given : FolderFields). HoldsFolder talk given.lib) (folder_reads None) result talk
-    before after
+    TakesInput (λ (given : FolderFields). HoldsFolder talk given.lib) (folder_reads None) result
+    talk before after

@@ -189,7 +189,7 @@ put_ends Starved command given due events result old new kept cause put is sets 
       read_faults = none.reads;
     }))
 
--- nothing happened, and memory ran out
+-- without an event the state is unchanged
 idle_of : (events : List Event) (old new : Seen) → events ≡ [] → Follow events old new → new ≡ old
 unfolding Follow
 idle_of events old new none follow = subst (λ e. Follow e old new) none follow

@@ -39,7 +39,7 @@ abbrev pub PutsSplit : List (List ℕ) → Program quiet (Unit {0}) → List Eve
 PutsSplit pieces rest events result =
     PutsThen pieces rest events result ⊎ PutsFirst pieces events result ⊎ PutsAcross pieces rest events result
 
--- the same with one piece before them
+-- `PutsSplit` of pieces holds with one more piece before them
 split_more :
     (piece : List ℕ) (pieces : List (List ℕ)) (rest : Program quiet (Unit {0})) (events : List Event) (result : Result (Unit {0}) Status)
     → PutsSplit pieces rest events result → PutsSplit (piece ∷ pieces) rest (Output piece ∷ events) result

@@ -177,7 +177,7 @@ put_ends Starved sets due events result old between new written kept cause put i
       read_faults = none.reads ∙ written.faults;
     }))
 
--- nothing happened, and memory ran out
+-- without an event the state is unchanged
 idle_of : (events : List Event) (old new : Seen) → events ≡ [] → Follow events old new → new ≡ old
 unfolding Follow
 idle_of events old new none follow = subst (λ e. Follow e old new) none follow

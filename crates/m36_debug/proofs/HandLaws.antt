@@ -40,7 +40,7 @@ part_lost o s m lines s' m' old mid new part puts = record {
   };
 }
 
--- nothing more was put
+-- after the output failed, nothing more was put
 cut_stays :
     {M : Type 0} (o : Turning M) (s : Standing) (m : M) (lines : List (List ℕ)) (m' : M) (old mid new : Pending)
     → CutPart o s m lines m' old mid → new.world ≡ mid.world → CutPart o s m lines m' old new

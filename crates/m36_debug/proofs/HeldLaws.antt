@@ -37,7 +37,7 @@ use Rattle.m36_debug.proofs.SessionSteps.{taken_length}
 
 -- ---- what is put of an output
 
--- nothing
+-- no line was put
 put_nothing : (now : SinkState) → PutsPieces Done [] now now
 put_nothing now =
     record { text = grew_by_nothing now.written; pieces = takes_no_lines now.taken; faults = refl }

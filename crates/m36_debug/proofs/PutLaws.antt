@@ -47,7 +47,7 @@ puts_more old now new first second one two = record {
   fails = two.fails;
 }
 
--- some lines and a prefix of the next are so of more lines
+-- some lines and a prefix of the next, as part of more lines
 pub puts_longer :
     (old new : Pending) (first second : List (List ℕ))
     → PutsPieces Failed first old new → PutsPieces Failed (first ++ second) old new

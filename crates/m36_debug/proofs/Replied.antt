@@ -239,7 +239,7 @@ went_on Is on written kept s m events result old new is follow (inl all) = inl (
 went_on Is on written kept s m events result old new is follow (inr part) =
     inr (inr (inr (has_failed Is (All written kept s m) events result old new is part follow)))
 
--- it ended after the pieces
+-- The program ended after these pieces.
 pub record EndsAfter (pieces : List (List ℕ)) (value : Result (Unit {0}) Status) (events : List Event) (result : Result (Unit {0}) Status) (old new : Seen) : Type 0 where
   pub events_are : events ≡ outputs pieces ++ []
   pub result_is : result ≡ value

@@ -67,7 +67,7 @@ leads_reply :
 unfolding replies
 leads_reply Is on reply first old new is left = leads_some Is (on_reply on) reply first old new is left
 
--- nothing waits before them
+-- no line waits in the block before the answers
 leads_none :
     (more : List (List ℕ)) (rest first : Talk) (old new : Seen)
     → Leads (puts_all more rest) first old new → Leads (puts_all [] (puts_all more rest)) first old new
@@ -166,7 +166,7 @@ ended_so o ends.Cut begun s sitting m m' first old between new left said =
 
 -- ---- the lines of a piece
 
--- all of them were answered
+-- all whole lines of a piece were answered
 pub piece_all :
     {M : Type 0} (o : Turning M) (text kept : List ℕ) (s sitting : SittingFields) (m m' : M) (on : List ℕ → SittingFields → M → Talk) (first : Talk)
     (old between new : Seen)

@@ -100,7 +100,7 @@ gives_after_input :
 gives_after_input piece more events pieces how is gives =
     record { pieces_are = ap pieces_of is ∙ gives.pieces_are; put = ap put_of is ∙ gives.put }
 
--- all was put
+-- all lines were put
 puts_whole :
     (written more : List (List ℕ)) (events : List Event) → Gives events more Done → Puts Done written events (written ++ more)
 puts_whole written more events gives = record {
@@ -113,7 +113,7 @@ puts_whole written more events gives = record {
 failed_not_done : {P : Type 0} → Failed ≡ Done → P
 failed_not_done is = absurd (cc)
 
--- a prefix was put
+-- a prefix of the lines was put
 puts_part :
     (written more first left : List (List ℕ)) (events : List Event) → Gives events first Failed → more ≡ first ++ left
     → Puts Failed written events (written ++ more)

@@ -205,7 +205,7 @@ not_quit o m m' lines written sitting happens =
 waits_not_over : Waiting ≡ Over → ⊥
 waits_not_over is = cc
 
--- in a session that is over it was taken last
+-- in a session that is over `quit` was taken last
 ends_in_quit :
     {M : Type 0} (o : Turning M) (m m' : M) (lines written : List (List ℕ)) (sitting : SittingFields)
     → Happens o (standing new_sitting Waiting) m lines written (standing sitting Over) m'
@@ -324,7 +324,7 @@ going_end o m m1 m2 before now after left begun sitting sitting' written more g 
     })
     (happens_on o (standing new_sitting Waiting) m g.lines (open_rest begun) written more (standing sitting Waiting) m1 (standing sitting' Waiting) m2 g.happens last)
 
--- it is `quit`
+-- the line that has begun is `quit`
 pub going_last_quit :
     {M : Type 0} (o : Turning M) (m m1 : M) (before now after : LinesSeen) (left : ℕ) (begun : List ℕ) (sitting : SittingFields) (written more : List (List ℕ))
     → Going o m m1 before now left begun sitting written → GotEnd now after
@@ -344,7 +344,7 @@ going_last_quit o m m1 before now after left begun sitting written more g got la
     })
     all
 
--- not all of its answer was written, or memory ran out
+-- not all of the answer to the line that has begun was written, or memory ran out
 pub going_last_breaks :
     {M : Type 0} (how : Breaking) (o : Turning M) (m m1 : M) (before now after : LinesSeen) (left : ℕ) (begun : List ℕ) (sitting : SittingFields) (written more : List (List ℕ))
     → Going o m m1 before now left begun sitting written → GotEnd now after
@@ -377,7 +377,7 @@ got_count :
 got_count pieces piece rest is =
     omega (arith, is, ap length (joined_last pieces piece), length-append (joined pieces) piece)
 
--- all its whole lines were answered
+-- all whole lines of a piece were answered
 pub going_on :
     {M : Type 0} (o : Turning M) (m m1 m2 : M) (before now after : LinesSeen) (rest : ℕ) (begun kept piece : List ℕ) (sitting sitting' : SittingFields) (written more : List (List ℕ))
     → Going o m m1 before now (rest + length piece) begun sitting written → GotPiece piece (rest + length piece) now after

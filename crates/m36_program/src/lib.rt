@@ -66,7 +66,7 @@
 //! | `performs_written` | over the same files, without input, all write prefixes of one text |
 //! | `reads_told` | over known files a program continues by what they have under the name |
 //! | `lives_comes` | a program without a dead end has a call that ends |
-//! | `performs_over`, `does_over` | what holds of a call over a world holds over its three objects |
+//! | `performs_over`, `does_over` | what a call does over a world, it does over the three objects |
 //! | `idle_does` | a call that reads and then puts an answer satisfies `Does` of the old layer |
 //!
 //! The one text of `performs_written` is what a call that ends writes. The program has to be
