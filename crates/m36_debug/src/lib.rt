@@ -24,8 +24,8 @@
 //! - `says`: the session as a whole (`specs/SessionSays.antt`). There is a list of session events
 //!   (`specs/Session.antt`) that leads from the machine before the call to the machine after it.
 //!   Its lines are lines of the bytes that were taken, and what was put is the texts of its events,
-//!   or a prefix of them if the output failed. `proofs/SessionBridge.antt` derives this from the
-//!   program.
+//!   or a prefix of them if the output failed. By `proofs/SessionBridge.antt` each call that
+//!   performs the program is such a session, up to some machine.
 //! - `limit`: how many steps each line takes in such events.
 //!
 //! A session event is a line that is taken, a turn of the machine, or going back. Each may follow
