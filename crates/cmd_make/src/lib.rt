@@ -9,8 +9,8 @@
 //!    it are written, and no line is put.
 //! 3. It boots the files from memory, and reads none of them again.
 //! 4. It audits the core, and puts the count of segments and what the audit finds.
-//! 5. If the audit finds nothing, it runs the system for at most 100,000 steps. Then it puts how the
-//!    run ended, and index register 1, in which the programs have computed a sum.
+//! 5. If the audit finds nothing, it runs the system for at most 100,000 steps. Then it puts how
+//!    the run ended, and index register 1, in which the programs have computed a sum.
 //!
 //! | Where memory may run out | What has happened by then |
 //! |---|---|
