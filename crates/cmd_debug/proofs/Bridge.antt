@@ -1,4 +1,4 @@
--- A call that performs the program of a session does what is read, and what the clauses on output and input say.
+-- A call that performs the program of a session satisfies `Does` and the clauses on output and input.
 use Rattle.std.proofs.Common.{◌≡◌, ◌⊎◌, ℕ, List, [], ◌∷◌, Option, Result, Ok, Err, refl, sym, ap, subst, ◌∙◌, inl, inr}
 use Rattle.std.specs.Prelude.{None}
 use Rattle.m36_outside.specs.SinkState.{SinkState}
@@ -86,7 +86,7 @@ image_reader name =
 abbrev pub talk_by : LinesSeen → LinesSeen → Talk
 talk_by before after = record { before = before; after = after }
 
--- A session was held over what is so, or memory ran out before it.
+-- A session was held, or memory ran out before it.
 pub record Spoke (Holds : Talk → Told) (result : Result (Unit {0}) Status) (old new : Seen) : Type 0 where
   pub puts :
       PutsBy (Holds (talk_by (input_by old) (input_by new))) (end_of (status_by result)) (status_by result)
@@ -183,7 +183,7 @@ library_spoke lib result old new performs =
 
 -- ---- what was read, and the session
 
--- What a call did, by what is observed before it and after it.
+-- What a call did: its reads, its answer and the input that it took, from the states before and after it.
 pub record Spoken {D : Type 0} (Holds : Talk → D → Told) (r : Reading (Early D)) (result : Status) (before after : LinesSeen) (old new : Outside) (asked asked' : List Asked)
     : Type 0 where
   pub does : Does (session_kind (Holds (talk_by before after)) (talk_by before after)) r result old new asked asked'
@@ -194,7 +194,7 @@ abbrev pub SpokenBy : {D : Type 0} → (Talk → D → Told) → Reading (Early 
 SpokenBy Holds r result old new =
     Spoken Holds r result (input_by old) (input_by new) (outside_by old) (outside_by new) old.reads new.reads
 
--- the input is as it was
+-- the input is unchanged
 same_input : (old new : Seen) → new.left ≡ old.left → new.inputs ≡ old.inputs → new.input_faults ≡ old.input_faults → input_by new ≡ input_by old
 same_input old new left inputs faults = λ i. record { left = left i; given = inputs i; faults = faults i }
 
@@ -274,7 +274,7 @@ same_outside seen other same = λ i. record {
   sink = record { written = same.written i; taken = same.outputs i; faults = same.output_faults i };
 }
 
--- What a call did over a world it did over its objects.
+-- What a call did over a world, it did over the objects of that world.
 pub spoken_over :
     {D : Type 0} (Holds : Talk → D → Told) (r : Reading (Early D)) (result status : Status) (old new old' new' : Seen)
     → status ≡ result → SameObjects old old' → SameObjects new new' → SpokenBy Holds r result old new → SpokenBy Holds r status old' new'

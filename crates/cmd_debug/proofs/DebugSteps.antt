@@ -1,4 +1,4 @@
--- A session over what was read, from its parts.
+-- A command that holds a session performs its program, since its parts do.
 use Rattle.std.proofs.Common.{◌≡◌, ℕ, List, Result, Ok, Err, sym, subst}
 use Rattle.std.specs.Prelude.{None}
 use Rattle.m36_world.specs.Seen.{Seen}

@@ -1,4 +1,4 @@
--- Ends of a command that holds a session.
+-- `Does` and the clause on input for each end of a command that holds a session.
 use Rattle.std.proofs.Common.{◌≡◌, ℕ, ◌⊎◌, List, [], Result, Ok, Err, inl, inr, refl, sym, ap, subst}
 use Rattle.std.specs.Prelude.{codes, None}
 use Rattle.m36_outside.specs.SinkState.{SinkState}
@@ -74,7 +74,7 @@ stands_same Cut talk same = ap (λ l. l.faults) same
 stands_same Starved talk same = ap (λ l. l.faults) same
 stands_same Unasked talk same = ap (λ l. l.faults) same
 
--- nothing was taken of the input
+-- no input was taken
 pub input_same : (result : Status) (talk : Talk) → talk.after ≡ talk.before → InputStands (end_of result) talk
 input_same result talk same = stands_same (end_of result) talk same
 
@@ -190,7 +190,7 @@ takes_answered Holds result talk s s' (inr p) =
 UntakenOrEnd : Told → Status → Talk → Type 0
 UntakenOrEnd Holds result talk = (talk.after ≡ talk.before) ⊎ IsSessionEnd Holds result
 
--- by what is put
+-- the clause on taking input, from what was put
 takes_by :
     (Holds : Told) (result : Status) (talk : Talk) (s s' : SinkState)
     → PutsBy Holds (end_of result) result talk s s' → UntakenOrEnd Holds result talk

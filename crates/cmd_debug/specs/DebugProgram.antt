@@ -1,5 +1,5 @@
--- What `debug FILE` and `debug` do, as programs: the image is read and decoded, or the folder is
--- read and booted; then a session is held over the machine.
+-- What `debug FILE` and `debug` do, as programs: read and decode the image, or read and boot the
+-- folder; then hold a session over the machine.
 use Rattle.std.specs.Prelude.{ℕ, List, None}
 use Rattle.m36_model.specs.Store.{State}
 use Rattle.m36_super.specs.BootSays.{IsBooted}
@@ -19,8 +19,8 @@ on_image state = wants (session past_turning (new_history state))
 unfoldable pub debug_image : List ℕ → Talk
 debug_image name = then_with (image_state name) on_image
 
--- A session over the system to which a folder boots, of which there is one. Memory may run out
--- before it.
+-- A session over the system that a library boots to, of which there is at most one. Memory may run
+-- out before the session.
 unfoldable pub on_library : Library → Talk
 on_library lib = some (IsBooted lib) (λ system. wants (session super_turning system))
 

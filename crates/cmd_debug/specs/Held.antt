@@ -1,4 +1,4 @@
--- What a session is held over: the machine of an image, which goes back, or a booted system.
+-- What a session is held over: the machine of an image, which can go back, or a booted system.
 use Rattle.std.specs.Prelude.{◌≡◌, ℕ, List, Option, None, Result}
 use Rattle.m36_model.specs.Core.{core_store}
 use Rattle.m36_model.specs.Sight.{content}
@@ -14,7 +14,7 @@ use Rattle.m36_debug.specs.declared.fault.SessionFault.{SessionFault}
 use Rattle.m36_debug.specs.Session.{Turning, turning}
 use Rattle.m36_debug.specs.SessionSays.{LinesSeen, input, IsSession}
 
--- the input before a call and after it
+-- the state of the input before a call and after it
 pub record Talk : Type 0 where
   pub before : LinesSeen
   pub after : LinesSeen
@@ -26,11 +26,11 @@ talk_of left given faults old new = record {
   after = input (left new) (given new) (faults new);
 }
 
--- nothing of the input is taken
+-- The call changed nothing of the input.
 abbrev pub IsUntaken : Talk → Type 0
 IsUntaken talk = talk.after ≡ talk.before
 
--- A session over a machine ended so, and these lines are said of it.
+-- A session over machine m had this result, and `lines` is what its events write.
 pub record IsHeld {M : Type 0} (o : Turning M) (m : M) (talk : Talk)
     (ended : Result (Unit {0}) SessionFault) (lines : List (List ℕ)) : Type 0 where
   pub later : M
@@ -38,11 +38,11 @@ pub record IsHeld {M : Type 0} (o : Turning M) (m : M) (talk : Talk)
 
 -- ---- the machine of an image
 
--- as it stands at first
+-- the machine at the start of a session
 abbrev pub new_history : State (List ℕ) → History MachineFields
 new_history state = record { first = record { state = state; ended = None }; taken = 0 }
 
--- its turns, and how it goes back
+-- its registers and words, its turns, and how it goes back
 abbrev pub past_turning : Turning (History MachineFields)
 past_turning =
     turning (λ h. (standing_at machine_after h).state.regs)
@@ -54,15 +54,15 @@ abbrev pub HoldsImage :
     Talk → State (List ℕ) → Result (Unit {0}) SessionFault → List (List ℕ) → Type 0
 HoldsImage talk state ended lines = IsHeld past_turning (new_history state) talk ended lines
 
--- ---- a booted system, which goes back never
+-- ---- a booted system, which never goes back
 
 abbrev pub super_turning : Turning SuperFields
 super_turning =
     turning (λ s. s.regs) super_content (λ before turn later. SuperTurns before turn later)
     (λ before n answer later. SuperWent before n answer later)
 
--- Over the system to which the folder boots, of which there is one at most. Which page gives way is
--- free.
+-- A session was held over the system that the library boots to; there is at most one. Which page is
+-- evicted from a frame is left open.
 pub record HoldsFolder (talk : Talk) (lib : Library) (ended : Result (Unit {0}) SessionFault)
     (lines : List (List ℕ)) : Type 0 where
   pub system : SuperFields

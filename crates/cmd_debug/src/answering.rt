@@ -1,4 +1,4 @@
-//! A session over the machine of an image, or over a booted system.
+//! Holds a session over the machine of an image, or over a booted system.
 
 ghost use Rattle.std.specs.Prelude.{◌≡◌, IfOk};
 ghost use Rattle.m36_program.specs.Performs.{Performs};
@@ -23,7 +23,7 @@ use m36_word::NoMemory;
 use m36_world::World;
 use std::alloc::Global;
 
-// Holds a session over a machine.
+// Holds a session over a machine. `name` is the name of the standard input, for S1.
 fn hold<M: Stepper, W: World>(
     alloc: Global,
     name: Text,
@@ -37,7 +37,7 @@ fn hold<M: Stepper, W: World>(
     ended_by(debug(alloc, machine, world), name)
 }
 
-// The machine of an image, which goes back. Core is handed on, and not copied.
+// The machine of an image, which can go back. The image's core is moved into it and not copied.
 fn past_of(alloc: Global, image: Image) -> Result<Past<Machine>, NoMemory>
     ensures { IfOk result (λ past. past ≡ new_history image) }
 {
@@ -76,7 +76,7 @@ fn with_system<W: World>(alloc: Global, mut system: Super, world: &mut W) -> Res
     }
 }
 
-/// The command `debug FILE`.
+/// Performs `debug FILE` over any world. An error is the status of the command.
 pub fn debug_image<W: World>(alloc: Global, name: &[u8], world: &mut W) -> Result<(), Status>
     ensures { Performs (debug_image name.now) result (W.seen world.old) (W.seen world.new) }
 {
@@ -86,7 +86,7 @@ pub fn debug_image<W: World>(alloc: Global, name: &[u8], world: &mut W) -> Resul
     }
 }
 
-/// The command `debug`.
+/// Performs `debug` over any world. An error is the status of the command.
 pub fn debug_folder<W: World>(alloc: Global, world: &mut W) -> Result<(), Status>
     ensures { Performs debug_folder result (W.seen world.old) (W.seen world.new) }
 {

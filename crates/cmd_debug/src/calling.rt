@@ -1,4 +1,4 @@
-//! A call over a folder, an input and an output.
+//! Performs `debug` over three objects: a folder, an input and an output.
 
 ghost use Rattle.std.specs.Prelude.{None};
 ghost use Rattle.m36_reading.specs.Doing.{Does};
@@ -19,7 +19,7 @@ use m36_reading::Status;
 use m36_world::Borrowed;
 use std::alloc::Global;
 
-/// `debug FILE`, and how that ended.
+/// Performs `debug FILE`, and returns the status of the command.
 pub fn image_session<F: Folder, L: Lines, S: Sink>(
     alloc: Global,
     name: &[u8],
@@ -27,14 +27,15 @@ pub fn image_session<F: Folder, L: Lines, S: Sink>(
     lines: &mut L,
     out: &mut S,
 ) -> Status
-    // All that the three objects record of the call, in some order, is what the program says.
+    // The three records of the call are the parts of one list of events that the program allows.
+    // The objects have no common clock, so this does not say which event of two objects was first.
     ensures performs { PerformsOver (debug_image name.now) (early result)
         (objects F.asked F.wrote F.files F.read_faults F.write_faults L.given L.left L.faults
         S.taken S.written S.faults folder.old lines.old out.old)
         (objects F.asked F.wrote F.files F.read_faults F.write_faults L.given L.left L.faults
         S.taken S.written S.faults folder.new lines.new out.new) }
 
-    // The image is read, and a session is held over it.
+    // The call reads the image, and gives an answer of a session over its machine.
     ensures does { Does (image_kind (talk_of L.left L.given L.faults lines.old lines.new))
         (state_reads name.now) result
         (outside_of F.files F.wrote F.read_faults F.write_faults S.written S.taken S.faults
@@ -42,8 +43,11 @@ pub fn image_session<F: Folder, L: Lines, S: Sink>(
         (outside_of F.files F.wrote F.read_faults F.write_faults S.written S.taken S.faults
         folder.new out.new)
         (F.asked folder.old) (F.asked folder.new) }
+    // The count of input faults changes only if the input could not be read.
     ensures input { InputStands (end_of result)
         (talk_of L.left L.given L.faults lines.old lines.new) }
+
+    // Only a session takes input.
     ensures takes { ImageTakes name.now result
         (talk_of L.left L.given L.faults lines.old lines.new)
         (F.asked folder.old) (F.asked folder.new) }
@@ -53,21 +57,21 @@ pub fn image_session<F: Folder, L: Lines, S: Sink>(
     status_by(outcome)
 }
 
-/// `debug`, and how that ended.
+/// Performs `debug`, and returns the status of the command.
 pub fn folder_session<F: Folder, L: Lines, S: Sink>(
     alloc: Global,
     folder: &mut F,
     lines: &mut L,
     out: &mut S,
 ) -> Status
-    // All that the three objects record of the call, in some order, is what the program says.
+    // As the clauses of `image_session`, for a booted folder.
     ensures performs { PerformsOver debug_folder (early result)
         (objects F.asked F.wrote F.files F.read_faults F.write_faults L.given L.left L.faults
         S.taken S.written S.faults folder.old lines.old out.old)
         (objects F.asked F.wrote F.files F.read_faults F.write_faults L.given L.left L.faults
         S.taken S.written S.faults folder.new lines.new out.new) }
 
-    // The folder is read, and a session is held over the system that it boots to.
+    // The call reads the folder, and gives an answer of a session over the system that it boots to.
     ensures does { Does (folder_kind (talk_of L.left L.given L.faults lines.old lines.new))
         (folder_reads None) result
         (outside_of F.files F.wrote F.read_faults F.write_faults S.written S.taken S.faults

@@ -1,4 +1,4 @@
-//! How a session ends, as the result of the command.
+//! Turns the result of a session into the status of the command.
 
 ghost use Rattle.std.specs.Prelude.{◌≡◌, IfOk};
 ghost use Rattle.m36_debug.specs.SessionProgram.{stdin_name, ended_by};
@@ -9,7 +9,7 @@ use m36_reading::{Bad, Code, Status};
 use m36_word::NoMemory;
 use std::alloc::Global;
 
-/// The name of the standard input.
+/// The name of the standard input, `stdin`.
 pub(crate) fn stdin_name(alloc: Global) -> Result<Text, NoMemory>
     ensures { IfOk result (λ name. name ≡ stdin_name) }
 {
@@ -17,7 +17,7 @@ pub(crate) fn stdin_name(alloc: Global) -> Result<Text, NoMemory>
     Ok(name)
 }
 
-/// The result after a session that ended so. The standard input has this name.
+/// The result of the command after a session. `name` is the name of the standard input, for S1.
 pub(crate) fn ended_by(ended: Result<(), SessionFault>, name: Text) -> Result<(), Status>
     requires { name ≡ stdin_name }
     ensures { result ≡ ended_by ended }

@@ -1,4 +1,4 @@
--- What is left of a program, in front of which the pieces of a block are put.
+-- What is left of a program, with the pieces of a block put before it.
 use Rattle.std.proofs.Common.{ℕ, List, [], ◌∷◌, ◌++◌, Result, Err, sym, ap, subst, ◌∙◌, inl, inr}
 use Rattle.std.proofs.lemmas.List.{append-nil, append_assoc}
 use Rattle.m36_world.specs.declared.event.Event.{Event}
@@ -19,7 +19,7 @@ use Rattle.m36_program.proofs.Gathered.{follow_pieces}
 use Rattle.m36_program.proofs.Performing.{goes_no_memory}
 use Rattle.m36_program.proofs.PutLaws.{goes_puts, loses_performs}
 
--- However the one program goes, the other goes so too.
+-- Each list of events and result that the first program allows, the second allows.
 abbrev pub GoesAs : {may : May} {A : Type 0} → Program may A → Program may A → Type 0
 GoesAs {may} {A} p q = (events : List Event) (result : Result A Status) → Goes p events result → Goes q events result
 
@@ -29,7 +29,7 @@ fails_as :
 fails_as [] goes goes' result on fails = fails
 fails_as (piece ∷ pieces) goes goes' result on fails = on (OutputFailed (piece ∷ pieces) ∷ []) fails
 
--- Then it does so after pieces that are put.
+-- This stays true if the same pieces are put before both.
 pub goes_under :
     {may : May} {A : Type 0} (pieces : List (List ℕ)) (p q : Program may A) → GoesAs p q
     → GoesAs (puts_all pieces p) (puts_all pieces q)
@@ -79,7 +79,7 @@ performs_starved block p old new follow = record {
       (goes_puts block (wants p) [] (Err NoMemory) (goes_no_memory p));
 }
 
--- they were not put
+-- the pieces of a block were not all put
 pub performs_unput :
     {may : May} {A : Type 0} (block : List (List ℕ)) (p : Program may A) (old new : Seen)
     → IsOutputFailed block old new → Performs (puts_all block p) (Err WriteFault) old new

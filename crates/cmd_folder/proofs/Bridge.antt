@@ -1,4 +1,4 @@
--- A call that performs the program of a command on a folder does what the command reads and answers.
+-- A call that performs the program of a command on a folder satisfies `Does` of the same command.
 use Rattle.std.proofs.Common.{◌≡◌, ◌⊎◌, ℕ, List, [], ◌++◌, Option, Result, Ok, Err, refl, sym, ap, subst, ◌∙◌, inl, inr}
 use Rattle.std.proofs.lemmas.List.{append-nil}
 use Rattle.m36_outside.specs.Passing.{joined}
@@ -123,7 +123,7 @@ cut_reads old new (inr failed) = failed.reads
 
 -- ---- ends
 
--- the end, where it is known what was read
+-- the end of a command, if it is known what was read
 abbrev EndsWith : FolderCommand → FolderFields → Result (Unit {0}) Status → Seen → Seen → Type 0
 EndsWith command given result old new =
     EndsBy (folder_kind command) (λ c. c ≡ Came (Ok given)) (end_of (status_by result)) (status_by result) (outside_by old) (outside_by new)
@@ -189,7 +189,7 @@ put_ends Starved command given due events result old new kept cause put is sets 
       read_faults = none.reads;
     }))
 
--- nothing happened, and no memory was found
+-- without an event the state is unchanged
 idle_of : (events : List Event) (old new : Seen) → events ≡ [] → Follow events old new → new ≡ old
 unfolding Follow
 idle_of events old new none follow = subst (λ e. Follow e old new) none follow
@@ -209,7 +209,7 @@ starved_ends command given result old new result_is same =
     (subst (λ s. EndsWith command given (Err status.NoMemory) old s) (sym same)
     (inr (record { given = given; came = refl; wants = inl (idle_same old); read_faults = refl })))
 
--- ---- what is due is done, and no more files are read
+-- ---- an answer of the kind is given, and no more files are read
 
 reads_same : (old new : Seen) (events : List Event) → reads_of events ≡ [] → Follow events old new → new.reads ≡ old.reads
 reads_same old new events alone follow =
@@ -233,7 +233,7 @@ folder_done command given result old new performs (inr ends) =
       reads = ap (λ s. s.reads) same;
     }
 
--- What a call does, by the reading of a folder and by the answer that is due.
+-- `Does` of a call, by the reading of a folder and the kind of the command.
 pub performs_does :
     (command : FolderCommand) (user : Option (List ℕ)) (result : Result (Unit {0}) Status) (old new : Seen)
     → Performs (folder_program command user) result old new

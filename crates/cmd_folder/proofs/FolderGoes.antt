@@ -1,5 +1,5 @@
--- How the program of a command on a booted system goes: an answer that is so is put, whole or in part, or up to a link
--- service that found no memory.
+-- What the program of a command on a booted system puts: an answer of its kind, whole, or a prefix of it, or up to a
+-- link service that ran out of memory.
 use Rattle.std.proofs.Common.{◌≡◌, ◌⊎◌, ℕ, ◌+◌, Bool, true, false, List, [], ◌∷◌, ◌++◌, Option, Some, None, Result, Err, refl, ap, subst, ◌∙◌, inl, inr, arith}
 use Rattle.std.proofs.lemmas.List.{append-nil}
 use Rattle.m36_outside.specs.Passing.{joined}
@@ -33,7 +33,7 @@ use Rattle.cmd_folder.specs.RunProgram.{Running, finish_may_end, run_from}
 use Rattle.cmd_folder.proofs.PutsSplit.{PutsSplit, puts_split, PutIn, put_before, put_across}
 use Rattle.cmd_folder.proofs.RunGoes.{IsRunOf, no_turns, run_goes}
 
--- the status of an answer in an extent: an end of its own, or want of memory
+-- the status of an answer in an extent: an end of its own, or NoMemory
 abbrev pub OwnIn : Extent → Status → Type 0
 OwnIn Whole s = MayEnd s
 OwnIn Begun s = Unit {0}
@@ -195,7 +195,7 @@ system_put command given system events result booted (inl goes) =
     (command_put command given (booted_of system) goes.value events result (start_next given.lib system booted) goes.rest))
 system_put command given system events result booted (inr ends) = inr ends
 
--- What a command does with a booted folder: an answer of its kind is put, or no memory is found before anything is.
+-- On a booted folder a command puts an answer of its kind, or memory runs out before it puts anything.
 pub folder_put :
     (command : FolderCommand) (given : FolderFields) (events : List Event) (result : Result (Unit {0}) Status)
     → Goes (on_folder command given) events result

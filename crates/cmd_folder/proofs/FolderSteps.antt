@@ -131,7 +131,7 @@ run_unput run steps first findings status old new put =
 
 pub ruleset runs = (run_follows, run_unput)
 
--- ---- by what the audit of a booted system has found
+-- ---- by the findings of the audit of a booted system
 
 found_passes :
     (lib : Library) (system : SuperFields) (findings : List (ℕ × ℕ))
@@ -153,7 +153,7 @@ found_in command system denied findings result old new fresh found performs =
     (performs_some (IsFound system.lib system) (by_command command given (booted_of system)) findings result old new
     (record { found = so; passes = found_passes system.lib system findings fresh so }) performs))
 
--- no memory was found for the audit
+-- the audit ran out of memory
 pub audit_starved :
     (command : FolderCommand) (system : SuperFields) (denied : List (List ℕ)) (seen : Seen)
     → IsFresh system → Performs (on_folder command (record { lib = system.lib; denied = denied })) (Err NoMemory) seen seen

@@ -1,4 +1,4 @@
--- How a program goes that puts pieces and then goes on.
+-- The events of a program that puts pieces and then continues.
 use Rattle.std.proofs.Common.{◌≡◌, ◌⊎◌, ℕ, List, [], ◌∷◌, ◌++◌, Result, refl, sym, ap, subst, ◌∙◌, inl, inr}
 use Rattle.std.proofs.lemmas.List.{append-nil, append_assoc}
 use Rattle.m36_outside.specs.declared.sink.Put.TheVariants.{Done, Failed}
@@ -14,19 +14,19 @@ use Rattle.m36_booted.specs.Runs.{Extent, Whole, Begun, Starved}
 
 -- ---- some of the pieces were put, or all
 
--- All of them were put, and then the rest went on.
+-- All of them were put, and then the rest of the program followed.
 pub record PutsThen (pieces : List (List ℕ)) (rest : Program quiet (Unit {0})) (events : List Event) (result : Result (Unit {0}) Status)
     : Type 0 where
   pub more : List Event
   pub is : events ≡ outputs pieces ++ more
   pub goes : Goes rest more result
 
--- The output failed, and what was to be put is a first part of them.
+-- The output failed, and the pieces of the failed call end within these.
 pub record PutsFirst (pieces : List (List ℕ)) (events : List Event) (result : Result (Unit {0}) Status) : Type 0 where
   pub part : PutsPart pieces events result
   pub alone : reads_of events ≡ []
 
--- The output failed, and what was to be put is all of them and more.
+-- The output failed, and the failed call also had pieces of what follows.
 pub record PutsAcross (pieces : List (List ℕ)) (rest : Program quiet (Unit {0})) (events : List Event) (result : Result (Unit {0}) Status)
     : Type 0 where
   pub others : List (List ℕ)
@@ -39,7 +39,7 @@ abbrev pub PutsSplit : List (List ℕ) → Program quiet (Unit {0}) → List Eve
 PutsSplit pieces rest events result =
     PutsThen pieces rest events result ⊎ PutsFirst pieces events result ⊎ PutsAcross pieces rest events result
 
--- the same with one piece before them
+-- `PutsSplit` of pieces holds with one more piece before them
 split_more :
     (piece : List ℕ) (pieces : List (List ℕ)) (rest : Program quiet (Unit {0})) (events : List Event) (result : Result (Unit {0}) Status)
     → PutsSplit pieces rest events result → PutsSplit (piece ∷ pieces) rest (Output piece ∷ events) result
@@ -130,7 +130,7 @@ puts_split (piece ∷ pieces) rest events result (inr fails) =
 
 -- ---- pieces are put in an extent
 
--- All pieces are put, and the result is that of the status; or the output failed, and what was to be put is a first part.
+-- All pieces are put, and the result is that of the status; or the output failed at a prefix of them.
 abbrev pub PutIn : Extent → List (List ℕ) → Status → List Event → Result (Unit {0}) Status → Type 0
 PutIn Whole pieces s events result = PutsWhole pieces s events result
 PutIn Begun pieces s events result = PutsPart pieces events result

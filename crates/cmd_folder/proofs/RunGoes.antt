@@ -1,5 +1,4 @@
--- How the program of a booted run goes: its turns are those of a booted run, which ends as it says, and what is put is what
--- is written of them.
+-- The events of the program of a booted run: they put what is written of the turns and the end of some booted run.
 use Rattle.std.proofs.Common.{◌≡◌, ◌≢◌, ◌⊎◌, ℕ, zero, suc, ◌+◌, ◌≤◌, Bool, true, false, List, [], ◌∷◌, ◌++◌, Option, Some, None, Result, Ok, Err, refl, sym, ap, subst, ◌∙◌, inl, inr, arith, append_assoc, add-zero}
 use Rattle.std.proofs.lemmas.List.{append-nil}
 use Rattle.m36_world.specs.declared.event.Event.{Event}
@@ -35,8 +34,8 @@ use Rattle.cmd_folder.specs.RunProgram.{Running, finish_may_end, run_ends, after
 use Rattle.cmd_folder.proofs.PutsSplit.{PutsSplit, puts_split, PutIn, put_before, put_across}
 use Rattle.cmd_folder.proofs.Serving.{ended_pieces}
 
--- Pieces are what is written of a run from a state on, before which so many steps were taken, with at most so many more: of
--- all of it, of what was made so far, or up to a link service that found no memory.
+-- The pieces are what is written of a run from state b: of the whole run, of its first turns, or up to a link service
+-- that ran out of memory. `taken` steps were taken before b, and at most `left` follow.
 pub record IsRunOf
     (extent : Extent) (run : Running) (taken left : ℕ) (b : Booted) (how : Option Finish) (pieces : List (List ℕ)) : Type 0 where
   pub turns : List Turn
@@ -47,7 +46,7 @@ pub record IsRunOf
   pub reaches : Reaches extent how run.lib left turns last
   pub is : pieces ≡ pieces_from run.output taken turns ++ end_pieces run.denied how (taken + steps_in turns)
 
--- The program of a run went so.
+-- The events of a run's program put such pieces, whole or in part.
 pub record RunGoes (run : Running) (taken left : ℕ) (b : Booted) (events : List Event) (result : Result (Unit {0}) Status)
     : Type 0 where
   pub extent : Extent
@@ -144,7 +143,7 @@ turn_first extent run taken now left all b after told how pieces is event all_is
           (end_pieces run.denied how (taken + (steps_of told + steps))));
     }
 
--- a turn was made, and no more was written whole
+-- a turn was made, and after it nothing was written whole
 turn_alone :
     (run : Running) (taken left all : ℕ) (b after : Booted) (told : Turn)
     → IsTurn run.lib b told after → IsEvent told → all ≡ steps_of told + left
@@ -220,7 +219,7 @@ step_counts (turn.Ended e) is = absurd is
 step_counts turn.Full is = absurd is
 step_counts turn.NoMemory is = absurd is
 
--- A link service that found memory was made, and the run goes on or ends.
+-- A link service was performed without running out of memory, and the run continues or ends.
 pub record IsServiceMade (told : Turn) (next : Coming) : Type 0 where
   pub event : IsEvent told
   pub counts : steps_of told ≡ 0

@@ -71,7 +71,7 @@ run_starts run steps s block seen none =
     leads_empty block (run_from run 0 steps (booted_of s)) (run_from run 0 steps (booted_of s)) seen seen none
     (leads_start (run_from run 0 steps (booted_of s)) seen)
 
--- a step is left
+-- if at least one step is left
 one_left :
     (run : Running) (taken left : ℕ) (now : SuperFields) (block : List (List ℕ)) (first : Program quiet (Unit {0})) (old new : Seen)
     → Left run taken left now block first old new → 0 < left → Left run taken (suc (left - 1)) now block first old new

@@ -39,7 +39,7 @@ use Rattle.cmd_folder.proofs.BlockLaws.{GoesAs, leads_under, leads_on, performs_
 abbrev on_from : Running → ℕ → ℕ → Booted → Program quiet (Unit {0})
 on_from run taken left b = run_from run taken left b
 
--- the program of what follows a step, by what comes
+-- the program after a step, by what is next
 abbrev served : Running → ℕ → ℕ → Booted → Program quiet (Unit {0})
 served run taken left b = serve run taken (λ b. run_from run taken left b) b
 
@@ -144,7 +144,7 @@ serve_over output taken s e block seen is = record {
       (ap (puts_all block) (serve_is (Over e) run taken left (booted_of s) is)) (leads_start (puts_all block (served run taken left (booted_of s))) seen);
 }
 
--- a link service found no memory: the lines before it were put, or not
+-- a link service ran out of memory: the lines before it were put, or not
 pub link_starves :
     (output : RunOutput) (taken : ℕ) (before later : SuperFields) (at : AtFields) (block block' : List (List ℕ)) (old new : Seen)
     → before.coming ≡ Link at → Follow (outputs block) old new

@@ -1,5 +1,5 @@
--- What `audit`, `run` and `trace` do with a booted system, as programs: its core is audited, and
--- where the audit passes or `--unaudited` is given, it is run.
+-- What `audit`, `run` and `trace` do with a booted system, as programs: audit its core, and run it
+-- if the audit passes or `--unaudited` is given.
 use Rattle.std.specs.Prelude.{ℕ, ◌≡◌, Bool, true, false, List, []}
 use Rattle.m36_model.specs.Audit.{AreFindings}
 use Rattle.m36_model.specs.BootedCore.{booted_dbr}
@@ -22,15 +22,16 @@ use Rattle.cmd_folder.specs.RunProgram.{Running, run_from}
 
 -- ---- the audit
 
--- These are the findings of the audit of a booted core. Where there are none, in each state of a run
--- up to an LDBR the tables of core isolate each ring.
-pub record IsFound (lib : Library) (system : SuperFields) (findings : List (ℕ × ℕ)) : Type 0 where
+-- The findings of the audit of a booted core, each the number of its condition and its place. If
+-- there are none, the tables of core isolate each ring in each state of a run up to an LDBR.
+pub record IsFound (lib : Library) (system : SuperFields) (findings : List (ℕ × ℕ))
+    : Type 0 where
   pub found : AreFindings system.core booted_dbr findings
   pub passes : findings ≡ [] → PassesBooted lib
 
 -- ---- a command
 
--- The audit's text, and the run.
+-- puts the audit's text, and then runs the system; the number is the limit of steps
 unfoldable pub audit_and_run :
     Running → ℕ → Booted → List (ℕ × ℕ) → Program quiet (Unit {0})
 audit_and_run run steps first findings =
@@ -41,29 +42,30 @@ abbrev pub run_by :
 run_by true run steps first findings = audit_and_run run steps first findings
 run_by false run steps first findings = audit_only findings
 
--- a run of what is booted from a folder
+-- a run of the system of a folder, and what is written of it
 abbrev pub running : FolderFields → RunOutput → Running
 running given output = record { lib = given.lib; denied = given.denied; output = output }
 
--- The system is run where the audit passes, or `--unaudited` is given.
+-- `run` and `trace` after the audit: the run, or the audit's text alone
 abbrev pub on_run :
     FolderRun → RunOutput → FolderFields → Booted → List (ℕ × ℕ) → Program quiet (Unit {0})
 on_run run output given first findings =
     run_by (is_run findings run.unaudited) (running given output) run.steps first findings
 
--- what a command does with a booted system, by what the audit of its core finds
+-- what a command does with a booted system, given the findings of the audit of its core
 abbrev pub by_command :
     FolderCommand → FolderFields → Booted → List (ℕ × ℕ) → Program quiet (Unit {0})
 by_command Audit given first findings = audit_only findings
 by_command (Run run) given first findings = on_run run output.Console given first findings
 by_command (Trace run) given first findings = on_run run output.Trace given first findings
 
--- Memory may run out for the audit. After it no memory is taken but by a link service.
+-- Audits the system. Memory may run out here, and after that only in a link service.
 unfoldable pub on_system :
     FolderCommand → FolderFields → SuperFields → Program quiet (Unit {0})
 on_system command given system =
     wants (some (IsFound given.lib system) (by_command command given (booted_of system)))
 
--- what a command does with the system that is booted, of which there is one
+-- What a command does with the system that the folder's library boots to. There is at most one, by
+-- `system` of `FolderDueLaw` of `m36_booted`.
 unfoldable pub on_folder : FolderCommand → FolderFields → Program quiet (Unit {0})
 on_folder command given = some (IsBooted given.lib) (on_system command given)

@@ -1,5 +1,5 @@
--- What a run of a booted system does, as a program: turn by turn, each step and each service with
--- what is written of it, and the end line.
+-- What a run of a booted system does, as a program. It chooses each turn and puts what is written
+-- of it, and then puts the end line. A turn is no event: only what is put shows it.
 use Rattle.std.specs.Prelude.{ℕ, zero, suc, ◌≢◌, ◌+◌, List, Some}
 use Rattle.m36_step.specs.declared.turns.Turn.{Turn}
 use Rattle.m36_step.specs.declared.turns.Turn.TheVariants.{NoMemory}
@@ -16,11 +16,14 @@ use Rattle.m36_booted.specs.declared.running.Finish.TheVariants.{Over, Limit}
 use Rattle.m36_booted.specs.RunText.{pieces_of, end_pieces, finish_status}
 use Rattle.cmd_image.specs.ImageProgram.{may_end}
 
--- A run: the library of its system, the line for each segment of the catalog that is written where
--- the run ends for want of a right to it, and what is written of each turn.
+-- what a run is made of
 pub record Running : Type 0 where
+  -- the library that the system was booted from
   pub lib : Library
+  -- for each segment of the catalog, the line that is put if the run ends because the user lacks a
+  -- right to it
   pub denied : List (List ℕ)
+  -- what is written of each turn
   pub output : RunOutput
 
 -- a turn, and the state after it
@@ -28,23 +31,23 @@ pub record Made : Type 0 where
   pub turn : Turn
   pub after : Booted
 
--- a turn of the booted run
+-- The system may make this turn in the state before it.
 abbrev pub IsMade : Library → Booted → Made → Type 0
 IsMade lib before made = IsTurn lib before made.turn made.after
 
--- one that finds memory
+-- The system may make this turn, and it did not run out of memory.
 pub record IsServed (lib : Library) (before : Booted) (made : Made) : Type 0 where
   pub is : IsMade lib before made
   pub found : made.turn ≢ NoMemory
 
 -- ---- the end
 
--- The status of a run that has ended is one that a program may end with.
+-- A program may end with the status of each end of a run.
 abbrev pub finish_may_end : (how : Finish) → MayEnd (finish_status (Some how))
 finish_may_end (Over e) = may_end e
 finish_may_end Limit = tt
 
--- the end line after so many steps, and the line of a denied segment
+-- the end line after a count of steps, the line of a denied segment if there is one, and the status
 unfoldable pub run_ends : Running → ℕ → Finish → Program quiet (Unit {0})
 run_ends run taken how =
     puts_all (end_pieces run.denied (Some how) taken)
@@ -52,12 +55,13 @@ run_ends run taken how =
 
 -- ---- one turn
 
--- what is written of a turn, before which so many steps were taken, and then what follows it
+-- puts what is written of a turn, and then continues; the number is the count of steps before it
 abbrev pub puts_turn :
     Running → ℕ → (Booted → Program quiet (Unit {0})) → Made → Program quiet (Unit {0})
 puts_turn run taken on made = puts_all (pieces_of run.output taken made.turn) (on made.after)
 
--- what follows a service: a step, or the end of the run; a service follows no other
+-- What follows a service: a step, or the end of the run. No service follows another, so the cases
+-- of services only continue.
 abbrev pub after_service :
     Coming → Running → ℕ → (Booted → Program quiet (Unit {0})) → Booted
     → Program quiet (Unit {0})
@@ -88,7 +92,7 @@ serve run taken on b = serve_by b.coming run taken on b
 
 -- ---- the run
 
--- At most so many more steps after those that were taken, each with its service.
+-- A run from a state: the first number is the count of steps taken, the second how many may follow.
 unfoldable pub run_from : Running → ℕ → ℕ → Booted → Program quiet (Unit {0})
 run_from run taken zero b = run_ends run taken Limit
 run_from run taken (suc left) b =

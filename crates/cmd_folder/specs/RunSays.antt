@@ -1,4 +1,4 @@
--- What the parts of a booted run answer: what is left of its program after each.
+-- What the functions of a run say in their contracts: what is left of its program after each.
 use Rattle.std.specs.Prelude.{ℕ, suc, ◌≡◌, ⊤, List, [], Err}
 use Rattle.m36_world.specs.Seen.{Seen}
 use Rattle.m36_model.specs.declared.endings.End.{End}
@@ -19,30 +19,31 @@ use Rattle.cmd_folder.specs.declared.running.AfterTurn.{AfterTurn}
 use Rattle.cmd_folder.specs.declared.running.AfterTurn.TheVariants as turn
 use Rattle.cmd_folder.specs.RunProgram.{Running, run_ends, run_from, serve}
 
--- No text of the console is in the block: the output has all of it.
+-- No text of the console waits in the block.
 abbrev pub IsShown : RunOutput → List (List ℕ) → Type 0
 IsShown output.Console block = block ≡ []
 IsShown output.Trace block = ⊤
 IsShown output.Nothing block = ⊤
 
--- a run of a library; which lines for segments it has is left open
+-- a run of a system of a library
 abbrev pub run_of : Library → RunOutput → List (List ℕ) → Running
 run_of lib output denied = record { lib = lib; denied = denied; output = output }
 
--- a run by the steps that are left, in front of which the pieces of a block are put
+-- a program that depends on the run and on the count of steps that are left
 abbrev pub Rest : Type 1
 Rest = Running → ℕ → Program quiet (Unit {0})
 
--- before a step, before which so many were taken
+-- What is left before a step: the pieces of the block are put, and then the run continues. The
+-- number is the count of steps taken.
 abbrev pub from_step : List (List ℕ) → ℕ → Booted → Rest
 from_step block taken b run left = puts_all block (run_from run taken (suc left) b)
 
--- after a step, with a service or none
+-- what is left after a step, before its service if it has one
 abbrev pub from_service : List (List ℕ) → ℕ → Booted → Rest
 from_service block taken b run left =
     puts_all block (serve run taken (λ b. run_from run taken left b) b)
 
--- A step follows, and all that the console wrote has been put.
+-- A step follows, over the same library, and no text of the console waits in the block.
 pub record GoesOn (lib : Library) (output : RunOutput) (first : Rest) (taken : ℕ)
     (after : SuperFields) (block : List (List ℕ)) (old new : Seen) : Type 0 where
   pub leads :
@@ -61,15 +62,17 @@ pub record IsOver (e : End) (lib : Library) (output : RunOutput) (first : Rest) 
       → Leads (puts_all block (run_ends (run_of lib output denied) taken (Over e)))
       (first (run_of lib output denied) left) old new
 
--- The run can't go on: the output failed, or a link service found no memory.
+-- The run cannot continue: the output failed, or a link service ran out of memory.
 pub record Fails (status : Status) (lib : Library) (output : RunOutput) (first : Rest)
     (old new : Seen) : Type 0 where
   pub performs :
       (denied : List (List ℕ)) (left : ℕ)
       → Performs (first (run_of lib output denied) left) (Err status) old new
 
+-- what each answer of a turn says of the program that is left
 abbrev pub TurnSays :
-    AfterTurn → Library → RunOutput → Rest → ℕ → SuperFields → List (List ℕ) → Seen → Seen → Type 0
+    AfterTurn → Library → RunOutput → Rest → ℕ → SuperFields → List (List ℕ) → Seen → Seen
+    → Type 0
 TurnSays turn.Next lib output first taken after block old new =
     GoesOn lib output first taken after block old new
 TurnSays (turn.Ended e) lib output first taken after block old new =
@@ -79,7 +82,7 @@ TurnSays turn.WriteFailed lib output first taken after block old new =
 TurnSays turn.NoMemory lib output first taken after block old new =
     Fails NoMemory lib output first old new
 
--- What follows a link service: a step, or the end of the run.
+-- An answer after a link service agrees with what is next: a step, or the end of the run.
 abbrev pub LinkBefore : AfterTurn → Coming → Type 0
 LinkBefore turn.Next next = next ≡ Step
 LinkBefore (turn.Ended e) next = next ≡ coming.Over e

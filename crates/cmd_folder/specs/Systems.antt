@@ -1,4 +1,4 @@
--- A system that was booted, as what is booted from its folder.
+-- The result of reading and booting a folder, as the program of the same has it.
 use Rattle.std.specs.Prelude.{Result, Ok, Err}
 use Rattle.m36_reading.specs.declared.status.Status.{Status}
 use Rattle.m36_booted.specs.declared.reading.BootedFolder.{BootedFolder}

@@ -1,4 +1,4 @@
-//! The audit of a booted system, and its run.
+//! Audits a booted system, and runs it if the command says so.
 
 ghost use Rattle.std.specs.Prelude.{◌≡◌};
 ghost use Rattle.m36_audit.specs.Findings.{pairs};
@@ -23,7 +23,7 @@ use m36_super::Super;
 use m36_world::World;
 use std::alloc::Global;
 
-// Puts the audit's text, and then runs the system.
+// Puts the audit's text line by line, and then runs the system for at most `steps` steps.
 #[tactic(auto, using(crate::proofs::FolderSteps::runs))]
 fn run_audited<W: World>(
     system: &mut Super,
@@ -43,7 +43,7 @@ fn run_audited<W: World>(
     }
 }
 
-// Whether the system is run.
+// A system is run if the audit found nothing, or with `--unaudited`.
 #[tactic(auto, using(m36_ran::proofs::AuditAnswers::passing))]
 fn is_run(findings: &[Finding], run: FolderRun) -> bool
     ensures { result ≡ is_run (pairs findings.now) run.unaudited }
@@ -51,7 +51,7 @@ fn is_run(findings: &[Finding], run: FolderRun) -> bool
     findings.is_empty() || run.unaudited
 }
 
-// The commands `run` and `trace`, by what the audit has found.
+// `run` and `trace` after the audit: runs the system, or only puts the audit's text.
 fn answer_run<W: World>(
     system: &mut Super,
     findings: &[Finding],
@@ -72,7 +72,7 @@ fn answer_run<W: World>(
     }
 }
 
-// Does what a command says with a booted system, by what the audit of its core has found.
+// Performs a command on a booted system, given the findings of the audit of its core.
 fn answer_found<W: World>(
     command: FolderCommand,
     system: &mut Super,
@@ -96,7 +96,7 @@ fn answer_found<W: World>(
     }
 }
 
-// Audits a booted system, and does what a command says with it.
+// Audits a booted system, and performs a command on it. NoMemory if the audit runs out of memory.
 #[tactic(auto, using(crate::proofs::FolderSteps::found))]
 fn with_system<W: World>(
     alloc: Global,
@@ -113,7 +113,7 @@ fn with_system<W: World>(
         Ok(verdict) => {
             let findings = verdict.findings.as_slice();
             let answer = answer_found(command, &mut system, denied, findings, world);
-            // Dropped by a call: so the drop is proved once for its type.
+            // Dropped by a call, so that the drop is proved once for its type.
             drop(verdict);
             drop(system);
             answer
@@ -125,7 +125,8 @@ fn with_system<W: World>(
     }
 }
 
-/// `audit`, `run` and `trace` of a folder, with the rights of a user if there is one.
+/// Performs `audit`, `run` or `trace` of a folder over any world, with the rights of `user` if
+/// there is one. An error is the status of the command.
 pub fn folder_booted<W: World>(
     alloc: Global,
     command: FolderCommand,

@@ -1,28 +1,36 @@
 //! `audit`, `run` and `trace` of a folder as programs.
 //!
-//! A folder has a boot text, the file `boot`, and a file for each segment of the catalog in the boot
-//! text. `folder_program` (`specs/FolderProgram.antt`) says what the three commands do, event by
-//! event: the boot text is read, with a user the access lists, and then the file of each segment;
-//! the system is booted, or the folder is refused; its core is audited, and the audit's text is put,
-//! line by line (`specs/OnFolder.antt`). `run` and `trace` go on where nothing was found, or
-//! `--unaudited` is given, turn by turn (`specs/RunProgram.antt`): a step, and the link service or
-//! console service for which it calls. `run` puts the characters of the console, `trace` a line for
-//! each step and each service, and both the end line.
+//! A folder has a boot text, the file `boot`, and a file for each segment of the catalog in the
+//! boot text. `folder_program` (`specs/FolderProgram.antt`) says what the three commands do:
+//!
+//! 1. The boot text is read, then the access lists if there is a user, and then the file of each
+//!    segment.
+//! 2. The system is booted, or the folder is refused.
+//! 3. Its core is audited, and the audit's text is put line by line (`specs/OnFolder.antt`).
+//! 4. `run` and `trace` continue if the audit found nothing, or with `--unaudited`. They run the
+//!    system turn by turn (`specs/RunProgram.antt`): a step, and then the link service or console
+//!    service that it calls for, if any.
+//!
+//! `run` puts the characters of the console. `trace` puts a line for each step and each service.
+//! Both put the end line.
 //!
 //! | Where memory may run out | What has been put by then |
 //! |---|---|
-//! | while files are read, the system is booted or its core audited | nothing, and no step was taken |
-//! | in a link service of a run | the audit's text, and all that is written of the turns before it |
+//! | while files are read, the system is booted or its core audited | nothing |
+//! | in a link service of a run | the audit's text, and what is written of the turns before it |
 //!
-//! [`folder_booted`] performs this program over any world, and [`folder_command`] over a folder, an
-//! input and an output of the caller: the same call does what the reading of a folder and the answer
-//! that is due say (`Does`), and takes no input.
+//! [`folder_booted`] performs this program over any world, so its contract has the order of the
+//! events. [`folder_command`] performs it over a folder, an input and an output of the caller.
+//! These have no common clock, so its contract does not say which of two objects was called first.
+//! The same call satisfies `Does` by the reading of a folder and the kind of the command, and takes
+//! no input.
 //!
-//! The loop of [`run`] says what is left of its program (`Leads`), and that no text of the console
-//! waits (`IsShown`): each step and each service requires it. So the characters of a console service
-//! are put before the next turn is made, and a reader of a pipe sees them while the program runs.
-//! The lines of a trace are gathered in a block, which is handed over when it is full, at the end,
-//! and where a link service finds no memory.
+//! A turn is no event, so no contract of a command says when a turn is made. The code puts the
+//! characters of a console service before it makes the next turn: each step and each service
+//! requires that no text of the console waits in the block (`IsShown`), and the loop of [`run`]
+//! keeps that. So a reader of a pipe sees the characters while the program runs. The lines of a
+//! trace are gathered in a block. It is handed over when it is full, at the end, and when a link
+//! service runs out of memory.
 #![tactic(auto)]
 
 pub mod answering;

@@ -1,5 +1,5 @@
-//! What is added to a block for a turn: a line, the characters of the console, or nothing; and what
-//! is put at the end of a run.
+//! Writes the turns of a run, and its end. For a turn it writes a line of a trace, characters of
+//! the console, or nothing.
 
 ghost use Rattle.std.specs.Prelude.{◌≡◌, ◌<◌, ◌+◌, [], ◌∷◌, ◌++◌, length, Some};
 ghost use Rattle.m36_outside.specs.Put.{OnFailed};
@@ -23,7 +23,7 @@ use m36_trace::{TraceText, line, push_shown};
 use m36_turns::{console_line, link_line};
 use m36_world::World;
 
-// Adds a line with its line feed to a block, as one piece.
+// Adds a text and a line feed to a block, as one piece. There must be room for the line feed.
 fn add_text<W: World>(block: &mut Block, mut text: ArrayString<160>, world: &mut W) -> Put
     requires { length text.bytes < 160 }
     ensures adds { Adds result block.old block.new (as_line text.bytes ∷ [])
@@ -33,7 +33,7 @@ fn add_text<W: World>(block: &mut Block, mut text: ArrayString<160>, world: &mut
     add_piece(block, text.as_str().as_bytes(), world)
 }
 
-// The same of bytes.
+// As `add_text`, for a byte array.
 fn add_bytes<W: World, const N: usize>(
     block: &mut Block,
     mut text: ArrayVec<u8, N>,
@@ -47,7 +47,7 @@ fn add_bytes<W: World, const N: usize>(
     add_piece(block, text.as_slice(), world)
 }
 
-// Adds the line of step n where no part of an earlier line serves for it, or the block is full.
+// Adds the line of step n, formatted as a whole: used if `push_shown` could not push it.
 #[inline(never)]
 fn add_whole<W: World>(n: u64, told: &StepRecord, block: &mut Block, world: &mut W) -> Put
     ensures adds { Adds result block.old block.new (as_line (line_of n told.now) ∷ [])
@@ -56,7 +56,8 @@ fn add_whole<W: World>(n: u64, told: &StepRecord, block: &mut Block, world: &mut
     add_text(block, line(n, told), world)
 }
 
-// Adds the line of step n. Of it only what is not that of an earlier line is spelled.
+// Adds the line of step n. `text` keeps an earlier line, and only the parts that differ are
+// formatted again.
 #[tactic(auto, using(m36_program::proofs::Gathered::gathering))]
 fn add_trace<W: World>(
     n: u64,
@@ -80,8 +81,8 @@ fn add_trace<W: World>(
     add_whole(n, told, block, world)
 }
 
-// Puts the characters of a console service, as they are; nothing where there are none. They do not
-// wait in the block.
+// Puts the characters of a console service unchanged, and nothing if there are none. They are
+// handed over at once, so the block stays empty.
 #[tactic(auto, using(crate::proofs::TurnPieces::showing))]
 fn show_characters<W: World>(note: &ConsoleNote, block: &mut Block, world: &mut W) -> Put
     requires { block.old ≡ [] }
@@ -97,7 +98,7 @@ fn show_characters<W: World>(note: &ConsoleNote, block: &mut Block, world: &mut 
     }
 }
 
-/// Adds the line of a step before which so many were taken, to a trace.
+/// Adds the line of a step to a trace. `taken` is the count of steps before it.
 #[tactic(auto, using(crate::proofs::TurnPieces::adding))]
 pub(crate) fn add_step<W: World>(
     output: RunOutput,
@@ -161,7 +162,7 @@ pub(crate) fn add_printed<W: World>(
     }
 }
 
-// Adds the line of a denied segment, where the run has ended for want of a right to one.
+// Adds the line of a denied segment if the run ended because the user lacks a right to it.
 #[tactic(auto, using(crate::proofs::TurnPieces::adding), unfolding(m36_booted::specs::RunText::denied_pieces))]
 fn add_denied<W: World>(denied: &DeniedLines, how: Finish, block: &mut Block, world: &mut W) -> Put
     ensures adds { Adds result block.old block.new (denied_pieces denied.now how)
@@ -173,7 +174,7 @@ fn add_denied<W: World>(denied: &DeniedLines, how: Finish, block: &mut Block, wo
     }
 }
 
-// Adds the end line of a run of so many steps, and the line of a denied segment.
+// Adds the end line of a run of `steps` steps, and the line of a denied segment if there is one.
 fn add_finish<W: World>(
     how: &Finish,
     steps: u32,
@@ -190,8 +191,8 @@ fn add_finish<W: World>(
     }
 }
 
-/// Puts what is in a block, then the end line of a run of so many steps and the line of a denied
-/// segment.
+/// Puts the content of a block, then the end line of a run of `steps` steps, and then the line of a
+/// denied segment if there is one.
 #[tactic(auto, using(m36_program::proofs::Gathered::finishing))]
 pub(crate) fn put_finish<W: World>(
     how: &Finish,

@@ -1,4 +1,4 @@
-//! The boot text of a folder and the files of its segments, and the system that they boot to.
+//! Reads the boot text of a folder and the files of its segments, and boots the system.
 
 ghost use Rattle.std.specs.Prelude.{◌≡◌, ◌+◌, [], length, IfOk};
 ghost use Rattle.m36_booted.specs.Systems.{IsFresh};
@@ -19,7 +19,7 @@ use m36_reading::Status;
 use m36_world::World;
 use std::alloc::Global;
 
-// Reads the file of a segment, after those that were read before.
+// Reads the file of a segment, and appends its words to those of the files before it.
 fn read_file<W: World>(
     alloc: Global,
     name: &[u8],
@@ -33,15 +33,15 @@ fn read_file<W: World>(
     match read_words(alloc, name, world) {
         Ok(words) => decide(with_file(files, words)),
         Err(status) => {
-            // Dropped by a call: so the drop is proved once for its type.
+            // Dropped by a call, so that the drop is proved once for its type.
             drop(files);
             Err(status)
         }
     }
 }
 
-// Reads the file of each segment of a catalog: F1, F2, T3, T4 and F3 of each, before the next one
-// is read.
+// Reads the file of each segment of a catalog, in order. A file is checked (F1, F2, T3, T4, F3)
+// before the next one is read.
 fn read_files<W: World>(
     alloc: Global,
     catalog: &Catalog,
@@ -62,7 +62,7 @@ fn read_files<W: World>(
     Ok(files)
 }
 
-// Reads the files of a catalog, and boots it.
+// Reads the files of the catalog's segments, and boots the system from them.
 fn read_booted<W: World>(
     alloc: Global,
     access: Access,
@@ -81,7 +81,8 @@ fn read_booted<W: World>(
     }
 }
 
-/// Reads a folder, and boots it, with the rights of a user if there is one.
+/// Reads a folder and boots it, with the rights of `user` if there is one. An error is the status
+/// of the command.
 pub fn read_system<W: World>(
     alloc: Global,
     user: &Option<User>,

@@ -1,5 +1,6 @@
-//! A run of a booted system. The lines of a trace are gathered in a block, which is handed over when
-//! it is full and at the end; what the console writes is put before the next turn.
+//! Runs a booted system. The lines of a trace are gathered in a block, which is handed over when it
+//! is full, at the end, and when a link service runs out of memory. What the console writes is put
+//! before the code makes the next turn.
 
 ghost use Rattle.std.specs.Prelude.{◌≡◌, ◌<◌, ◌+◌, ◌^◌, ◌++◌, Some, [], ◌∷◌};
 ghost use Rattle.m36_super.specs.declared.coming.Coming.TheVariants.{Step, Link, Print};
@@ -24,7 +25,7 @@ use m36_trace::TraceText;
 use m36_word::NoMemory;
 use m36_world::World;
 
-/// What follows a step with its service, or a service alone.
+/// What follows a step and its service, or a service alone.
 #[derive(Clone, Copy)]
 pub enum AfterTurn {
     /// A step follows.
@@ -33,11 +34,11 @@ pub enum AfterTurn {
     Ended(End),
     /// The output failed.
     WriteFailed,
-    /// The link service found no memory. All lines before it have been put.
+    /// A link service ran out of memory. The lines before it have been put.
     NoMemory,
 }
 
-// What follows a link service: a step, or the end where the link was refused.
+// What follows a link service: a step, or the end of the run if the link was refused.
 fn after_link(system: &Super) -> AfterTurn
     requires { IsQuiet system.now.coming }
     ensures { LinkBefore result system.now.coming }
@@ -49,7 +50,7 @@ fn after_link(system: &Super) -> AfterTurn
     }
 }
 
-// Makes a link service.
+// Performs the link service for the link at `at`, and adds its line to a trace.
 #[tactic(auto, using(crate::proofs::Serving::services))]
 fn link<W: World>(
     system: &mut Super,
@@ -77,7 +78,7 @@ fn link<W: World>(
     }
 }
 
-// Makes a console service.
+// Performs a console service, and puts its characters or adds its line to a trace.
 #[tactic(auto, using(crate::proofs::Serving::services))]
 fn print<W: World>(
     system: &mut Super,
@@ -102,7 +103,7 @@ fn print<W: World>(
     }
 }
 
-// Makes the service that comes next, if one does.
+// Performs the service that is next, if there is one.
 #[tactic(auto, using(crate::proofs::Serving::services))]
 fn serve<W: World>(
     system: &mut Super,
@@ -124,9 +125,9 @@ fn serve<W: World>(
     }
 }
 
-// Takes a step before which so many were taken, with its service. All that the console wrote before
-// it has been put. The step is told in a record that an earlier one may have filled, and of its line
-// only what is not that of an earlier one is spelled.
+// Takes a step and performs its service. `taken` is the count of steps before it. `told` and `text`
+// may have the record and the line of an earlier step. The record is overwritten, and of the line
+// only the parts that differ are formatted again.
 #[tactic(auto, using(crate::proofs::Serving::stepping))]
 fn take_step<W: World>(
     system: &mut Super,
@@ -151,7 +152,7 @@ fn take_step<W: World>(
     }
 }
 
-// Puts what is in the block, and the end of a run of so many steps.
+// Puts the content of the block, and the end of a run of `taken` steps.
 #[tactic(auto, using(crate::proofs::RunLoop::ending))]
 fn end_run<W: World>(
     how: Finish,
@@ -170,8 +171,8 @@ fn end_run<W: World>(
     }
 }
 
-/// Runs a system for at most so many steps, and puts what is written of each turn, the end line, and
-/// after it the line of a segment to which a right was wanted.
+/// Runs a system for at most `steps` steps. Puts what is written of each turn, and the end line;
+/// and then the line of a denied segment, if the run ended because the user lacks a right to it.
 #[tactic(auto, using(crate::proofs::RunLoop::running))]
 pub fn run<W: World>(
     system: &mut Super,
@@ -196,7 +197,7 @@ pub fn run<W: World>(
             AfterTurn::Next => {}
             AfterTurn::Ended(end) => {
                 let ended = end_run(Finish::Over(end), taken + 1, denied, &mut block, world);
-                // Dropped by a call: so the drop is proved once for its type.
+                // Dropped by a call, so that the drop is proved once for its type.
                 drop(block);
                 return ended;
             }

@@ -1,4 +1,4 @@
--- Texts of audits, put line by line.
+-- Laws of the text of an audit that is put line by line.
 use Rattle.std.proofs.Common.{◌≡◌, ℕ, ◌+◌, ◌<◌, ◌≤◌, List, [], ◌∷◌, length, drop, get_or, Result, Ok, Err, refl, sym, ap, subst, ◌∙◌}
 use Rattle.std.proofs.lemmas.List.{at_drop_all}
 use Rattle.m36_text.specs.Lines.{as_line}
@@ -49,7 +49,7 @@ finding_put findings i d first old between new inside left put =
     leads_put (line_at findings i d) (all_put (pieces_of_findings (drop (i + 1) findings))) first old between new
     (leads_as (all_put (pieces_of_findings (drop i findings))) _ first old between (left_at findings i d inside) left) put
 
--- it was not put
+-- the line of a finding was not put
 pub finding_unput :
     (findings : List Finding) (i : ℕ) (d : Finding) (first : Program quiet (Unit {0})) (s : Status) (old between new : Seen)
     → i < length findings → Leads (all_put (pieces_of_findings (drop i findings))) first old between
@@ -103,7 +103,7 @@ unfolding then_with puts_all
 then_rest [] rest = refl
 then_rest (piece ∷ pieces) rest = ap (puts piece) (then_rest pieces rest)
 
--- the pieces were put, and then the rest went on
+-- the pieces were put, and then the rest of the program followed
 pub all_then :
     (pieces : List (List ℕ)) (rest : Program quiet (Unit {0})) (result : Result (Unit {0}) Status) (old between new : Seen)
     → Performs (all_put pieces) (Ok tt) old between → Performs rest result between new
@@ -112,7 +112,7 @@ all_then pieces rest result old between new put performs =
     subst (λ p. Performs p result old new) (then_rest pieces rest)
     (performs_then (all_put pieces) (λ u. rest) tt result old between new put performs)
 
--- they were not
+-- not all of them were put
 pub all_stop :
     (pieces : List (List ℕ)) (rest : Program quiet (Unit {0})) (s : Status) (old new : Seen)
     → Performs (all_put pieces) (Err s) old new → Performs (puts_all pieces rest) (Err s) old new

@@ -1,4 +1,4 @@
--- A call that performs the program of a command on an image does what the command reads and answers.
+-- A call that performs the program of a command on an image satisfies `Does` of the command.
 use Rattle.std.proofs.Common.{◌⊎◌, ℕ, List, Result, Ok, Err, refl, inl, inr}
 use Rattle.m36_model.specs.Store.{State}
 use Rattle.m36_image.specs.ImageState.{state_given}
@@ -66,7 +66,7 @@ on_puts command state events result goes =
       | inr none ↦ inr none
     ]
 
--- What a call does, by the reading of the image and by the answer that is due.
+-- `Does` of a call, by the reading of the image and the kind of the command.
 pub performs_does :
     (command : ImageCommand) (name : List ℕ) (result : Result (Unit {0}) Status) (old new : Seen)
     → Performs (image_program command name) result old new

@@ -1,4 +1,4 @@
--- A command on a bare image, from its parts.
+-- Each command on a bare image performs its program, since its parts do.
 use Rattle.std.proofs.Common.{◌≡◌, ℕ, ◌<◌, List, [], ◌∷◌, length, Result, Ok, Err, refl, sym, subst, arith}
 use Rattle.m36_model.specs.Store.{State}
 use Rattle.m36_model.specs.Audit.{AreFindings}
@@ -134,7 +134,7 @@ run_audited steps state image findings result old between new is put performs =
 
 pub ruleset audited = (run_unput, run_audited)
 
--- ---- by what the audit has found
+-- ---- by the findings of the audit
 
 pub found_in :
     (command : ImageCommand) (state : State (List ℕ)) (findings : List (ℕ × ℕ)) (result : Result (Unit {0}) Status) (old new : Seen)

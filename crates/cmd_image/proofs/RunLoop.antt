@@ -52,7 +52,7 @@ end_put block taken last status result old new put status_is is =
     (leads_as _ _ (puts_all block (run_ends taken last)) old old (ap (puts_all block) (sym (puts_one (as_line (end_line_of last taken)) (run_status last)))) (start_all block taken last old))
     put (subst (λ r. Goes (run_status last) [] r) (sym (is ∙ ap early status_is)) (status_goes last))
 
--- they were not
+-- the lines of the block and the end line were not all put
 pub end_lost :
     (block : List (List ℕ)) (taken : ℕ) (last : Outcome) (old new : Seen)
     → Loses (block ++ as_line (end_line_of last taken) ∷ []) old new
@@ -110,7 +110,7 @@ run_next first block block' taken left state state' old between new so_far more 
     (ap (puts_all block) (run_more taken left state more ∙ ap (λ o. puts line (after_step (taken + 1) o rest)) stepped.outcome_is)) so_far)
     stepped.added)
 
--- a step has ended the run
+-- a step ended the run
 pub run_last :
     (first : Program quiet (Unit {0})) (block block' : List (List ℕ)) (taken left : ℕ) (state : State (List ℕ)) (last : Outcome)
     (result : Result (Unit {0}) Status) (old between now new : Seen)

@@ -86,8 +86,8 @@ run_from taken (suc left) state =
 
 -- ---- the audit
 
--- These are the findings of the audit of a machine. If there are none, its tables isolate each ring
--- from 1 to 7.
+-- The findings of the audit of a machine, each the number of its condition and its place. If there
+-- are none, the machine's tables isolate each ring from 1 to 7.
 pub record IsFound (state : State (List ℕ)) (findings : List (ℕ × ℕ)) : Type 0 where
   pub found : AreFindings state.store state.regs.dbr findings
   pub isolated : findings ≡ [] → IsIsolated state.store state.regs.dbr

@@ -1,5 +1,5 @@
--- `bare FILE` and `audit FILE` have one text: over the same files every call puts the same pieces,
--- up to where it ends.
+-- The law that `bare FILE` and `audit FILE` have one text each: over the same files every call puts
+-- the same pieces, up to where it ends.
 use Rattle.std.specs.Prelude.{ℕ, ◌≡◌, List, Some, Result}
 use Rattle.m36_outside.specs.Files.{Files}
 use Rattle.m36_outside.specs.Passing.{joined}
@@ -16,6 +16,7 @@ use Rattle.cmd_image.specs.ImageProgram.{image_program}
 -- that the first puts are a prefix of those of the second, and what is written grows by a prefix of
 -- their bytes. If the first also ends as the program says, the pieces and the results are equal.
 pub record ImageTextLaw : Type 0 where
+  -- Over the same files the program has the same steps in each call.
   pub alike :
       (command : ImageCommand) (name : List ℕ)
       → Alike (image_program command name) (image_program command name)

@@ -1,4 +1,4 @@
-//! The audit of an image, and its run.
+//! Audits an image, and runs it if the command says so.
 
 ghost use Rattle.m36_audit.specs.Findings.{pairs};
 ghost use Rattle.m36_program.specs.Performs.{Performs};
@@ -16,7 +16,7 @@ use m36_reading::Status;
 use m36_world::World;
 use std::alloc::Global;
 
-/// Puts the text of an audit. Fails with AuditNo if there are findings.
+/// Puts the text of an audit line by line. Fails with AuditNo if there are findings.
 #[tactic(auto, using(crate::proofs::ImageSteps::auditing))]
 pub fn answer_audit<W: World>(findings: &[Finding], world: &mut W) -> Result<(), Status>
     ensures { Performs (audit_only (pairs findings.now)) result
@@ -100,7 +100,7 @@ fn with_image<W: World>(
         Ok(verdict) => {
             let findings = verdict.findings.as_slice();
             let answer = answer_found(command, findings, image, world);
-            // Dropped by a call: so the drop is proved once for its type.
+            // Dropped by a call, so that the drop is proved once for its type.
             drop(verdict);
             answer
         }
@@ -111,8 +111,8 @@ fn with_image<W: World>(
     }
 }
 
-/// Performs `bare FILE` or `audit FILE`: reads a bare image, audits it, and runs it if the command
-/// says so.
+/// Performs `bare FILE` or `audit FILE` over any world: reads a bare image, audits it, and runs it
+/// if the command says so. An error is the status of the command.
 pub fn image_file<W: World>(
     alloc: Global,
     name: &[u8],

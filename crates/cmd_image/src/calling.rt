@@ -1,4 +1,4 @@
-//! A call over a folder, an input and an output.
+//! Performs a command of an image over three objects: a folder, an input and an output.
 
 ghost use Rattle.m36_reading.specs.Doing.{Does};
 ghost use Rattle.m36_reading.specs.Outside.{outside_of};
@@ -25,7 +25,8 @@ pub fn image_command<F: Folder, L: Lines, S: Sink>(
     lines: &mut L,
     out: &mut S,
 ) -> Status
-    // The events of the call, in order, are those of the program.
+    // The three records of the call are the parts of one list of events that the program allows.
+    // The objects have no common clock, so this does not say which event of two objects was first.
     ensures performs { PerformsOver (image_program command name.now) (early result)
         (objects F.asked F.wrote F.files F.read_faults F.write_faults L.given L.left L.faults
         S.taken S.written S.faults folder.old lines.old out.old)
@@ -39,6 +40,8 @@ pub fn image_command<F: Folder, L: Lines, S: Sink>(
         (outside_of F.files F.wrote F.read_faults F.write_faults S.written S.taken S.faults
         folder.new out.new)
         (F.asked folder.old) (F.asked folder.new) }
+
+    // Nothing of the input is taken, and no fault of it is counted.
     ensures untaken { InputKept
         (objects F.asked F.wrote F.files F.read_faults F.write_faults L.given L.left L.faults
         S.taken S.written S.faults folder.old lines.old out.old)

@@ -1,4 +1,4 @@
-//! The text of an audit, line by line.
+//! Puts the text of an audit line by line.
 
 ghost use Rattle.std.specs.Prelude.{◌<◌, length};
 ghost use Rattle.m36_text.specs.Lines.{as_line};

@@ -1,6 +1,6 @@
 //! The commands `bare FILE` and `audit FILE`, defined as programs (`m36_program`).
 //!
-//! `image_program` (`specs/ImageProgram.antt`) says what the two commands do, event by event:
+//! `image_program` (`specs/ImageProgram.antt`) says what the two commands do:
 //!
 //! - The file is read and decoded. It is refused if it is absent (F1), too large (F2) or not a bare
 //!   image (I1 to I3).
@@ -10,13 +10,17 @@
 //! - If nothing was found, or `--unaudited` is given, `bare FILE` runs the machine. It puts a trace
 //!   line for each step, and then the end line.
 //!
-//! [`image_file`] performs this program over any world. [`image_command`] performs it over a
-//! folder, an input and an output of the caller: the calls that these three log are the events of
-//! the program, in one order (`PerformsOver`). It takes no input. Its contract also states the same
-//! command as a reading and an answer (`Does`).
+//! [`image_file`] performs this program over any world, so its contract has the order of the
+//! events. A step of the machine is no event: only its line is.
+//!
+//! [`image_command`] performs the program over a folder, an input and an output of the caller: the
+//! three records of the call are the parts of one list of events that the program allows
+//! (`PerformsOver`). The objects have no common clock, so this does not say which of two objects
+//! was called first. The call takes no input. Its contract also states the same command as a
+//! reading and an answer (`Does`).
 //!
 //! [`law_image_text`] says that over the same files every call puts a prefix of one text. A call
-//! that is not ended by a fault or by lack of memory puts all of it.
+//! that does not end by a fault or out of memory puts all of it.
 //!
 //! The lines of a run are gathered in a block, which is handed over when it is full and at the end.
 //! The invariant of the loop is what is left of the program (`Leads`): the lines in the block, and

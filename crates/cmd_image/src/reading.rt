@@ -38,7 +38,7 @@ pub fn read_state<W: World>(alloc: Global, name: &[u8], world: &mut W) -> Result
     match read_bytes(alloc, name, world) {
         Ok(text) => {
             let given = decode(alloc, name, text.bytes());
-            // Dropped by a call: so the drop is proved once for its type.
+            // Dropped by a call, so that the drop is proved once for its type.
             drop(text);
             given
         }

@@ -1,4 +1,4 @@
-//! A run of the machine: a line for each step, and the end line.
+//! Runs the machine, and puts a line for each step and the end line.
 
 ghost use Rattle.std.specs.Prelude.{◌≡◌, ◌<◌, ◌+◌, [], ◌∷◌, ◌++◌, length};
 ghost use Rattle.m36_text.specs.Lines.{as_line};
@@ -26,7 +26,7 @@ use m36_world::World;
 pub enum AfterStep {
     /// Another step may follow.
     Next,
-    /// The step has ended the run.
+    /// The step ended the run.
     Ended(Outcome),
     /// The output failed.
     WriteFailed,
@@ -150,7 +150,7 @@ pub fn run<W: World>(machine: &mut Machine, steps: u32, world: &mut W) -> Result
             AfterStep::Next => {}
             AfterStep::Ended(outcome) => {
                 let ended = end_run(&mut block, &outcome, taken as u64 + 1, world);
-                // Dropped by a call: so the drop is proved once for its type.
+                // Dropped by a call, so that the drop is proved once for its type.
                 drop(block);
                 return ended;
             }

@@ -10,7 +10,7 @@ use Rattle.m36_reading.specs.Asking.{Gives}
 use Rattle.m36_text.specs.Results.{and_then}
 use Rattle.cmd_make.specs.Making.{set_of, with_objects, and_others, sets_of}
 
--- the objects behind the sources
+-- the objects after the sources
 objects_so :
     (seed : ℕ) (sources : List File) (first : List Set)
     → sources ≡ sources_of seed → first ≡ map set_of sources

@@ -1,4 +1,4 @@
--- A call that performs the program of the command does what is due to the files that the seed makes.
+-- A call that performs the program of the command satisfies `Does` for the files that the seed makes.
 use Rattle.std.proofs.Common.{◌≡◌, ℕ, List, [], ◌++◌, Result, Ok, Err, refl, sym, ap, subst, ◌∙◌, inl, inr}
 use Rattle.std.proofs.lemmas.List.{append-nil}
 use Rattle.m36_outside.specs.Passing.{joined}
@@ -95,7 +95,7 @@ failed_reads old new (inr failed) = failed.reads
 
 -- ---- ends
 
--- the end, where it is known which files were made
+-- the end of a command, if it is known which files were made
 abbrev EndsWith : List Set → Result (Unit {0}) Status → Seen → Seen → Type 0
 EndsWith sets result old new =
     EndsBy made_kind (λ c. c ≡ Came (Ok sets)) (end_of (status_by result)) (status_by result) (outside_by old) (outside_by new)
@@ -114,7 +114,7 @@ ends_answered sets (status.MachineStop end) old new own is = is
 ends_answered sets status.Steps old new own is = is
 ends_answered sets status.NoMemory old new own is = absurd own
 
--- the files that were written are there still
+-- all files that were written are still there
 all_set :
     (sets : List Set) (old between new : Seen) → FilesWritten sets old between → FilesKept between new
     → AllSet sets (outside_by old).folder (outside_by new).folder
@@ -177,7 +177,7 @@ put_ends Starved sets due events result old between new written kept cause put i
       read_faults = none.reads ∙ written.faults;
     }))
 
--- nothing happened, and no memory was found
+-- without an event the state is unchanged
 idle_of : (events : List Event) (old new : Seen) → events ≡ [] → Follow events old new → new ≡ old
 unfolding Follow
 idle_of events old new none follow = subst (λ e. Follow e old new) none follow
@@ -198,7 +198,7 @@ starved_ends sets result old between new written result_is same =
       read_faults = written.faults;
     })))
 
--- ---- what is due is done, and no file is read
+-- ---- an answer of the kind is given, and no file is read
 
 reads_same : (events : List Event) (old new : Seen) → reads_of events ≡ [] → Follow events old new → new.reads ≡ old.reads
 reads_same events old new alone follow =
@@ -277,7 +277,7 @@ made_reader : (seed : ℕ) → IsReader {may = writing} (decides (sets_of seed))
 unfolding make_reads
 made_reader seed = decides_reader (sets_of seed)
 
--- What a call does, by the files that the seed makes and by what is due to them.
+-- `Does` of a call, by the files that the seed makes and their kind.
 pub make_does :
     (seed : ℕ) (result : Result (Unit {0}) Status) (old new : Seen)
     → Performs (make_program seed) result old new

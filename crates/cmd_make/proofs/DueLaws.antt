@@ -1,4 +1,4 @@
--- What is due to `make`.
+-- Proofs of the laws of the answers of `make`.
 use Rattle.std.proofs.Common.{◌≡◌, ℕ, List, [], ◌∷◌, length, Some, Ok, Err, refl, sym, ap, subst, ◌∙◌}
 use Rattle.m36_model.specs.Audit.{AreFindings, IsAudited}
 use Rattle.m36_model.specs.BootedCore.{booted_dbr}
@@ -43,7 +43,7 @@ summary_of :
     (sets : List Set) (given : FolderFields) (due : Answer) → boots_from sets ≡ Ok given → (is : IsMadeDue sets due) → IsSummary Whole given.lib is.told
 summary_of sets given due boots is = subst (λ (b : Early FolderFields). IsToldOf b is.told) boots is.is
 
--- what is told is by the findings of the one system
+-- the lines are those for the findings of the one system
 record IsFoundBy (lib : Library) (system : SuperFields) (told : Answer) : Type 0 where
   pub findings : List (ℕ × ℕ)
   pub found : AreFindings system.core booted_dbr findings
@@ -119,7 +119,7 @@ refused_due sets refusal refused none =
     none (behind_files sets nothing)
     (record { told = nothing; is = subst (λ (b : Early FolderFields). IsToldOf b nothing) (sym refused) refl; answer = refl })
 
--- There is a list of findings: so what is told by each list will do.
+-- There is a list of findings, so it is enough to have an answer for each list.
 due_by :
     (sets : List Set) (given : FolderFields) (system : SuperFields) → BootsTo sets given system
     → ((findings : List (ℕ × ℕ)) → AreFindings system.core booted_dbr findings → (told : Answer) × IsToldBy given.lib system findings told)
@@ -159,7 +159,7 @@ run_due :
 run_due sets given system turns last how to goes ends =
     due_by sets given system to (λ findings found. ran given.lib system findings turns last how goes ends)
 
--- ---- one answer where a run executes no ABSA and no LDBR
+-- ---- one answer if a run executes no ABSA and no LDBR
 
 abbrev told_by : ℕ → List Turn → Finish → RegsFields → List (ℕ × ℕ) → Answer
 told_by count turns how regs [] = run_answer count [] (Some how) (steps_in turns) regs

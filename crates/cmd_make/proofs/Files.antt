@@ -1,4 +1,4 @@
--- Files that are copied, and the folder in memory that they are.
+-- Laws of copied files, and of a folder in memory with these files.
 use Rattle.std.proofs.Common.{◌≡◌, ℕ, ◌+◌, ◌<◌, ◌≤◌, List, [], ◌∷◌, ◌++◌, length, map, drop, get_or, Some, None, Result, Ok, Err, refl, sym, ap, subst, ◌∙◌, append_assoc, arith, inl, inr}
 use Rattle.std.proofs.lemmas.List.{append-nil, drop_more, at_drop_all}
 use Rattle.m36_outside.specs.Counts.{Rose}
@@ -78,7 +78,7 @@ never_rose : (old new : ℕ) → old ≡ 0 → new ≡ 0 → Rose old new → �
 never_rose old new before after (inl rose) = omega (arith, before, after, rose)
 never_rose old new before after (inr full) = omega (arith, after, full)
 
--- What a reading comes to in a folder that tells its files and whose reads do not fail.
+-- The outcome of a reading in a folder that shows its files and whose reads do not fail.
 pub read_in :
     {A : Type 0} (p : Reading (Early A)) (result : Result A Refusal) (files : Files) (old new : FolderState) (before after : List Asked)
     → old.files ≡ Some files → old.read_faults ≡ 0 → new.read_faults ≡ 0 → Reads p result old new before after → Gives result (outcome_in files p)

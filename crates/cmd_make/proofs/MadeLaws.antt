@@ -1,4 +1,4 @@
--- What holds of the answers that are due: their pieces are their text, and where one says `audit yes` the folder passes.
+-- Laws of the answers: their pieces are their text, and if one has `audit yes`, the folder passes.
 use Rattle.std.proofs.Common.{◌≡◌, ℕ, ◌<◌, Bool, true, false, List, [], ◌∷◌, ◌++◌, length, Ok, Err, refl, sym, ap, subst, ◌∙◌, inl, inr, append_assoc, length-append, arith}
 use Rattle.std.proofs.lemmas.List.{append-nil, append_cancel_left}
 use Rattle.std.proofs.lemmas.List.Folds.{concat-append}
@@ -47,7 +47,7 @@ made_joined sets due is =
 
 -- ---- `audit yes`
 
--- every answer begins with the count of segments, and the audit text behind it
+-- every answer begins with the count of segments and the audit's text
 abbrev Begins : ℕ → List (ℕ × ℕ) → Answer → Type 0
 Begins count findings told =
     (more : List ℕ) × (told.text ≡ as_line (segments_line count) ++ (audit_text findings ++ more))
@@ -79,7 +79,7 @@ found_begins false Whole count lib first findings told is = unrun_begins count f
 found_begins false Begun count lib first findings told is = unrun_begins count findings told is
 found_begins false Starved count lib first findings told is = absurd is
 
--- where nothing is found, the system passes as it does for the command `audit`
+-- if nothing is found, the system passes as it does for the command `audit`
 audit_passes :
     (given : FolderFields) (system : SuperFields)
     → IsBooted given.lib system → AreFindings system.core booted_dbr [] → PassesBooted given.lib

@@ -28,7 +28,7 @@ given_then :
 given_then may rule next a result old new gives performs =
     performs_then (decides rule) next a result old old new (rule_given may (Ok a) rule (Ok a) old gives refl) performs
 
--- or a refusal
+-- a rule gave a refusal
 given_stop :
     (may : May) {A : Type 0} (rule : Result A Refusal) (next : A → Program may (Unit {0})) (r : Refusal) (s : Status) (seen : Seen)
     → Gives {A = A} (Err r) rule → s ≡ status_of r → Performs (then_with (decides rule) next) (Err s) seen seen

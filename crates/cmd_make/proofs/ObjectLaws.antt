@@ -49,7 +49,7 @@ object_given source name content given named is =
     ap (object_by source) is.is
     ∙ (λ i. Ok (record { name = sym named i; content = sym is.made_is i }))
 
--- or the source is refused
+-- the source is refused
 refused_by :
     (source : List ℕ) (given : Result Assembly AlmFault) (f : AlmFault) (r : Refusal)
     → given ≡ Err f → asking.Refuses r (source_refused source f) → asking.Gives (Err r) (object_by source given)

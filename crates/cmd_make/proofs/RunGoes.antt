@@ -1,5 +1,5 @@
--- How the program of a run goes of which nothing is written: nothing happens outside, and its turns are those of a booted
--- run, which comes to its end, or to a link service that found no memory.
+-- The events of the program of a quiet run: there are none. Its turns are those of a booted run that ends, or that
+-- reaches a link service that ran out of memory.
 use Rattle.std.proofs.Common.{◌≡◌, ◌≢◌, ◌⊎◌, ℕ, zero, suc, ◌+◌, ◌≤◌, Bool, true, false, List, [], ◌∷◌, Result, Ok, Err, refl, sym, ap, subst, ◌∙◌, inl, inr, arith, add-zero}
 use Rattle.m36_world.specs.declared.event.Event.{Event}
 use Rattle.m36_model.specs.Fields.{AtFields}
@@ -28,13 +28,13 @@ use Rattle.m36_booted.specs.Runs.{IsEvent, Finishes, AwaitsLink}
 use Rattle.m36_booted.proofs.Serving.{IsStep, IsLink, ended_leaves}
 use Rattle.cmd_make.specs.QuietRun.{Ran, ran, after_service, serve_by, serve, run_from}
 
--- Turns of a booted run from a state on, with at most so many steps.
+-- Turns of a booted run from state b, with at most `left` steps.
 pub record AreMade (lib : Library) (left : ℕ) (b : Booted) (turns : List Turn) (last : Booted) : Type 0 where
   pub are : AreTurns lib b turns last
   pub events : Each IsEvent turns
   pub few : steps_in turns ≤ left
 
--- The run came to its end.
+-- The run ended.
 pub record HasRun (lib : Library) (taken left : ℕ) (b : Booted) (r : Ran) : Type 0 where
   pub turns : List Turn
   pub last : Booted
@@ -43,7 +43,7 @@ pub record HasRun (lib : Library) (taken left : ℕ) (b : Booted) (r : Ran) : Ty
   pub steps : r.steps ≡ taken + steps_in turns
   pub regs : r.regs ≡ last.state.regs
 
--- It came to a link service that found no memory.
+-- The run reached a link service that ran out of memory.
 pub record HasStarved (lib : Library) (left : ℕ) (b : Booted) (s : Status) : Type 0 where
   pub turns : List Turn
   pub last : Booted
@@ -55,7 +55,7 @@ abbrev pub RunBy : Library → ℕ → ℕ → Booted → Result Ran Status → 
 RunBy lib taken left b (Ok r) = HasRun lib taken left b r
 RunBy lib taken left b (Err s) = HasStarved lib left b s
 
--- The program of a run went so.
+-- The program of a run had no events, and one of these results.
 pub record RunGoes (lib : Library) (taken left : ℕ) (b : Booted) (events : List Event) (result : Result Ran Status) : Type 0 where
   pub none : events ≡ []
   pub run : RunBy lib taken left b result
@@ -168,7 +168,7 @@ step_counts (turn.Ended e) is = absurd is
 step_counts turn.Full is = absurd is
 step_counts turn.NoMemory is = absurd is
 
--- A service was made, and the run goes on or ends.
+-- A service was performed, and the run continues or ends.
 record IsServiceMade (told : Turn) (next : Coming) : Type 0 where
   event : IsEvent told
   counts : steps_of told ≡ 0

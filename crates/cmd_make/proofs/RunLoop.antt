@@ -24,14 +24,14 @@ run_step : (lib : Library) (taken left : ℕ) (b : Booted) → run_from lib take
 unfolding run_from
 run_step lib taken left b = refl
 
--- a step is left
+-- if at least one step is left
 one_left :
     (lib : Library) (taken left : ℕ) (b : Booted) → 0 < left → run_from lib taken left b ≡ from_step lib b (taken + 1) (left - 1)
 one_left lib taken left b more =
     let e : left ≡ suc (left - 1) = omega arith in
     ap (λ n. run_from lib taken n b) e ∙ run_step lib taken (left - 1) b
 
--- it was taken, and the program that follows it has gone to this result
+-- a step was taken, and the rest of the program reached this result
 step_gone :
     (lib : Library) (taken left : ℕ) (now : SuperFields) (first : Program quiet Ran) (result : Result Ran Status)
     → Left lib taken left now first → 0 < left → Goes (from_step lib (booted_of now) (taken + 1) (left - 1)) [] result

@@ -34,11 +34,11 @@ on_from lib taken left b = run_from lib taken left b
 abbrev served : Library → ℕ → ℕ → Booted → Program quiet Ran
 served lib taken left b = serve lib taken (λ b. run_from lib taken left b) b
 
--- by what comes
+-- the program after a step, by what is next
 abbrev served_by : Coming → Library → ℕ → ℕ → Booted → Program quiet Ran
 served_by coming lib taken left b = serve_by coming lib taken (λ b. run_from lib taken left b) b
 
--- and the program of what follows a service
+-- the program after a service, by what is next
 abbrev then_by : Coming → Library → ℕ → ℕ → Booted → Program quiet Ran
 then_by coming lib taken left b = after_service coming taken (λ b. run_from lib taken left b) b
 
@@ -77,7 +77,7 @@ step_as :
 step_as lib taken left b later told turns result goes =
     goes_some (IsMade lib b) (λ made. served lib taken left made.after) (record { turn = told; after = later }) [] result turns goes
 
--- ---- by what comes after it
+-- ---- by what is next after it
 
 then_next :
     (lib : Library) (taken left : ℕ) (b later : Booted)

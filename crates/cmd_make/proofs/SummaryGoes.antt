@@ -1,5 +1,5 @@
--- How the program goes of what is told of the files that were made: an answer that is so is put, whole or in part, or up to a
--- link service that found no memory; or no memory is found before anything is put.
+-- What the program puts after the files: an answer, whole, or a prefix of it, or up to a link service that ran out of
+-- memory; or memory runs out before anything is put.
 use Rattle.std.proofs.Common.{◌≡◌, ◌⊎◌, ℕ, false, List, [], ◌∷◌, ◌++◌, Option, Some, None, Result, Ok, Err, refl, sym, ap, subst, ◌∙◌, inl, inr, arith, zero-add}
 use Rattle.std.proofs.lemmas.List.{append-nil}
 use Rattle.m36_world.specs.declared.event.Event.{Event}
@@ -73,7 +73,7 @@ lines_are lib limit first r run =
     let regs = run.regs in
     λ i. end_pieces (Some r.how) (steps i) (regs i)
 
--- a run came to its end, and then its lines
+-- a run ended, and then its lines were put
 run_ended :
     (lib : Library) (limit : ℕ) (first : Booted) (r : Ran) (events : List Event) (result : Result (Unit {0}) Status)
     → HasRun lib 0 limit first r → Goes (summed_up r) events result → RunPut lib limit first events result
@@ -336,7 +336,7 @@ unfolding Goes then_with decides
 wanted_put sets events result (inl goes) = rule_put sets (boots_from sets) events result refl goes
 wanted_put sets events result (inr ends) = inr ends
 
--- What is told of the files that were made: an answer is put, or no memory is found before anything is.
+-- After the files an answer is put, or memory runs out before anything is put.
 pub made_put :
     (sets : List Set) (events : List Event) (result : Result (Unit {0}) Status)
     → Goes (boot_made sets) events result → PutOrNone (IsToldIn sets) events result

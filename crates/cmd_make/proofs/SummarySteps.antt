@@ -171,7 +171,7 @@ end_where_some (f ∷ findings) lib first seen some =
 
 pub ruleset deciding = (run_where_none, end_where_some)
 
--- ---- by what the audit has found
+-- ---- by the findings of the audit
 
 pub found_put :
     (count : ℕ) (lib : Library) (first : Booted) (findings : List (ℕ × ℕ)) (result : Result (Unit {0}) Status) (old between new : Seen)
@@ -211,7 +211,7 @@ found_in system denied findings result old new fresh found performs =
     (performs_some (IsFound system.lib system) (found_told system.lib (booted_of system)) findings result old new
     (record { found = so; passes = found_passes system.lib system findings fresh so }) performs))
 
--- no memory was found for the audit
+-- the audit ran out of memory
 pub audit_starved :
     (system : SuperFields) (denied : List (List ℕ)) (seen : Seen)
     → IsFresh system → Performs (on_booted (record { lib = system.lib; denied = denied })) (Err NoMemory) seen seen

@@ -1,4 +1,4 @@
--- A program goes the same way, whatever else it may do.
+-- A program has the same events and results, whatever else its type may do.
 use Rattle.std.proofs.Common.{ℕ, List, [], ◌∷◌, Result, inl, inr}
 use Rattle.m36_outside.specs.declared.folder.ReadAnswer.{ReadAnswer}
 use Rattle.m36_outside.specs.declared.folder.ReadAnswer.TheVariants as read

@@ -1,4 +1,4 @@
--- What is due to `make`, by what the files that are made boot to, and by the conditions of the
+-- Laws of the answers that `make` may give, by what the files boot to and by the conditions of the
 -- audit.
 use Rattle.std.specs.Prelude.{◌≡◌, ℕ, List, [], ◌∷◌, Ok, Err}
 use Rattle.m36_model.specs.Audit.{IsAudited}
@@ -19,16 +19,16 @@ use Rattle.m36_booted.specs.Runs.{Whole, Goes, Finishes}
 use Rattle.cmd_make.specs.Summary.{run_limit, segment_count, unrun_answer, IsSummaryBy}
 use Rattle.cmd_make.specs.Made.{boots_from, behind_files, IsMadeDue}
 
--- the files boot to a system
+-- The files boot to this system.
 pub record BootsTo (sets : List Set) (given : FolderFields) (system : SuperFields) : Type 0 where
   pub boots : boots_from sets ≡ Ok given
   pub booted : IsBooted given.lib system
 
--- what is told by these findings of the audit of a system
+-- The answer beside the files, for these findings of the audit of a system.
 abbrev pub IsToldBy : Library → SuperFields → List (ℕ × ℕ) → Answer → Type 0
 IsToldBy lib system findings told = IsSummaryBy Whole lib (booted_of system) findings told
 
--- all files, and what is told by these findings behind them
+-- The answer is all files, and then what is put for these findings.
 pub record IsMadeBy
     (sets : List Set) (lib : Library) (system : SuperFields) (findings : List (ℕ × ℕ))
     (due : Answer) : Type 0 where
@@ -36,47 +36,51 @@ pub record IsMadeBy
   pub is : IsToldBy lib system findings told
   pub answer : due ≡ behind_files sets told
 
--- all files, and some findings behind them, without a run
+-- The answer is all files, and then the lines of some findings; there is no run.
 pub record IsByFindings (sets : List Set) (lib : Library) (due : Answer) : Type 0 where
   pub first : ℕ × ℕ
   pub others : List (ℕ × ℕ)
   pub answer :
       due ≡ behind_files sets (unrun_answer (segment_count lib) (first ∷ others))
 
--- Where the files are no folder that boots, they are written, and nothing is told. Where all
--- conditions of the audit hold of the core of the system to which they boot, the answer is one
--- without findings, and otherwise it is the one by some findings. It can't be that none is due
--- where they do not boot, or some condition fails, or some turns of the system are a run that comes
--- to its end; and where such a run executes no ABSA and no LDBR, one answer at most is due.
+-- `IsMadeDue` says of an answer that `make` may give it for the files of its seed.
 pub record MadeDueLaw : Type 0 where
+  -- If the files are refused, the answer is the files and the status, and no line.
   pub refused :
       (sets : List Set) (refusal : Refusal) (due : Answer) → boots_from sets ≡ Err refusal
       → IsMadeDue sets due → due ≡ behind_files sets (unwritten (status_of refusal))
+  -- If all conditions of the audit hold of the booted core, the answer is one without findings.
   pub passed :
       (sets : List Set) (given : FolderFields) (system : SuperFields) (due : Answer)
       → BootsTo sets given system → IsMadeDue sets due → IsAudited system.core booted_dbr
       → IsMadeBy sets given.lib system [] due
+  -- If some condition fails, the answer has findings and no run.
   pub failed :
       (sets : List Set) (given : FolderFields) (system : SuperFields) (due : Answer)
       → BootsTo sets given system → IsMadeDue sets due → ¬ IsAudited system.core booted_dbr
       → IsByFindings sets given.lib due
+  -- If some condition fails, there is at most one answer.
   pub one_failed :
       (sets : List Set) (given : FolderFields) (system : SuperFields) (due same : Answer)
       → BootsTo sets given system → IsMadeDue sets due → IsMadeDue sets same
       → ¬ IsAudited system.core booted_dbr → due ≡ same
+  -- If the files are refused, it cannot be that there is no answer.
   pub some_refused :
       (sets : List Set) (refusal : Refusal) → boots_from sets ≡ Err refusal
       → ¬ ((due : Answer) → ¬ IsMadeDue sets due)
+  -- If some condition fails, it cannot be that there is no answer.
   pub some_failed :
       (sets : List Set) (given : FolderFields) (system : SuperFields)
       → BootsTo sets given system → ¬ IsAudited system.core booted_dbr
       → ¬ ((due : Answer) → ¬ IsMadeDue sets due)
+  -- If some turns of the system are a run that ends, it cannot be that there is no answer.
   pub some_run :
       (sets : List Set) (given : FolderFields) (system : SuperFields) (turns : List Turn)
       (last : Booted) (how : Finish)
       → BootsTo sets given system → Goes given.lib run_limit (booted_of system) turns last
       → Finishes how given.lib run_limit turns last
       → ¬ ((due : Answer) → ¬ IsMadeDue sets due)
+  -- If such a run executes no ABSA and no LDBR, there is at most one answer.
   pub one_plain :
       (sets : List Set) (given : FolderFields) (system : SuperFields) (turns : List Turn)
       (last : Booted) (how : Finish) (due same : Answer)

@@ -1,6 +1,5 @@
--- What `make SEED` does, as a program: the files are made from the seed, written in order, and
--- booted from memory, where nothing outside is asked; what they boot to is audited, and where the
--- audit passes, run.
+-- What `make SEED` does, as a program: it makes the files from the seed, writes them in order,
+-- boots them from memory without an event, audits the system, and runs it if the audit passes.
 use Rattle.std.specs.Prelude.{ℕ, refl, Bool, true, false, List, Some}
 use Rattle.m36_super.specs.Library.{Library}
 use Rattle.m36_super.specs.BootedRun.{Booted}
@@ -24,7 +23,7 @@ use Rattle.cmd_make.specs.QuietRun.{Ran, run_from}
 use Rattle.cmd_make.specs.Summary.{run_limit, head_pieces, end_pieces, segment_count}
 use Rattle.cmd_make.specs.Within.{within}
 
--- ---- what is told of a system
+-- ---- the lines of a system
 
 -- the lines after a run, and its status
 unfoldable pub summed_up : Ran → Program quiet (Unit {0})
@@ -32,36 +31,36 @@ summed_up ran =
     puts_all (end_pieces (Some ran.how) ran.steps ran.regs)
     (ends (finish_status (Some ran.how)) (finish_may_end ran.how))
 
--- a run of at most so many steps, and its lines
+-- a run of at most `steps` steps, and the lines after it
 unfoldable pub run_summed : Library → ℕ → Booted → Program quiet (Unit {0})
 run_summed lib steps first = then_with (run_from lib 0 steps first) summed_up
 
--- The system is run, or it is not.
+-- runs the system, or ends with AuditNo
 abbrev pub runs_or_ends : Bool → Library → Booted → Program quiet (Unit {0})
 runs_or_ends true lib first = run_summed lib run_limit first
 runs_or_ends false lib first = ends (audit_status false) (audit_may_end false)
 
--- The lines before the run, by what the audit finds. The system is run exactly where nothing is
--- found.
+-- Puts the lines before the run, and runs the system exactly if there are no findings.
 unfoldable pub found_told : Library → Booted → List (ℕ × ℕ) → Program quiet (Unit {0})
 found_told lib first findings =
     puts_all (head_pieces (segment_count lib) findings) (runs_or_ends (passes findings) lib first)
 
--- Memory may run out for the audit. After it no memory is taken but by a link service.
+-- Audits the system. Memory may run out here, and after that only in a link service.
 unfoldable pub on_system : Library → SuperFields → Program quiet (Unit {0})
 on_system lib system = wants (some (IsFound lib system) (found_told lib (booted_of system)))
 
--- what is told of the system that is booted, of which there is one
+-- What is done with the system that the library boots to. There is at most one, by `system` of
+-- `FolderDueLaw` of `m36_booted`.
 unfoldable pub on_booted : FolderFields → Program quiet (Unit {0})
 on_booted given = some (IsBooted given.lib) (on_system given.lib)
 
 -- ---- the command
 
--- The files are booted from memory. Memory may run out for it.
+-- Boots the files from memory, or refuses them. Memory may run out here.
 unfoldable pub boot_made : List Set → Program quiet (Unit {0})
 boot_made sets = then_with (decides (boots_from sets)) on_booted
 
--- The files are written, and then booted.
+-- Writes the files in order, and then boots them.
 unfoldable pub write_and_boot : List Set → Program writing (Unit {0})
 write_and_boot sets = writes_all refl sets (within (boot_made sets))
 

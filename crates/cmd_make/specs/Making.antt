@@ -1,4 +1,4 @@
--- The files that are made from a seed: the sources, the object of each of them, the data and the
+-- The files that are made from a seed: the sources, the object of each source, the data and the
 -- boot text, in this order.
 use Rattle.std.specs.Prelude.{ℕ, List, [], ◌∷◌, ◌++◌, map}
 use Rattle.std.specs.Prelude.{Some, None, unwrap_or, Result, Ok, Err}
@@ -15,12 +15,13 @@ use Rattle.m36_reading.specs.Readers.{bytes_of}
 use Rattle.m36_told.specs.Assemblies.{Assembly, assembly_of, object_bytes, object_set, MakingSays}
 use Rattle.m36_told.specs.Telling.{source_refused}
 
+-- a file of the generator, as a file to write
 abbrev pub set_of : File → Set
 set_of file = record { name = file.name; content = file.content }
 
 -- ---- objects
 
--- An object has the name of its source without the end.
+-- The name of an object is that of its source without `.alm`.
 unfoldable pub object_name : List ℕ → List ℕ
 object_name source = object_of_source source
 
@@ -34,7 +35,8 @@ object_of source =
     and_then (bytes_of source.name (found_in (Some source.content))) (λ bytes.
     object_by source.name (assembly_of bytes))
 
--- the objects of sources behind these files
+-- the files with the objects of the sources appended, or the refusal of the first source that is
+-- refused
 unfoldable pub with_objects : List Set → List File → Early (List Set)
 with_objects sets [] = Ok sets
 with_objects sets (source ∷ sources) =
@@ -45,11 +47,12 @@ with_objects sets (source ∷ sources) =
 abbrev pub and_others : List Set → Early (List Set)
 and_others sets = Ok (sets ++ map set_of other_files)
 
+-- all files of a seed, or the refusal of a source
 unfoldable pub sets_of : ℕ → Early (List Set)
 sets_of seed =
     and_then (with_objects (map set_of (sources_of seed)) (sources_of seed)) and_others
 
--- The command asks the folder for nothing.
+-- The reading of the command: it reads no file.
 unfoldable pub make_reads : ℕ → Reading (Early (List Set))
 make_reads seed = decided (sets_of seed)
 
@@ -58,16 +61,17 @@ make_reads seed = decided (sets_of seed)
 abbrev pub no_files : Files
 no_files name = None
 
--- these written into a folder that tells its files
+-- the files of a folder after these are written into it
 unfoldable pub with_files : List Set → Files → Files
 with_files sets files = unwrap_or (with_sets sets (Some files)) no_files
 
+-- the files of a folder that has these and no others
 unfoldable pub files_in : List Set → Files
 files_in sets = with_files sets no_files
 
--- ---- what the making of an object says
+-- ---- the contract of making an object
 
--- the packed words of the object that is meant
+-- the packed words of an assembled object
 abbrev pub assembly_bytes : Assembly → List ℕ
 assembly_bytes a = object_bytes a.parts
 

@@ -1,5 +1,5 @@
--- A run of a booted system of which no turn is written, as a program: turn by turn, and at its end
--- how it ended, after how many steps, and the registers that it left.
+-- A run of a booted system of which no turn is written, as a program without events. Its value is
+-- how the run ended, after how many steps, and the registers that it left.
 use Rattle.std.specs.Prelude.{ℕ, zero, suc, ◌+◌}
 use Rattle.m36_model.specs.Registers.{RegsFields}
 use Rattle.m36_super.specs.Library.{Library}
@@ -12,17 +12,18 @@ use Rattle.m36_booted.specs.declared.running.Finish.{Finish}
 use Rattle.m36_booted.specs.declared.running.Finish.TheVariants.{Over, Limit}
 use Rattle.cmd_folder.specs.RunProgram.{Made, IsMade, IsServed}
 
--- a run that has come to its end
+-- how a run ended, after how many steps, and the registers that it left
 pub record Ran : Type 0 where
   pub how : Finish
   pub steps : ℕ
   pub regs : RegsFields
 
--- one that stops in this state
+-- a run that ended in this state
 abbrev pub ran : Finish → ℕ → Booted → Ran
 ran how steps b = record { how = how; steps = steps; regs = b.state.regs }
 
--- what follows a service: a step, or the end of the run; a service follows no other
+-- What follows a service: a step, or the end of the run. No service follows another, so the cases
+-- of services only continue.
 abbrev pub after_service :
     Coming → ℕ → (Booted → Program quiet Ran) → Booted → Program quiet Ran
 after_service Step taken on b = on b
@@ -46,8 +47,9 @@ unfoldable pub serve :
     Library → ℕ → (Booted → Program quiet Ran) → Booted → Program quiet Ran
 serve lib taken on b = serve_by b.coming lib taken on b
 
--- At most so many more steps after those that were taken, each with its service.
+-- A run from a state: the first number is the count of steps taken, the second how many may follow.
 unfoldable pub run_from : Library → ℕ → ℕ → Booted → Program quiet Ran
 run_from lib taken zero b = done (ran Limit taken b)
 run_from lib taken (suc left) b =
-    some (IsMade lib b) (λ made. serve lib (taken + 1) (λ b. run_from lib (taken + 1) left b) made.after)
+    some (IsMade lib b)
+    (λ made. serve lib (taken + 1) (λ b. run_from lib (taken + 1) left b) made.after)

@@ -1,5 +1,5 @@
--- What is told of a folder that was made: the count of its segments, what the audit of its booted
--- core finds, and, where nothing is found, how the run ended and what it left in X1.
+-- The lines of a folder that was made: the count of its segments and what the audit of its booted
+-- core finds; and if it finds nothing, how the run ended and what it left in X1.
 use Rattle.std.specs.Prelude.{ℕ, Bool, List, [], ◌∷◌, ◌++◌, codes, slice_index}
 use Rattle.std.specs.Prelude.{Option, length}
 use Rattle.m36_text.specs.Digits.{decimal_text, half_text}
@@ -15,7 +15,7 @@ use Rattle.m36_booted.specs.RunText.{steps_in, ended_with, finish_status}
 use Rattle.m36_booted.specs.Runs.{Extent, Telling, IsRunTold, IsUnrunTold, IsRunToldBy}
 use Rattle.m36_booted.specs.Booted.{IsSystemAnswer}
 
--- the most steps of the run
+-- the maximum number of steps of the run
 abbrev pub run_limit : ℕ
 run_limit = 100000
 
@@ -25,7 +25,7 @@ run_limit = 100000
 unfoldable pub segments_line : ℕ → List ℕ
 segments_line count = codes "segments " ++ decimal_text count
 
--- the line that is told first
+-- the first line
 abbrev pub head_line : ℕ → List ℕ
 head_line count = as_line (segments_line count)
 
@@ -33,25 +33,27 @@ head_line count = as_line (segments_line count)
 unfoldable pub sum_line : RegsFields → List ℕ
 sum_line regs = codes "x1 " ++ half_text (slice_index regs.x 1)
 
--- those before the run
+-- the lines before the run: the count of segments, and the audit's text
 abbrev pub head_pieces : ℕ → List (ℕ × ℕ) → List (List ℕ)
 head_pieces count findings = head_line count ∷ audit_pieces findings
 
--- and those behind it, where it has come to its end
+-- the lines after the run, if it has ended: the end line, and X1
 abbrev pub end_pieces : Option Finish → ℕ → RegsFields → List (List ℕ)
 end_pieces how steps regs = ended_with how steps (λ (last : Finish). as_line (sum_line regs) ∷ [])
 
 -- ---- answers, beside the files
 
+-- the answer with a run
 unfoldable pub run_answer : ℕ → List (ℕ × ℕ) → Option Finish → ℕ → RegsFields → Answer
 run_answer count findings how steps regs =
     answer_with (head_pieces count findings ++ end_pieces how steps regs) (finish_status how)
 
+-- the answer without a run
 unfoldable pub unrun_answer : ℕ → List (ℕ × ℕ) → Answer
 unrun_answer count findings =
     answer_with (head_pieces count findings) (audit_status (passes findings))
 
--- by the turns of the run
+-- the answer for the turns of a run and its end
 abbrev pub run_told : ℕ → List (ℕ × ℕ) → Telling
 run_told count findings turns last how =
     run_answer count findings how (steps_in turns) last.state.regs
@@ -74,12 +76,12 @@ IsFoundAnswer runs extent count lib first findings due =
 abbrev pub segment_count : Library → ℕ
 segment_count lib = length lib.catalog.segments
 
--- What is told of a system, by these findings of the audit of its core: it is run exactly where
--- nothing is found.
+-- An answer for a system, given the findings of the audit of its core. The system is run exactly if
+-- there are none.
 abbrev pub IsSummaryBy : Extent → Library → Booted → List (ℕ × ℕ) → Answer → Type 0
 IsSummaryBy extent lib first findings told =
     IsFoundAnswer (passes findings) extent (segment_count lib) lib first findings told
 
--- what is told of the system to which the folder boots
+-- an answer for the system that the library boots to
 abbrev pub IsSummary : Extent → Library → Answer → Type 0
 IsSummary extent lib told = IsSystemAnswer lib (IsSummaryBy extent lib) told

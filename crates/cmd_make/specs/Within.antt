@@ -1,4 +1,5 @@
--- A program that writes no file and takes no input, as one that may.
+-- A program that writes no file and takes no input, as a program of a type that may. It has the
+-- same steps.
 use Rattle.std.specs.Prelude.{Bool, true, false}
 use Rattle.std.proofs.Common.{subst}
 use Rattle.m36_program.specs.Program.{May, quiet, Program}

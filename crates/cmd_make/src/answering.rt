@@ -1,4 +1,4 @@
-//! The command `make SEED` over a world.
+//! Performs the command `make SEED` over any world.
 
 ghost use Rattle.m36_program.specs.Performs.{Performs};
 ghost use Rattle.cmd_make.specs.MakeProgram.{boot_made, write_and_boot, make_program};
@@ -12,7 +12,7 @@ use m36_reading::Status;
 use m36_world::World;
 use std::alloc::Global;
 
-// Boots what was made, and puts the lines of it.
+// Boots the files from memory, audits and runs the system, and puts its lines.
 #[tactic(auto, using(crate::proofs::MakeSteps::booting))]
 fn boot_made<W: World>(alloc: Global, sets: &Sets, world: &mut W) -> Result<(), Status>
     ensures { Performs (boot_made sets.now) result (W.seen world.old) (W.seen world.new) }
@@ -23,7 +23,7 @@ fn boot_made<W: World>(alloc: Global, sets: &Sets, world: &mut W) -> Result<(), 
     }
 }
 
-// Writes the files, and then boots them.
+// Writes the files in order, and then boots them from memory.
 #[tactic(auto, using(crate::proofs::MakeSteps::writing))]
 fn write_and_boot<W: World>(alloc: Global, sets: &Sets, world: &mut W) -> Result<(), Status>
     ensures { Performs (write_and_boot sets.now) result (W.seen world.old) (W.seen world.new) }
@@ -34,8 +34,9 @@ fn write_and_boot<W: World>(alloc: Global, sets: &Sets, world: &mut W) -> Result
     }
 }
 
-/// `make SEED`: writes the folder that a seed makes, boots it, audits its core, runs it where the
-/// audit passes, and puts the lines of it.
+/// Performs `make SEED`: makes the files of a seed and writes them, boots them from memory, audits
+/// the core, runs the system if the audit passes, and puts the lines of it. An error is the status
+/// of the command.
 #[tactic(auto, using(crate::proofs::MakeSteps::making))]
 pub fn make_files<W: World>(alloc: Global, seed: u64, world: &mut W) -> Result<(), Status>
     ensures { Performs (make_program seed) result (W.seen world.old) (W.seen world.new) }
@@ -43,7 +44,7 @@ pub fn make_files<W: World>(alloc: Global, seed: u64, world: &mut W) -> Result<(
     match made_from(alloc, seed) {
         Ok(sets) => {
             let answer = write_and_boot(alloc, &sets, world);
-            // Dropped by a call: so the drop is proved once for its type.
+            // Dropped by a call, so that the drop is proved once for its type.
             drop(sets);
             answer
         }

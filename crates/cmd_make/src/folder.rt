@@ -1,4 +1,4 @@
-//! The folder that the files are, and what it boots to.
+//! Puts the files into a folder in memory, and boots it.
 
 ghost use Rattle.std.specs.Prelude.{◌≡◌, IfOk};
 ghost use Rattle.m36_outside.specs.FileList.{file_named};
@@ -14,7 +14,7 @@ use m36_reading::{Refusal, Set};
 use m36_word::NoMemory;
 use std::alloc::Global;
 
-// A folder in memory that has these files and no others.
+// A folder in memory with these files and no others.
 #[tactic(auto, using(crate::proofs::Files::folder_in_turn))]
 fn folder_of(alloc: Global, sets: &[Set]) -> Result<SureFolder, NoMemory>
     ensures { IfOk result (λ folder. file_named folder.files ≡ files_in sets.now) }
@@ -26,7 +26,7 @@ fn folder_of(alloc: Global, sets: &[Set]) -> Result<SureFolder, NoMemory>
     Ok(folder)
 }
 
-// What a folder in memory boots to.
+// Reads and boots a folder in memory with these files.
 fn system_in(alloc: Global, mut folder: SureFolder, sets: &Sets) -> Result<BootedFolder, Refusal>
     requires { file_named folder.files ≡ files_in sets.now }
     ensures gives { Gives (given_in result) (boots_from sets.now) }
@@ -35,7 +35,8 @@ fn system_in(alloc: Global, mut folder: SureFolder, sets: &Sets) -> Result<Boote
     read_system(alloc, &None, &mut folder)
 }
 
-/// What the files boot to.
+/// Boots a folder in memory with these files, as `run` boots a folder, or refuses it. Nothing
+/// outside is read.
 pub fn system_of(alloc: Global, sets: &Sets) -> Result<BootedFolder, Refusal>
     ensures gives { Gives (given_in result) (boots_from sets.now) }
     ensures fresh { IfOk result (λ booted. IsFresh booted.system) }

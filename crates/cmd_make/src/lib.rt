@@ -1,36 +1,41 @@
-//! The command `make SEED` as a program: a folder with a system to boot is made from a seed,
-//! written, booted, audited and run.
+//! The command `make SEED` as a program: it makes a folder with a system to boot from a seed,
+//! writes it, and boots, audits and runs the system.
 //!
-//! What is written is, in this order: the sources that the generator draws from the seed, the
-//! object of each, and the data and the boot text. What was made is then booted from memory,
-//! without reading any of it again; its core is audited; and where the audit passes, the system is
-//! run for at most 100,000 steps. Lines are put of it: the count of segments, what the audit finds,
-//! and of a run how it ended and the index register 1 that it left, in which the programs have
-//! summed.
+//! `make_program` (`specs/MakeProgram.antt`) says what the command does:
 //!
-//! `make_program` (`specs/MakeProgram.antt`) says what happens, event by event. The command reads
-//! no file. A file that could not be written ends it: then those before it are written, and nothing
-//! is put.
+//! 1. It makes the files from the seed: the sources that the generator draws, the object of each
+//!    source, the data, and the boot text.
+//! 2. It writes them in this order. If a file cannot be written, the command ends: the files before
+//!    it are written, and no line is put.
+//! 3. It boots the files from memory, and reads none of them again.
+//! 4. It audits the core, and puts the count of segments and what the audit finds.
+//! 5. If the audit finds nothing, it runs the system for at most 100,000 steps. Then it puts how
+//!    the run ended, and index register 1, in which the programs have computed a sum.
 //!
 //! | Where memory may run out | What has happened by then |
 //! |---|---|
 //! | while the files are made | nothing |
 //! | in the write of a file | the files before it are written |
-//! | while they are booted or the core is audited | all files are written; no step was taken |
-//! | in a link service of the run | besides that, the lines before the run are put |
+//! | while the files are booted or the core is audited | all files are written |
+//! | in a link service of the run | all files are written, and the lines before the run are put |
+//!
+//! The command reads no file of the folder. The files are booted by the readers of `m36_booted`
+//! over a folder in memory whose calls do not fail, and these calls are no events. Neither are the
+//! turns of the run, so no contract says when a turn is made: only the lines after the run depend
+//! on it.
+//!
+//! [`make_files`] performs the program over any world, so its contract has the order of the events:
+//! all files are written before the first line is put. [`make_command`] performs it over a folder,
+//! an input and an output of the caller. These have no common clock, so its contract does not have
+//! that order. The same call satisfies `Does` by the answers of `specs/Made.antt`, and takes no
+//! input.
 //!
 //! `specs/Making.antt` says which files a seed makes, `specs/QuietRun.antt` what a run is of which
-//! no turn is written, and `specs/Summary.antt` which lines are put of the system. The files are
-//! booted by the readers of `m36_booted` over a folder in memory whose calls do not fail: no event
-//! of the outside is among them.
+//! no turn is written, and `specs/Summary.antt` which lines are put of the system.
 //!
-//! [`make_files`] performs the program over any world, and [`make_command`] over a folder, an input
-//! and an output of the caller: the same call does what `specs/Made.antt` says is due (`Does`), and
-//! takes no input.
-//!
-//! The generator is that of `m36_gen`, an object that of `alm`, and the folder is booted as `run`
-//! does it. The machine is that of the Multics Processor Manual AL39; sources, files and lines are
-//! this simulator's own.
+//! The generator is that of `m36_gen`, an object is the one that `alm` makes, and the folder is
+//! booted as `run` does it. The machine is that of the Multics Processor Manual AL39; sources,
+//! files and lines are this simulator's own.
 #![tactic(auto)]
 
 pub mod answering;

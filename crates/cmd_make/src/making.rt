@@ -1,4 +1,4 @@
-//! The files that a seed makes.
+//! Makes the files of a seed.
 
 ghost use Rattle.std.specs.Prelude.{◌≡◌, ◌++◌, map, IfOk};
 ghost use Rattle.m36_reading.specs.Asking.{Gives};
@@ -12,7 +12,7 @@ use m36_reading::Refusal;
 use m36_word::NoMemory;
 use std::alloc::Global;
 
-// Files, and those beside the sources and their objects behind them.
+// Appends the data and the boot text to the sources and their objects.
 fn with_others(alloc: Global, sets: Sets) -> Result<Sets, NoMemory>
     ensures { IfOk result (λ more. more ≡ sets ++ map set_of other_files) }
 {
@@ -21,7 +21,7 @@ fn with_others(alloc: Global, sets: Sets) -> Result<Sets, NoMemory>
     with_copies(alloc, sets, others.items())
 }
 
-/// The files that a seed makes, or why a source is refused.
+/// The files that a seed makes, in the order in which they are written; or why a source is refused.
 #[tactic(auto, using(crate::proofs::AllFiles::making))]
 pub fn made_from(alloc: Global, seed: u64) -> Result<Sets, Refusal>
     ensures { Gives result (sets_of seed) }

@@ -1,4 +1,4 @@
-//! The objects of sources that the generator draws.
+//! Assembles the sources that the generator draws.
 
 ghost use Rattle.std.specs.Prelude.{◌≡◌, ◌<◌, ◌≤◌, ◌^◌, length, Ok};
 ghost use Rattle.alm_asm.specs.Assembly.{assembled};
@@ -31,7 +31,7 @@ fn object_name(source: &[u8]) -> Name
     }
 }
 
-// The packed words of the object of lines.
+// The packed words of the object that parsed lines assemble to.
 #[tactic(auto, using(crate::proofs::ObjectLaws::made))]
 fn content_with(alloc: Global, lines: &Lines36) -> Result<Text, AlmFault>
     ensures { ObjectSays result (with_parts lines.now (assembled lines.now)) }
@@ -82,7 +82,8 @@ pub fn object_of(alloc: Global, source: &File) -> Result<Set, Refusal>
     object_of_bytes(alloc, source.name.bytes(), bytes)
 }
 
-/// Files, and the objects of sources behind them. The first source that is refused ends it.
+/// Appends the objects of `sources` to the files, in order. Ends with the refusal of the first
+/// source that is refused.
 #[tactic(auto, using(crate::proofs::ObjectLaws::objects_in_turn))]
 pub fn with_objects(alloc: Global, mut sets: Sets, sources: &[File]) -> Result<Sets, Refusal>
     ensures { Gives result (with_objects sets sources.now) }

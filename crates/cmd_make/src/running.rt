@@ -1,4 +1,4 @@
-//! A run of a booted system of which no turn is written.
+//! Runs a booted system and writes nothing of its turns.
 
 ghost use Rattle.std.specs.Prelude.{◌≡◌, []};
 ghost use Rattle.m36_super.specs.declared.coming.Coming.TheVariants.{Step, Link, Print};
@@ -15,27 +15,25 @@ use m36_step::{Stepper, Turn};
 use m36_super::{Coming, Super};
 use m36_word::NoMemory;
 
-/// How a run has come to its end, and after how many steps.
+/// How a run ended, and after how many steps.
 #[derive(Clone, Copy)]
 pub struct RunEnd {
-    /// The end.
     pub how: Finish,
-    /// The steps.
     pub steps: u32,
 }
 
-/// What follows a step with its service, or a service alone.
+/// What follows a step and its service, or a service alone.
 #[derive(Clone, Copy)]
 pub enum AfterTurn {
     /// A step follows.
     Next,
     /// The run has ended.
     Ended(End),
-    /// The link service found no memory.
+    /// A link service ran out of memory.
     NoMemory,
 }
 
-// What follows a link service: a step, or the end where the link was refused.
+// What follows a link service: a step, or the end of the run if the link was refused.
 fn after_link(system: &Super) -> AfterTurn
     requires { IsQuiet system.now.coming }
     ensures { LinkBefore result system.now.coming }
@@ -47,7 +45,7 @@ fn after_link(system: &Super) -> AfterTurn
     }
 }
 
-// Makes a link service.
+// Performs the link service for the link at `at`.
 #[tactic(auto, using(crate::proofs::Serving::services))]
 fn link(system: &mut Super, at: At) -> AfterTurn
     requires { system.old.coming ≡ Link at }
@@ -60,7 +58,7 @@ fn link(system: &mut Super, at: At) -> AfterTurn
     }
 }
 
-// Makes a console service. What the console writes is not put.
+// Performs a console service. What the console writes is not put.
 #[tactic(auto, using(crate::proofs::Serving::services))]
 fn print(system: &mut Super) -> AfterTurn
     requires { system.old.coming ≡ Print }
@@ -74,7 +72,7 @@ fn print(system: &mut Super) -> AfterTurn
     }
 }
 
-// Makes the service that comes next, if one does.
+// Performs the service that is next, if there is one.
 #[tactic(auto, using(crate::proofs::Serving::services))]
 fn serve(system: &mut Super) -> AfterTurn
     ensures { TurnSays result system.old.lib (from_service system.old.lib (booted_of system.old))
@@ -88,7 +86,8 @@ fn serve(system: &mut Super) -> AfterTurn
     }
 }
 
-// Takes a step with its service. The step fills a record that an earlier one may have filled.
+// Takes a step and performs its service. `told` may have the record of an earlier step; it is
+// overwritten.
 fn take_step(system: &mut Super, told: &mut StepRecord) -> AfterTurn
     requires { system.old.coming ≡ Step }
     ensures { TurnSays result system.old.lib (from_step system.old.lib (booted_of system.old))
@@ -98,7 +97,7 @@ fn take_step(system: &mut Super, told: &mut StepRecord) -> AfterTurn
     serve(system)
 }
 
-/// Runs a system for at most so many steps. The error is want of memory in a link service.
+/// Runs a system for at most `steps` steps. Fails only with NoMemory, in a link service.
 pub fn run_quietly(system: &mut Super, steps: u32) -> Result<RunEnd, Status>
     requires { system.old.coming ≡ Step }
     ensures { Goes (run_from system.old.lib 0 steps (booted_of system.old)) []

@@ -1,4 +1,4 @@
-//! The files that are made, in the order in which they are written.
+//! A list of files to write, in the order in which they are written.
 
 ghost use Rattle.std.specs.Prelude.{◌≡◌, [], ◌∷◌, ◌++◌, map, IfOk, OnOk, OnErr};
 ghost use Rattle.cmd_make.specs.Making.{set_of};
@@ -35,7 +35,7 @@ impl Sets {
         }
     }
 
-    /// Adds a file at the end. Where no memory is found, nothing changes.
+    /// Adds a file at the end. If memory runs out, nothing changes.
     pub fn push(&mut self, set: Set) -> Result<(), NoMemory>
         ensures ok { OnOk result (self.new ≡ self.old ++ set ∷ []) }
         ensures err { OnErr result (self.new ≡ self.old) }
@@ -52,7 +52,7 @@ impl Sets {
     }
 }
 
-// A file of the generator, once more.
+// Copies a file of the generator.
 fn copied(alloc: Global, file: &File) -> Result<Set, NoMemory>
     ensures { IfOk result (λ set. set ≡ set_of file.now) }
 {
@@ -62,7 +62,7 @@ fn copied(alloc: Global, file: &File) -> Result<Set, NoMemory>
     })
 }
 
-/// Files, and those of the generator behind them. The error is want of memory alone.
+/// Appends copies of the generator's files to the files.
 #[tactic(auto, using(crate::proofs::Files::files_in_turn))]
 pub fn with_copies(alloc: Global, mut sets: Sets, files: &[File]) -> Result<Sets, NoMemory>
     ensures { IfOk result (λ more. more ≡ sets ++ map set_of files.now) }

@@ -1,4 +1,4 @@
-//! The lines that are put of a folder that was made.
+//! Audits and runs a system that was made, and puts the lines of it.
 
 ghost use Rattle.std.specs.Prelude.{ℕ, ◌≡◌, ◌<◌, List, [], ◌∷◌, length, Some};
 ghost use Rattle.m36_text.specs.Lines.{as_line};
@@ -29,12 +29,12 @@ use m36_text::{decimal, octal};
 use m36_world::World;
 use std::alloc::Global;
 
-/// The most steps of the run.
+/// The maximum number of steps of the run.
 const RUN_LIMIT: u32 = 100000;
 
 // ---- lines
 
-// The line of the count of segments.
+// The line with the count of segments, without its line feed.
 #[tactic(auto, unfolding(crate::specs::Summary::segments_line))]
 fn segments_line(count: u64) -> ArrayString<160>
     ensures text { result.bytes ≡ segments_line count }
@@ -46,7 +46,7 @@ fn segments_line(count: u64) -> ArrayString<160>
     line
 }
 
-// The line of what the programs have summed.
+// The line with index register 1, in which the programs compute a sum, without its line feed.
 #[tactic(auto, unfolding(crate::specs::Summary::sum_line))]
 fn sum_line(regs: &Regs) -> ArrayString<160>
     ensures text { result.bytes ≡ sum_line regs.now }
@@ -58,7 +58,7 @@ fn sum_line(regs: &Regs) -> ArrayString<160>
     line
 }
 
-// Puts the lines before the run.
+// Puts the lines before the run: the count of segments, and the audit's text.
 #[tactic(auto, using(crate::proofs::SummarySteps::heading))]
 fn put_head<W: World>(count: u64, findings: &[Finding], world: &mut W) -> Result<(), Status>
     ensures { Performs {may = quiet} (puts_all (head_pieces count (pairs findings.now)) (done tt))
@@ -70,7 +70,7 @@ fn put_head<W: World>(count: u64, findings: &[Finding], world: &mut W) -> Result
     }
 }
 
-// Puts the line of the registers that a run has left, and answers with the status of the run.
+// Puts the line with index register 1 after a run, and returns the status of the run.
 #[tactic(auto, using(crate::proofs::SummarySteps::summing))]
 fn put_sum<W: World>(end: RunEnd, regs: &Regs, world: &mut W) -> Result<(), Status>
     ensures { Performs {may = quiet} (puts (as_line (sum_line regs.now))
@@ -83,7 +83,7 @@ fn put_sum<W: World>(end: RunEnd, regs: &Regs, world: &mut W) -> Result<(), Stat
     }
 }
 
-// Puts the end line of a run, and the line of the registers that it has left.
+// Puts the lines after a run: the end line, and the line with index register 1.
 fn sum_up<W: World>(end: RunEnd, regs: &Regs, world: &mut W) -> Result<(), Status>
     ensures { Performs (summed_up
         record { how = end.how; steps = end.steps; regs = regs.now }) result
@@ -97,7 +97,7 @@ fn sum_up<W: World>(end: RunEnd, regs: &Regs, world: &mut W) -> Result<(), Statu
 
 // ---- answers
 
-// Runs the system for at most so many steps, and puts the lines after the run.
+// Runs the system for at most `steps` steps, and puts the lines after the run.
 fn run_and_sum<W: World>(system: &mut Super, steps: u32, world: &mut W) -> Result<(), Status>
     requires { system.old.coming ≡ Step }
     ensures { Performs (run_summed system.old.lib steps (booted_of system.old)) result
@@ -109,7 +109,7 @@ fn run_and_sum<W: World>(system: &mut Super, steps: u32, world: &mut W) -> Resul
     }
 }
 
-// Runs the system where nothing is found.
+// Runs the system if the audit found nothing; otherwise ends with AuditNo.
 #[tactic(auto, using(crate::proofs::SummarySteps::deciding))]
 fn run_or_end<W: World>(
     system: &mut Super,
@@ -127,15 +127,16 @@ fn run_or_end<W: World>(
     }
 }
 
-// Puts the lines of a system by what the audit of its core has found.
+// Puts the lines of a system, given the findings of the audit of its core, and runs it if there are
+// none.
 fn answer_found<W: World>(
     system: &mut Super,
     findings: &[Finding],
     world: &mut W,
 ) -> Result<(), Status>
     requires { system.old.coming ≡ Step }
-    ensures { Performs (found_told system.old.lib (booted_of system.old) (pairs findings.now)) result
-        (W.seen world.old) (W.seen world.new) }
+    ensures { Performs (found_told system.old.lib (booted_of system.old) (pairs findings.now))
+        result (W.seen world.old) (W.seen world.new) }
 {
     let count = system.catalog().count() as u64;
     match put_head(count, findings, world) {
@@ -144,7 +145,7 @@ fn answer_found<W: World>(
     }
 }
 
-/// Audits a booted system, runs it where nothing is found, and puts the lines of it.
+/// Audits a booted system, runs it if the audit finds nothing, and puts the lines of it.
 #[tactic(auto, using(crate::proofs::SummarySteps::found))]
 pub fn summarise<W: World>(alloc: Global, mut system: Super, world: &mut W) -> Result<(), Status>
     requires { IsFresh system }
@@ -155,7 +156,7 @@ pub fn summarise<W: World>(alloc: Global, mut system: Super, world: &mut W) -> R
     match audited(alloc, &system) {
         Ok(verdict) => {
             let answer = answer_found(&mut system, verdict.findings.as_slice(), world);
-            // Dropped by a call: so the drop is proved once for its type.
+            // Dropped by a call, so that the drop is proved once for its type.
             drop(verdict);
             drop(system);
             answer

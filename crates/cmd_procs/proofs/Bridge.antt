@@ -1,4 +1,4 @@
--- A call that performs the program on processes does what the command reads and answers.
+-- A call that performs the program on processes satisfies `Does` of the command.
 use Rattle.std.proofs.Common.{◌⊎◌, ℕ, ◌++◌, Bool, true, false, List, Result, Ok, Err, refl, sym, subst, inl, inr}
 use Rattle.m36_model.specs.JointAudit.{JointFound}
 use Rattle.m36_procs.specs.ProcsFields.{ProcsFields}
@@ -92,7 +92,7 @@ on_puts unaudited p events result goes =
       | inr none ↦ inr none
     ]
 
--- What a call does, by the reading of the processes and by the answer to them.
+-- `Does` of a call, by the reading of the processes and the answer to them.
 pub performs_does :
     (unaudited : Bool) (name : List ℕ) (result : Result (Unit {0}) Status) (old new : Seen)
     → Performs (procs_program unaudited name) result old new

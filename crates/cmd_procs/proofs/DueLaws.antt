@@ -1,4 +1,4 @@
--- What is due to a schedule of processes: one answer.
+-- Proofs of the laws of the answers of `procs`: there is one.
 use Rattle.std.proofs.Common.{◌≡◌, ℕ, ◌+◌, Bool, List, [], ◌∷◌, ◌++◌, refl, sym, ap, subst, ◌∙◌}
 use Rattle.m36_desc.specs.Fields.{DbrFields}
 use Rattle.m36_model.specs.JointAudit.{JointFound, IsJointTable, IsJointSegment, IsJointlyAudited, AreJointFindings, AreFindingsFrom, of_process, between}

@@ -1,4 +1,4 @@
--- Texts of joint audits, put line by line.
+-- Laws of the text of a joint audit that is put line by line.
 use Rattle.std.proofs.Common.{◌≡◌, ℕ, ◌+◌, ◌<◌, ◌≤◌, List, [], ◌∷◌, length, drop, get_or, Result, Ok, Err, refl, sym, ap, subst, ◌∙◌, arith}
 use Rattle.std.proofs.lemmas.List.{at_drop_more, at_drop_all}
 use Rattle.m36_text.specs.Lines.{as_line}
@@ -56,7 +56,7 @@ finding_put findings i d first old between new inside left put =
     leads_put (line_at findings i d) (all_put (pieces_of_findings (drop (i + 1) findings))) first old between new
     (leads_as (all_put (pieces_of_findings (drop i findings))) _ first old between (left_at findings i d inside) left) put
 
--- it was not put
+-- the line of a finding was not put
 pub finding_unput :
     (findings : List JointFinding) (i : ℕ) (d : JointFinding) (first : Program quiet (Unit {0})) (s : Status) (old between new : Seen)
     → i < length findings → Leads (all_put (pieces_of_findings (drop i findings))) first old between

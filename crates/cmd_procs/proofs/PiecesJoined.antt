@@ -1,4 +1,4 @@
--- The pieces of an answer, one behind the other, are its text.
+-- The pieces of an answer, one after another, are its text.
 use Rattle.std.proofs.Common.{◌≡◌, Bool, true, false, List, refl}
 use Rattle.std.specs.Prelude.{◌||◌}
 use Rattle.m36_outside.specs.Passing.{joined}

@@ -1,4 +1,4 @@
--- The command on processes, from its parts.
+-- The command performs its program, since its parts do.
 use Rattle.std.proofs.Common.{◌≡◌, ℕ, ◌<◌, Bool, true, false, List, [], ◌∷◌, length, Result, Ok, Err, refl, sym, subst, arith}
 use Rattle.m36_model.specs.JointAudit.{JointFound, AreJointFindings}
 use Rattle.m36_audit.specs.Joints.{all_found}
@@ -105,7 +105,7 @@ run_unput p findings s old new put = all_stop (joint_pieces findings) (run_all p
 
 pub ruleset audited = (run_put, run_unput)
 
--- ---- by what the audit has found
+-- ---- by the findings of the audit
 
 -- nothing is found exactly where there are no findings
 pub passes_none : (findings : List JointFinding) → length findings ≡ 0 → passes (all_found findings) ≡ true

@@ -72,7 +72,7 @@ run_next first schedule n i s new step block block' old between now so_far at in
     (ap (puts_all block) (event_left schedule n i s new step at inside says)) so_far)
     added
 
--- its line was not put
+-- the line of an event was not put
 pub run_lost :
     (first : Program quiet (Unit {0})) (schedule : List ℕ) (n i : ℕ) (s new : Processes (List ℕ)) (step : StepRecord)
     (block : List (List ℕ)) (old between now : Seen)

@@ -1,4 +1,4 @@
--- Where an output begins with `audit yes`, nothing was found; and no answer writes a file.
+-- If an output begins with `audit yes`, nothing was found; and no answer writes a file.
 use Rattle.std.proofs.Common.{◌≡◌, ℕ, Bool, true, false, List, [], ◌∷◌, ◌++◌, Option, Some, None, refl, sym, ap, subst, ◌∙◌, arith, get_or}
 use Rattle.std.specs.Prelude.{◌||◌}
 use Rattle.std.proofs.lemmas.List.{append-nil}
@@ -15,13 +15,13 @@ use Rattle.m36_ran.specs.Ran.{passes}
 use Rattle.cmd_procs.specs.JointText.{process_line, between_line, line_by, found_pieces, joint_pieces, joint_text}
 use Rattle.cmd_procs.specs.Scheduled.{run_answer, refused_answer, answer_by, dbrs_of, IsProcsDue, PassesJoint}
 
--- every output begins with the audit text
+-- every output begins with the audit's text
 answer_begins : (b : Bool) (p : ProcsFields) (findings : List JointFound) → (more : List ℕ) × ((answer_by b findings p).text ≡ joint_text findings ++ more)
 unfolding run_answer refused_answer
 answer_begins true p findings = (joined (schedule_pieces p.schedule p.state), joined_on (joint_pieces findings) (schedule_pieces p.schedule p.state))
 answer_begins false p findings = ([], sym (append-nil (joint_text findings)))
 
--- and that with a finding does not begin with `audit yes`
+-- an output with a finding does not begin with `audit yes`
 found_no : (f : JointFound) (findings : List JointFound) (more rest : List ℕ) → joint_text (f ∷ findings) ++ more ≡ yes_line ++ rest → ⊥
 unfolding found_pieces process_line between_line
 found_no f findings more rest e = by f.process e

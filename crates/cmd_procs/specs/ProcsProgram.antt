@@ -1,5 +1,5 @@
--- What `procs FILE` does, as a program: the file is read and decoded, the text of the joint audit
--- is put, and where the schedule is run, a line for each event and the last line.
+-- What `procs FILE` does, as a program: read and decode the file, put the text of the joint audit,
+-- and if the schedule is run, put a line for each of its events and the last line.
 use Rattle.std.specs.Prelude.{ℕ, ◌≡◌, Bool, true, false, List, [], Result, Ok, Err}
 use Rattle.m36_model.specs.JointAudit.{JointFound, AreJointFindings}
 use Rattle.m36_model.specs.Schedule.{Processes}
@@ -23,31 +23,30 @@ abbrev pub decoded :
 decoded name (Ok p) = done p
 decoded name (Err refusal) = refuses (refused name (code_of refusal.1) refusal.0)
 
--- the bytes of a text of processes are decoded
+-- decodes the bytes of a text of processes; memory may run out
 unfoldable pub decode : {may : May} → List ℕ → List ℕ → Program may ProcsFields
 decode name bytes = wants (decoded name (procs_given bytes))
 
--- the processes and the schedule that a file writes out
+-- reads and decodes the processes and the schedule of a file
 unfoldable pub procs_of : {may : May} → List ℕ → Program may ProcsFields
 procs_of name = then_with (file_bytes name) (decode name)
 
 -- ---- the joint audit, and the run
 
--- These are the findings of the joint audit; where there are none, every schedule of the processes
--- is isolated.
+-- The findings of the joint audit. If there are none, every schedule of the processes is isolated.
 pub record IsFound (s : Processes (List ℕ)) (findings : List JointFound) : Type 0 where
   pub found : AreJointFindings s.store (dbrs_of s) findings
   pub isolated : findings ≡ [] → AreIsolated s
 
--- the audit's text, and no run
+-- puts the audit's text, and ends with AuditNo
 unfoldable pub audit_only : List JointFound → Program quiet (Unit {0})
 audit_only findings = puts_all (joint_pieces findings) (ends (audit_status false) tt)
 
--- a line for each event of the schedule, and the last line
+-- puts a line for each event of the schedule, and the last line
 unfoldable pub run_all : ProcsFields → Program quiet (Unit {0})
 run_all p = puts_all (schedule_pieces p.schedule p.state) (ends Done tt)
 
--- the audit's text, and the run
+-- puts the audit's text, and runs the schedule
 unfoldable pub audit_and_run : ProcsFields → List JointFound → Program quiet (Unit {0})
 audit_and_run p findings = puts_all (joint_pieces findings) (run_all p)
 
@@ -56,13 +55,13 @@ abbrev pub run_by : Bool → ProcsFields → List JointFound → Program quiet (
 run_by true p findings = audit_and_run p findings
 run_by false p findings = audit_only findings
 
--- by what the joint audit finds
+-- what is done with these findings of the joint audit
 abbrev pub by_found : Bool → ProcsFields → List JointFound → Program quiet (Unit {0})
 by_found unaudited p findings = run_by (is_run findings unaudited) p findings
 
 -- ---- the command
 
--- What is done with processes. Memory may run out before anything is put, and not after that.
+-- Audits processes and continues. Memory may run out before anything is put, and not after that.
 unfoldable pub on_procs : Bool → ProcsFields → Program quiet (Unit {0})
 on_procs unaudited p = wants (some (IsFound p.state) (by_found unaudited p))
 

@@ -1,5 +1,5 @@
--- What is due to a schedule of processes: the text of what their joint audit finds, and, where they
--- are run, the lines of the schedule, both line by line.
+-- Which answers `procs` may give: the text of the joint audit, and if the schedule is run, its
+-- lines.
 use Rattle.std.specs.Prelude.{◌≡◌, ℕ, Bool, true, false, List, [], ◌++◌, map, Result, Ok, Err}
 use Rattle.m36_desc.specs.Fields.{DbrFields}
 use Rattle.m36_model.specs.Core.{core_store, core_tables}
@@ -28,23 +28,24 @@ abbrev pub code_of : ProcsCode → Code
 code_of procs.P1 = code.P1
 code_of procs.P2 = code.P2
 
+-- decoded processes, or the refusal of the file
 abbrev pub procs_by : List ℕ → Result ProcsFields (ℕ × ProcsCode) → Early ProcsFields
 procs_by name (Ok p) = Ok p
 procs_by name (Err refusal) = Err (refused name (code_of refusal.1) refusal.0)
 
--- the processes and the schedule that a file writes out
+-- reads and decodes the processes and the schedule of a file
 unfoldable pub procs_reads : List ℕ → Reading (Early ProcsFields)
 procs_reads name =
     then_with (file_bytes name) (λ bytes. decided (procs_by name (procs_given bytes)))
 
 -- ---- answers
 
--- The audit text, and the lines of the schedule behind it: the whole schedule is run.
+-- the audit's text, and then the lines of the whole schedule
 unfoldable pub run_answer : List JointFound → ProcsFields → Answer
 run_answer findings p =
     answer_with (joint_pieces findings ++ schedule_pieces p.schedule p.state) Done
 
--- the audit text alone, where something was found
+-- the audit's text alone, with the status AuditNo
 unfoldable pub refused_answer : List JointFound → Answer
 refused_answer findings = answer_with (joint_pieces findings) (audit_status false)
 
@@ -53,10 +54,11 @@ abbrev pub answer_by : Bool → List JointFound → ProcsFields → Answer
 answer_by true findings p = run_answer findings p
 answer_by false findings p = refused_answer findings
 
+-- the answer for these findings; the flag is `--unaudited`
 abbrev pub procs_answer : Bool → ProcsFields → List JointFound → Answer
 procs_answer unaudited p findings = answer_by (is_run findings unaudited) findings p
 
--- ---- what is due
+-- ---- the expected answer
 
 -- the descriptor segment base register of each process
 abbrev pub dbrs_of : Processes (List ℕ) → List DbrFields
@@ -66,8 +68,8 @@ dbrs_of s = map (λ g. g.dbr) s.regs
 pub record AreIsolated (s : Processes (List ℕ)) : Type 0 where
   pub isolates : JointlyIsolated core_store (map (core_tables s.store) (dbrs_of s))
 
--- An answer is due: the one by the findings of the joint audit, of which there is one list. Where
--- there are none, every schedule of the processes is isolated.
+-- The answer follows from the findings of the joint audit, of which there is one list. If there are
+-- none, every schedule of the processes is isolated.
 pub record IsProcsDue (unaudited : Bool) (p : ProcsFields) (due : Answer) : Type 0 where
   pub findings : List JointFound
   pub found : AreJointFindings p.state.store (dbrs_of p.state) findings

@@ -1,4 +1,4 @@
-//! The joint audit of processes, and their schedule.
+//! Audits processes jointly, and runs their schedule.
 
 ghost use Rattle.std.specs.Prelude.{◌≡◌, ◌≤◌, [], IfOk, length};
 ghost use Rattle.m36_model.specs.JointAudit.{AreJointFindings, most_processes};
@@ -20,7 +20,7 @@ use m36_word::NoMemory;
 use m36_world::World;
 use std::alloc::Global;
 
-/// Puts the audit's text, and then runs the schedule.
+/// Puts the audit's text line by line, and then runs the schedule.
 #[tactic(auto, using(crate::proofs::ProcsSteps::audited))]
 fn run_audited<W: World>(
     findings: &[JointFinding],
@@ -36,7 +36,7 @@ fn run_audited<W: World>(
     }
 }
 
-/// Puts the audit's text alone.
+/// Puts the audit's text and ends with AuditNo.
 #[tactic(auto, using(crate::proofs::ProcsSteps::refusing))]
 fn refuse_run<W: World>(findings: &[JointFinding], world: &mut W) -> Result<(), Status>
     ensures { Performs (audit_only (all_found findings.now)) result
@@ -48,7 +48,7 @@ fn refuse_run<W: World>(findings: &[JointFinding], world: &mut W) -> Result<(), 
     }
 }
 
-// Whether the schedule is run.
+// The schedule is run if the audit found nothing, or with `--unaudited`.
 #[tactic(auto, using(crate::proofs::ProcsSteps::passing))]
 fn is_run(findings: &[JointFinding], unaudited: bool) -> bool
     ensures { result ≡ is_run (all_found findings.now) unaudited }
@@ -56,7 +56,7 @@ fn is_run(findings: &[JointFinding], unaudited: bool) -> bool
     findings.is_empty() || unaudited
 }
 
-/// Does what the command says, by what the joint audit has found.
+/// Performs the command, given the findings of the joint audit.
 fn answer_found<W: World>(
     findings: &[JointFinding],
     procs: &mut Procs,
@@ -73,7 +73,7 @@ fn answer_found<W: World>(
     }
 }
 
-// The descriptor segment base register among registers.
+// The descriptor segment base register.
 fn dbr_of(regs: &Regs) -> Dbr
     ensures { result ≡ regs.now.dbr }
 {
@@ -94,7 +94,7 @@ fn dbrs_of(alloc: Global, procs: &Procs) -> Result<Vec<Dbr>, NoMemory>
     Ok(dbrs)
 }
 
-/// The joint audit of processes.
+/// Audits processes jointly. If there are no findings, every schedule is isolated.
 fn audited(alloc: Global, procs: &Procs) -> Result<Joint, NoMemory>
     ensures found { IfOk result (λ j. AreJointFindings procs.now.state.store
         (dbrs_of procs.now.state) (all_found j.findings.items)) }
@@ -106,7 +106,7 @@ fn audited(alloc: Global, procs: &Procs) -> Result<Joint, NoMemory>
     Ok(verdict)
 }
 
-/// Audits processes, and does what the command says with them.
+/// Audits processes, and performs the command on them. NoMemory if the audit runs out of memory.
 #[tactic(auto, using(crate::proofs::ProcsSteps::found))]
 fn with_procs<W: World>(
     alloc: Global,
@@ -120,7 +120,7 @@ fn with_procs<W: World>(
         Ok(verdict) => {
             let findings = verdict.findings.as_slice();
             let answer = answer_found(findings, &mut procs, unaudited, world);
-            // Dropped by calls: so each drop is proved once for its type.
+            // Dropped by calls, so that each drop is proved once for its type.
             drop(verdict);
             drop(procs);
             answer
@@ -132,7 +132,8 @@ fn with_procs<W: World>(
     }
 }
 
-/// The command `procs FILE`, with or without `--unaudited`.
+/// Performs `procs FILE` over any world, with or without `--unaudited`. An error is the status of
+/// the command.
 #[tactic(auto, unfolding(crate::specs::ProcsProgram::procs_program), using(m36_program::proofs::Performing::performing))]
 pub fn procs_file<W: World>(
     alloc: Global,

@@ -1,4 +1,4 @@
-//! A call over a folder, an input and an output.
+//! Performs `procs` over three objects: a folder, an input and an output.
 
 ghost use Rattle.m36_reading.specs.Doing.{Does};
 ghost use Rattle.m36_reading.specs.Outside.{outside_of};
@@ -15,7 +15,7 @@ use m36_reading::Status;
 use m36_world::Borrowed;
 use std::alloc::Global;
 
-/// `procs FILE`, and how that ended. Nothing is taken of the input.
+/// Performs `procs FILE`, and returns the status of the command. It takes no input.
 pub fn procs_command<F: Folder, L: Lines, S: Sink>(
     alloc: Global,
     name: &[u8],
@@ -24,20 +24,23 @@ pub fn procs_command<F: Folder, L: Lines, S: Sink>(
     lines: &mut L,
     out: &mut S,
 ) -> Status
-    // All that the three objects record of the call, in some order, is what the program says.
+    // The three records of the call are the parts of one list of events that the program allows.
+    // The objects have no common clock, so this does not say which event of two objects was first.
     ensures performs { PerformsOver (procs_program unaudited name.now) (early result)
         (objects F.asked F.wrote F.files F.read_faults F.write_faults L.given L.left L.faults
         S.taken S.written S.faults folder.old lines.old out.old)
         (objects F.asked F.wrote F.files F.read_faults F.write_faults L.given L.left L.faults
         S.taken S.written S.faults folder.new lines.new out.new) }
 
-    // The processes are read, and what is due is answered.
+    // The call reads the file, and gives the answer that follows from the findings.
     ensures does { Does (procs_kind unaudited) (procs_reads name.now) result
         (outside_of F.files F.wrote F.read_faults F.write_faults S.written S.taken S.faults
         folder.old out.old)
         (outside_of F.files F.wrote F.read_faults F.write_faults S.written S.taken S.faults
         folder.new out.new)
         (F.asked folder.old) (F.asked folder.new) }
+
+    // Nothing of the input is taken, and no fault of it is counted.
     ensures untaken { InputKept
         (objects F.asked F.wrote F.files F.read_faults F.write_faults L.given L.left L.faults
         S.taken S.written S.faults folder.old lines.old out.old)

@@ -1,4 +1,4 @@
-//! The text of a joint audit.
+//! Writes the text of a joint audit.
 
 ghost use Rattle.std.specs.Prelude.{◌≡◌, ◌≤◌, length};
 ghost use Rattle.m36_text.specs.Lines.{as_line};

@@ -1,4 +1,4 @@
-//! The processes and the schedule that a file writes out.
+//! Reads the processes and the schedule of a file.
 
 ghost use Rattle.std.specs.Prelude.{◌≤◌, [], length};
 ghost use Rattle.m36_outside.specs.ReadAnswer.{file_limit};
@@ -13,7 +13,7 @@ use m36_reading::{Code, Status};
 use m36_world::World;
 use std::alloc::Global;
 
-/// The processes that the bytes of a file write out: P1 or P2 where they are no text of processes.
+/// Decodes the bytes of a file as processes and a schedule. P1 or P2 if they are no such text.
 #[tactic(auto, using(crate::proofs::ProcsSteps::decoding))]
 fn decode(alloc: Global, name: &[u8], bytes: &[u8]) -> Result<Procs, Status>
     requires { length bytes.now ≤ file_limit }
@@ -27,7 +27,7 @@ fn decode(alloc: Global, name: &[u8], bytes: &[u8]) -> Result<Procs, Status>
     }
 }
 
-/// Reads a text of processes.
+/// Reads and decodes a file of processes. An error is the status of the command.
 #[tactic(auto, using(crate::proofs::ProcsSteps::reading))]
 pub fn read_procs<W: World>(alloc: Global, name: &[u8], world: &mut W) -> Result<Procs, Status>
     ensures { Performs {may = quiet} (procs_of name.now) result
@@ -36,7 +36,7 @@ pub fn read_procs<W: World>(alloc: Global, name: &[u8], world: &mut W) -> Result
     match read_bytes(alloc, name, world) {
         Ok(text) => {
             let given = decode(alloc, name, text.bytes());
-            // Dropped by a call: so the drop is proved once for its type.
+            // Dropped by a call, so that the drop is proved once for its type.
             drop(text);
             given
         }

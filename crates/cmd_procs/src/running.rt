@@ -1,4 +1,4 @@
-//! A run of a schedule: a line for each event, and the last line.
+//! Runs a schedule: a line for each of its events, and the last line.
 
 ghost use Rattle.std.specs.Prelude.{◌≡◌, ◌<◌, ◌++◌, ◌∷◌, [], length};
 ghost use Rattle.m36_procs.specs.ScheduleText.{event_line, end_line};
@@ -39,8 +39,9 @@ fn finish_run<W: World>(events: u64, block: &mut Block, world: &mut W) -> Put
     finish(block, end_line(events).as_str().as_bytes(), world)
 }
 
-/// Makes the events of the schedule, and puts a line for each and the last line. The lines are
-/// gathered in a block, which is handed over when it is full and at the end of the run.
+/// Runs the schedule, and puts a line for each of its events and the last line. The lines are
+/// gathered in a block, which is handed over when it is full and at the end of the run. Fails only
+/// with WriteFault.
 #[tactic(auto, using(crate::proofs::ScheduleLoop::running))]
 pub fn run<W: World>(procs: &mut Procs, world: &mut W) -> Result<(), Status>
     ensures { Performs (run_all procs.old) result (W.seen world.old) (W.seen world.new) }
@@ -54,7 +55,7 @@ pub fn run<W: World>(procs: &mut Procs, world: &mut W) -> Result<(), Status>
         match add_event(process, n as u64 + 1, &step, &mut block, world) {
             Put::Done => {}
             Put::Failed => {
-                // Dropped by a call: so the drop is proved once for its type.
+                // Dropped by a call, so that the drop is proved once for its type.
                 drop(block);
                 return Err(Status::WriteFault);
             }

@@ -1,4 +1,4 @@
--- Readers are alike to themselves: over the same files they read the same, and give the same.
+-- Readers are alike to themselves: over the same files they make the same reads, and yield the same value.
 use Rattle.std.proofs.Common.{◌≡◌, ℕ, List, [], ◌∷◌, ◌++◌, Option, Some, None, Result, Ok, Err, refl}
 use Rattle.m36_text.specs.Packing.{unpacked}
 use Rattle.obj36.specs.ObjectOf.{object_of}

@@ -1,4 +1,4 @@
--- Calls that perform the programs do what the older layer says: the reading of the command, and the answer to it.
+-- Calls that perform the programs satisfy `Does`, by the reading of the command and the answer to it.
 use Rattle.std.proofs.Common.{◌≡◌, ◌⊎◌, ℕ, List, [], ◌∷◌, ◌++◌, Some, Result, Ok, Err, refl, sym, ap, subst, ◌∙◌, inl, inr}
 use Rattle.std.proofs.lemmas.List.{append-nil, append_assoc}
 use Rattle.m36_outside.specs.Counts.{Rose}
@@ -91,7 +91,7 @@ set_kept files old between new written kept = record {
   write_faults = kept.faults ∙ written.set.write_faults;
 }
 
--- The same program puts the text, whatever else a program may do.
+-- The text is put by the same program, whatever else its type may do.
 fails_as :
     (pieces : List (List ℕ)) (P Q : List Event → Type 0) (result : Result (Unit {0}) Status)
     → (P (OutputFailed pieces ∷ []) → Q (OutputFailed pieces ∷ [])) → FailsWith pieces P result → FailsWith pieces Q result
@@ -124,14 +124,14 @@ text_quiet may text result old new performs = record {
   goes = puts_quiet may (lines_in text) performs.events result performs.goes;
 }
 
--- how it goes: all lines, or some
+-- the events: all lines were put, or some
 text_goes :
     (text : List ℕ) (events : List Event) (result : Result (Unit {0}) Status) → Goes {may = quiet} (put_text text) events result
     → Goes {may = quiet} (puts_all (lines_in text) (ends status.Done tt)) events result
 unfolding put_text ends
 text_goes text events result goes = goes
 
--- the sink after lines, by the sink before
+-- the state of the sink after lines were put
 put_from :
     (answer : Put) (text : List ℕ) (old between new : SinkState) → between ≡ old → PutsPieces answer (lines_in text) between new
     → PutsText answer text (lines_in text) old new
@@ -271,7 +271,7 @@ later_unwritten answer file files old between new did rest = record {
   faults = rest.faults ∙ ap (λ s. s.read_faults) did.rest;
 }
 
--- the first one was not written
+-- the first file was not written
 first_unwritten :
     (answer : WriteAnswer) (file : Set) (files : List Set) (old new : Seen) → IsFileWrite file.name file.content answer old new
     → FileUnwritten answer (file ∷ files) old new
@@ -290,7 +290,7 @@ first_unwritten answer file files old new did = record {
   faults = ap (λ s. s.read_faults) did.rest;
 }
 
--- All files were written, and the rest went on; or one was not written.
+-- All files were written, and the rest of the program followed; or one was not written.
 pub data AfterFiles (files : List Set) (rest : Program writing (Unit {0})) (result : Result (Unit {0}) Status) (old new : Seen)
     : Type 0 where
   Went : (between : Seen) → FilesWritten files old between → Performs rest result between new → AfterFiles files rest result old new
@@ -394,7 +394,7 @@ report_done report result old new performs =
 
 -- ---- reports without files
 
--- what holds of each value of a program's second part holds of its own
+-- a property of each value of the second of two programs is one of each value of the two joined
 values_then :
     {may : May} {A B : Type 0} (p : Program may A) (next : A → Program may B) (Is : B → Type 0) (events : List Event) (b : B)
     → ((a : A) (more : List Event) → Goes (next a) more (Ok b) → Is b) → Split p next events (Ok b) → Is b

@@ -37,7 +37,7 @@ line_put may rest end first old between new cut left put =
     (leads_put (take end rest) (put_text (drop end rest)) first old between new
     (leads_as (put_text rest) _ first old between (line_next may rest end cut) left) put)
 
--- it was not put
+-- a line was not put
 pub line_unput :
     (may : May) (rest : List ℕ) (end : ℕ) (first : Program may (Unit {0})) (s : Status) (old between new : Seen)
     → lines_in rest ≡ take end rest ∷ lines_in (drop end rest) → Leads (put_text rest) first old between
@@ -81,7 +81,7 @@ written_as file name content result old new named filled performs =
     subst (λ (n : List ℕ). Performs {may = writing} (write_one refl n file.content) result old new) named
     (subst (λ (t : List ℕ). Performs {may = writing} (write_one refl name t) result old new) filled performs)
 
--- one was written
+-- a file was written
 pub file_written :
     (files : List Set) (i : ℕ) (file : Set) (name content : List ℕ) (first : Program writing (Unit {0})) (old between new : Seen)
     → i < length files → file ≡ get_or files i file → name ≡ file.name → content ≡ file.content
@@ -93,7 +93,7 @@ file_written files i file name content first old between new inside at named fil
     (leads_as (write_files (drop i files)) _ first old between (file_next files i file inside at) left)
     (written_as file name content (Ok tt) between new named filled performs)
 
--- it was not written
+-- a file was not written
 pub file_unwritten :
     (files : List Set) (i : ℕ) (file : Set) (name content : List ℕ) (first : Program writing (Unit {0})) (s : Status) (old between new : Seen)
     → i < length files → file ≡ get_or files i file → name ≡ file.name → content ≡ file.content
@@ -109,7 +109,7 @@ none_more : (files : List Set) (i : ℕ) → length files ≤ i → write_files 
 unfolding write_files writes_all
 none_more files i past = ap write_files (drop_all i files past)
 
--- all were written
+-- all files were written
 pub files_end :
     (files : List Set) (i : ℕ) (first : Program writing (Unit {0})) (old new : Seen)
     → length files ≤ i → Leads (write_files (drop i files)) first old new → Performs first (Ok tt) old new
@@ -139,7 +139,7 @@ report_put report files text result old between new files_are text_is first seco
     ∙ ap (λ t. writes_all refl report.sets (put_text t)) text_is)
     (performs_then (write_files files) (λ u. put_text text) tt result old between new first second)
 
--- they were not all written
+-- not all files of a report were written
 pub report_unwritten :
     (report : ToldFields) (files : List Set) (s : Status) (old new : Seen) → files ≡ report.sets
     → Performs (write_files files) (Err s) old new → Performs (write_report report) (Err s) old new

@@ -1,4 +1,4 @@
--- The commands, from their parts.
+-- Each command performs its program, since its parts do.
 use Rattle.std.proofs.Common.{◌≡◌, ℕ, List, [], Result, Ok, Err, refl, sym, subst}
 use Rattle.m36_dir.specs.Catalog.{CatalogFields}
 use Rattle.m36_acl.specs.Fields.{AclSegmentFields}
@@ -46,7 +46,7 @@ pub print_unread :
 unfolding print_report
 print_unread may name s old new performs = rule_never may (file_object name) (λ p. Ok (printed name p)) s old new performs
 
--- A report is put that has no file.
+-- A report without files is put.
 text_put :
     (p : Program quiet ToldFields) (report : ToldFields) (text : List ℕ) (result : Result (Unit {0}) Status) (old between new : Seen)
     → text ≡ report.text → Performs p (Ok report) old between → Performs {may = quiet} (put_text text) result between new
@@ -117,7 +117,7 @@ access_stop user s old new first = performs_stop (access_report user) (λ r. put
 
 -- ---- `alm NAME`
 
--- the name of the source, as it was lent
+-- the name of the source is the one that was borrowed
 bytes_as :
     (name file : List ℕ) (result : Result (List ℕ) Status) (old new : Seen) → name ≡ file
     → Performs {may = writing} (file_bytes name) result old new → Performs {may = writing} (file_bytes file) result old new

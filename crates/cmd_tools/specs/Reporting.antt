@@ -1,4 +1,4 @@
--- What a command works out is written and printed: the files, in order, and then the text.
+-- Writes the files of a report in order, and then prints its text.
 use Rattle.std.specs.Prelude.{ℕ, ◌≡◌, true, refl, List, [], ◌∷◌}
 use Rattle.m36_reading.specs.declared.setting.Set.{Set}
 use Rattle.m36_told.specs.LinesIn.{lines_in}
@@ -13,14 +13,14 @@ writes_all allowed [] rest = rest
 writes_all allowed (file ∷ files) rest =
     writes allowed file.name file.content (writes_all allowed files rest)
 
--- a text, line by line, each line with its line feed
+-- puts a text line by line, each line with its line feed
 unfoldable pub put_text : {may : May} → List ℕ → Program may (Unit {0})
 put_text text = puts_all (lines_in text) (done tt)
 
--- files that are written
+-- writes files, and ends
 unfoldable pub write_files : List Set → Program writing (Unit {0})
 write_files files = writes_all refl files (done tt)
 
--- the files of a report, and then its text
+-- writes the files of a report, and then puts its text
 unfoldable pub write_report : ToldFields → Program writing (Unit {0})
 write_report report = writes_all refl report.sets (put_text report.text)

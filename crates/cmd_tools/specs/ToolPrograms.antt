@@ -1,6 +1,6 @@
--- `print NAME`, `access USER`, `alm NAME` and `bind NAME`, as programs: files are read, a report is
--- worked out from them, its files are written, and its text is put, line by line. After the first
--- write begins, memory may run out only in a write.
+-- `print NAME`, `access USER`, `alm NAME` and `bind NAME`, as programs: read files, compute a
+-- report from them, write its files, and put its text line by line. Once the report is complete,
+-- memory may run out only in a write.
 use Rattle.std.specs.Prelude.{ℕ, List, [], Ok}
 use Rattle.m36_dir.specs.Catalog.{CatalogFields}
 use Rattle.m36_bindfile.specs.BindFile.{bind_lines, names_by}
@@ -23,7 +23,7 @@ use Rattle.cmd_tools.specs.Reporting.{put_text, write_report}
 
 -- ---- `print NAME`
 
--- an object is read and printed
+-- reads an object, and makes its print
 unfoldable pub print_report : {may : May} → List ℕ → Program may ToldFields
 print_report name = then_with (file_object name) (λ parts. decides (Ok (printed name parts)))
 
@@ -32,12 +32,12 @@ print_program name = then_with (print_report name) (λ report. put_text report.t
 
 -- ---- `access USER`
 
--- the access lists are read: what a user may do with each segment of a catalog
+-- reads the access lists, and reports what a user may do with each segment of a catalog
 unfoldable pub lists_report : {may : May} → List ℕ → CatalogFields → Program may ToldFields
 lists_report user catalog =
     then_with (access_lists catalog) (λ lists. decides (Ok (access_told user catalog lists)))
 
--- the boot text is read, and then the access lists
+-- reads the boot text, and then the access lists
 unfoldable pub access_report : {may : May} → List ℕ → Program may ToldFields
 access_report user = then_with boot_catalog (λ catalog. lists_report user catalog)
 
@@ -46,7 +46,7 @@ access_program user = then_with (access_report user) (λ report. put_text report
 
 -- ---- `alm NAME`
 
--- a source is read and assembled
+-- reads and assembles a source
 unfoldable pub alm_report : {may : May} → AlmFiles → Program may ToldFields
 alm_report files =
     then_with (file_bytes files.source) (λ bytes. decides (told_by files (assembly_of bytes)))
@@ -56,20 +56,20 @@ alm_program files = then_with (alm_report files) (λ report. write_report report
 
 -- ---- `bind NAME`
 
--- the components are read and bound
+-- reads the components, and binds them
 unfoldable pub components_report :
     {may : May} → BindFiles → List ℕ → List (List ℕ) → Program may ToldFields
 components_report files text names =
     then_with (each_onto file_object [] names)
     (λ objects. decides (bind_told files (bound_of text names objects)))
 
--- the names of the components are taken from the bind file
+-- parses the bind file for the names of the components, and continues with these
 unfoldable pub text_report : {may : May} → BindFiles → List ℕ → Program may ToldFields
 text_report files text =
     then_with (decides (names_told files.bindfile (names_by (bind_lines text))))
     (λ names. components_report files text names)
 
--- the bind file is read, and then its components
+-- reads the bind file, and then its components
 unfoldable pub bind_report : {may : May} → BindFiles → Program may ToldFields
 bind_report files = then_with (file_bytes files.bindfile) (λ text. text_report files text)
 

@@ -1,4 +1,4 @@
-//! The command `access USER`.
+//! Performs the command `access USER` over any world.
 
 ghost use Rattle.std.specs.Prelude.{Ok};
 ghost use Rattle.m36_reading.specs.Asking.{Gives};
@@ -16,7 +16,7 @@ use m36_reading::{Refusal, Status};
 use m36_world::World;
 use std::alloc::Global;
 
-// What a user may do with each segment of a catalog.
+// The report of what a user may do with each segment of a catalog.
 fn access_of(alloc: Global, user: &User, catalog: &Catalog, lists: &Acl) -> Result<Report, Refusal>
     ensures { Gives result (Ok (access_told user.now catalog.now lists.now)) }
 {
@@ -24,7 +24,7 @@ fn access_of(alloc: Global, user: &User, catalog: &Catalog, lists: &Acl) -> Resu
     Ok(Report::of_text(alloc, text))
 }
 
-// Reads the access lists, and gives what a user may do.
+// Reads the access lists, and returns the report for the user.
 fn lists_report<W: World>(
     alloc: Global,
     user: &User,
@@ -44,7 +44,7 @@ fn lists_report<W: World>(
     }
 }
 
-// Reads the boot text and the access lists, and gives what a user may do.
+// Reads the boot text and the access lists, and returns the report for the user.
 fn access_report<W: World>(alloc: Global, user: &User, world: &mut W) -> Result<Report, Status>
     ensures { Performs {may = quiet} (access_report user.now) result
         (W.seen world.old) (W.seen world.new) }
@@ -59,8 +59,8 @@ fn access_report<W: World>(alloc: Global, user: &User, world: &mut W) -> Result<
     }
 }
 
-/// `access USER`: reads the boot text and the access lists, and puts what the user may do with each
-/// segment.
+/// Performs `access USER`: reads the boot text and the access lists, and puts a line for each
+/// segment with what the user may do. An error is the status of the command.
 pub fn print_access<W: World>(alloc: Global, user: &User, world: &mut W) -> Result<(), Status>
     ensures { Performs (access_program user.now) result (W.seen world.old) (W.seen world.new) }
 {

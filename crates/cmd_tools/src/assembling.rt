@@ -1,4 +1,4 @@
-//! The command `alm NAME`.
+//! Performs the command `alm NAME` over any world.
 
 ghost use Rattle.std.specs.Prelude.{◌≤◌, length, Ok};
 ghost use Rattle.m36_outside.specs.ReadAnswer.{file_limit};
@@ -25,7 +25,7 @@ use m36_world::World;
 use obj36::Object;
 use std::alloc::Global;
 
-// The object that lines mean, and their listing, under the name of the object.
+// The report of an assembled object: the object under its name, and the listing of its lines.
 fn listed(alloc: Global, name: &Name, lines: &Lines36, object: &Object) -> Result<Report, AlmFault>
     ensures { MadeSays name.now result (Ok (record { source = lines.now; parts = object.now })) }
 {
@@ -35,7 +35,7 @@ fn listed(alloc: Global, name: &Name, lines: &Lines36, object: &Object) -> Resul
     Ok(report)
 }
 
-/// The object and the listing of lines, under the name of the object.
+/// Assembles parsed lines, and makes the report: the object under its name, and the listing.
 #[tactic(auto, using(m36_told::proofs::AlmLaws::made))]
 fn made_with(alloc: Global, name: &Name, lines: &Lines36) -> Result<Report, AlmFault>
     ensures { MadeSays name.now result (with_parts lines.now (assembled lines.now)) }
@@ -43,7 +43,7 @@ fn made_with(alloc: Global, name: &Name, lines: &Lines36) -> Result<Report, AlmF
     match assemble(alloc, lines) {
         Ok(object) => {
             let report = listed(alloc, name, lines, &object);
-            // Dropped by a call: so the drop is proved once for its type.
+            // Dropped by a call, so that the drop is proved once for its type.
             drop(object);
             report
         }
@@ -51,7 +51,7 @@ fn made_with(alloc: Global, name: &Name, lines: &Lines36) -> Result<Report, AlmF
     }
 }
 
-/// The object and the listing of a source of at most 16 MiB.
+/// Assembles the bytes of a source, at most 16 MiB, and makes the report.
 fn made_of(alloc: Global, name: &Name, bytes: &[u8]) -> Result<Report, AlmFault>
     requires { length bytes.now ≤ file_limit }
     ensures { MadeSays name.now result (assembly_of bytes.now) }
@@ -62,7 +62,7 @@ fn made_of(alloc: Global, name: &Name, bytes: &[u8]) -> Result<Report, AlmFault>
     }
 }
 
-/// The object and the listing of the bytes of a source, or why it is refused.
+/// As `made_of`; a fault of the source is a refusal that names the source.
 #[tactic(auto, using(m36_told::proofs::AlmLaws::answering))]
 fn assembled_in(alloc: Global, files: &AlmFiles, bytes: &[u8]) -> Result<Report, Refusal>
     requires { length bytes.now ≤ file_limit }
@@ -74,7 +74,7 @@ fn assembled_in(alloc: Global, files: &AlmFiles, bytes: &[u8]) -> Result<Report,
     }
 }
 
-// Reads a source, and gives its object and its listing.
+// Reads a source, and returns its report.
 fn read_source<W: World>(alloc: Global, files: &AlmFiles, world: &mut W) -> Result<Report, Status>
     ensures { Performs {may = writing} (alm_report files.now) result
         (W.seen world.old) (W.seen world.new) }
@@ -89,7 +89,8 @@ fn read_source<W: World>(alloc: Global, files: &AlmFiles, world: &mut W) -> Resu
     }
 }
 
-/// `alm NAME`: assembles a source, writes the object, and then puts the listing.
+/// Performs `alm NAME`: assembles a source, writes the object, and then puts the listing. An error
+/// is the status of the command.
 #[tactic(auto, using(crate::proofs::ToolSteps::assembles))]
 pub fn assemble_file<W: World>(alloc: Global, files: &AlmFiles, world: &mut W) -> Result<(), Status>
     ensures { Performs (alm_program files.now) result (W.seen world.old) (W.seen world.new) }

@@ -1,4 +1,4 @@
-//! The command `bind NAME`.
+//! Performs the command `bind NAME` over any world.
 
 ghost use Rattle.std.specs.Prelude.{◌≡◌, ◌≤◌, ◌∷◌, ◌++◌, [], length, OnOk, IfOk, Ok};
 ghost use Rattle.m36_outside.specs.ReadAnswer.{file_limit};
@@ -28,7 +28,7 @@ use obj36::Object;
 use std::alloc::Global;
 use std::marker::Model;
 
-// Objects that were read.
+// The objects of the components that were read so far.
 #[derive(Drop)]
 struct Objects {
     items: Vec<Object>,
@@ -66,7 +66,7 @@ impl Objects {
     }
 }
 
-// B1 to B5: a bind file that is refused, at a line.
+// The refusal of a bind file, with the code B1 to B5 and the line.
 fn refuse_bind(alloc: Global, name: &[u8], fault: BindFault) -> Refusal
     ensures { Refuses result (bind_refused name.now fault) }
 {
@@ -92,7 +92,7 @@ fn names_in(alloc: Global, file: &[u8], text: &[u8]) -> Result<Names, Refusal>
     }
 }
 
-// Objects with one more.
+// Appends an object.
 fn with_object(mut objects: Objects, object: Object) -> Result<Objects, Refusal>
     ensures { Gives result (Ok (objects ++ object ∷ [])) }
 {
@@ -100,7 +100,7 @@ fn with_object(mut objects: Objects, object: Object) -> Result<Objects, Refusal>
     Ok(objects)
 }
 
-// Reads one more object.
+// Reads the object of a component, and appends it.
 fn read_one<W: World>(
     alloc: Global,
     objects: Objects,
@@ -116,7 +116,7 @@ fn read_one<W: World>(
     }
 }
 
-// Reads the objects of these names.
+// Reads the objects with these names, in order.
 fn read_objects<W: World>(alloc: Global, names: &[Name], world: &mut W) -> Result<Objects, Status>
     ensures { Performs {may = writing} (each_onto file_object [] names.now) result
         (W.seen world.old) (W.seen world.new) }
@@ -131,7 +131,7 @@ fn read_objects<W: World>(alloc: Global, names: &[Name], world: &mut W) -> Resul
     Ok(objects)
 }
 
-// The file and the print of a bound object.
+// The report of a bound object: the object under its name, and its print.
 fn report_of(alloc: Global, name: &Name, object: &Object) -> Result<Report, Refusal>
     ensures { Gives result (Ok (bound_told name.now object.now)) }
 {
@@ -141,7 +141,7 @@ fn report_of(alloc: Global, name: &Name, object: &Object) -> Result<Report, Refu
     Ok(report)
 }
 
-// What these objects are bound to, or why they are not.
+// Binds the objects as the bind file says, or returns why they cannot be bound.
 fn bound_by(
     alloc: Global,
     text: &[u8],
@@ -154,7 +154,7 @@ fn bound_by(
     bind(alloc, text, names, objects)
 }
 
-// The file and the print of what these objects are bound to, or why they are not.
+// Binds the objects, and makes the report; a fault is a refusal that names the bind file.
 fn bound_in(
     alloc: Global,
     files: &BindFiles,
@@ -168,7 +168,7 @@ fn bound_in(
     match bound_by(alloc, text, names, objects) {
         Ok(object) => {
             let report = report_of(alloc, &files.object, &object);
-            // Dropped by a call: so the drop is proved once for its type.
+            // Dropped by a call, so that the drop is proved once for its type.
             drop(object);
             report
         }
@@ -198,7 +198,7 @@ fn read_components<W: World>(
     }
 }
 
-// Takes the names of the components from the bind file, reads the components, and binds them.
+// Parses the bind file for the names of the components, reads these, and binds them.
 fn read_text<W: World>(
     alloc: Global,
     files: &BindFiles,
@@ -219,7 +219,7 @@ fn read_text<W: World>(
     }
 }
 
-// Reads a bind file and the objects of its components, and gives the bound object and its print.
+// Reads a bind file and the objects of its components, and returns the report of the bound object.
 fn read_bind<W: World>(alloc: Global, files: &BindFiles, world: &mut W) -> Result<Report, Status>
     ensures { Performs {may = writing} (bind_report files.now) result
         (W.seen world.old) (W.seen world.new) }
@@ -234,7 +234,8 @@ fn read_bind<W: World>(alloc: Global, files: &BindFiles, world: &mut W) -> Resul
     }
 }
 
-/// `bind NAME`: binds the components of a bind file, writes the object, and then puts its print.
+/// Performs `bind NAME`: binds the components of a bind file, writes the object, and then puts its
+/// print. An error is the status of the command.
 #[tactic(auto, using(crate::proofs::ToolSteps::binds))]
 pub fn bind_objects<W: World>(alloc: Global, files: &BindFiles, world: &mut W) -> Result<(), Status>
     ensures { Performs (bind_program files.now) result (W.seen world.old) (W.seen world.new) }

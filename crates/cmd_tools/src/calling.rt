@@ -1,4 +1,5 @@
-//! The calls over a folder, an input and an output.
+//! Performs the commands over three objects: a folder, an input and an output. Each call has the
+//! same three clauses, which [`print_command`] explains.
 
 ghost use Rattle.m36_reading.specs.Doing.{Does};
 ghost use Rattle.m36_reading.specs.Outside.{outside_of};
@@ -23,7 +24,7 @@ use m36_told::{AlmFiles, BindFiles};
 use m36_world::Borrowed;
 use std::alloc::Global;
 
-/// `print NAME`, and how that ended. Nothing is taken of the input.
+/// Performs `print NAME`, and returns the status of the command. It takes no input.
 pub fn print_command<F: Folder, L: Lines, S: Sink>(
     alloc: Global,
     name: &[u8],
@@ -31,20 +32,23 @@ pub fn print_command<F: Folder, L: Lines, S: Sink>(
     lines: &mut L,
     out: &mut S,
 ) -> Status
-    // All that the three objects record of the call, in some order, is what the program says.
+    // The three records of the call are the parts of one list of events that the program allows.
+    // The objects have no common clock, so this does not say which event of two objects was first.
     ensures performs { PerformsOver (print_program name.now) (early result)
         (objects F.asked F.wrote F.files F.read_faults F.write_faults L.given L.left L.faults
         S.taken S.written S.faults folder.old lines.old out.old)
         (objects F.asked F.wrote F.files F.read_faults F.write_faults L.given L.left L.faults
         S.taken S.written S.faults folder.new lines.new out.new) }
 
-    // The files are read, and the answer that is expected is given.
+    // The call reads the files that the reading asks for, and gives the answer that follows.
     ensures does { Does told_kind (print_reads name.now) result
         (outside_of F.files F.wrote F.read_faults F.write_faults S.written S.taken S.faults
         folder.old out.old)
         (outside_of F.files F.wrote F.read_faults F.write_faults S.written S.taken S.faults
         folder.new out.new)
         (F.asked folder.old) (F.asked folder.new) }
+
+    // Nothing of the input is taken, and no fault of it is counted.
     ensures untaken { InputKept
         (objects F.asked F.wrote F.files F.read_faults F.write_faults L.given L.left L.faults
         S.taken S.written S.faults folder.old lines.old out.old)
@@ -56,7 +60,7 @@ pub fn print_command<F: Folder, L: Lines, S: Sink>(
     status_by(outcome)
 }
 
-/// `access USER`, and how that ended. Nothing is taken of the input.
+/// Performs `access USER`, and returns the status of the command. It takes no input.
 pub fn access_command<F: Folder, L: Lines, S: Sink>(
     alloc: Global,
     user: &User,
@@ -64,14 +68,12 @@ pub fn access_command<F: Folder, L: Lines, S: Sink>(
     lines: &mut L,
     out: &mut S,
 ) -> Status
-    // All that the three objects record of the call, in some order, is what the program says.
     ensures performs { PerformsOver (access_program user.now) (early result)
         (objects F.asked F.wrote F.files F.read_faults F.write_faults L.given L.left L.faults
         S.taken S.written S.faults folder.old lines.old out.old)
         (objects F.asked F.wrote F.files F.read_faults F.write_faults L.given L.left L.faults
         S.taken S.written S.faults folder.new lines.new out.new) }
 
-    // The files are read, and the answer that is expected is given.
     ensures does { Does told_kind (user_reads user.now) result
         (outside_of F.files F.wrote F.read_faults F.write_faults S.written S.taken S.faults
         folder.old out.old)
@@ -89,7 +91,7 @@ pub fn access_command<F: Folder, L: Lines, S: Sink>(
     status_by(outcome)
 }
 
-/// `alm NAME`, and how that ended. Nothing is taken of the input.
+/// Performs `alm NAME`, and returns the status of the command. It takes no input.
 pub fn alm_command<F: Folder, L: Lines, S: Sink>(
     alloc: Global,
     files: &AlmFiles,
@@ -97,14 +99,12 @@ pub fn alm_command<F: Folder, L: Lines, S: Sink>(
     lines: &mut L,
     out: &mut S,
 ) -> Status
-    // All that the three objects record of the call, in some order, is what the program says.
     ensures performs { PerformsOver (alm_program files.now) (early result)
         (objects F.asked F.wrote F.files F.read_faults F.write_faults L.given L.left L.faults
         S.taken S.written S.faults folder.old lines.old out.old)
         (objects F.asked F.wrote F.files F.read_faults F.write_faults L.given L.left L.faults
         S.taken S.written S.faults folder.new lines.new out.new) }
 
-    // The files are read, and the answer that is expected is given.
     ensures does { Does told_kind (alm_reads files.now) result
         (outside_of F.files F.wrote F.read_faults F.write_faults S.written S.taken S.faults
         folder.old out.old)
@@ -122,7 +122,7 @@ pub fn alm_command<F: Folder, L: Lines, S: Sink>(
     status_by(outcome)
 }
 
-/// `bind NAME`, and how that ended. Nothing is taken of the input.
+/// Performs `bind NAME`, and returns the status of the command. It takes no input.
 pub fn bind_command<F: Folder, L: Lines, S: Sink>(
     alloc: Global,
     files: &BindFiles,
@@ -130,14 +130,12 @@ pub fn bind_command<F: Folder, L: Lines, S: Sink>(
     lines: &mut L,
     out: &mut S,
 ) -> Status
-    // All that the three objects record of the call, in some order, is what the program says.
     ensures performs { PerformsOver (bind_program files.now) (early result)
         (objects F.asked F.wrote F.files F.read_faults F.write_faults L.given L.left L.faults
         S.taken S.written S.faults folder.old lines.old out.old)
         (objects F.asked F.wrote F.files F.read_faults F.write_faults L.given L.left L.faults
         S.taken S.written S.faults folder.new lines.new out.new) }
 
-    // The files are read, and the answer that is expected is given.
     ensures does { Does told_kind (bind_reads files.now) result
         (outside_of F.files F.wrote F.read_faults F.write_faults S.written S.taken S.faults
         folder.old out.old)

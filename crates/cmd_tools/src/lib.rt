@@ -1,8 +1,8 @@
 //! `print NAME`, `access USER`, `alm NAME` and `bind NAME` as programs.
 //!
-//! Each reads its files, works out a [`Report`] from them, which is the files that it writes and the
-//! text that it prints, writes the files and then puts the text, line by line
-//! (`specs/ToolPrograms.antt`):
+//! Each command reads its files and computes a [`Report`] from them: the files that it writes and
+//! the text that it prints. It then writes the files, and after that puts the text line by line
+//! (`specs/ToolPrograms.antt`).
 //!
 //! | Command | Reads | Writes | Prints |
 //! |---|---|---|---|
@@ -11,15 +11,20 @@
 //! | [`assemble_file`] | a source | its object | the listing |
 //! | [`bind_objects`] | a bind file and its components | the bound object | its print |
 //!
-//! Memory may run out until all of the report is there, and in a write. `print NAME` and
-//! `access USER` may write no file, by the type of their programs. After a write that failed no file
-//! is written, and nothing is put.
+//! Memory may run out until the report is complete, and in a write. `print NAME` and `access USER`
+//! write no file, by the type of their programs. After a write that failed no file is written, and
+//! nothing is put.
 //!
-//! [`print_command`], [`access_command`], [`alm_command`] and [`bind_command`] perform these programs
-//! over a folder, an input and an output of the caller (`PerformsOver`); the same calls do what the
-//! reading of the command and the answer to it say (`Does`), and take no input. [`law_tool_text`]:
-//! over the same files all calls put first parts of one text, and those that come to their end put
-//! all of it.
+//! These four perform the programs over any world, so their contracts have the order of the events:
+//! the object is written before the first line is put.
+//!
+//! [`print_command`], [`access_command`], [`alm_command`] and [`bind_command`] perform them over a
+//! folder, an input and an output of the caller (`PerformsOver`). These have no common clock, so
+//! these contracts do not have that order. The same calls satisfy `Does` by the reading of the
+//! command and the answer to it, and take no input.
+//!
+//! [`law_tool_text`]: over the same files all calls put prefixes of one text, and those that end
+//! put all of it.
 //!
 //! Formats are those of `m36_list` and `obj36`; the machine's words are those of the Multics
 //! Processor Manual AL39.

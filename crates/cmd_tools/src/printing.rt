@@ -1,4 +1,4 @@
-//! The command `print NAME`.
+//! Performs the command `print NAME` over any world.
 
 ghost use Rattle.std.specs.Prelude.{Ok};
 ghost use Rattle.m36_reading.specs.Asking.{Gives};
@@ -16,7 +16,7 @@ use m36_world::World;
 use obj36::Object;
 use std::alloc::Global;
 
-// The print of an object.
+// The report of an object: its print, and no file.
 fn printed(alloc: Global, name: &[u8], object: &Object) -> Result<Report, Refusal>
     ensures { Gives result (Ok (printed name.now object.now)) }
 {
@@ -24,7 +24,7 @@ fn printed(alloc: Global, name: &[u8], object: &Object) -> Result<Report, Refusa
     Ok(Report::of_text(alloc, text))
 }
 
-// Reads an object, and gives its print.
+// Reads an object, and returns its report.
 fn read_print<W: World>(alloc: Global, name: &[u8], world: &mut W) -> Result<Report, Status>
     ensures { Performs {may = quiet} (print_report name.now) result
         (W.seen world.old) (W.seen world.new) }
@@ -32,7 +32,7 @@ fn read_print<W: World>(alloc: Global, name: &[u8], world: &mut W) -> Result<Rep
     match read_object(alloc, name, world) {
         Ok(object) => {
             let given = printed(alloc, name, &object);
-            // Dropped by a call: so the drop is proved once for its type.
+            // Dropped by a call, so that the drop is proved once for its type.
             drop(object);
             decide(given)
         }
@@ -40,7 +40,8 @@ fn read_print<W: World>(alloc: Global, name: &[u8], world: &mut W) -> Result<Rep
     }
 }
 
-/// `print NAME`: reads an object, and puts its print.
+/// Performs `print NAME`: reads an object, and puts its print. An error is the status of the
+/// command.
 pub fn print_object<W: World>(alloc: Global, name: &[u8], world: &mut W) -> Result<(), Status>
     ensures { Performs (print_program name.now) result (W.seen world.old) (W.seen world.new) }
 {

@@ -26,7 +26,7 @@ impl Model for Report {
 }
 
 impl Report {
-    /// A text, and no file.
+    /// A report with a text and no file.
     pub fn of_text(alloc: Global, text: Text) -> Report
         ensures { result ≡ record { sets = []; text = text } }
     {
@@ -36,7 +36,7 @@ impl Report {
         }
     }
 
-    /// A file, and a text. The error is want of memory alone.
+    /// A report with a file and a text.
     pub fn of_file(alloc: Global, file: Set, text: Text) -> Result<Report, NoMemory>
         ensures { IfOk result (λ report. report ≡ record { sets = file ∷ []; text = text }) }
     {
@@ -45,14 +45,12 @@ impl Report {
         Ok(Report { files, text })
     }
 
-    /// The files.
     pub fn files(&self) -> &[Set]
         ensures { result.now ≡ self.now.sets }
     {
         self.files.as_slice()
     }
 
-    /// The text.
     pub fn text(&self) -> &[u8]
         ensures { result.now ≡ self.now.text }
     {
@@ -60,7 +58,7 @@ impl Report {
     }
 }
 
-/// A file of a name, and a text. The error is want of memory alone.
+/// A report with a file, of this name and content, and a text.
 pub fn report_file(
     alloc: Global,
     name: &Name,

@@ -1,4 +1,4 @@
-//! Files are written, one after another, and a text is put, line by line.
+//! Writes the files of a report one after another, and puts its text line by line.
 
 ghost use Rattle.std.specs.Prelude.{◌≡◌, ◌≤◌, ◌<◌, ◌∷◌, length, take, drop};
 ghost use Rattle.m36_told.specs.LinesIn.{lines_in};
@@ -13,7 +13,8 @@ use m36_text::place_of;
 use m36_world::World;
 use std::alloc::Global;
 
-// How many bytes the first line of a text has, with its line feed; all bytes where there is no line feed.
+// The length in bytes of the first line of a text, with its line feed; the length of the text if it
+// has no line feed.
 #[tactic(auto, using(m36_told::proofs::LineLaws::first_line))]
 fn line_length(text: &[u8]) -> usize
     requires { 0 < length text.now }
@@ -27,7 +28,7 @@ fn line_length(text: &[u8]) -> usize
     }
 }
 
-/// Puts a text, each line with its line feed in one piece.
+/// Puts a text line by line, each line with its line feed as one piece.
 pub fn put_text<W: World>(text: &[u8], world: &mut W) -> Result<(), Status>
     ensures { (may : May) → Performs {may = may} (put_text text.now) result
         (W.seen world.old) (W.seen world.new) }
@@ -44,7 +45,7 @@ pub fn put_text<W: World>(text: &[u8], world: &mut W) -> Result<(), Status>
     Ok(())
 }
 
-/// Writes files, one after another. After one that could not be written no other is.
+/// Writes files one after another. After one that could not be written, no other is tried.
 pub fn write_files<W: World>(alloc: Global, files: &[Set], world: &mut W) -> Result<(), Status>
     ensures { Performs (write_files files.now) result (W.seen world.old) (W.seen world.new) }
 {

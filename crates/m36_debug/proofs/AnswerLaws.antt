@@ -55,7 +55,7 @@ took_cut o s m text kind old new is puts =
     event_cut o (standing s Waiting) m m (Took text) old new refl
     (subst (λ k. PutsPieces Failed (line_says (o.regs m) (o.content m) s text k) old new) (sym is) puts)
 
--- it was answered at once
+-- a line of this kind was taken and answered at once
 pub took_told :
     {M : Type 0} (o : Turning M) (put : Put) (s : SittingFields) (m : M) (text : List ℕ) (kind : SessionLine) (sitting : SittingFields) (old new : Pending)
     → session_line text ≡ kind → begun s text kind ≡ Waiting → sitting ≡ remembered s kind
@@ -66,7 +66,7 @@ took_told o Done s m text kind sitting old new is waits remembers puts =
     (subst (λ d. Part o (standing s Waiting) m (text ∷ []) (standing (remembered s kind) d) m Done old new) waits (took_part o s m text kind old new is puts))
 took_told o Failed s m text kind sitting old new is waits remembers puts = took_cut o s m text kind old new is puts
 
--- the same, by how it ended
+-- as `took_told`, by how the line ended
 took_end :
     {M : Type 0} (o : Turning M) (end : Ends) (s : SittingFields) (m : M) (text : List ℕ) (kind : SessionLine) (old new : Pending)
     → session_line text ≡ kind → begun s text kind ≡ Waiting → remembered s kind ≡ s
@@ -79,7 +79,7 @@ took_end o ends.Starved s m text kind old new is waits remembers puts = absurd p
 took_end o ends.Cut s m text kind old new is waits remembers puts =
     took_told o Failed s m text kind s old new is waits (sym remembers) puts
 
--- and if nothing was changed
+-- as `took_end`, if session and machine are unchanged
 took_is_told :
     {M : Type 0} (o : Turning M) (end : Ends) (s : SittingFields) (m : M) (text : List ℕ) (kind : SessionLine) (lines : List (List ℕ)) (sitting : SittingFields) (m' : M) (old new : Pending)
     → session_line text ≡ kind → begun s text kind ≡ Waiting → remembered s kind ≡ s

@@ -1,4 +1,4 @@
--- Answers that wait are put: then they are all put.
+-- Laws of handing over the block: after it all answers have been put.
 use Rattle.std.proofs.Common.{◌≡◌, ℕ, List, [], ◌++◌, sym, subst}
 use Rattle.std.proofs.lemmas.List.{append-nil}
 use Rattle.m36_outside.specs.declared.sink.Put.{Put}
@@ -26,7 +26,7 @@ part_put o s m lines s' m' old mid new part puts = record {
   wrote = subst (λ l. PutsPieces Done l old new) (append-nil (lines_said o s part.events)) (puts_on old mid new (lines_said o s part.events) [] part.wrote puts);
 }
 
--- some of them were
+-- only a prefix of them was put
 part_lost :
     {M : Type 0} (o : Turning M) (s : Standing) (m : M) (lines : List (List ℕ)) (s' : Standing) (m' : M) (old mid new : Pending)
     → Part o s m lines s' m' Done old mid → PutsPieces Failed [] mid new → CutPart o s m lines m' old new
@@ -40,7 +40,7 @@ part_lost o s m lines s' m' old mid new part puts = record {
   };
 }
 
--- nothing more was put
+-- after the output failed, nothing more was put
 cut_stays :
     {M : Type 0} (o : Turning M) (s : Standing) (m : M) (lines : List (List ℕ)) (m' : M) (old mid new : Pending)
     → CutPart o s m lines m' old mid → new.world ≡ mid.world → CutPart o s m lines m' old new

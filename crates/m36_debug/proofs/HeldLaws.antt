@@ -1,4 +1,4 @@
--- A session over a world, piece by piece: the events so far lead to the machine as it is, and what they say was put.
+-- A session over a world, piece by piece: the events so far lead to the present machine, and what they say was put.
 use Rattle.std.proofs.Common.{◌≡◌, ◌+◌, ◌-◌, ℕ, List, [], ◌∷◌, ◌++◌, length, take, Result, Ok, Err, refl, sym, ap, subst, ◌∙◌, ◌==◌, false, arith}
 use Rattle.std.proofs.lemmas.List.Elements.{All-nil}
 use Rattle.std.proofs.lemmas.List.Folds.{concat-append}
@@ -37,7 +37,7 @@ use Rattle.m36_debug.proofs.SessionSteps.{taken_length}
 
 -- ---- what is put of an output
 
--- nothing
+-- no line was put
 put_nothing : (now : SinkState) → PutsPieces Done [] now now
 put_nothing now =
     record { text = grew_by_nothing now.written; pieces = takes_no_lines now.taken; faults = refl }
@@ -71,7 +71,7 @@ outputs_put (piece ∷ pieces) old new follow =
     })
     (outputs_put pieces follow.between new follow.goes_on)
 
--- These lines were put, or some of them, and no input was asked for.
+-- These lines were put, or a prefix of them, and no input was asked for.
 record WasPut (how : Put) (lines : List (List ℕ)) (old new : Seen) : Type 0 where
   input : input_by new ≡ input_by old
   puts : PutsPieces how lines (output_of old) (output_of new)
@@ -198,7 +198,7 @@ held_end o ends.Cut m m1 m2 left begun s sitting old now mid new held did said =
 
 -- ---- a piece was taken
 
--- It is the next one, and there are so many more bytes.
+-- The piece is the next one, and it has `count` bytes.
 record NextPiece {M : Type 0} (o : Turning M) (m m1 : M) (left count : ℕ) (begun buffer : List ℕ) (s : SittingFields) (written : List (List ℕ)) (old now mid : Seen)
     : Type 0 where
   going : Going o m m1 (input_by old) (input_by now) ((left - count) + length (take count buffer)) begun s written

@@ -13,7 +13,7 @@ use Rattle.m36_debug.specs.Sitting.{SittingFields}
 use Rattle.m36_debug.proofs.LinesLaws.{lines_none, lines_line}
 use Rattle.m36_debug.proofs.PartLaws.{part_none, part_on, part_cut}
 
--- The first lines of a text were answered, and so much of it is left.
+-- The first lines of a text were answered, and the bytes `left` of it are left.
 pub record SoFar {M : Type 0} (o : Turning M) (s : Standing) (m : M) (text left : List ℕ) (sitting : SittingFields) (m' : M) (old new : Pending) : Type 0 where
   pub lines : List (List ℕ)
   pub is : IsLines text lines left
@@ -62,7 +62,7 @@ so_far_quit o s m text begun end behind rest line sitting sitting' m1 m2 old now
   part = part_on o s m f.lines (line ∷ []) (standing sitting Waiting) m1 (standing sitting' Over) m2 old now new f.part said;
 }
 
--- it ran out of memory
+-- the line ran out of memory
 pub so_far_starved :
     {M : Type 0} (o : Turning M) (s : Standing) (m : M) (text begun end behind rest line : List ℕ) (sitting sitting' : SittingFields) (m1 m2 : M) (old now new : Pending)
     → SoFar o s m text (begun ++ rest) sitting m1 old now
@@ -124,7 +124,7 @@ pub last_none :
 last_none o s m [] now none = part_none o (standing s Waiting) m now
 last_none o s m (b ∷ text) now none = absurd (omega (arith, none))
 
--- one has begun, and is a line although it lacks its line feed
+-- a line has begun, and it is a line although it has no line feed
 pub last_some :
     {M : Type 0} (o : Turning M) (end : Ends) (s : SittingFields) (m : M) (text : List ℕ) (sitting : SittingFields) (m' : M) (old new : Pending)
     → 0 < length text → EndSays o end (standing s Waiting) m (text ∷ []) sitting m' old new

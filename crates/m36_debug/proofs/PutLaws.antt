@@ -47,7 +47,7 @@ puts_more old now new first second one two = record {
   fails = two.fails;
 }
 
--- some lines and a prefix of the next are so of more lines
+-- some lines and a prefix of the next, as part of more lines
 pub puts_longer :
     (old new : Pending) (first second : List (List ℕ))
     → PutsPieces Failed first old new → PutsPieces Failed (first ++ second) old new
@@ -90,7 +90,7 @@ pub puts_then :
 puts_then Done old now new first second one two = puts_on old now new first second one two
 puts_then Failed old now new first second one two = puts_more old now new first second one two
 
--- Of the lines `all`, put from `start` on, `left` are left to put behind `now`.
+-- The lines `all` are being put from `start` on: at `now` the lines `left` are left.
 pub record Putting (now start : Pending) (left all : List (List ℕ)) : Type 0 where
   pub whole : (new : Pending) → PutsPieces Done left now new → PutsPieces Done all start new
   pub cut : (new : Pending) → PutsPieces Failed left now new → PutsPieces Failed all start new
@@ -108,14 +108,14 @@ putting_next now next start line left all before puts = record {
   cut = λ new rest. before.cut new (puts_more now next new (line ∷ []) left puts rest);
 }
 
--- it was not put as a whole
+-- the first of the lines that were left was not put as a whole
 pub putting_cut :
     (now new start : Pending) (line : List ℕ) (left all : List (List ℕ))
     → Putting now start (line ∷ left) all → PutsPieces Failed (line ∷ []) now new → PutsPieces Failed all start new
 putting_cut now new start line left all before cut =
     before.cut new (puts_longer now new (line ∷ []) left cut)
 
--- none is left
+-- no line is left to put
 pub putting_none : (now start : Pending) (all : List (List ℕ)) → Putting now start [] all → PutsPieces Done all start now
 putting_none now start all before = before.whole now (puts_nothing now)
 
@@ -153,7 +153,7 @@ pointer_put now next start n pointers i p all inside is before puts =
     putting_next now next start (pointer_line n p) (pointer_lines (n + 1) (drop (i + 1) pointers)) all
     (subst (λ l. Putting now start l all) (pointers_at n pointers i p inside is) before) puts
 
--- it was not put as a whole
+-- the line of the next pointer register was not put as a whole
 pub pointer_cut :
     (now new start : Pending) (n : ℕ) (pointers : List PtrFields) (i : ℕ) (p : PtrFields) (all : List (List ℕ))
     → i < length pointers → p ≡ get_or pointers i p
@@ -163,7 +163,7 @@ pointer_cut now new start n pointers i p all inside is before cut =
     putting_cut now new start (pointer_line n p) (pointer_lines (n + 1) (drop (i + 1) pointers)) all
     (subst (λ l. Putting now start l all) (pointers_at n pointers i p inside is) before) cut
 
--- all were put
+-- the lines of all pointer registers were put
 pub pointers_end :
     (now start : Pending) (n : ℕ) (pointers : List PtrFields) (i : ℕ) (all : List (List ℕ))
     → length pointers ≤ i → Putting now start (pointer_lines n (drop i pointers)) all → PutsPieces Done all start now

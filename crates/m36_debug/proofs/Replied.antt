@@ -1,4 +1,4 @@
--- How a session's program goes: answers are put and it goes on, or ends; and a piece of input is taken, or not.
+-- The events of a session's program: answers are put, and it continues or ends; a piece of input is taken, or not.
 use Rattle.std.proofs.Common.{◌≡◌, ◌≤◌, ◌⊎◌, ℕ, zero, suc, List, [], ◌∷◌, ◌++◌, length, Result, Ok, Err, refl, sym, ap, subst, ◌∙◌, inl, inr}
 use Rattle.m36_world.specs.Did.{IsInput, IsInputFailed, IsOutput, IsOutputFailed}
 use Rattle.m36_world.specs.Follow.{Next, Follow, outputs}
@@ -172,7 +172,7 @@ written_in (All written kept s m) = written
 written_in (Quits written) = written
 written_in (Breaks written) = written
 
--- All lines were answered, and the session went on.
+-- All lines were answered, and the session continued.
 pub record WentOn {M : Type 0} (Is : Reply M → Type 0) (on : List ℕ → SittingFields → M → Talk) (events : List Event) (result : Result (Unit {0}) Status) (old new : Seen)
     : Type 0 where
   pub written : List (List ℕ)
@@ -239,7 +239,7 @@ went_on Is on written kept s m events result old new is follow (inl all) = inl (
 went_on Is on written kept s m events result old new is follow (inr part) =
     inr (inr (inr (has_failed Is (All written kept s m) events result old new is part follow)))
 
--- it ended after the pieces
+-- The program ended after these pieces.
 pub record EndsAfter (pieces : List (List ℕ)) (value : Result (Unit {0}) Status) (events : List Event) (result : Result (Unit {0}) Status) (old new : Seen) : Type 0 where
   pub events_are : events ≡ outputs pieces ++ []
   pub result_is : result ≡ value

@@ -1,4 +1,4 @@
--- What a session is to do next: it takes a piece of input, and puts the answers to its lines.
+-- What is left of a session's program after a piece was taken and the answers to its lines were put.
 use Rattle.std.proofs.Common.{◌≤◌, ℕ, List, [], ◌∷◌, ◌++◌, length, Ok, Err, refl, sym, subst, inl, inr}
 use Rattle.std.proofs.lemmas.List.{append_assoc}
 use Rattle.m36_text.specs.Lines.{open_rest}
@@ -67,7 +67,7 @@ leads_reply :
 unfolding replies
 leads_reply Is on reply first old new is left = leads_some Is (on_reply on) reply first old new is left
 
--- nothing waits before them
+-- no line waits in the block before the answers
 leads_none :
     (more : List (List ℕ)) (rest first : Talk) (old new : Seen)
     → Leads (puts_all more rest) first old new → Leads (puts_all [] (puts_all more rest)) first old new
@@ -166,7 +166,7 @@ ended_so o ends.Cut begun s sitting m m' first old between new left said =
 
 -- ---- the lines of a piece
 
--- all of them were answered
+-- all whole lines of a piece were answered
 pub piece_all :
     {M : Type 0} (o : Turning M) (text kept : List ℕ) (s sitting : SittingFields) (m m' : M) (on : List ℕ → SittingFields → M → Talk) (first : Talk)
     (old between new : Seen)

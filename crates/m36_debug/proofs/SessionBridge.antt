@@ -58,14 +58,14 @@ got_nothing old new did = record {
 
 -- ---- how a session ends
 
--- What was to be put by these events, after some lines that were written, are lines of which all were put, or the output failed.
+-- The pieces of these events, after some lines that were written, are these lines, put as `how` says.
 pub record Puts (how : Put) (written : List (List ℕ)) (events : List Event) (lines : List (List ℕ)) : Type 0 where
   pub left : List (List ℕ)
   pub all : lines ≡ (written ++ pieces_of events) ++ left
   pub put : put_of events ≡ how
   pub whole : how ≡ Done → left ≡ []
 
--- From a state in which these lines were written it ended by these events.
+-- A session ended by these events, from a state in which these lines were written.
 pub record EndedSo {M : Type 0} (o : Turning M) (m : M) (before after : LinesSeen) (written : List (List ℕ)) (events : List Event) (result : Result (Unit {0}) Status)
     : Type 0 where
   pub ended : Result (Unit {0}) SessionFault
@@ -100,7 +100,7 @@ gives_after_input :
 gives_after_input piece more events pieces how is gives =
     record { pieces_are = ap pieces_of is ∙ gives.pieces_are; put = ap put_of is ∙ gives.put }
 
--- all was put
+-- all lines were put
 puts_whole :
     (written more : List (List ℕ)) (events : List Event) → Gives events more Done → Puts Done written events (written ++ more)
 puts_whole written more events gives = record {
@@ -113,7 +113,7 @@ puts_whole written more events gives = record {
 failed_not_done : {P : Type 0} → Failed ≡ Done → P
 failed_not_done is = absurd (cc)
 
--- some was
+-- a prefix of the lines was put
 puts_part :
     (written more first left : List (List ℕ)) (events : List Event) → Gives events first Failed → more ≡ first ++ left
     → Puts Failed written events (written ++ more)
@@ -406,7 +406,7 @@ tells o m before (suc left) (suc taken) rest m1 begun sitting written events res
 
 -- ---- a call
 
--- A session ended, and what is said of it was written, or some of it.
+-- A session ended, and what its events say was written, or a prefix of it.
 pub record Held {M : Type 0} (o : Turning M) (m : M) (result : Result (Unit {0}) Status) (old new : Seen) : Type 0 where
   pub ended : Result (Unit {0}) SessionFault
   pub result_is : result ≡ ended_by ended

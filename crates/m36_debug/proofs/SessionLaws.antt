@@ -1,4 +1,4 @@
--- Laws of a session that goes on piece by piece: what it is, by its events, and which lines they say.
+-- Laws of a session that continues piece by piece: its events so far, and the lines that they write.
 use Rattle.std.proofs.Common.{◌≡◌, ◌+◌, ◌≤◌, ℕ, List, [], ◌∷◌, ◌++◌, length, take, All, Option, Some, None, inl, inr, refl, sym, ap, subst, ◌∙◌, arith, length-append}
 use Rattle.std.specs.Prelude.{Result, Ok, Err}
 use Rattle.std.specs.Io.KnownBytes.{IsAtEnd}
@@ -41,7 +41,7 @@ happens_on o s m lines others written more s1 m1 s2 m2 one two = record {
 
 -- ---- calls for input
 
--- a piece that has a byte, and at most so many
+-- a piece of 1 to `most` bytes was taken
 pub record GotPiece (piece : List ℕ) (most : ℕ) (old new : LinesSeen) : Type 0 where
   pub within : length piece ≤ most
   pub some : 1 ≤ length piece
@@ -56,7 +56,7 @@ pub record GotEnd (old new : LinesSeen) : Type 0 where
   pub gave : new.given ≡ old.given ++ [] ∷ []
   pub faults : new.faults ≡ old.faults
 
--- nothing
+-- no piece was taken
 pub record GotNothing (old new : LinesSeen) : Type 0 where
   pub left : new.left ≡ old.left
   pub gave : new.given ≡ old.given
@@ -141,8 +141,8 @@ stops_ended ((byte ∷ piece) ∷ pieces) old new all stands = stops_ended piece
 
 -- ---- a session that continues
 
--- All whole lines so far were answered, what follows them has begun the next one, and so many more
--- bytes may come.
+-- All whole lines so far were answered. `begun` is the part of a line after them, and at most `left` more bytes may be
+-- taken.
 pub record Going {M : Type 0} (o : Turning M) (m m' : M) (before after : LinesSeen) (left : ℕ) (begun : List ℕ) (sitting : SittingFields) (written : List (List ℕ))
     : Type 0 where
   pub pieces : List (List ℕ)
@@ -205,7 +205,7 @@ not_quit o m m' lines written sitting happens =
 waits_not_over : Waiting ≡ Over → ⊥
 waits_not_over is = cc
 
--- in a session that is over it was taken last
+-- in a session that is over `quit` was taken last
 ends_in_quit :
     {M : Type 0} (o : Turning M) (m m' : M) (lines written : List (List ℕ)) (sitting : SittingFields)
     → Happens o (standing new_sitting Waiting) m lines written (standing sitting Over) m'
@@ -324,7 +324,7 @@ going_end o m m1 m2 before now after left begun sitting sitting' written more g 
     })
     (happens_on o (standing new_sitting Waiting) m g.lines (open_rest begun) written more (standing sitting Waiting) m1 (standing sitting' Waiting) m2 g.happens last)
 
--- it is `quit`
+-- the line that has begun is `quit`
 pub going_last_quit :
     {M : Type 0} (o : Turning M) (m m1 : M) (before now after : LinesSeen) (left : ℕ) (begun : List ℕ) (sitting : SittingFields) (written more : List (List ℕ))
     → Going o m m1 before now left begun sitting written → GotEnd now after
@@ -344,7 +344,7 @@ going_last_quit o m m1 before now after left begun sitting written more g got la
     })
     all
 
--- not all of its answer was written, or memory ran out
+-- not all of the answer to the line that has begun was written, or memory ran out
 pub going_last_breaks :
     {M : Type 0} (how : Breaking) (o : Turning M) (m m1 : M) (before now after : LinesSeen) (left : ℕ) (begun : List ℕ) (sitting : SittingFields) (written more : List (List ℕ))
     → Going o m m1 before now left begun sitting written → GotEnd now after
@@ -377,7 +377,7 @@ got_count :
 got_count pieces piece rest is =
     omega (arith, is, ap length (joined_last pieces piece), length-append (joined pieces) piece)
 
--- all its whole lines were answered
+-- all whole lines of a piece were answered
 pub going_on :
     {M : Type 0} (o : Turning M) (m m1 m2 : M) (before now after : LinesSeen) (rest : ℕ) (begun kept piece : List ℕ) (sitting sitting' : SittingFields) (written more : List (List ℕ))
     → Going o m m1 before now (rest + length piece) begun sitting written → GotPiece piece (rest + length piece) now after

@@ -31,11 +31,11 @@ abbrev answered : {M : Type 0} → Turning M → ℕ → ℕ → List ℕ → Li
 answered o left taken piece begun s m =
     replies (IsReply o (standing s Waiting) m (begun ++ piece)) (session_from o left taken)
 
--- by the next piece, where a byte may come
+-- by the next piece, if one more byte may be taken
 abbrev on_piece : {M : Type 0} → Turning M → ℕ → List ℕ → SittingFields → M → List ℕ → Talk
 on_piece o left begun s m = by_piece (at_end o begun s m) (λ taken piece. answered o left taken piece begun s m)
 
--- and where none may come
+-- by the next piece, if no further byte may be taken
 abbrev on_last_piece : {M : Type 0} → Turning M → List ℕ → SittingFields → M → List ℕ → Talk
 on_last_piece o begun s m = by_piece (at_end o begun s m) (λ taken piece. too_long)
 
@@ -123,7 +123,7 @@ pub unread_last :
 unread_last o left begun s m first old between new so_far none did =
     leads_untaken 1 (on_last_piece o begun s m) first old between new (at_none o left begun s m first old between so_far none) did
 
--- it has ended
+-- the input has ended
 pub input_ended :
     {M : Type 0} (o : Turning M) (left : ℕ) (begun : List ℕ) (s : SittingFields) (m : M) (end : Ends) (sitting : SittingFields) (m' : M) (first : Talk)
     (old between mid new : Seen)
@@ -169,7 +169,7 @@ piece_taken o left count begun buffer s m first old between new so_far some take
     (leads_taken left (on_piece o (left - 1) begun s m) first piece old between new (at_some o left begun s m first old between so_far some) taken.input
     (omega (arith, size, taken.within)))
 
--- it is the byte that is one too many
+-- the piece has the byte that is one too many
 goes_too_long : Goes too_long [] (ended_by (Err fault.TooLong))
 unfolding Goes too_long
 goes_too_long = record { none = refl; result_is = refl }

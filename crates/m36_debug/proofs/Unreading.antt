@@ -59,7 +59,7 @@ no_reads (InputFailed ∷ more) old new none follow =
 
 -- ---- programs
 
--- It reads no file, however it goes.
+-- No event of the program is a read of a file.
 unfoldable pub ReadsNone : {may : May} {A : Type 0} → Program may A → Type 0
 ReadsNone (done a) = ⊤
 ReadsNone (stops status own) = ⊤

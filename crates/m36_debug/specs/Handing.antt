@@ -1,4 +1,4 @@
--- Answers that wait are put.
+-- What handing over the block says: the answers that wait in it are put.
 use Rattle.std.specs.Prelude.{◌≡◌, []}
 use Rattle.m36_outside.specs.declared.sink.Put.{Put}
 use Rattle.m36_outside.specs.declared.sink.Put.TheVariants.{Done, Failed}
@@ -6,12 +6,12 @@ use Rattle.m36_debug.specs.declared.turning.Ends.{Ends}
 use Rattle.m36_debug.specs.declared.turning.Ends.TheVariants as ends
 use Rattle.m36_debug.specs.Putting.{Pending, PutsPieces}
 
--- how lines end whose answers are put
+-- how lines ended, given whether their answers could be put
 abbrev pub after_put : Put → Ends → Ends
 after_put Done end = end
 after_put Failed end = ends.Cut
 
--- No line is added to those that wait, and they are put.
+-- The lines that wait are handed over, and no line is added.
 pub record Handed (end result : Ends) (old new : Pending) : Type 0 where
   pub put : Put
   pub puts : PutsPieces put [] old new
@@ -22,6 +22,7 @@ pub record Unhanded (result : Ends) (old new : Pending) : Type 0 where
   pub same : new.world ≡ old.world
   pub result_is : result ≡ ends.Cut
 
+-- by how the lines ended before
 abbrev pub HandsOver : Ends → Ends → Pending → Pending → Type 0
 HandsOver ends.Line result old new = Handed ends.Line result old new
 HandsOver ends.Quit result old new = Handed ends.Quit result old new

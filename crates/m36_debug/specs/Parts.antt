@@ -122,7 +122,7 @@ abbrev pub told : Put → Ends
 told Done = ends.Line
 told Failed = ends.Cut
 
--- A line was told at once: nothing has changed but for what was put.
+-- The answer to a line was put at once, whole, or a prefix of it if the output failed.
 abbrev pub EndPuts : Ends → Pending → Pending → List (List ℕ) → Type 0
 EndPuts ends.Line old new lines = PutsPieces Done lines old new
 EndPuts ends.Quit old new lines = ⊥

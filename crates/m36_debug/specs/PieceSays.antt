@@ -42,7 +42,7 @@ pub record AnsweredCut {M : Type 0} (o : Turning M) (s : Standing) (m : M) (text
   pub is : IsLines text lines rest
   pub part : CutPart o s m lines m' old new
 
--- by how the lines ended
+-- what is answered to a text and which bytes are kept, by how the lines ended
 abbrev pub PieceSays :
     {M : Type 0} → Turning M → Ends → Standing → M → List ℕ → List ℕ → SittingFields → M → Pending
     → Pending → Type 0

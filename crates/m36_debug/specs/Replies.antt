@@ -6,8 +6,8 @@ use Rattle.m36_debug.specs.Session.{Turning, Standing, standing, Event, Waiting,
 use Rattle.m36_debug.specs.Session.{Follow, lines_said, lines_in}
 use Rattle.m36_debug.specs.Sitting.{SittingFields}
 
--- In a session over a machine some events happen, one after another: these lines are taken in them,
--- and these are written of them.
+-- Some events of a session lead from one state of the session and the machine to another. In them
+-- `lines` are taken, and `written` is what is written for them.
 pub record Happens {M : Type 0} (o : Turning M) (s : Standing) (m : M)
     (lines written : List (List ℕ)) (s' : Standing) (m' : M) : Type 0 where
   pub events : List (Event M)
@@ -15,19 +15,19 @@ pub record Happens {M : Type 0} (o : Turning M) (s : Standing) (m : M)
   pub took : lines_in events ≡ lines
   pub said : lines_said o s events ≡ written
 
--- the answers to some lines, and what they leave
+-- the answers to some lines, and the state after them
 pub data Reply (M : Type 0) : Type 0 where
   -- all lines were answered: what is written, the part of a line that is kept, and the session and
   -- the machine as they are now
   All : List (List ℕ) → List ℕ → SittingFields → M → Reply M
   -- the last line that was answered is `quit`
   Quits : List (List ℕ) → Reply M
-  -- after some of what they say the session can't go on
+  -- after these answers the session cannot continue
   Breaks : List (List ℕ) → Reply M
 
 -- ---- a piece of input
 
--- All whole lines of a text are answered, and what follows them is kept.
+-- All whole lines of a text are answered, and the bytes after them are kept.
 pub record RepliesAll {M : Type 0} (o : Turning M) (s : Standing) (m : M) (text : List ℕ)
     (written : List (List ℕ)) (kept : List ℕ) (sitting : SittingFields) (m' : M) : Type 0 where
   pub lines : List (List ℕ)
@@ -35,7 +35,7 @@ pub record RepliesAll {M : Type 0} (o : Turning M) (s : Standing) (m : M) (text 
   pub unbroken : IsUnbroken kept
   pub happens : Happens o s m lines written (standing sitting Waiting) m'
 
--- The first lines of it are, the last of which is `quit`.
+-- The first lines of a text are answered; the last of these is `quit`.
 pub record RepliesQuit {M : Type 0} (o : Turning M) (s : Standing) (m : M) (text : List ℕ)
     (written : List (List ℕ)) : Type 0 where
   pub lines : List (List ℕ)
@@ -45,7 +45,7 @@ pub record RepliesQuit {M : Type 0} (o : Turning M) (s : Standing) (m : M) (text
   pub machine : M
   pub happens : Happens o s m lines written (standing sitting Over) machine
 
--- Some of them are.
+-- The first lines of a text are answered, perhaps the last of them in part.
 pub record RepliesSome {M : Type 0} (o : Turning M) (s : Standing) (m : M) (text : List ℕ)
     (written : List (List ℕ)) : Type 0 where
   pub lines : List (List ℕ)
@@ -64,21 +64,21 @@ IsReply o s m text (Breaks written) = RepliesSome o s m text written
 
 -- ---- the end of the input
 
--- The line that has begun is answered, if there is a part of it, and is `quit`.
+-- The line that has begun is answered and is `quit`.
 pub record LastQuits {M : Type 0} (o : Turning M) (s : Standing) (m : M) (begun : List ℕ)
     (written : List (List ℕ)) : Type 0 where
   pub sitting : SittingFields
   pub machine : M
   pub happens : Happens o s m (open_rest begun) written (standing sitting Over) machine
 
--- Some of what it says is written.
+-- The line that has begun is answered in part.
 pub record LastBreaks {M : Type 0} (o : Turning M) (s : Standing) (m : M) (begun : List ℕ)
     (written : List (List ℕ)) : Type 0 where
   pub stands : Standing
   pub machine : M
   pub happens : Happens o s m (open_rest begun) written stands machine
 
--- the answer to the line that has begun when the input ends, if there is a part of it
+-- the answer to the line that has begun when the input ends, if it is not empty
 abbrev pub IsLast : {M : Type 0} → Turning M → Standing → M → List ℕ → Reply M → Type 0
 IsLast o s m begun (All written kept sitting m') =
     Happens o s m (open_rest begun) written (standing sitting Waiting) m'

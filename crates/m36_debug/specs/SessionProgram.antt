@@ -29,37 +29,41 @@ stdin_name = codes "stdin"
 unfoldable pub too_long : Talk
 too_long = stops (status.BadFile (refused stdin_name S1 0)) tt
 
--- Memory has run out.
+-- Memory has run out: the program can only end with NoMemory here.
 unfoldable pub starves : Talk
 starves = wants (some (λ (u : Unit {0}). ⊥) (λ u. done tt))
 
--- Takes a piece of at most so many bytes.
+-- takes a piece of at most `most` bytes, and continues with it
 unfoldable pub takes_within : ℕ → (List ℕ → Talk) → Talk
 takes_within most go =
     takes refl (λ piece. some (λ (u : Unit {0}). length piece ≤ most) (λ u. go piece))
 
--- Puts the answers to some lines, and goes on by what they leave.
+-- Puts the answers to some lines. Then the session continues from the state after them, is over, or
+-- runs out of memory.
 abbrev pub on_reply : {M : Type 0} → (List ℕ → SittingFields → M → Talk) → Reply M → Talk
 on_reply on (All written kept s m) = puts_all written (on kept s m)
 on_reply on (Quits written) = puts_all written (done tt)
 on_reply on (Breaks written) = puts_all written starves
 
+-- answers with any reply that has the property, and continues
 unfoldable pub replies :
     {M : Type 0} → (Reply M → Type 0) → (List ℕ → SittingFields → M → Talk) → Talk
 replies Is on = some Is (on_reply on)
 
--- At the end of the input the line that has begun is answered, and the session is over.
+-- answers the line that has begun, at the end of the input; then the session is over
 abbrev pub at_end : {M : Type 0} → Turning M → List ℕ → SittingFields → M → Talk
 at_end o begun s m =
     replies (IsLast o (standing s Waiting) m begun) (λ kept sitting later. done tt)
 
--- by a piece, of which an empty one is the end of the input
+-- continues by a piece: an empty one is the end of the input; otherwise by the count of its bytes
+-- less 1, and the piece
 abbrev pub by_piece : Talk → (ℕ → List ℕ → Talk) → List ℕ → Talk
 by_piece end more [] = end
 by_piece end more (byte ∷ bytes) = more (length bytes) (byte ∷ bytes)
 
--- A session that may take so many more bytes, but for those that it has taken of them already; a
--- part of a line has begun. The byte after the last of them is one too many.
+-- A session from a state: the first number is how many bytes it may take, and the second how many
+-- of these it has taken already. The list is the part of a line that has begun. Once no byte may be
+-- taken, a session still asks for one: if there is one, the input is too long.
 unfoldable pub session_from :
     {M : Type 0} → Turning M → ℕ → ℕ → List ℕ → SittingFields → M → Talk
 session_from o zero zero begun s m =
@@ -75,7 +79,7 @@ session_from o (suc left) (suc taken) begun s m = session_from o left taken begu
 unfoldable pub session : {M : Type 0} → Turning M → M → Talk
 session o m = session_from o bytes_limit 0 [] new_sitting m
 
--- the result of the whole command by how a session has ended
+-- the result of the whole command for each result of a session
 abbrev pub ended_by : Result (Unit {0}) SessionFault → Result (Unit {0}) Status
 ended_by (Ok u) = Ok tt
 ended_by (Err fault.ReadFault) = Err status.ReadFault

@@ -28,10 +28,13 @@ use Rattle.m36_world.specs.Seen.{Seen}
 abbrev pub bytes_limit : ℕ
 bytes_limit = 1048576
 
--- what is left of the input, if it is known, the pieces that it gave, and the count of its faults
+-- the state of an input
 pub record LinesSeen : Type 0 where
+  -- the bytes that are left, if the input shows them
   pub left : Option (List ℕ)
+  -- the pieces that it gave, in order
   pub given : List (List ℕ)
+  -- the number of calls that failed
   pub faults : ℕ
 
 -- the state of an input with these parts
@@ -119,7 +122,7 @@ abbrev pub WroteBy :
     Result (Unit {0}) SessionFault → SinkState → SinkState → List (List ℕ) → Type 0
 WroteBy result old new lines = PutsPieces (put_by result) lines old new
 
--- the result of a session whose input has ended
+-- the result of a session, by how its last lines ended
 abbrev pub answer_of : Ends → Result (Unit {0}) SessionFault
 answer_of ends.Line = Ok tt
 answer_of ends.Quit = Ok tt

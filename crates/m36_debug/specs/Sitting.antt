@@ -47,7 +47,7 @@ most_breaks = 16
 abbrev pub has_room : SittingFields → Bool
 has_room s = nat_lt (length s.breaks) most_breaks
 
--- with one more break, if there is room for it
+-- after `break`: with one more break, if there is room for it
 abbrev pub sitting_with : SittingFields → ℕ → ℕ → SittingFields
 sitting_with s seg word =
     if has_room s

@@ -1,17 +1,18 @@
--- What a call for a piece of input says that asks for so many bytes at most.
+-- The contract of a call for a piece of input of at most `most` bytes.
 use Rattle.std.specs.Prelude.{ℕ, ◌≤◌, List, [], length, take}
 use Rattle.m36_outside.specs.declared.lines.Piece.{Piece}
 use Rattle.m36_outside.specs.declared.lines.Piece.TheVariants.{Got, End, Failed}
 use Rattle.m36_world.specs.Did.{IsInput, IsInputFailed}
 use Rattle.m36_world.specs.Seen.{Seen}
 
--- The piece is the first bytes of the buffer.
+-- A piece of `count` bytes was taken; it is the first bytes of the buffer.
 pub record IsTaken (count most : ℕ) (buffer : List ℕ) (old new : Seen) : Type 0 where
   pub within : count ≤ most
   pub some : 1 ≤ count
   pub room : count ≤ length buffer
   pub input : IsInput (take count buffer) old new
 
+-- what happened, for each answer to the call
 abbrev pub TakesWithin : Piece → ℕ → List ℕ → Seen → Seen → Type 0
 TakesWithin (Got count) most buffer old new = IsTaken count most buffer old new
 TakesWithin End most buffer old new = IsInput [] old new

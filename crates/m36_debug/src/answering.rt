@@ -18,7 +18,7 @@ use m36_outside::{Block, Put};
 use m36_step::{BackAnswer, Stepper};
 use m36_world::World;
 
-// The end of a line whose answer is written at once.
+// How a line ends whose answer is written at once.
 fn told(put: Put) -> Ends
     ensures { result ≡ told put }
 {
@@ -28,7 +28,7 @@ fn told(put: Put) -> Ends
     }
 }
 
-// Takes the turns of a command; where the run has ended, tells its end again.
+// Takes the turns of a command. If the run has ended, it writes the end line again instead.
 fn command<M: Stepper, W: World>(
     m: &mut M,
     run: Run,
@@ -50,7 +50,7 @@ fn command<M: Stepper, W: World>(
     }
 }
 
-// Adds a break, where there is room for it.
+// Adds a break and writes it. If there is no room for it, the line is answered as an unknown one.
 fn add_break<W: World>(
     line: &[u8],
     seg: u16,
@@ -75,7 +75,7 @@ fn add_break<W: World>(
     }
 }
 
-// Goes back.
+// Asks the machine to go back n steps. If it cannot, the line is answered as an unknown one.
 fn go_back<M: Stepper, W: World>(
     line: &[u8],
     n: u32,
@@ -102,7 +102,7 @@ fn go_back<M: Stepper, W: World>(
     }
 }
 
-// Goes back, where so many steps were taken.
+// Goes back n steps. If fewer steps were taken, the line is answered as an unknown one.
 fn back<M: Stepper, W: World>(
     line: &[u8],
     n: u32,
@@ -125,7 +125,7 @@ fn back<M: Stepper, W: World>(
     }
 }
 
-/// Answers a line.
+/// Answers a line, given without its line feed. It takes at most 1,000,000 steps.
 pub(crate) fn answer<M: Stepper, W: World>(
     line: &[u8],
     m: &mut M,

@@ -46,7 +46,7 @@ pub enum Further {
     Starves,
 }
 
-/// Whether the next instruction is at one of these breaks.
+/// Whether the next instruction, at `place`, is at one of the breaks.
 #[inline]
 pub(crate) fn is_at_break(place: Ppr, breaks: &[Break]) -> bool
     ensures { result ≡ is_at_break place breaks.now }
@@ -56,7 +56,8 @@ pub(crate) fn is_at_break(place: Ppr, breaks: &[Break]) -> bool
         .any(|b| b.seg == place.psr && b.word == place.ic)
 }
 
-// Whether a command that may take `left` more steps takes another one.
+// Whether a command that may take `left` more steps takes another one. `go` stops at a break, but
+// takes at least one step.
 fn wants(command: Command, left: u32, at_break: bool) -> bool
     ensures { result ≡ wants command left at_break }
 {

@@ -1,8 +1,9 @@
 //! Sessions: a user steps, runs, inspects and steps back a machine by lines of input.
 //!
-//! [`debug`] holds a session over any [`Stepper`](m36_step::Stepper), whose input and output are those of a
-//! [`World`](m36_world::World). It takes pieces of input, which cut lines anywhere, and puts the answers to all whole lines
-//! before it takes the next piece, up to `quit` or the end of the input.
+//! [`debug`] holds a session over any [`Stepper`](m36_step::Stepper), with the input and output of
+//! a [`World`](m36_world::World). It takes pieces of input, which may end anywhere in a line. It
+//! puts the answers to all whole lines before it takes the next piece, up to `quit` or the end of
+//! the input.
 //!
 //! | Line | Writes |
 //! |---|---|
@@ -15,19 +16,32 @@
 //! | `back`, `back N` | goes back N steps, and writes as `where` does |
 //! | `quit` | nothing: the session is over |
 //!
-//! The contract: a session is a program (`specs/SessionProgram.antt`). It takes a piece of input, puts the answers to the
-//! lines that are whole by then, and goes on. What the answers are (`specs/Replies.antt`) is a list of events, each of which
-//! may follow the one before: a line is taken where one is waited for, a turn is made where a command runs, and the machine
-//! goes back where it is to; each turn and each going back is one that the machine may answer. What follows the last line
-//! feed is a line only once the input has ended, and nothing is asked of the input after that. Where memory runs out, the
-//! answers until then are put; where the output fails, a first part of them is.
+//! The contract of [`debug`] has three clauses.
 //!
-//! Lines are added to a block, which is handed over when it is full and before more input is taken. A call that performs
-//! the program is a session by its events over all bytes that came (`proofs/SessionBridge.antt`), as `specs/SessionSays.antt`
-//! has it.
+//! - `performs`: a session is a program (`specs/SessionProgram.antt`). It takes a piece of input,
+//!   puts the answers to the lines that are whole by then, and continues. Taking and putting are
+//!   events of the world, so this clause has their order.
+//! - `says`: the session as a whole (`specs/SessionSays.antt`). There is a list of session events
+//!   (`specs/Session.antt`) that leads from the machine before the call to the machine after it.
+//!   Its lines are lines of the bytes that were taken, and what was put is the texts of its events,
+//!   or a prefix of them if the output failed. By `proofs/SessionBridge.antt` each call that
+//!   performs the program is such a session, up to some machine.
+//! - `limit`: how many steps each line takes in such events.
 //!
-//! `specs/SessionLines.antt` has the grammar of the lines, `specs/SessionTexts.antt` what is written, `specs/Session.antt`
-//! what may happen and what is said of it.
+//! A session event is a line that is taken, a turn of the machine, or going back. Each may follow
+//! the one before: a line is taken if the session waits for one, a turn is made if a command runs,
+//! and the machine goes back if a line requires it. Turns and going back are answers that the
+//! machine's own relations allow. They are no events of the world, so no clause says when the
+//! machine makes a turn: only which turns explain the answers and the machine after the call.
+//!
+//! The bytes after the last line feed are a line only once the input has ended, and the input is
+//! not read again after its end. If memory runs out, the answers given until then are put. If the
+//! output fails, a prefix of the answers is put.
+//!
+//! Lines are added to a block, which is handed over when it is full and before more input is taken.
+//!
+//! `specs/SessionLines.antt` has the grammar of the lines, `specs/SessionTexts.antt` what is
+//! written, `specs/Session.antt` what may happen and what is written for it.
 //!
 //! The processor is that of the Multics Processor Manual AL39; sessions are this simulator's own.
 #![tactic(auto)]

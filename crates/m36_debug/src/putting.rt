@@ -1,4 +1,4 @@
-//! Lines that are added to a block, each with its line feed in one piece.
+//! Adds lines to a block, each with its line feed as one piece.
 
 ghost use Rattle.std.specs.Prelude.{ℕ, ◌≡◌, ◌<◌, [], ◌∷◌, length};
 ghost use Rattle.m36_text.specs.Lines.{as_line};
@@ -9,7 +9,7 @@ use m36_outside::{Block, Put};
 use m36_program::add_piece;
 use m36_world::World;
 
-/// Adds a text as a line.
+/// Adds a text as a line. There must be room for the line feed.
 pub(crate) fn put_text<W: World, const N: usize>(
     block: &mut Block,
     world: &mut W,
@@ -24,7 +24,7 @@ pub(crate) fn put_text<W: World, const N: usize>(
     add_piece(block, text.as_str().as_bytes(), world)
 }
 
-/// Adds characters as a line.
+/// As `put_text`, for a byte array.
 pub(crate) fn put_characters<W: World, const N: usize>(
     block: &mut Block,
     world: &mut W,

@@ -1,4 +1,4 @@
-//! Answers pieces of input: their whole lines are answered, and the rest of the bytes is kept.
+//! Answers the whole lines of a piece of input, and keeps the bytes after them.
 
 ghost use Rattle.std.specs.Prelude.{ℕ, ◌≡◌, ◌≤◌, ◌<◌, ◌+◌, ◌*◌, ◌^◌, [], ◌∷◌, ◌++◌, length};
 ghost use Rattle.m36_text.specs.Lines.{open_rest};
@@ -18,8 +18,8 @@ use m36_step::Stepper;
 use m36_world::World;
 use std::alloc::Global;
 
-/// Answers the whole lines of a piece. The first of them has begun already, if there was a part of it before. What stands
-/// behind them has begun the next one.
+/// Answers the whole lines of a piece. `begun` has the part of a line that came before the piece,
+/// and afterwards the bytes after the last line feed.
 pub(crate) fn answer_piece<M: Stepper, W: World>(
     alloc: Global,
     piece: &[u8],

@@ -101,7 +101,7 @@ fn put_pointers<W: World>(block: &mut Block, world: &mut W, pointers: &[Ptr]) ->
     Put::Done
 }
 
-// Tells the pointer registers.
+// Writes the pointer registers, a line each.
 fn put_pr<W: World>(block: &mut Block, world: &mut W, regs: &Regs) -> Put
     ensures { PutsPieces result (pointer_lines 0 regs.now.pr)
         (pending block.old (W.seen world.old))
@@ -110,7 +110,7 @@ fn put_pr<W: World>(block: &mut Block, world: &mut W, regs: &Regs) -> Put
     put_pointers(block, world, &regs.pr)
 }
 
-/// Tells the registers.
+/// Writes the answer to `regs`: all registers.
 pub(crate) fn put_regs<W: World>(block: &mut Block, world: &mut W, regs: &Regs) -> Put
     ensures { PutsPieces result (regs_lines regs.now)
         (pending block.old (W.seen world.old))

@@ -1,4 +1,4 @@
-//! A session over a machine.
+//! Holds a session over a machine.
 
 ghost use Rattle.std.specs.Prelude.{ℕ, ◌≡◌, ◌≤◌, ◌<◌, ◌+◌, ◌*◌, ◌^◌, [], ◌++◌, length};
 ghost use Rattle.m36_text.specs.Lines.{open_rest};
@@ -32,7 +32,7 @@ const BYTES_LIMIT: usize = 1_048_576;
 /// The maximum number of bytes of a piece.
 const PIECE: usize = 4096;
 
-// The result of a session whose input has ended.
+// The result of a session, by how its last lines ended.
 fn answer_of(ends: Ends) -> Result<(), SessionFault>
     ensures { result ≡ answer_of ends }
 {
@@ -43,7 +43,7 @@ fn answer_of(ends: Ends) -> Result<(), SessionFault>
     }
 }
 
-// Takes the next piece, of so many bytes at most, into the beginning of the buffer.
+// Takes the next piece, of at most `most` bytes, into the beginning of the buffer.
 fn take_piece<W: World>(world: &mut W, most: usize, buffer: &mut [u8]) -> Piece
     requires some { 1 ≤ most }
     requires room { 1 ≤ length buffer.old }
@@ -57,7 +57,7 @@ fn take_piece<W: World>(world: &mut W, most: usize, buffer: &mut [u8]) -> Piece
     }
 }
 
-// Puts the lines that wait.
+// Puts the lines that wait in the block, and leaves it empty.
 #[tactic(auto, using(crate::proofs::PutLaws::handing))]
 fn put_waiting<W: World>(block: &mut Block, world: &mut W) -> Put
     ensures puts { PutsPieces result []
@@ -67,7 +67,7 @@ fn put_waiting<W: World>(block: &mut Block, world: &mut W) -> Put
     hand_over(block, world)
 }
 
-// How lines end whose answers are put.
+// How lines ended, given whether their answers could be put.
 fn after_put(put: Put, end: Ends) -> Ends
     ensures { result ≡ after_put put end }
 {
@@ -77,7 +77,8 @@ fn after_put(put: Put, end: Ends) -> Ends
     }
 }
 
-// Puts the answers that wait to lines that ended so. Where the output has failed, nothing is put.
+// Puts the answers that wait in the block. If the output has failed, nothing is put. Leaves the
+// block empty.
 fn put_answers<W: World>(end: Ends, block: &mut Block, world: &mut W) -> Ends
     ensures says { HandsOver end result
         (pending block.old (W.seen world.old)) (pending block.new (W.seen world.new)) }
@@ -94,7 +95,7 @@ fn put_answers<W: World>(end: Ends, block: &mut Block, world: &mut W) -> Ends
     }
 }
 
-// Answers the whole lines of a piece, and puts all that they say.
+// Answers the whole lines of a piece, and puts all their answers.
 #[tactic(auto, using(crate::proofs::HandLaws::handing))]
 fn reply_piece<M: Stepper, W: World>(
     alloc: Global,
@@ -117,8 +118,7 @@ fn reply_piece<M: Stepper, W: World>(
     put_answers(end, block, world)
 }
 
-// Answers the line that has begun when the input ends, if there is a part of it, and puts all that
-// it says.
+// Answers the line that has begun when the input ends, if it is not empty, and puts its answer.
 #[tactic(auto, using(crate::proofs::HandLaws::handing))]
 fn reply_last<M: Stepper, W: World>(
     begun: &Text,
@@ -137,10 +137,11 @@ fn reply_last<M: Stepper, W: World>(
     put_answers(end, block, world)
 }
 
-/// A session: does what the lines say, up to `quit` or their end. The last line may lack its line
-/// feed. The answers to all whole lines are put before more input is taken. The machine takes no turn
-/// but those that the lines ask for: `step N` takes at most N steps, and `go` at most 100,000,
-/// whatever the machine is.
+/// Holds a session: answers the lines of the input up to `quit` or the end of the input. The last
+/// line may lack its line feed. The answers to all whole lines are put before more input is taken.
+///
+/// The machine after the call is one that turns and going back lead to, as the lines ask for them.
+/// In these `step N` takes at most N steps and `go` at most 100,000, whatever the machine is.
 pub fn debug<M: Stepper, W: World>(
     alloc: Global,
     m: &mut M,

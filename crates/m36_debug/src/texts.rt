@@ -1,4 +1,4 @@
-//! Writes the lines of single answers.
+//! Writes the lines of answers.
 
 ghost use Rattle.std.specs.Prelude.{ℕ, ◌≡◌, ◌≤◌, ◌<◌, ◌-◌, ◌^◌, [], ◌∷◌, length};
 ghost use Rattle.m36_step.specs.Counting.{most_taken};
@@ -113,7 +113,7 @@ pub(crate) fn put_unknown<W: World>(block: &mut Block, world: &mut W, line: &[u8
     put_characters(block, world, text)
 }
 
-// Adds the line of step n where no part of an earlier line serves for it, or the block is full.
+// Adds the line of step n, formatted as a whole: used if `push_shown` could not push it.
 #[inline(never)]
 fn put_whole<W: World>(block: &mut Block, world: &mut W, n: u64, told: &StepRecord) -> Put
     ensures { PutsPieces result (as_line (line_of n told.now) ∷ [])
@@ -123,7 +123,8 @@ fn put_whole<W: World>(block: &mut Block, world: &mut W, n: u64, told: &StepReco
     put_text(block, world, line(n, told))
 }
 
-// Adds the line of step n. Of it only what is not that of an earlier line is spelled.
+// Adds the line of step n. `text` keeps an earlier line, and only the parts that differ are
+// formatted again.
 #[tactic(auto, using(m36_program::proofs::Gathered::gathering))]
 fn put_step<W: World>(
     block: &mut Block,

@@ -43,7 +43,7 @@ pub enum Ends {
     Cut,
 }
 
-// Writes where `go` has stopped, once it is complete.
+// Writes where `go` has stopped, or the end line, once it is complete; otherwise nothing.
 #[inline]
 #[tactic(auto, using(crate::proofs::PutLaws::gathers_none))]
 fn put_go<W: World>(
@@ -66,7 +66,7 @@ fn put_go<W: World>(
     }
 }
 
-// Writes what a turn of a command says.
+// Writes the lines of a turn of a command. `taken` is the count of steps before the turn.
 #[inline(always)]
 fn put_command<W: World>(
     block: &mut Block,
@@ -118,9 +118,9 @@ fn told_turn(put: Put, turn: &Turn, next: Further) -> Came
     }
 }
 
-/// Takes a turn of a command, and writes what it says. It is recorded in a `Turn` that an
-/// earlier one may have filled, and of the line of a step only what is not that of an earlier line is
-/// spelled.
+/// Takes a turn of a command, and writes its lines. `turn` and `text` may have an earlier turn and
+/// an earlier line: the turn is overwritten, and of the line only the parts that differ are
+/// formatted again.
 pub(crate) fn take_turn<M: Stepper, W: World>(
     m: &mut M,
     run: Run,
@@ -161,8 +161,7 @@ pub(crate) fn take_turn<M: Stepper, W: World>(
     told_turn(put, turn, next)
 }
 
-/// Takes the turns of a command, and writes what they say. The steps among them are at most those
-/// that are left to the command.
+/// Takes the turns of a command, and writes their lines. It takes at most `first.left` steps.
 pub(crate) fn run_command<M: Stepper, W: World>(
     m: &mut M,
     first: Run,

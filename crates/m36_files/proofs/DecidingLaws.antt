@@ -1,4 +1,4 @@
--- A rule that is worked out performs its program.
+-- A call that computes a rule performs the program of the rule.
 use Rattle.std.proofs.Common.{◌≡◌, List, [], Result, Ok, Err, refl, sym, subst, inl, inr}
 use Rattle.m36_world.specs.Seen.{Seen}
 use Rattle.m36_reading.specs.declared.refusal.Refusal.{Refusal}

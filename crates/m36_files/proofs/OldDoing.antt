@@ -1,5 +1,5 @@
--- A call that performs a program which reads files and then answers does what the older layer says: it reads what the
--- reading says, and what is due by it is done.
+-- A call that performs a program which reads files and then answers satisfies `Does`: it reads what the reading asks
+-- for, and gives an answer of the kind.
 use Rattle.std.proofs.Common.{◌≡◌, ◌⊎◌, ℕ, List, [], ◌∷◌, ◌++◌, Option, Result, Ok, Err, refl, sym, ap, subst, ◌∙◌, inl, inr}
 use Rattle.std.specs.Prelude.{IfSome}
 use Rattle.std.proofs.lemmas.List.{append-nil}
@@ -98,7 +98,7 @@ reads_input (OutputFailed pieces ∷ events) old new alone follow = absurd alone
 reads_input (Input piece ∷ events) old new alone follow = absurd alone
 reads_input (InputFailed ∷ events) old new alone follow = absurd alone
 
--- Each answer is that of the files, where they are known.
+-- If the files are known, each read is answered with their content.
 pub reads_told :
     (events : List Event) (old new : Seen) (files : Option Files) → old.files ≡ files → AreReads events → Follow events old new
     → AreTold files (reads_of events)
@@ -188,7 +188,7 @@ reads_cause may (InputFailed ∷ events) given old new alone trail follow = absu
 
 -- ---- a call of a reader
 
--- It reads as the reading says, and the output and the input are as they were.
+-- The call reads as the reading says, and output and input are unchanged.
 pub record HasRead {A : Type 0} (reading : Reading (Early A)) (given : Result A Refusal) (old new : Seen) : Type 0 where
   pub reads : Reads reading given (outside_by old).folder (outside_by new).folder old.reads new.reads
   pub sink : output_of new ≡ output_of old
@@ -214,14 +214,14 @@ has_read {may = may} p r events given old new goes alone comes follow =
       input = reads_input events old new alone follow;
     }
 
--- ---- and then what is due
+-- ---- the answer after the reads
 
--- What is due is done, and no more files are read.
+-- An answer of the kind is given, and no more files are read.
 pub record DoneBy {D : Type 0} (kind : Kind D) (d : D) (result : Result (Unit {0}) Status) (old new : Seen) : Type 0 where
   pub done : doing.Performs kind (Ok d) (status_by result) (outside_by old) (outside_by new)
   pub reads : new.reads ≡ old.reads
 
--- The reader gave a value, and the answer by it went on.
+-- The reader yielded a value, and the program of the answer followed.
 pub record ReadAndDone {may : May} {D : Type 0} (p : Program may D) (answer : D → Program may (Unit {0})) (r : Reading (Early D))
     (result : Result (Unit {0}) Status) (old new : Seen) : Type 0 where
   pub value : D
@@ -231,7 +231,7 @@ pub record ReadAndDone {may : May} {D : Type 0} (p : Program may D) (answer : D 
   pub read : HasRead r (Ok value) old between
   pub goes_on : Performs (answer value) result between new
 
--- It ended the call.
+-- The reader ended the call.
 pub record ReadRefused {D : Type 0} (r : Reading (Early D)) (result : Result (Unit {0}) Status) (old new : Seen) : Type 0 where
   pub refusal : Refusal
   pub status_is : status_by result ≡ status_of refusal
@@ -260,7 +260,7 @@ read_both p answer r first more events value result old new reader is begins goe
       goes_on = record { events = more; follow = parts.goes_on; goes = goes_on };
     }
 
--- Reads alone have no output among them.
+-- a list of reads has no output in it
 no_outputs :
     (passed : List Event) (last : List (List ℕ)) → AreReads (passed ++ outputs last) → last ≡ []
 no_outputs [] [] alone = refl
@@ -329,7 +329,7 @@ does_first p answer r kind result old new dues (inr refused) =
     (subst (λ (s : SinkState). Does kind r (status_of refused.refusal) (outside_by old) (record { folder = folder; sink = s }) old.reads new.reads) (sym refused.read.sink)
     (does_stop kind r refused.refusal first folder (output_of old) old.reads new.reads refused.read.reads))
 
--- A command that reads and then answers, by what its answers do.
+-- `Does` of a command that reads and then answers, if its answers are of the kind.
 pub reader_does :
     {may : May} {D : Type 0} (p : Program may D) (answer : D → Program may (Unit {0})) (r : Reading (Early D)) (kind : Kind D)
     (result : Result (Unit {0}) Status) (old new : Seen)

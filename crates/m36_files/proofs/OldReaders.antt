@@ -1,4 +1,4 @@
--- The readers as programs, and as readings.
+-- Each reader that is a program is tied to its reading.
 use Rattle.std.proofs.Common.{ℕ, List, Option, Some, None, Ok, refl}
 use Rattle.m36_text.specs.Packing.{unpacked}
 use Rattle.obj36.specs.ObjectOf.{object_of}

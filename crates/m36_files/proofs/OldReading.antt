@@ -1,4 +1,4 @@
--- A reader as a program and as a reading: each way in which the program goes is one of the reading.
+-- A reader as a program and as a reading: the events and results of the program are allowed by the reading.
 use Rattle.std.specs.Prelude.{⊤}
 use Rattle.std.proofs.Common.{◌≡◌, ◌⊎◌, ℕ, List, [], ◌∷◌, ◌++◌, Result, Ok, Err, refl, sym, ap, subst, ◌∙◌, inl, inr}
 use Rattle.std.proofs.lemmas.List.{append_assoc}
@@ -39,7 +39,7 @@ AreReads (OutputFailed pieces ∷ events) = ⊥
 AreReads (Input piece ∷ events) = ⊥
 AreReads (InputFailed ∷ events) = ⊥
 
--- The events are reads, by which the reading gives the result.
+-- The events are reads, and by their answers the reading yields the result.
 pub record ReadsSo {A : Type 0} (reading : Reading (Early A)) (events : List Event) (result : Result A Status) : Type 0 where
   pub given : Result A Refusal
   pub result_is : result ≡ by_refusal given
@@ -97,7 +97,7 @@ decides_so may rule events result (inr ends) = so_ended rule (Err NoMemory) even
 pub decides_reader : {may : May} {A : Type 0} (rule : Early A) → IsReader {may = may} (decides rule) (old.decided rule)
 decides_reader {may} rule = record { reads = λ events result goes. decides_so may rule events result goes }
 
--- a value that is there already
+-- a value without a read
 done_so :
     (may : May) {A : Type 0} (a : A) (events : List Event) (result : Result A Status)
     → Goes {may = may} (done a) events result → ReadsSo (old.decided (Ok a)) events result

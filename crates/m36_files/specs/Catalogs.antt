@@ -27,6 +27,6 @@ with_rights None catalog = done (as_given catalog)
 with_rights (Some user) catalog =
     then_with (access_lists catalog) (λ lists. decides (Ok (for_user user catalog lists)))
 
--- the catalog of the boot text with the rights of a user
+-- the catalog of the boot text, with the rights of a user if there is one
 unfoldable pub catalog_access : {may : May} → Option (List ℕ) → Program may Access
 catalog_access user = then_with boot_catalog (λ catalog. with_rights user catalog)

@@ -1,4 +1,4 @@
--- What is worked out from files that were read: a value, or the refusal of a file.
+-- Rules: what is computed from files that were read, a value or the refusal of a file.
 use Rattle.std.specs.Prelude.{⊤, Result, Ok, Err}
 use Rattle.m36_reading.specs.declared.refusal.Refusal.{Refusal}
 use Rattle.m36_reading.specs.declared.refusal.Refusal.TheVariants.{BadFile, ReadFault, NoMemory}
@@ -7,22 +7,23 @@ use Rattle.m36_reading.specs.declared.status.Status.TheVariants as status
 use Rattle.m36_reading.specs.Answers.{status_of}
 use Rattle.m36_program.specs.Program.{May, Program, done, stops, some, wants}
 
--- no way to go on
+-- a program that cannot continue or end
 abbrev pub never : {may : May} {A : Type 0} → Program may A
 never = some {B = ⊥} (λ b. ⊤) (λ b. absurd b)
 
--- The value, or the end with the refusal. A rule gives neither ReadFault nor NoMemory.
+-- Ends with the value, or with the status of the refusal. A rule yields neither ReadFault nor
+-- NoMemory.
 abbrev pub decided : {may : May} {A : Type 0} → Result A Refusal → Program may A
 decided (Ok a) = done a
 decided (Err (BadFile bad)) = stops (status.BadFile bad) tt
 decided (Err ReadFault) = never
 decided (Err NoMemory) = never
 
--- Memory may run out before it is worked out.
+-- the program of a rule: memory may run out first
 unfoldable pub decides : {may : May} {A : Type 0} → Result A Refusal → Program may A
 decides given = wants (decided given)
 
--- the result of a call by the refusal
+-- the result of a call, from that of a rule
 abbrev pub by_refusal : {A : Type 0} → Result A Refusal → Result A Status
 by_refusal (Ok a) = Ok a
 by_refusal (Err refusal) = Err (status_of refusal)

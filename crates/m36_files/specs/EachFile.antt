@@ -1,15 +1,15 @@
--- Something is read for each item of a list, one after another: each with all its refusals before
--- the next is read.
+-- Reads something for each item of a list, one after another. An item is checked with all its
+-- refusals before the next one is read.
 use Rattle.std.specs.Prelude.{List, [], ◌∷◌, ◌++◌, Ok}
 use Rattle.m36_program.specs.Program.{May, Program, done, then_with}
 use Rattle.m36_files.specs.Deciding.{decides}
 
--- what is read for one item, after what was read before
+-- reads one item, and appends it to those read before; memory may run out
 unfoldable pub read_onto :
     {may : May} {I A : Type 0} → (I → Program may A) → List A → I → Program may (List A)
 read_onto one so_far item = then_with (one item) (λ a. decides (Ok (so_far ++ a ∷ [])))
 
--- what is read for each item
+-- reads each item in order, and appends it to the list
 unfoldable pub each_onto :
     {may : May} {I A : Type 0} → (I → Program may A) → List A → List I → Program may (List A)
 each_onto one so_far [] = done so_far

@@ -8,10 +8,11 @@ use Rattle.m36_program.specs.Program.{May, Program, then_with}
 use Rattle.m36_program.specs.Readers.{file_bytes}
 use Rattle.m36_files.specs.Deciding.{decides}
 
--- the words of a file
+-- reads the words of a file
 unfoldable pub file_words : {may : May} → List ℕ → Program may (List ℕ)
 file_words name = then_with (file_bytes name) (λ bytes. decides (words_by name (unpacked bytes)))
 
--- the object of a file
+-- reads the object of a file
 unfoldable pub file_object : {may : May} → List ℕ → Program may PartsFields
-file_object name = then_with (file_words name) (λ words. decides (object_by name (object_of words)))
+file_object name =
+    then_with (file_words name) (λ words. decides (object_by name (object_of words)))

@@ -1,4 +1,4 @@
--- What a program may do that writes files.
+-- What a command that writes files may do.
 use Rattle.std.specs.Prelude.{true, false}
 use Rattle.m36_program.specs.Program.{May}
 

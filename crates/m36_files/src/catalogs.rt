@@ -1,4 +1,4 @@
-//! The catalog of the boot text, and the access lists.
+//! Reads the catalog of the boot text, and the access lists.
 
 ghost use Rattle.std.specs.Prelude.{◌≤◌, Ok, Some, length};
 ghost use Rattle.m36_outside.specs.ReadAnswer.{file_limit};
@@ -21,7 +21,7 @@ use m36_reading::{Code, Refusal, Status, refuse};
 use m36_world::World;
 use std::alloc::Global;
 
-// D1 to D6: a text that writes out no catalog.
+// The refusal of a boot text that is no catalog: D1 to D6.
 fn refuse_catalog(alloc: Global, fault: CatalogFault) -> Refusal
     ensures { Refuses result (catalog_refused fault) }
 {
@@ -36,7 +36,7 @@ fn refuse_catalog(alloc: Global, fault: CatalogFault) -> Refusal
     }
 }
 
-// The catalog that the bytes of a boot text, of at most 16 MiB, write out.
+// Parses the catalog from the bytes of a boot text, at most 16 MiB.
 #[tactic(auto, using(m36_catalog::proofs::CatalogReads::catalogs))]
 fn catalog_in(alloc: Global, bytes: &[u8]) -> Result<Catalog, Refusal>
     requires { length bytes.now ≤ file_limit }
@@ -48,7 +48,7 @@ fn catalog_in(alloc: Global, bytes: &[u8]) -> Result<Catalog, Refusal>
     }
 }
 
-/// Reads the boot text, and gives its catalog.
+/// Reads the boot text, and parses its catalog. An error is the status of the command.
 pub fn read_catalog<W: World>(alloc: Global, world: &mut W) -> Result<Catalog, Status>
     ensures { (may : May) → Performs {may = may} boot_catalog result
         (W.seen world.old) (W.seen world.new) }
@@ -63,14 +63,14 @@ pub fn read_catalog<W: World>(alloc: Global, world: &mut W) -> Result<Catalog, S
     }
 }
 
-// Refuses the access lists.
+// The refusal of the access lists, with a code and a line.
 fn refuse_acl(alloc: Global, code: Code, at: u32) -> Refusal
     ensures { Refuses result (acl_refused code at) }
 {
     refuse(alloc, b"acl", code, at)
 }
 
-// C1 and C2: a text that writes out no access lists.
+// The refusal of a text that has no access lists: C1 or C2.
 fn refuse_lists(alloc: Global, fault: AclFault) -> Refusal
     ensures { Refuses result (lists_refused fault) }
 {
@@ -81,7 +81,7 @@ fn refuse_lists(alloc: Global, fault: AclFault) -> Refusal
     }
 }
 
-// C3: a segment that is not in the catalog.
+// The access lists, or C3 if they name a segment that is not in the catalog.
 fn known(alloc: Global, catalog: &Catalog, lists: Acl) -> Result<Acl, Refusal>
     ensures { Gives result (known_by lists (first_unknown catalog.now lists)) }
 {
@@ -91,7 +91,7 @@ fn known(alloc: Global, catalog: &Catalog, lists: Acl) -> Result<Acl, Refusal>
     }
 }
 
-// The access lists that the bytes of a text, of at most 16 MiB, write out for a catalog.
+// Parses the access lists for a catalog from the bytes of a text, at most 16 MiB.
 #[tactic(auto, using(m36_catalog::proofs::CatalogReads::lists_said))]
 fn lists_in(alloc: Global, catalog: &Catalog, bytes: &[u8]) -> Result<Acl, Refusal>
     requires { length bytes.now ≤ file_limit }
@@ -103,7 +103,7 @@ fn lists_in(alloc: Global, catalog: &Catalog, bytes: &[u8]) -> Result<Acl, Refus
     }
 }
 
-/// Reads the access lists for a catalog.
+/// Reads and parses the access lists for a catalog. An error is the status of the command.
 pub fn read_lists<W: World>(alloc: Global, catalog: &Catalog, world: &mut W) -> Result<Acl, Status>
     ensures { (may : May) → Performs {may = may} (access_lists catalog.now) result
         (W.seen world.old) (W.seen world.new) }
@@ -118,14 +118,14 @@ pub fn read_lists<W: World>(alloc: Global, catalog: &Catalog, world: &mut W) -> 
     }
 }
 
-// The rights that lists give to a user.
+// The catalog with the rights that the lists give to a user.
 fn rights_of(alloc: Global, user: &User, catalog: Catalog, lists: &Acl) -> Result<Access, Refusal>
     ensures { Gives result (Ok (for_user user.now catalog lists.now)) }
 {
     Ok(Access::for_user(alloc, user, catalog, lists)?)
 }
 
-// Reads the access lists, and gives a catalog the rights of a user.
+// Reads the access lists, and returns the catalog with the rights of a user.
 fn read_for_user<W: World>(
     alloc: Global,
     user: &User,
@@ -145,7 +145,7 @@ fn read_for_user<W: World>(
     }
 }
 
-// The rights of a catalog under a user, if there is one.
+// The catalog with the rights of a user; without a user, with those of the boot text.
 #[tactic(auto, using(crate::proofs::CatalogLaws::rights))]
 fn read_rights<W: World>(
     alloc: Global,
@@ -162,7 +162,8 @@ fn read_rights<W: World>(
     }
 }
 
-/// Reads the boot text, and for a user the access lists.
+/// Reads the boot text, and the access lists if there is a user. An error is the status of the
+/// command.
 #[tactic(auto, using(crate::proofs::CatalogLaws::accesses))]
 pub fn read_access<W: World>(
     alloc: Global,

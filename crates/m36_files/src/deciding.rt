@@ -1,11 +1,11 @@
-//! The result of a call by a rule.
+//! Turns the result of a rule into the result of a call.
 
 ghost use Rattle.std.specs.Prelude.{◌≡◌};
 ghost use Rattle.m36_files.specs.Deciding.{by_refusal};
 
 use m36_reading::{Refusal, Status};
 
-/// The value of a rule, or the status by its refusal.
+/// The value of a rule, or the status of its refusal.
 pub fn decide<T>(given: Result<T, Refusal>) -> Result<T, Status>
     ensures { result ≡ by_refusal given }
 {

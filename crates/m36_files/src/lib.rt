@@ -1,25 +1,26 @@
 //! Readers of files, as programs.
 //!
-//! A reader reads a file over any world, refuses it or goes on, and gives what the file says:
+//! A reader reads a file over any world, and returns what it parses from it, or refuses the file:
 //!
-//! | Reader | Program in `specs/` | It gives, or refuses with |
-//! |---|---|---|
-//! | [`read_words`] | `file_words` | the words of a file: F1, F2, then T3, T4, F3 |
-//! | [`read_object`] | `file_object` | its object: the same, and then O1 to O8 |
-//! | [`read_catalog`] | `boot_catalog` | the catalog of the boot text: F1, F2, D1 to D6 |
-//! | [`read_lists`] | `access_lists` | the access lists for a catalog: F1, F2, C1 to C3 |
-//! | [`read_access`] | `catalog_access` | the catalog with the rights of a user: both |
+//! | Reader | Program in `specs/` | Returns | Refuses with |
+//! |---|---|---|---|
+//! | [`read_words`] | `file_words` | the words of a file | F1, F2, then T3, T4, F3 |
+//! | [`read_object`] | `file_object` | its object | as `read_words`, then O1 to O8 |
+//! | [`read_catalog`] | `boot_catalog` | the catalog of the boot text | F1, F2, D1 to D6 |
+//! | [`read_lists`] | `access_lists` | the access lists for a catalog | F1, F2, C1 to C3 |
+//! | [`read_access`] | `catalog_access` | the catalog with a user's rights | as the two before |
 //!
-//! Each has the clause `(may : May) → Performs {may = may} (..) result ..`, so that any command may
-//! use it, one that writes files too. `each_onto` (`specs/EachFile.antt`) is the program that reads
-//! something for each item of a list, one after another; `proofs/EachLaws.antt` has what a loop
-//! needs that performs it.
+//! Each has the clause `(may : May) → Performs {may = may} (..) result ..`, so any command may use
+//! it, also one that writes files. `each_onto` (`specs/EachFile.antt`) is the program that reads
+//! something for each item of a list, one after another. `proofs/EachLaws.antt` has the lemmas for
+//! a loop that performs it.
 //!
-//! What is worked out from the bytes of a file, without a read, is a rule: it gives a value or a
-//! refusal, and memory may run out for it (`decides`). [`decide`] makes the result of a call by it.
+//! A computation from the bytes of a file, without a read, is a rule: it yields a value or a
+//! refusal, and memory may run out in it (`decides`). [`decide`] turns its result into the result
+//! of a call.
 //!
-//! The older layer says what a command does by a reading and by the answer to it (`Does`):
-//! `IsReader` (`proofs/OldReading.antt`) ties a reader to its reading, and `reader_does`
+//! The older layer says by a reading and an answer what a command does (`Does`). `IsReader`
+//! (`proofs/OldReading.antt`) ties a reader to its reading, and `reader_does`
 //! (`proofs/OldDoing.antt`) a command that reads and then answers.
 #![tactic(auto)]
 

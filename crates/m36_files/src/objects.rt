@@ -1,4 +1,4 @@
-//! The words and the object of a file.
+//! Reads the words and the object of a file.
 
 ghost use Rattle.std.specs.Prelude.{◌≤◌, length, IfOk};
 ghost use Rattle.obj36_parts.specs.ObjectSegment.{segment_limit};
@@ -14,7 +14,8 @@ use m36_world::World;
 use obj36::Object;
 use std::alloc::Global;
 
-/// Reads the words of a file.
+/// Reads the words of a file, at most as many as a segment has. An error is the status of the
+/// command.
 pub fn read_words<W: World>(alloc: Global, name: &[u8], world: &mut W) -> Result<Words, Status>
     ensures performs { (may : May) → Performs {may = may} (file_words name.now) result
         (W.seen world.old) (W.seen world.new) }
@@ -23,7 +24,7 @@ pub fn read_words<W: World>(alloc: Global, name: &[u8], world: &mut W) -> Result
     match read_bytes(alloc, name, world) {
         Ok(text) => {
             let given = words_in(alloc, name, text.bytes());
-            // Dropped by a call: so the drop is proved once for its type.
+            // Dropped by a call, so that the drop is proved once for its type.
             drop(text);
             decide(given)
         }
@@ -31,7 +32,7 @@ pub fn read_words<W: World>(alloc: Global, name: &[u8], world: &mut W) -> Result
     }
 }
 
-/// Reads the object of a file.
+/// Reads the object of a file. An error is the status of the command.
 pub fn read_object<W: World>(alloc: Global, name: &[u8], world: &mut W) -> Result<Object, Status>
     ensures { (may : May) → Performs {may = may} (file_object name.now) result
         (W.seen world.old) (W.seen world.new) }

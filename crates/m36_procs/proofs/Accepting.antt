@@ -1,4 +1,4 @@
--- A text of processes, by its first line and the lines behind it.
+-- The result of parsing a text of processes, by its first line and the lines after it.
 use Rattle.std.proofs.Common.{◌≡◌, ℕ, ◌*◌, List, [], ◌∷◌, ◌++◌, drop, replicate, Option, Some, Result, Ok, Err, sym, ap, ◌∙◌}
 use Rattle.m36_model.specs.Registers.{RegsFields}
 use Rattle.m36_text.specs.Lines.{lines_of, line_at, first_told}
@@ -47,7 +47,7 @@ fine_first :
 unfolding first_told
 fine_first read n codes e = rw e
 
--- the codes of the lines behind the first
+-- the first code of the text is that of the lines after the first line
 codes_behind :
     (text rest : List ℕ) (r : Reader)
     → Begun r rest (lines_of text)
@@ -64,7 +64,7 @@ pub later_refused :
 later_refused text rest r fault begun told =
     says_told text fault 2 (codes_from (stands_of r) (lines_of rest)) (λ there e. codes_behind text rest r begun ∙ e) told
 
--- the value by its parts
+-- processes and a schedule with these parts
 abbrev pub procs_of : List RegsFields → List ℕ → List ℕ → ProcsFields
 procs_of regs core schedule = record { state = record { regs = regs; store = core }; schedule = schedule }
 

@@ -7,12 +7,12 @@ use Rattle.m36_image.specs.declared.refusal.ImageCode.{ImageCode}
 use Rattle.m36_procs.specs.ProcsFile.{core_code}
 use Rattle.m36_procs.specs.declared.fault.Code.TheVariants.{P1}
 
--- it is missing
+-- the first line is missing
 pub missing_first : (lines : List (Option (List ℕ))) (text : List ℕ) → lines ≡ cut_line text → first_told 1 (core_code (core_line (line_at lines 1)) ∷ []) ≡ Some (1, P1)
 unfolding first_told
 missing_first lines text e = rw e (rw (cut_none text))
 
--- it has a code
+-- the first line has a code
 pub first_code :
     (lines more : List (Option (List ℕ))) (line : List ℕ) (code : ImageCode)
     → lines ≡ Some line ∷ more → core_words (words_of line) ≡ Err code

@@ -15,7 +15,7 @@ use Rattle.m36_procs.specs.EventSays.{EventSays, IsEvent}
 use Rattle.m36_procs.specs.ScheduleText.{event_line, end_line, pieces_from, schedule_pieces}
 use Rattle.m36_procs.proofs.EventsRun.{pieces_first, pieces_last, get_of, next_named, Runs}
 
--- one line was added to a block
+-- A line was added to a block.
 pub line_adds :
     (answer : Put) (written written' : Option (List ℕ)) (taken taken' old new : List (List ℕ)) (line lent : List ℕ)
     → lent ≡ line → Adds answer old new (lent ∷ []) written written' taken taken'
@@ -23,7 +23,7 @@ pub line_adds :
 line_adds answer written written' taken taken' old new line lent is added =
     subst (λ l. Adds answer old new (l ∷ []) written written' taken taken') is added
 
--- and the block was handed over
+-- The last line was added and the block was handed over.
 pub last_says :
     (answer : Put) (written written' : Option (List ℕ)) (old : List (List ℕ)) (line lent : List ℕ)
     → lent ≡ line → PutSays answer written written' (joined (old ++ lent ∷ []))

@@ -1,4 +1,4 @@
--- A run of a schedule, event by event: what is left of its text, and what it leaves.
+-- A run of a schedule, event by event: what is left of its text, and the state of the processes.
 use Rattle.std.proofs.Common.{◌≡◌, ℕ, zero, suc, ◌+◌, ◌<◌, true, List, [], ◌∷◌, ◌++◌, length, Option, Some, refl, sym, ap, subst, ◌∙◌, arith, append_assoc}
 use Rattle.std.specs.Prelude.{slice_get, nat_lt}
 use Rattle.std.proofs.lemmas.Bool.{and_parts, ltb-true}
@@ -70,9 +70,9 @@ last_last : (s : Processes (List ℕ)) → last_state [] s ≡ s
 unfolding last_state events
 last_last s = refl
 
--- A run that began in state `first` with the schedule `all` has made n events, has the schedule `left`, stands in a
--- state from which further events are those behind the ones that were made, has gathered some lines, and has written
--- what is written now.
+-- A run of the schedule `all` from state `first` has made n events and reached state s. `left` is left of the schedule,
+-- and its events from s are those that follow the ones made. The text written since `start`, the lines gathered in the
+-- block and the text that is left are the whole text.
 pub record Runs (all : List ℕ) (first : Processes (List ℕ)) (start now : Option (List ℕ)) (gathered : List (List ℕ)) (n : ℕ) (left : List ℕ) (s : Processes (List ℕ)) : Type 0 where
   pub text : Completes now start (joined gathered ++ text_from (length all) (n + 1) left s) (schedule_text all first)
   pub made : List ℕ
@@ -106,7 +106,7 @@ get_of [] i within = absurd (omega arith)
 get_of (x ∷ xs) zero within = (x, refl)
 get_of (x ∷ xs) (suc i) within = get_of xs i (omega arith)
 
--- an event was made: the processes stand behind one number more of the schedule
+-- an event was made: the state is that after one more number of the schedule
 made_more :
     (made : List ℕ) (i : ℕ) (first s new : Processes (List ℕ)) (told : StepRecord) (g : RegsFields)
     → ((rest : List ℕ) → last_state (made ++ rest) first ≡ last_state rest s)
@@ -120,13 +120,13 @@ made_more made i first s new told g further there is rest =
 all_more : (all made : List ℕ) (i : ℕ) (left more : List ℕ) → all ≡ made ++ left → left ≡ i ∷ more → all ≡ (made ++ i ∷ []) ++ more
 all_more all made i left more is begins = is ∙ ap (λ l. made ++ l) begins ∙ sym (append_assoc made (i ∷ []) more)
 
--- where they stand, by what leads on from there
+-- the state is that after the events that were made
 stand_behind :
     (made : List ℕ) (first s : Processes (List ℕ))
     → ((rest : List ℕ) → last_state (made ++ rest) first ≡ last_state rest s) → s ≡ last_state made first
 stand_behind made first s further = sym (last_last s) ∙ sym (further []) ∙ ap (λ l. last_state l first) (append-nil made)
 
--- its line is added
+-- the line of the event is added
 pub runs_more :
     (all : List ℕ) (first : Processes (List ℕ)) (start now next : Option (List ℕ)) (pieces pieces' gathered gathered' : List (List ℕ)) (n i : ℕ) (left more : List ℕ) (s new : Processes (List ℕ)) (told : StepRecord)
     → Runs all first start now gathered n left s

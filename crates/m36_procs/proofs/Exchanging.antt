@@ -1,4 +1,4 @@
--- Registers of which one set stands in the machine, and not in the list.
+-- Laws of registers of which one set is in the machine; its entry in the list has no meaning.
 use Rattle.std.proofs.Common.{◌≡◌, ◌≢◌, ℕ, ◌<◌, List, length, get_or, set, Some, refl, sym, ap, subst, ◌∙◌, arith}
 use Rattle.std.specs.Prelude.{slice_get}
 use Rattle.std.proofs.lemmas.List.{get_or-set_same, get_or-set_other, set-get_or, set-set, length-set}
@@ -11,18 +11,18 @@ use Rattle.m36_model.specs.Store.{State}
 use Rattle.m36_model.specs.declared.record.StepRecord.{StepRecord}
 use Rattle.m36_procs.specs.EventSays.{IsEvent}
 
--- What is put where it stood changes nothing.
+-- Storing an element at its own place changes nothing.
 pub set_kept : {A : Type 0} (xs : List A) (i : ℕ) (g : A) → g ≡ get_or xs i g → set xs i g ≡ xs
 set_kept xs i g is = ap (λ x. set xs i x) is ∙ set-get_or xs i g
 
--- One of the others was brought.
+-- The registers of another process were brought into the machine.
 pub brought :
     {A : Type 0} (xs : List A) (h i : ℕ) (m g : A)
     → i ≢ h → g ≡ get_or xs i g → set (set xs h m) i g ≡ set xs h m
 brought xs h i m g other is =
     set_kept (set xs h m) i g (is ∙ sym (get_or-set_other xs h i m g other))
 
--- what stands in the machine, and what stands in the list
+-- the registers of process i: those in the machine if it is the process there, otherwise those in the list
 pub get_inside :
     {A : Type 0} (xs : List A) (h i : ℕ) (m : A)
     → i ≡ h → h < length xs → slice_get (set xs h m) i ≡ Some m
@@ -40,7 +40,7 @@ pub ruleset exchanging = (set_kept, brought, get_inside, get_outside)
 some_same : {A : Type 0} (x y : A) → Some x ≡ Some y → x ≡ y
 some_same x y e = cc
 
--- A process was brought, and its step was taken.
+-- The registers of a process were brought, and its step was taken.
 pub step_taken :
     (xs ys : List RegsFields) (h i : ℕ) (m n after : State (List ℕ)) (told : StepRecord) (g : RegsFields)
     → set ys i n.regs ≡ set xs h m.regs
@@ -62,7 +62,7 @@ step_taken xs ys h i m n after told g all store within tells steps there =
       state = λ k. record { regs = regs k; store = core k };
     }
 
--- The same of the processes as they are seen: where the registers of the one stand is known.
+-- As `step_taken`, for the model of the processes and an index that is equal to i.
 pub process_stepped :
     (old : Processes (List ℕ)) (xs ys : List RegsFields) (h i at : ℕ) (m n after : State (List ℕ)) (told : StepRecord) (g : RegsFields)
     → old ≡ record { regs = set xs h m.regs; store = m.store }

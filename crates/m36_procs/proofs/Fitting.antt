@@ -1,4 +1,4 @@
--- What is known of what was read stays known when a line is taken.
+-- Taking a line keeps the invariant `Fits`.
 use Rattle.std.proofs.Common.{◌≡◌, ℕ, zero, suc, ◌+◌, ◌<◌, ◌≤◌, Bool, true, false, cond, ◌&&◌, List, [], ◌∷◌, ◌++◌, length, Some, Result, Ok, Err, refl, sym, ap, ◌∙◌, arith}
 use Rattle.std.specs.Prelude.{nat_le, nat_lt}
 use Rattle.std.proofs.lemmas.Bool.{leb-true, ltb-true, lt-ltb, and_parts, and_from}
@@ -18,7 +18,7 @@ use Rattle.m36_procs.specs.declared.fault.Code.TheVariants.{P1, P2}
 use Rattle.m36_procs.specs.declared.reader.Reader.{Reader}
 use Rattle.m36_procs.specs.declared.reader.Stage.TheVariants.{Placing, Turning}
 
--- what was chosen, where it is no error
+-- if a choice between a result and an error is no error, the condition holds and it is the result
 was_tested : {A E : Type 0} (b : Bool) (r : Result A E) (e : E) (y : A) → cond b r (Err e) ≡ Ok y → b ≡ true
 was_tested true r e y h = refl
 was_tested false r e y h = cc
@@ -42,7 +42,7 @@ was_placed :
 was_placed s y (Ok end) h = (end, ok_same (record s { stage = Placing; next = end }) y h)
 was_placed s y (Err code) h = cc
 
--- a number of one of some processes is one of more
+-- the number of one of `count` processes is that of one of `count + 1`
 lt_more : (n count : ℕ) → nat_lt n count ≡ true → nat_lt n (count + 1) ≡ true
 lt_more n count e = let below = ltb-true n count e in lt-ltb n (count + 1) (omega arith)
 
@@ -60,7 +60,7 @@ named_repeated : (times count : ℕ) (order : List ℕ) → are_named count orde
 named_repeated zero count order e = refl
 named_repeated (suc times) count order e = named_both count order (repeat times order) e (named_repeated times count order e)
 
--- the schedule stays, and the count of processes too
+-- the schedule and the count of processes are unchanged
 named_still :
     (old new : Reader) (count : ℕ)
     → new.schedule.items ≡ old.schedule.items ++ [] → length new.regs.items ≡ count

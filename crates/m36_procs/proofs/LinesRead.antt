@@ -1,4 +1,4 @@
--- How far the lines behind the first have been read.
+-- How far the lines after the first have been read.
 use Rattle.std.proofs.Common.{◌≡◌, ℕ, ◌+◌, ◌<◌, true, false, cond, List, [], ◌∷◌, ◌++◌, length, Option, Some, None, Result, Ok, Err, refl, sym, ap, ◌∙◌, arith, append_assoc}
 use Rattle.std.specs.Result.{result_err}
 use Rattle.std.proofs.lemmas.List.{append-nil}
@@ -15,7 +15,7 @@ use Rattle.m36_procs.specs.declared.fault.LineFault.TheVariants.{Refused, NoMemo
 use Rattle.m36_procs.specs.declared.reader.Reader.{Reader}
 use Rattle.m36_procs.specs.ProcsSays.{fault_at, line_fault_at}
 
--- `left` is left of the lines `all`, of which the next is line n, where `start` has become `r`.
+-- Of the lines `all` the lines `left` are left; the next is line n. The lines before it changed `start` to `r`.
 pub record ReadLines (start : Reader) (all : List (Option (List ℕ))) (r : Reader) (n : ℕ) (left : List (Option (List ℕ))) : Type 0 where
   pub fault : first_told n (codes_from (stands_of r) left) ≡ first_told 2 (codes_from (stands_of start) all)
   pub regs : r.regs.items ++ processes_in left ≡ start.regs.items ++ processes_in all

@@ -1,4 +1,4 @@
--- What taking a line comes to, where all that counts of it is known.
+-- The result of taking a line, for each form of the line.
 use Rattle.std.proofs.Common.{◌≡◌, ℕ, zero, suc, ◌*◌, ◌<◌, ◌≤◌, Bool, true, false, cond, ◌&&◌, List, length, Option, Result, Ok, Err, refl, sym, ap, ◌∙◌, arith, length-append}
 use Rattle.std.specs.Prelude.{nat_le, nat_lt}
 use Rattle.std.proofs.lemmas.Bool.{le-leb, lt-ltb}
@@ -15,7 +15,7 @@ use Rattle.m36_procs.specs.declared.reader.Stage.TheVariants.{Turning}
 abbrev pub in_order : Stands → ℕ → Result Stands Code
 in_order s n = Ok (record s { stage = Turning; events = n })
 
--- so many turns make so many events
+-- `times` turns of these processes make `times` times their number of events
 pub length-repeated : (times : ℕ) (order : List ℕ) → length (repeat times order) ≡ times * length order
 length-repeated zero order = omega arith
 length-repeated (suc times) order =
@@ -36,7 +36,7 @@ unfolding judged
 turns_taken s t events some most named count =
     chosen (nat_lt 0 s.processes) (nat_le (events_with s.events t) 10000000) (are_named s.processes t.order) (Ok (record s { stage = Turning; events = events_with s.events t })) (Err P2) (Err P1) (lt-ltb 0 s.processes some) (le-leb (events_with s.events t) 10000000 most) named ∙ ap (λ n. in_order s n) (sym count)
 
--- a line that is neither a `process` nor a `turns` line, where words may be placed
+-- a line that is neither a `process` nor a `turns` line, if an `at` line may follow
 pub words_judged :
     (s : Stands) (o : Option PlacedWords) (b : Bool)
     → b ≡ true

@@ -1,4 +1,4 @@
--- What the results of parsing a text of processes imply. Memory may run out at any time.
+-- What the results of parsing a text of processes imply. `NoMemory` is always allowed.
 use Rattle.std.specs.Prelude.{ℕ, ◌≡◌, ⊤, Result, Ok, Err}
 use Rattle.m36_procs.specs.ProcsFields.{ProcsFields}
 use Rattle.m36_procs.specs.declared.fault.Code.{Code}

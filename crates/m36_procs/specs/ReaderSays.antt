@@ -1,5 +1,4 @@
--- A text of processes is parsed line by line. It is proved that this yields what the text
--- describes.
+-- What parsing a text of processes line by line keeps, and what taking one line implies.
 use Rattle.std.specs.Prelude.{ℕ, ◌≡◌, ◌<◌, ⊤, true, List, ◌++◌, length, None, Result, Ok, Err}
 use Rattle.m36_image.specs.BareImage.{at_words}
 use Rattle.m36_image.specs.ImageState.{written_all}

@@ -14,8 +14,8 @@ use Rattle.m36_procs.specs.declared.fault.ProcsFault.{ProcsFault}
 use Rattle.m36_procs.specs.declared.fault.ProcsFault.TheVariants.{P1, P2, NoMemory}
 use Rattle.m36_procs.specs.declared.reader.Reader.{Reader}
 
--- The fault is that of the first line with a code, where the first code of the list is that of line
--- n. Memory may run out at any time.
+-- The fault is that of the first line with a code. The first entry of the list is the code of line
+-- n. `NoMemory` is always allowed.
 abbrev pub FaultSays : ProcsFault → ℕ → List (Option Code) → Type 0
 FaultSays (P1 line) n codes = first_told n codes ≡ Some (line, code.P1)
 FaultSays (P2 line) n codes = first_told n codes ≡ Some (line, code.P2)

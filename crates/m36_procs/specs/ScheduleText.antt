@@ -37,7 +37,7 @@ schedule_pieces schedule s = pieces_from (length schedule) 1 schedule s
 unfoldable pub schedule_text : List ℕ → Processes (List ℕ) → List ℕ
 schedule_text schedule s = joined (schedule_pieces schedule s)
 
--- the state after these events; `s` if there are none
+-- the state after these events, which begin in state `s`
 abbrev pub behind_events : Processes (List ℕ) → List (Event (List ℕ)) → Processes (List ℕ)
 behind_events s made = state_behind (λ (e : Event (List ℕ)). e.after) s made
 

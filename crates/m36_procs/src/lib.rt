@@ -1,4 +1,4 @@
-//! Several processes on one core, under a written schedule.
+//! Runs several processes on one core, by a written schedule.
 //!
 //! A process is a set of registers of its own, with its own descriptor segment base register. All
 //! processes share one core. An event is one step of one process, and the schedule says which

@@ -11,7 +11,7 @@ use std::alloc::Global;
 use std::marker::Model;
 
 /// Several processes on one core. The model is the registers of each process and the words of core.
-/// The machine has the registers of one of them, until another has its turn.
+/// The machine has the registers of one process, until it is another's turn.
 #[derive(Drop)]
 pub(crate) struct ProcessSet {
     machine: Machine,

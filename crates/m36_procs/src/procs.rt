@@ -126,12 +126,12 @@ impl Procs {
         self.schedule[i]
     }
 
-    /// A record for `event_into` to fill, with no step in it yet.
+    /// An empty record for `event_into` to overwrite.
     pub fn new_record(&self) -> StepRecord {
         self.processes.untold()
     }
 
-    /// As `event`, into a record that an earlier event may have filled.
+    /// As `event`, but overwrites `step` with the record.
     pub fn event_into(&mut self, i: usize, step: &mut StepRecord)
         requires { i < length self.old.state.regs }
         ensures says { EventSays i self.old.state self.new.state step.new }
@@ -142,9 +142,10 @@ impl Procs {
         processes.step_into(i, step);
     }
 
-    /// Makes the events of the whole schedule, and writes a line for each and the last line, each in
-    /// one piece. Fails only if a line could not be written: then a prefix of the text was written,
-    /// and the events of a prefix of the schedule were made.
+    /// Makes the events of the whole schedule, and writes a line for each and the last line, each
+    /// as one piece. Fails only if a line could not be written: then a prefix of the text was
+    /// written, and the events of a prefix of the schedule were made. How long the two prefixes are
+    /// is not said.
     pub fn run<S: Sink>(&mut self, out: &mut S) -> Result<(), WriteFault>
         ensures says { RunSays result self.old.schedule
             self.old.state self.new.state (S.written out.old) (S.written out.new) }

@@ -75,7 +75,8 @@ pub(crate) fn run_schedule<S: Sink>(
     requires named { are_named (length processes.old.regs) schedule.now ≡ true }
     ensures says { RunSays result schedule.now
         processes.old processes.new (S.written out.old) (S.written out.new) }
-    ensures through { RunTakes result schedule.now processes.old (S.taken out.old) (S.taken out.new) }
+    ensures through { RunTakes result schedule.now processes.old
+        (S.taken out.old) (S.taken out.new) }
     ensures cause { RunHasCause result (S.faults out.old) (S.faults out.new) }
     ensures count { length processes.new.regs ≡ length processes.old.regs }
 {

@@ -1,5 +1,5 @@
--- A call that reads and then puts an answer does so as the old layer says: the whole bridge for a command that writes no
--- file and takes no input, and in which memory runs out, if at all, before anything is put.
+-- A call that reads files and then puts an answer satisfies `Does`. This is for a command that writes no file and takes
+-- no input, and in which memory can run out only before anything is put.
 use Rattle.std.proofs.Common.{◌≡◌, ◌⊎◌, ℕ, List, [], ◌∷◌, ◌++◌, Result, Ok, Err, refl, sym, ap, subst, ◌∙◌, inl, inr}
 use Rattle.std.proofs.lemmas.List.{append-nil}
 use Rattle.m36_outside.specs.Counts.{Rose}
@@ -38,7 +38,7 @@ use Rattle.m36_program.proofs.ProgramLaws.{performs_cause, performs_files, perfo
 
 -- ---- what is put
 
--- What is put is the text of an answer, and no file is read.
+-- The events put the text of an answer that writes no file, and read none.
 pub record Puts (due : Answer) (events : List Event) (result : Result (Unit {0}) Status) : Type 0 where
   pub sets : due.sets ≡ []
   pub text : due.text ≡ joined due.pieces
@@ -76,11 +76,11 @@ puts_with pieces s own events result goes = record {
   alone = puts_reads pieces s own events result goes;
 }
 
--- Nothing passes, and memory ran out.
+-- No event happened, and memory ran out.
 abbrev pub NoneLeft : List Event → Result (Unit {0}) Status → Type 0
 NoneLeft events result = Ends (Err status.NoMemory) events result
 
--- An answer to a value is put.
+-- The events put an answer for the value d.
 pub record IsPut {D : Type 0} (IsDue : D → Answer → Type 0) (d : D) (events : List Event)
     (result : Result (Unit {0}) Status) : Type 0 where
   pub due : Answer
@@ -354,7 +354,7 @@ ends_puts IsDue Is d due events result old new came is_due puts kept cause text 
       });
     })
 
--- what is read comes to this, by all events of the call
+-- the reading ends in this way by all events of the call, since the later ones are no reads
 came_by :
     {D : Type 0} (r : Reading (Early D)) (coming : Coming (Early D)) (before more events : List Event)
     → events ≡ before ++ more → OnlyReads before → reads_of more ≡ [] → Comes r (reads_of before) coming
@@ -362,7 +362,7 @@ came_by :
 came_by r coming before more events is only alone comes =
     subst (λ a. Comes r a coming) (sym (ap reads_of is ∙ reads_before before more only alone)) comes
 
--- the reading gave a value, and the program went on by it
+-- the end of a call in which the reading yielded a value, and the program of the answer followed
 ends_on :
     {D : Type 0} (IsDue : D → Answer → Type 0) (r : Reading (Early D)) (next : D → Program quiet (Unit {0}))
     (events : List Event) (result : Result (Unit {0}) Status) (old new : Seen)
@@ -425,7 +425,7 @@ ends_how IsDue r next events result old new each follow kept cause text (IsUnrea
       cause = unread.cause;
     }))
 
--- What a call does, by what it reads and by the answer that it puts.
+-- `Does` of a call, by what it reads and the answer that it puts.
 pub idle_does :
     {D : Type 0} (IsDue : D → Answer → Type 0) (reader : Program quiet D) (r : Reading (Early D))
     (next : D → Program quiet (Unit {0})) (result : Result (Unit {0}) Status) (old new : Seen)

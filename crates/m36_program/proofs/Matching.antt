@@ -1,5 +1,5 @@
--- Programs that only read, beside readings of the old layer: they ask for the same files in the same order, and come to
--- the same value or refusal.
+-- Programs that only read match readings of the old layer: they ask for the same files in the same order, and yield the
+-- same value or refusal.
 use Rattle.std.specs.Prelude.{⊤}
 use Rattle.std.proofs.Common.{◌≡◌, ℕ, List, [], ◌∷◌, ◌++◌, Result, Ok, Err, refl, sym, ap, subst, ◌∙◌, inl, inr}
 use Rattle.m36_outside.specs.ReadAnswer.{IsNoFault}
@@ -31,6 +31,7 @@ found_as (Content bytes) = reading.Content bytes
 found_as Absent = reading.Absent
 found_as TooLarge = reading.TooLarge
 
+-- The reading ends with the refusal of this status. Only BadFile is the status of a refusal here.
 abbrev pub StopsAs : {B : Type 0} → Status → Reading (Early B) → Type 0
 StopsAs status.Done r = ⊥
 StopsAs status.Usage r = ⊥
@@ -42,11 +43,12 @@ StopsAs (status.MachineStop end) r = ⊥
 StopsAs status.Steps r = ⊥
 StopsAs status.NoMemory r = ⊥
 
+-- The reading asks for the same file, and continues alike for all that may be found.
 abbrev pub AsksAs : {B : Type 0} → List ℕ → (Found → Reading (Early B) → Type 0) → Reading (Early B) → Type 0
 AsksAs name same (decided given) = ⊥
 AsksAs name same (asks other go) = (name ≡ other) × ((found : Found) → same found (go (found_as found)))
 
--- The program only reads, and what it reads and comes to is what the reading does.
+-- The program only reads. It asks for the same files as the reading, in the same order, and yields the same result.
 unfoldable pub Matches : {may : May} {A : Type 0} → Program may A → Reading (Early A) → Type 0
 Matches (done b) r = r ≡ decided (Ok b)
 Matches (stops status own) r = StopsAs status r
@@ -57,9 +59,9 @@ Matches (takes allowed go) r = ⊥
 Matches {may} {A} (some {B} Is go) r = (b : B) → Is b → Matches (go b) r
 Matches (wants rest) r = Matches rest r
 
--- ---- what passes
+-- ---- the events
 
--- Only reads passed, and none failed.
+-- The events are reads, and none failed.
 abbrev pub OnlyReads : List Event → Type 0
 OnlyReads [] = ⊤
 OnlyReads (FileRead name answer ∷ more) = IsNoFault answer × OnlyReads more
@@ -76,7 +78,7 @@ FailsAfter read.TooLarge more rest = rest
 FailsAfter read.Failed more rest = more ≡ []
 FailsAfter read.NoMemory more rest = rest
 
--- Only reads passed, and the last one failed.
+-- The events are reads, and the last one failed.
 abbrev pub LastFails : List Event → Type 0
 LastFails [] = ⊥
 LastFails (FileRead name answer ∷ more) = FailsAfter answer more (LastFails more)
@@ -86,7 +88,7 @@ LastFails (OutputFailed pieces ∷ more) = ⊥
 LastFails (Input piece ∷ more) = ⊥
 LastFails (InputFailed ∷ more) = ⊥
 
--- The reading came to a value, and the program went on by it.
+-- The reading yields a value, by the answers of the first events, and the next program has the other events.
 pub record GoesOn {may : May} {B C : Type 0} (r : Reading (Early B)) (next : B → Program may C) (events : List Event)
     (result : Result C Status) : Type 0 where
   pub value : B
@@ -97,12 +99,13 @@ pub record GoesOn {may : May} {B C : Type 0} (r : Reading (Early B)) (next : B �
   pub comes : Comes r (reads_of before) (Came (Ok value))
   pub goes : Goes (next value) more result
 
--- The reading ended with this, and so did the program.
+-- The reading ends in this way by the answers of the events, and the program with this status.
 pub record EndsAs {B C : Type 0} (r : Reading (Early B)) (coming : Coming (Early B)) (status : Status)
     (events : List Event) (result : Result C Status) : Type 0 where
   pub comes : Comes r (reads_of events) coming
   pub result_is : result ≡ Err status
 
+-- how a program that matches a reading, and then another one, went
 pub data How {may : May} {B C : Type 0} (r : Reading (Early B)) (next : B → Program may C) (events : List Event)
     (result : Result C Status) : Type 0 where
   HasRead : GoesOn r next events result → How r next events result

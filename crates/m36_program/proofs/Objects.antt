@@ -1,4 +1,4 @@
--- A call over a world of three references is one over the three objects.
+-- A call that performs a program over a world of three references performs it over the three objects.
 use Rattle.std.proofs.Common.{◌≡◌, ℕ, false, List, ◌++◌, Option, Result, sym, ap, subst, ◌∙◌, refl}
 use Rattle.m36_outside.specs.Files.{Files}
 use Rattle.m36_outside.specs.FolderCalls.{Asked, Wrote}
@@ -17,7 +17,7 @@ use Rattle.m36_program.specs.Trail.{InputKept}
 use Rattle.m36_program.proofs.ProgramLaws.{early_given, performs_given, performs_input}
 use Rattle.m36_program.specs.Objects.{objects, PerformsOver, outside_by}
 
--- What the objects recorded is the same.
+-- The two states have the same records of the objects.
 pub record SameObjects (seen other : Seen) : Type 0 where
   pub reads : seen.reads ≡ other.reads
   pub writes : seen.writes ≡ other.writes
@@ -45,7 +45,7 @@ same_seen seen other same =
 seen_at : (seen : Seen) (references : List ℕ) → seen.references ≡ references → seen ≡ record seen { references = references }
 seen_at seen references is = ap (λ (l : List ℕ). record seen { references = l }) is
 
--- The objects are those of a world.
+-- The records of a world of three references are those of its objects.
 pub same_now :
     {F L S : Type 0} (asked : F → List Asked) (wrote : F → List Wrote) (files : F → Option Files)
     (read_faults write_faults : F → ℕ) (given : L → List (List ℕ)) (left : L → Option (List ℕ)) (input_faults : L → ℕ)
@@ -96,7 +96,7 @@ performs_over program result status old new old' new' status_is none same_old sa
 same_outside : (seen other : Seen) → SameObjects seen other → outside_by seen ≡ outside_by other
 same_outside seen other same = ap outside_by (same_seen seen other same)
 
--- What each call of the program over a world does by the old layer, a call does over the three objects.
+-- If each call of the program over a world satisfies `Does`, the call over the three objects does.
 pub does_over :
     {may : May} {D : Type 0} (kind : Kind D) (p : Reading (Early D)) (program : Program may (Unit {0}))
     (result : Result (Unit {0}) Status) (status : Status) (old new old' new' : Seen)

@@ -105,7 +105,7 @@ said answer name told files is says =
 
 -- ---- the other call, which ends
 
--- The other program goes on from here, and from that the two texts are one.
+-- The other program continues from here, and from there the two have one text.
 abbrev Continues :
     {may : May} {A : Type 0} → (Program may A → Type 0) → Files → List (List ℕ) → List (List ℕ) → Result A Status
     → Result A Status → Seen → Type 1

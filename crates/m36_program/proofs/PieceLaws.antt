@@ -149,7 +149,7 @@ ended_failed may piece (next ∷ failed) pieces s rest result on fails =
       }
     ]
 
--- All pieces were put, and the result is that of the status; or the output failed, and those that were to be put are a
+-- All pieces were put, and the result is that of the status; or the output failed, and the pieces of the events are a
 -- prefix of them.
 pub puts_ended :
     (may : May) (pieces : List (List ℕ)) (s : Status) (own : MayEnd s) (events : List Event)

@@ -1,5 +1,5 @@
--- A call over a folder, an input and an output that performs a program; and what the old layer
--- observes of the three.
+-- What it means that a call over a folder, an input and an output performs a program; and what the
+-- old layer observes of the three.
 use Rattle.std.specs.Prelude.{ℕ, List, [], ◌++◌, Option, Result}
 use Rattle.m36_outside.specs.Files.{Files}
 use Rattle.m36_outside.specs.FolderCalls.{Asked, Wrote}
@@ -11,7 +11,8 @@ use Rattle.m36_reading.specs.Outside.{Outside}
 use Rattle.m36_program.specs.Goes.{Goes}
 use Rattle.m36_program.specs.Program.{May, Program}
 
--- three objects by what each recorded of its own calls; no event is noted yet
+-- The three objects as the state of a world, by what each recorded of its own calls. The list of
+-- events is empty.
 abbrev pub objects :
     {F L S : Type 0} → (F → List Asked) → (F → List Wrote) → (F → Option Files) → (F → ℕ) → (F → ℕ)
     → (L → List (List ℕ)) → (L → Option (List ℕ)) → (L → ℕ)
@@ -33,18 +34,21 @@ objects asked wrote files read_faults write_faults given left input_faults taken
       references = [];
     }
 
--- Some events happened over the three objects, one after another, which are what each of the
--- objects recorded in the call; and by them the program goes to the result.
+-- There is a list of events with which the program goes to the result, and of which each of the
+-- three objects recorded its part in the call. The objects have no common clock: that the events of
+-- two objects happened in the order of this list is not said. `Performs` over a world says it.
 pub record PerformsOver {may : May} {A : Type 0} (program : Program may A)
     (result : Result A Status) (old new : Seen) : Type 0 where
   pub events : List Event
+  -- any list: the objects have none
   pub references : List ℕ
+  -- Each object's record grows by its part of the events.
   pub follow :
       Follow events (record old { references = references })
       (record new { events = old.events ++ events; references = references })
   pub goes : Goes program events result
 
--- what is observed of the folder and the output
+-- what the old layer observes of the folder and the output
 abbrev pub outside_by : Seen → Outside
 outside_by seen = record {
   folder = record {

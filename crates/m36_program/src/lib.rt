@@ -43,6 +43,12 @@
 //! with them the program goes to the result of the call. What a program may do is part of its
 //! type: `Program quiet A` writes no file and takes no input.
 //!
+//! `PerformsOver` (`specs/Objects.antt`) is the contract of a call over a folder, an input and an
+//! output instead of a world. Each of the three records its own calls, and they have no common
+//! clock. The contract says that the records are the parts of one list of events with which the
+//! program goes to the result. It does not say that the events of two objects happened in the
+//! order of this list; only `Performs` over a world does.
+//!
 //! The invariant of a loop says what is left of its program (`Leads`). Lines that the loop has
 //! gathered in a block are put before what is left, so adding a line and putting a full block are
 //! one lemma each.
@@ -60,6 +66,8 @@
 //! | `performs_written` | over the same files, without input, all write prefixes of one text |
 //! | `reads_told` | over known files a program continues by what they have under the name |
 //! | `lives_comes` | a program without a dead end has a call that ends |
+//! | `performs_over`, `does_over` | what a call does over a world, it does over the three objects |
+//! | `idle_does` | a call that reads and then puts an answer satisfies `Does` of the old layer |
 //!
 //! The one text of `performs_written` is what a call that ends writes. The program has to be
 //! `Alike` to itself.

@@ -1,4 +1,4 @@
--- The world holds the three references still, so what is in it is in them.
+-- The world still holds the three references, so what it has seen is what the objects have seen.
 use Rattle.std.proofs.Common.{rules, refl, ap, get_or}
 use Rattle.std.specs.Prelude.{None}
 use Rattle.m36_booted.specs.Folder.{folder_reads}

@@ -5,7 +5,7 @@ use Rattle.m36_files.specs.EachFile.{each_onto}
 use Rattle.cmd_folder.specs.FolderProgram.{segment_words}
 use Rattle.cmd_folder.proofs.reading.read_files.Given as goal
 
--- the files of the segments before this one were read, and those of the rest are left
+-- The files of the segments before this one have been read, and the rest of the program is left.
 abbrev pub invariant-loop-i : goal.invariant-loop-i
 invariant-loop-i g l =
     let seen = g.W.World.seen in

@@ -1,4 +1,4 @@
--- A link was snapped or refused, and its line added or lost; or no memory was found.
+-- A link was snapped or refused, and its line was added or the output failed; or memory ran out.
 use Rattle.cmd_folder.proofs.Serving.{link_lost, link_starves}
 use Rattle.cmd_folder.proofs.running.link.Goals as goal
 

@@ -1,4 +1,4 @@
--- A step was taken: another may follow, or it was the last, or the run can't go on. Or no step is left.
+-- After a step another may follow, the run has ended, or it failed; or no step is left.
 use Rattle.std.proofs.Common.{arith, ◌∙◌}
 use Rattle.m36_reading.specs.declared.status.Status.TheVariants.{WriteFault, NoMemory}
 use Rattle.m36_super.specs.SuperFields.{booted_of}

@@ -1,4 +1,4 @@
--- The line of the step was added, and its service was made; or it was lost.
+-- The line of the step was added and its service performed, or the output failed.
 use Rattle.cmd_folder.proofs.Serving.{step_lost, step_goes}
 use Rattle.cmd_folder.proofs.running.take_step.Goals as goal
 

@@ -1,4 +1,4 @@
--- One line after the other.
+-- The lines are put one after another.
 use Rattle.cmd_image.proofs.AuditPuts.{all_put, finding_unput, findings_end}
 use Rattle.m36_ran.proofs.AuditTexts.{pieces_of_findings}
 use Rattle.cmd_image.proofs.findings.put_findings.Goals as goal

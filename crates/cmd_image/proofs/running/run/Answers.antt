@@ -1,4 +1,4 @@
--- A step was taken: another may follow, or it was the last, or its line was not put. Or no step is left.
+-- After a step another may follow, the run has ended, or the output failed; or no step is left.
 use Rattle.std.proofs.Common.{arith}
 use Rattle.cmd_image.specs.ImageProgram.{run_from}
 use Rattle.cmd_image.proofs.RunLoop.{run_next, run_last, run_lost, run_limit}

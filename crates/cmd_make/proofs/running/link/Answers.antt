@@ -1,4 +1,4 @@
--- No memory was found.
+-- Memory ran out.
 use Rattle.cmd_make.proofs.Serving.{link_starves}
 use Rattle.cmd_make.proofs.running.link.Goals as goal
 

@@ -1,4 +1,4 @@
--- A step was taken: another may follow, or it was the last, or no memory was found. Or no step is left.
+-- After a step another may follow, the run has ended, or memory ran out; or no step is left.
 use Rattle.std.proofs.Common.{arith, ◌∙◌}
 use Rattle.m36_super.specs.SuperFields.{booted_of}
 use Rattle.cmd_make.specs.QuietRun.{run_from}

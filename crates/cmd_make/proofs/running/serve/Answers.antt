@@ -1,4 +1,4 @@
--- No service comes.
+-- No service is next.
 use Rattle.std.proofs.Common.{sym}
 use Rattle.cmd_make.proofs.Serving.{serve_none}
 use Rattle.cmd_make.proofs.running.serve.Goals as goal

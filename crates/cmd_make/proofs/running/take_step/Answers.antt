@@ -1,4 +1,4 @@
--- The step was taken, and its service was made.
+-- The step was taken and its service performed.
 use Rattle.cmd_make.proofs.Serving.{step_goes}
 use Rattle.cmd_make.proofs.running.take_step.Goals as goal
 

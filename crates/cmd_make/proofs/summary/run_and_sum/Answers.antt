@@ -1,4 +1,4 @@
--- The run came to its end, or found no memory.
+-- The run ended, or memory ran out.
 use Rattle.m36_super.specs.SuperFields.{booted_of}
 use Rattle.cmd_make.proofs.SummarySteps.{run_ended, run_stops}
 use Rattle.cmd_make.proofs.summary.run_and_sum.Goals as goal

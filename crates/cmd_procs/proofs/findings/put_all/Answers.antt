@@ -1,4 +1,4 @@
--- One line after the other.
+-- The lines are put one after another.
 use Rattle.std.proofs.Common.{None}
 use Rattle.cmd_image.proofs.AuditPuts.{all_put}
 use Rattle.cmd_procs.proofs.JointTexts.{pieces_of_findings, finding_unput, findings_end}

@@ -1,4 +1,4 @@
--- The code and its line are those of the text.
+-- The code and the line of the refusal are those of the text.
 use Rattle.m36_procs.specs.declared.fault.Code.TheVariants as code
 use Rattle.cmd_procs.proofs.ProcsSteps.{decode_refused}
 use Rattle.cmd_procs.proofs.reading.decode.Goals as goal

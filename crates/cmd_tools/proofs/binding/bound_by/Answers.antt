@@ -1,4 +1,4 @@
--- What the objects mean once they are bound is not needed here.
+-- The clause on the meaning of the bound object is not used here.
 use Rattle.cmd_tools.proofs.binding.bound_by.Goals as goal
 
 pub returns : goal.returns

@@ -1,4 +1,4 @@
--- The world holds the three references still, so what is in it is in them.
+-- The world still holds the three references, so what it has seen is what the objects have seen.
 use Rattle.std.proofs.Common.{rules, refl, ap, get_or}
 use Rattle.m36_world.proofs.Following.{follow_logs}
 use Rattle.m36_told.specs.Told.{told_kind}

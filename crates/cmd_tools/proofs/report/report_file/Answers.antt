@@ -1,4 +1,4 @@
--- The name is that of its copy.
+-- The file's name is a copy of the name.
 use Rattle.std.proofs.Common.{◌≡◌, [], ◌∷◌, ◌∙◌}
 use Rattle.std.proofs.lemmas.Result.{IfOk-weaker}
 use Rattle.m36_told.specs.Told.{ToldFields}

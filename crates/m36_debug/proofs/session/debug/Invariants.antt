@@ -11,7 +11,7 @@ use Rattle.m36_debug.proofs.session.debug.Given as goal
 abbrev pub decreases-pieces : goal.decreases-pieces
 decreases-pieces g l = l.left
 
--- what is left of the session; all answers so far were put, and the events led to the machine as it is
+-- what is left of the session: all answers so far were put, and the events led to the present machine
 abbrev pub invariant-pieces : goal.invariant-pieces
 invariant-pieces g l =
     let m = g.M.Stepper in

@@ -1,4 +1,4 @@
--- Sixteen numbers were read, and there is one more; or one is not of its form; or all were read.
+-- Sixteen numbers were read, and there is one more; or one has another form; or all were read.
 use Rattle.std.proofs.Common.{◌++◌, ◌∷◌, [], Some, sym, ap, ◌∙◌, arith, length-append}
 use Rattle.std.specs.Option.{option_map}
 use Rattle.m36_text.proofs.Splitting.{words_some}

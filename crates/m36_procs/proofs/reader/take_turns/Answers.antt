@@ -1,4 +1,4 @@
--- The turns are put behind the schedule.
+-- The turns are appended to the schedule.
 use Rattle.std.proofs.Common.{◌≡◌, ◌+◌, ◌*◌, ◌<◌, ◌≤◌, true, length, refl, sym, ap, ◌∙◌, arith, length-append}
 use Rattle.std.specs.Vec.{vec_len}
 use Rattle.std.proofs.lemmas.Bool.{eqb-false}

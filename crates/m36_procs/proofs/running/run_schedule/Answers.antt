@@ -1,4 +1,4 @@
--- None was made yet; or an event was made, and then perhaps the last line was put.
+-- No event was made yet; or an event was made; or all were made, and the last line was put or not.
 use Rattle.std.proofs.Common.{refl, ◌∙◌}
 use Rattle.m36_procs.proofs.EventsRun.{runs_start, runs_more, runs_cut, runs_done, runs_cut_last}
 use Rattle.m36_procs.proofs.EventPieces.{pieces_start, pieces_more, pieces_cut, pieces_done, pieces_cut_last}
