@@ -8,8 +8,7 @@
 //!
 //! `specs/Folder.antt` says what is read and refused, in its order; `specs/Booted.antt` which answers are required, by a
 //! run of the booted system (`specs/Runs.antt`) and its text (`specs/RunText.antt`); `specs/Promise.antt` what `audit yes`
-//! promises. `cmd_folder` performs the three commands. [`running::run`] is the run of `make`, and [`reading::read_system`]
-//! reads the folder of a session and that of `make`.
+//! promises. `cmd_folder` performs the three commands. [`reading::read_system`] reads the folder that `make` has made.
 //!
 //! The machine is that of the Multics Processor Manual AL39; boot texts, services and lines are this simulator's own.
 #![tactic(auto)]
