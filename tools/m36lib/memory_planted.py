@@ -57,8 +57,7 @@ FULL_TABLES = (
 TURNED = (
     turned("cmd_make/src/sets.rt", "use m36_word::NoMemory", "use m36_word::NoMemory as Full"),
     turned("m36_super/src/linking.rt", "Err(LinkFault::NoMemory) =>", "Err(_) =>"),
-    turned("m36_booted/src/running.rt", "Turn::NoMemory => Progress::Starved,\n        _ =>",
-           "_ => Progress::Starved,\n        Turn::NoMemory =>"),
+    turned("cmd_make/src/running.rt", "AfterTurn::NoMemory => return Err", "_ => return Err"),
     turned("m36_link/src/file.rt", "Err(ObjectFault::NoMemory) =>",
            "Err(ObjectFault::NoMemory | ObjectFault::O1(_)) =>"),
     turned("m36_back/src/past.rt", "Err(_) => Err(m),", "_ => Err(m),"),

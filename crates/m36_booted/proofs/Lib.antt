@@ -1,11 +1,5 @@
-pub mod Pieces
-pub mod Gathering
-pub mod TurnsMade
 pub mod Serving
-pub mod RunLoop
-pub mod EndAlone
 pub mod FolderReads
-pub mod FolderAnswers
 pub mod OneSystem
 pub mod OneRun
 pub mod FramesAlike

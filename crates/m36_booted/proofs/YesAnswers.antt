@@ -29,7 +29,7 @@ use Rattle.m36_super.proofs.Turns.{turn_law}
 use Rattle.m36_super.proofs.Audited.{turn_audit}
 use Rattle.m36_reading.specs.Answers.{Answer}
 use Rattle.m36_ran.specs.AuditText.{yes_line, audit_pieces, audit_text}
-use Rattle.m36_ran.specs.Ran.{passes, audit_answer}
+use Rattle.m36_ran.specs.Ran.{audit_answer}
 use Rattle.m36_ran.proofs.YesAnswers.{none_found}
 use Rattle.m36_booted.specs.declared.command.FolderCommand.{FolderCommand}
 use Rattle.m36_booted.specs.declared.command.FolderCommand.TheVariants.{Audit, Run, Trace}

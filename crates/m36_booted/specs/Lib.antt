@@ -3,7 +3,5 @@ pub mod RunText
 pub mod Runs
 pub mod Booted
 pub mod Promise
-pub mod Putting
 pub mod Systems
-pub mod RunSays
 pub mod DueLaw

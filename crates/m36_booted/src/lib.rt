@@ -18,8 +18,7 @@
 //! how many answers may be required.
 //!
 //! `cmd_folder` performs the three commands, and sessions boot their folder with it. `make` reads
-//! the folder that it made with [`reading::read_system`]. [`running::run`] runs a booted system
-//! over any sink.
+//! the folder that it made with [`reading::read_system`].
 //!
 //! The machine is that of the Multics Processor Manual AL39; boot texts, services and lines are
 //! this simulator's own.
