@@ -2,7 +2,7 @@
 use Rattle.std.proofs.Common.{ℕ, zero, suc, ◌≡◌, ◌+◌, ◌-◌, ◌<◌, ◌≤◌, List, [], ◌∷◌, ◌++◌, length, get_or, set, replicate, refl, sym, ap, ◌∙◌, arith, append_assoc}
 use Rattle.std.proofs.lemmas.List.{get_or_past, length-append, length-replicate, length-set, replicate-append-replicate, set-append_left}
 
--- so many zeros
+-- a list of zeros
 abbrev pub zeros : ℕ → List ℕ
 zeros n = replicate n 0
 
