@@ -15,16 +15,16 @@ use Rattle.alm_asm.specs.Words.{words_from}
 use Rattle.alm_lines.specs.Layout.{symbols_from}
 use Rattle.alm_asm.specs.Assembly.{first_link, tables_of, static_section, parts_with, parts_of, refusal_of, last_line, made, assembled_by, assembled}
 use Rattle.alm_asm.specs.Assembles.{evened_count, Assembles}
-use Rattle.alm_lines.specs.SpotFields.{Spot}
+use Rattle.alm_lines.specs.SpotFields.{LocationCounter}
 use Rattle.alm_asm.specs.declared.tables.Tables.{Tables}
-use Rattle.alm_lines.specs.declared.refusal.Refusal.{Refusal}
+use Rattle.alm_lines.specs.declared.refusal.AlmRefusal.{AlmRefusal}
 use Rattle.alm_asm.proofs.Unrefused.{no_layout_refusal, no_lines_refusal}
 use Rattle.alm_asm.proofs.PlaceLaws.{places_count, grows_to_end}
-use Rattle.alm_asm.proofs.Placed.{stands, evened_stands, evened_behind, evened_length, end_outer, unbound, bound_is}
+use Rattle.alm_asm.proofs.PlacedWords.{stands, evened_stands, evened_behind, evened_length, end_outer, unbound, bound_is}
 use Rattle.alm_asm.proofs.LinksApart.{links_apart}
 use Rattle.alm_asm.proofs.Valued.{symbols_known}
 use Rattle.alm_asm.proofs.ExternalsStand.{external_stands}
-use Rattle.alm_asm.proofs.SectionsStand.{section_stands, end_follows}
+use Rattle.alm_asm.proofs.SectionsAreOneKind.{section_stands, end_follows}
 use Rattle.alm_asm.proofs.TooLong.{static_holds}
 use Rattle.alm_asm.proofs.SymbolsMean.{labels_mean, own_mean}
 use Rattle.alm_asm.proofs.SectionsFit.{object_fits}
@@ -41,13 +41,13 @@ bound_in_text : (text : List ℕ) (tables : Tables) (lines above : List Line36) 
 bound_in_text text tables lines above line others split small =
     let spot = end_of text start above in
     let whole : (end_of text start lines).text ≡ length (words_from text tables Text [] start lines) = places_count text tables Text lines refl in
-    let parted : (end_of text start lines).text ≡ (end_of text spot (line ∷ others)).text = ap (λ (l : List Line36). (end_of text start l).text) split ∙ ap (λ (s : Spot). s.text) (end_follows text start above (line ∷ others)) in
+    let parted : (end_of text start lines).text ≡ (end_of text spot (line ∷ others)).text = ap (λ (l : List Line36). (end_of text start l).text) split ∙ ap (λ (s : LocationCounter). s.text) (end_follows text start above (line ∷ others)) in
     let grown : spot.text ≤ (end_of text spot (line ∷ others)).text = grows_to_end Text text tables spot (line ∷ others) refl in
     let least : spot.text < 2 ^ 18 = omega arith in
     omega arith
 
 -- the offset of the links in operands is that in the object
-links_at_by : (newer : Bool) (ending : Spot) (statics : List ℕ) → ending.uses_outer ≡ newer
+links_at_by : (newer : Bool) (ending : LocationCounter) (statics : List ℕ) → ending.uses_outer ≡ newer
     → length statics ≡ evened_count newer (count_in (static_section newer) ending)
     → first_link ending ≡ head_words + length (cond (is_newer_version (version_of newer)) [] statics)
 links_at_by true ending statics e n = ap (λ b. cond b head_words (head_words + evened ending.inner)) e
@@ -93,13 +93,13 @@ record IsMade (source : Source) (parts : PartsFields) : Type 0 where
   formed : is_well_formed (parts_of source) ≡ true
   parts_are : parts_of source ≡ parts
 
-made_by : (source : Source) (parts : PartsFields) (refusal : Option Refusal) (b : Bool) → refusal_of source ≡ refusal → is_well_formed (parts_of source) ≡ b
+made_by : (source : Source) (parts : PartsFields) (refusal : Option AlmRefusal) (b : Bool) → refusal_of source ≡ refusal → is_well_formed (parts_of source) ≡ b
     → assembled_by source refusal ≡ Ok parts → made (parts_of source) (last_line 1 source.lines) b ≡ Ok parts → IsMade source parts
 made_by source parts (Some refusal) b r f e g = absurd cc
 made_by source parts None true r f e g = record { none = r; formed = f; parts_are = cc }
 made_by source parts None false r f e g = absurd cc
 
-shown : (source : Source) (parts : PartsFields) (refusal : Option Refusal) → refusal_of source ≡ refusal → assembled_by source refusal ≡ Ok parts → IsMade source parts
+shown : (source : Source) (parts : PartsFields) (refusal : Option AlmRefusal) → refusal_of source ≡ refusal → assembled_by source refusal ≡ Ok parts → IsMade source parts
 shown source parts (Some refusal) r e = absurd cc
 shown source parts None r e = made_by source parts None (is_well_formed (parts_of source)) r refl e e
 

@@ -14,7 +14,7 @@ use Rattle.alm_asm.specs.LineRefusals.{lines_refusal}
 use Rattle.alm_asm.specs.Growth.{at_first, growth_refusal}
 use Rattle.alm_asm.specs.declared.tables.Tables.{Tables}
 use Rattle.alm_asm.specs.Assembly.{tables_of, refusal_in, refusal_of, unless_refused, parts_with, last_line, made, assembled_by, assembled}
-use Rattle.alm_lines.specs.declared.refusal.Refusal.{Refusal}
+use Rattle.alm_lines.specs.declared.refusal.AlmRefusal.{AlmRefusal}
 
 -- a fault is that of the definition
 pub refuses : {A : Type 0} (f : AlmFault) (definition : Result A AlmFault) → definition ≡ Err f → Refuses f definition
@@ -30,14 +30,14 @@ refuses NoMemory definition e = tt
 
 -- ---- tables
 
-refusal_found : (text : List ℕ) (lines : List Line36) (tables : Tables) (found refused : Option Refusal)
+refusal_found : (text : List ℕ) (lines : List Line36) (tables : Tables) (found refused : Option AlmRefusal)
     → tables ≡ tables_of text lines → found ≡ layout_refusal text None [] start lines
     → refused ≡ sooner (sooner found (lines_refusal text tables [] start lines)) (growth_refusal text tables.symbols at_first start lines)
     → refused ≡ refusal_in text lines
 refusal_found text lines tables found refused t f r =
     r ∙ (λ i. sooner (sooner (f i) (lines_refusal text (t i) [] start lines)) (growth_refusal text (t i).symbols at_first start lines))
 
-pub tells_tables : (text : List ℕ) (lines : List Line36) (tables : Tables) (found refused : Option Refusal)
+pub tells_tables : (text : List ℕ) (lines : List Line36) (tables : Tables) (found refused : Option AlmRefusal)
     → tables ≡ tables_of text lines → found ≡ layout_refusal text None [] start lines
     → refused ≡ sooner (sooner found (lines_refusal text tables [] start lines)) (growth_refusal text tables.symbols at_first start lines)
     → refused ≡ None
@@ -46,7 +46,7 @@ tells_tables text lines tables found refused t f r none =
     ap (unless_refused text lines) (sym (refusal_found text lines tables found refused t f r) ∙ none)
     ∙ ap (λ (whole : Tables). Ok whole) (sym t)
 
-pub tells_refusal : (text : List ℕ) (lines : List Line36) (tables : Tables) (found refused : Option Refusal) (refusal : Refusal) (fault : AlmFault)
+pub tells_refusal : (text : List ℕ) (lines : List Line36) (tables : Tables) (found refused : Option AlmRefusal) (refusal : AlmRefusal) (fault : AlmFault)
     → tables ≡ tables_of text lines → found ≡ layout_refusal text None [] start lines
     → refused ≡ sooner (sooner found (lines_refusal text tables [] start lines)) (growth_refusal text tables.symbols at_first start lines)
     → refused ≡ Some refusal → fault ≡ fault_of refusal
@@ -55,7 +55,7 @@ tells_refusal text lines tables found refused refusal fault t f r some is =
     refuses fault (unless_refused text lines (refusal_in text lines))
     (ap (unless_refused text lines) (sym (refusal_found text lines tables found refused t f r) ∙ some) ∙ ap (λ (why : AlmFault). Err why) (sym is))
 
-pub ruleset telling = (tells_tables, tells_refusal)
+pub ruleset refuses_or_tables = (tells_tables, tells_refusal)
 
 -- ---- the object of tables
 
@@ -65,7 +65,7 @@ made_by text lines (Ok tables) =
     made (parts_with text tables lines) (last_line 1 lines) (is_well_formed (parts_with text tables lines))
 made_by text lines (Err fault) = Err fault
 
-by_refusal : (source : Source) (refused : Option Refusal)
+by_refusal : (source : Source) (refused : Option AlmRefusal)
     → made_by source.text source.lines (unless_refused source.text source.lines refused) ≡ assembled_by source refused
 unfolding made_by
 by_refusal source None = refl

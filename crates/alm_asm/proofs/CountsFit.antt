@@ -4,52 +4,52 @@ use Rattle.std.proofs.Common.{◌≡◌, ℕ, ◌%◌, ◌≤◌, Bool, true, fa
 use Rattle.std.proofs.lemmas.Bool.{ltb-false}
 use Rattle.alm_parse.specs.declared.args.Arg.{Arg}
 use Rattle.alm_parse.specs.declared.line.Line36.{Line36}
-use Rattle.alm_parse.specs.declared.deed.Deed.{Deed}
-use Rattle.alm_parse.specs.declared.deed.Deed.TheVariants as deed
+use Rattle.alm_parse.specs.declared.deed.LineEffect.{LineEffect}
+use Rattle.alm_parse.specs.declared.deed.LineEffect.TheVariants as deed
 use Rattle.obj36_parts.specs.ObjectSegment.{section_limit}
 use Rattle.obj36_parts.specs.declared.section.Section.{Section}
 use Rattle.obj36_parts.specs.declared.section.Section.TheVariants.{Text, Linkage, Symbol, Static}
 use Rattle.alm_lines.specs.Arguments.{first_arg, second_arg, symbol_in, number_in, words_of_args, section_in}
-use Rattle.alm_lines.specs.Spots.{start, count_in, count, place, here, grown_in, entered, moved_by, below, end_of}
-use Rattle.alm_lines.specs.SpotFields.{Spot}
+use Rattle.alm_lines.specs.Spots.{start, count_in, count, place, here, grown_in, selected, moved_by, below, end_of}
+use Rattle.alm_lines.specs.SpotFields.{LocationCounter}
 use Rattle.alm_lines.specs.Refusals.{sooner, refusal_at}
 use Rattle.alm_lines.specs.Layout.{labels_refused, refused_with, labelled, over, symbols_after, refused_after, layout_refusal}
 use Rattle.alm_lines.specs.declared.sum.Sum.{Sum}
-use Rattle.alm_lines.specs.declared.refusal.Refusal.{Refusal}
-use Rattle.alm_lines.specs.declared.refusal.Code.TheVariants.{E8}
+use Rattle.alm_lines.specs.declared.refusal.AlmRefusal.{AlmRefusal}
+use Rattle.alm_lines.specs.declared.refusal.AlmCode.TheVariants.{E8}
 use Rattle.alm_asm.proofs.Unrefused.{sooner_none}
 use Rattle.alm_asm.proofs.SymbolsMean.{layout_first}
 
 -- at most this many words in each section
-pub record AreShort (spot : Spot) : Type 0 where
+pub record AreShort (spot : LocationCounter) : Type 0 where
   pub text : spot.text ≤ section_limit
   pub inner : spot.inner ≤ section_limit
   pub outer : spot.outer ≤ section_limit
 
 -- The section of a line is the only one that grows with it.
-grown_short : (section : Section) (spot : Spot) (n : ℕ) → count_in section (grown_in section spot n) ≤ section_limit → AreShort spot → AreShort (grown_in section spot n)
+grown_short : (section : Section) (spot : LocationCounter) (n : ℕ) → count_in section (grown_in section spot n) ≤ section_limit → AreShort spot → AreShort (grown_in section spot n)
 grown_short Text spot n h at = record { text = h; inner = at.inner; outer = at.outer }
 grown_short Linkage spot n h at = record { text = at.text; inner = h; outer = at.outer }
 grown_short Symbol spot n h at = at
 grown_short Static spot n h at = record { text = at.text; inner = at.inner; outer = h }
 
-grown_stays : (section : Section) (spot : Spot) (n : ℕ) → (grown_in section spot n).section ≡ spot.section
+grown_stays : (section : Section) (spot : LocationCounter) (n : ℕ) → (grown_in section spot n).section ≡ spot.section
 grown_stays Text spot n = refl
 grown_stays Linkage spot n = refl
 grown_stays Symbol spot n = refl
 grown_stays Static spot n = refl
 
-placed_short : (spot : Spot) (n : ℕ) → count (grown_in spot.section spot n) ≤ section_limit → AreShort spot → AreShort (grown_in spot.section spot n)
+placed_short : (spot : LocationCounter) (n : ℕ) → count (grown_in spot.section spot n) ≤ section_limit → AreShort spot → AreShort (grown_in spot.section spot n)
 placed_short spot n h at =
     grown_short spot.section spot n (subst (λ (s : Section). count_in s (grown_in spot.section spot n) ≤ section_limit) (grown_stays spot.section spot n) h) at
 
-entered_short : (spot : Spot) (named : Section) → AreShort spot → AreShort (entered spot named)
+entered_short : (spot : LocationCounter) (named : Section) → AreShort spot → AreShort (selected spot named)
 entered_short spot Text at = record { text = at.text; inner = at.inner; outer = at.outer }
 entered_short spot Linkage at = record { text = at.text; inner = at.inner; outer = at.outer }
 entered_short spot Symbol at = at
 entered_short spot Static at = record { text = at.text; inner = at.inner; outer = at.outer }
 
-moved_short : (text : List ℕ) (d : Deed) (arguments : List Arg) (spot : Spot) → count (moved_by text d arguments spot) ≤ section_limit → AreShort spot → AreShort (moved_by text d arguments spot)
+moved_short : (text : List ℕ) (d : LineEffect) (arguments : List Arg) (spot : LocationCounter) → count (moved_by text d arguments spot) ≤ section_limit → AreShort spot → AreShort (moved_by text d arguments spot)
 moved_short text deed.Nothing arguments spot h at = at
 moved_short text (deed.Instruction code bit27) arguments spot h at = placed_short spot 1 h at
 moved_short text deed.Entry arguments spot h at = at
@@ -62,11 +62,11 @@ moved_short text deed.Block arguments spot h at = placed_short spot (number_in (
 moved_short text deed.Even arguments spot h at = placed_short spot (place spot % 2) h at
 moved_short text deed.Bound arguments spot h at = at
 
-not_over_by : (b : Bool) (refusal : Refusal) → cond b (Some refusal) None ≡ None → b ≡ false
+not_over_by : (b : Bool) (refusal : AlmRefusal) → cond b (Some refusal) None ≡ None → b ≡ false
 not_over_by true refusal e = absurd (true≢false (ap is_some e))
 not_over_by false refusal e = refl
 
-count_fits : (text : List ℕ) (first : Option Refusal) (symbols : List (List ℕ × Sum)) (spot : Spot) (line : Line36) → refused_after text first symbols spot line ≡ None
+count_fits : (text : List ℕ) (first : Option AlmRefusal) (symbols : List (List ℕ × Sum)) (spot : LocationCounter) (line : Line36) → refused_after text first symbols spot line ≡ None
     → count (below text spot line) ≤ section_limit
 unfolding refused_after over
 count_fits text first symbols spot line e =
@@ -75,11 +75,11 @@ count_fits text first symbols spot line e =
     let long = (sooner_none others (over line (below text spot line)) e).1 in
     ltb-false section_limit words (not_over_by (ltb section_limit words) (refusal_at line line.start E8) long)
 
-below_short : (text : List ℕ) (spot : Spot) (line : Line36) → count (below text spot line) ≤ section_limit → AreShort spot → AreShort (below text spot line)
+below_short : (text : List ℕ) (spot : LocationCounter) (line : Line36) → count (below text spot line) ≤ section_limit → AreShort spot → AreShort (below text spot line)
 unfolding below
 below_short text spot line h at = moved_short text line.deed line.args spot h at
 
-end_short : (text : List ℕ) (first : Option Refusal) (symbols : List (List ℕ × Sum)) (spot : Spot) (lines : List Line36) → layout_refusal text first symbols spot lines ≡ None
+end_short : (text : List ℕ) (first : Option AlmRefusal) (symbols : List (List ℕ × Sum)) (spot : LocationCounter) (lines : List Line36) → layout_refusal text first symbols spot lines ≡ None
     → AreShort spot → AreShort (end_of text spot lines)
 unfolding layout_refusal end_of
 end_short text first symbols spot [] e at = at

@@ -22,10 +22,10 @@ use Rattle.alm_lines.specs.Sums.{no_sum}
 use Rattle.alm_lines.specs.Symbols.{sum_named, with_symbol}
 use Rattle.alm_lines.specs.Arguments.{name_at, first_arg}
 use Rattle.alm_lines.specs.Spots.{below}
-use Rattle.alm_lines.specs.SpotFields.{Spot}
+use Rattle.alm_lines.specs.SpotFields.{LocationCounter}
 use Rattle.alm_lines.specs.Refusals.{sooner}
 use Rattle.alm_lines.specs.declared.sum.Sum.{Sum}
-use Rattle.alm_lines.specs.declared.refusal.Refusal.{Refusal}
+use Rattle.alm_lines.specs.declared.refusal.AlmRefusal.{AlmRefusal}
 use Rattle.alm_asm.specs.Links.{operand_args, link_in, links_from}
 use Rattle.alm_asm.specs.Definitions.{named, named_by, gives_entries, definitions_by, definitions_after, definitions_from, is_taken, sum_refusal, taken_refusal, name_refusal, arg_refusal, names_refused, definitions_refused}
 use Rattle.alm_asm.specs.Definitions.{with_names as definitions_with}
@@ -234,7 +234,7 @@ unfolding name_refusal named
 hold_name text symbols line is_entry ds g span e at =
     let name = name_at text span in
     let free = sum_none line span.from is_entry (sum_named (name_at text span) symbols) (is_taken ds (name_at text span)) e in
-    subst (λ (r : Option Refusal). Holds (ds ++ named text symbols is_entry span ∷ []) (with_unrefused r g (name_at text span))) (sym free)
+    subst (λ (r : Option AlmRefusal). Holds (ds ++ named text symbols is_entry span ∷ []) (with_unrefused r g (name_at text span))) (sym free)
     (hold_definition ds (named text symbols is_entry span) g (with_definition g name) (a_definition g name) (definition_follows g name).links at)
 
 hold_arg : (text : List ℕ) (symbols : List (List ℕ × Sum)) (line : Line36) (is_entry : Bool) (ds : List Named) (g : Growth) (given : Arg)
@@ -245,7 +245,7 @@ hold_arg text symbols line is_entry ds g (arg.Chars words) e at = hold_nothing d
 hold_arg text symbols line is_entry ds g (arg.Plain terms) e at = hold_nothing ds g at
 hold_arg text symbols line is_entry ds g (arg.Operand pr segment entry terms tag) e at = hold_nothing ds g at
 
-hold_args : (text : List ℕ) (symbols : List (List ℕ × Sum)) (line : Line36) (is_entry : Bool) (ds : List Named) (g : Growth) (first : Option Refusal) (arguments : List Arg)
+hold_args : (text : List ℕ) (symbols : List (List ℕ × Sum)) (line : Line36) (is_entry : Bool) (ds : List Named) (g : Growth) (first : Option AlmRefusal) (arguments : List Arg)
     → names_refused text symbols line is_entry ds first arguments ≡ None → Holds ds g
     → Holds (definitions_with text symbols is_entry ds arguments) (with_args text symbols line is_entry g arguments)
 unfolding names_refused definitions_with with_args
@@ -294,7 +294,7 @@ marked_holds : (ds : List Named) (g : Growth) (symbol : ℕ) → Holds ds g → 
 unfolding words_of
 marked_holds ds g symbol at = record { words = at.words; defined = at.defined; both = at.both; linked = at.linked }
 
-line_holds : (text : List ℕ) (symbols : List (List ℕ × Sum)) (spot : Spot) (line : Line36) (ds : List Named) (g : Growth)
+line_holds : (text : List ℕ) (symbols : List (List ℕ × Sum)) (spot : LocationCounter) (line : Line36) (ds : List Named) (g : Growth)
     → definitions_refused text symbols line ds None line.args (gives_entries line.deed) ≡ None → Holds ds g
     → Holds (definitions_after text symbols ds line) (grown_by text symbols spot g line)
 unfolding definitions_after grown_by with_marks
@@ -306,7 +306,7 @@ line_holds text symbols spot line ds g e at =
     marked_holds after linked (linked.symbol + marks_count text symbols spot line.args line.deed)
     (link_holds after named given (hold_definitions text symbols line ds g (gives_entries line.deed) e at))
 
-lines_hold : (text : List ℕ) (tables : Tables) (ds : List Named) (g : Growth) (spot : Spot) (lines : List Line36) → lines_refusal text tables ds spot lines ≡ None → Holds ds g
+lines_hold : (text : List ℕ) (tables : Tables) (ds : List Named) (g : Growth) (spot : LocationCounter) (lines : List Line36) → lines_refusal text tables ds spot lines ≡ None → Holds ds g
     → Holds (definitions_from text tables.symbols ds lines) (growth_from text tables.symbols g spot lines)
 unfolding definitions_from growth_from
 lines_hold text tables ds g spot [] e at = at
@@ -346,7 +346,7 @@ holds_words ds g at distinct =
     omega arith
 
 -- The definition section has at most as many words as are counted.
-pub definitions_counted : (text : List ℕ) (tables : Tables) (spot : Spot) (lines : List Line36) → lines_refusal text tables [] spot lines ≡ None
+pub definitions_counted : (text : List ℕ) (tables : Tables) (spot : LocationCounter) (lines : List Line36) → lines_refusal text tables [] spot lines ≡ None
     → are_distinct (definition_names (definitions_from text tables.symbols [] lines)) ≡ true
     → 2 + 2 * length (definitions_from text tables.symbols [] lines) + 2 * length (links_from text tables.symbols [] spot lines)
     + names_length (definition_names (definitions_from text tables.symbols [] lines) ++ all_link_names (links_from text tables.symbols [] spot lines))

@@ -15,9 +15,9 @@ use Rattle.alm_lines.specs.Refusals.{sooner}
 use Rattle.alm_asm.specs.Definitions.{named, named_by, with_names, gives_entries, definitions_by, definitions_after, definitions_from, is_taken, taken_refusal, name_refusal, arg_refusal, names_refused, definitions_refused}
 use Rattle.alm_asm.specs.LineRefusals.{lines_refusal}
 use Rattle.alm_lines.specs.declared.sum.Sum.{Sum}
-use Rattle.alm_lines.specs.SpotFields.{Spot}
+use Rattle.alm_lines.specs.SpotFields.{LocationCounter}
 use Rattle.alm_asm.specs.declared.tables.Tables.{Tables}
-use Rattle.alm_lines.specs.declared.refusal.Refusal.{Refusal}
+use Rattle.alm_lines.specs.declared.refusal.AlmRefusal.{AlmRefusal}
 use Rattle.obj36_parts.proofs.SizeLaws.{any_definition, definition_names-append}
 use Rattle.alm_asm.proofs.NamesCounted.{distinct_pushed as name_pushed}
 use Rattle.alm_asm.proofs.Unrefused.{sooner_none, names_first, line_parts, head_line, other_lines}
@@ -50,7 +50,7 @@ arg_pushed text symbols line is_entry done (arg.Chars words) e d = nothing_pushe
 arg_pushed text symbols line is_entry done (arg.Plain terms) e d = nothing_pushed done d
 arg_pushed text symbols line is_entry done (arg.Operand pr segment entry terms tag) e d = nothing_pushed done d
 
-args_pushed : (text : List ℕ) (symbols : List (List ℕ × Sum)) (line : Line36) (is_entry : Bool) (done : List Named) (first : Option Refusal) (arguments : List Arg)
+args_pushed : (text : List ℕ) (symbols : List (List ℕ × Sum)) (line : Line36) (is_entry : Bool) (done : List Named) (first : Option AlmRefusal) (arguments : List Arg)
     → names_refused text symbols line is_entry done first arguments ≡ None → are_distinct (definition_names done) ≡ true
     → are_distinct (definition_names (with_names text symbols is_entry done arguments)) ≡ true
 unfolding names_refused with_names
@@ -60,19 +60,19 @@ args_pushed text symbols line is_entry done first (given ∷ arguments) e d =
     let own = (sooner_none first (arg_refusal text symbols line is_entry done given) none).1 in
     args_pushed text symbols line is_entry (done ++ named_by text symbols is_entry given) (sooner first (arg_refusal text symbols line is_entry done given)) arguments e (arg_pushed text symbols line is_entry done given own d)
 
-line_pushed : (text : List ℕ) (symbols : List (List ℕ × Sum)) (line : Line36) (done : List Named) (first : Option Refusal) (gives : Option Bool)
+line_pushed : (text : List ℕ) (symbols : List (List ℕ × Sum)) (line : Line36) (done : List Named) (first : Option AlmRefusal) (gives : Option Bool)
     → definitions_refused text symbols line done first line.args gives ≡ None → are_distinct (definition_names done) ≡ true
     → are_distinct (definition_names (definitions_by text symbols done line.args gives)) ≡ true
 line_pushed text symbols line done first None e d = d
 line_pushed text symbols line done first (Some is_entry) e d = args_pushed text symbols line is_entry done first line.args e d
 
-after_pushed : (text : List ℕ) (symbols : List (List ℕ × Sum)) (line : Line36) (done : List Named) (first : Option Refusal)
+after_pushed : (text : List ℕ) (symbols : List (List ℕ × Sum)) (line : Line36) (done : List Named) (first : Option AlmRefusal)
     → definitions_refused text symbols line done first line.args (gives_entries line.deed) ≡ None → are_distinct (definition_names done) ≡ true
     → are_distinct (definition_names (definitions_after text symbols done line)) ≡ true
 unfolding definitions_after
 after_pushed text symbols line done first e d = line_pushed text symbols line done first (gives_entries line.deed) e d
 
-pub distinct : (text : List ℕ) (tables : Tables) (done : List Named) (spot : Spot) (lines : List Line36)
+pub distinct : (text : List ℕ) (tables : Tables) (done : List Named) (spot : LocationCounter) (lines : List Line36)
     → lines_refusal text tables done spot lines ≡ None → are_distinct (definition_names done) ≡ true
     → are_distinct (definition_names (definitions_from text tables.symbols done lines)) ≡ true
 unfolding definitions_from

@@ -6,8 +6,8 @@ use Rattle.alm_tokens.specs.declared.span.Span.{Span}
 use Rattle.alm_tokens.specs.declared.expression.Term.{Term}
 use Rattle.alm_parse.specs.declared.args.Arg.{Arg}
 use Rattle.alm_parse.specs.declared.args.Arg.TheVariants as arg
-use Rattle.alm_parse.specs.declared.deed.Deed.{Deed}
-use Rattle.alm_parse.specs.declared.deed.Deed.TheVariants as deed
+use Rattle.alm_parse.specs.declared.deed.LineEffect.{LineEffect}
+use Rattle.alm_parse.specs.declared.deed.LineEffect.TheVariants as deed
 use Rattle.alm_parse.specs.declared.line.Line36.{Line36}
 use Rattle.alm_parse.specs.Bodies.{own_section}
 use Rattle.obj36_parts.specs.Fields.{LinkFields}
@@ -16,9 +16,9 @@ use Rattle.obj36_parts.specs.Sections.{is_text_section}
 use Rattle.alm_lines.specs.Arguments.{first_arg}
 use Rattle.alm_lines.specs.Spots.{start, end_of}
 use Rattle.alm_lines.specs.Refusals.{sooner, refusal_at}
-use Rattle.alm_lines.specs.SpotFields.{Spot}
-use Rattle.alm_lines.specs.declared.refusal.Code.TheVariants.{E7}
-use Rattle.alm_lines.specs.declared.refusal.Room.TheVariants.{Half}
+use Rattle.alm_lines.specs.SpotFields.{LocationCounter}
+use Rattle.alm_lines.specs.declared.refusal.AlmCode.TheVariants.{E7}
+use Rattle.alm_lines.specs.declared.refusal.ValueField.TheVariants.{Half}
 use Rattle.alm_asm.specs.Links.{link_of, operand_args, link_in, links_from}
 use Rattle.alm_asm.specs.LineRefusals.{unless, op_place, external_place, may_name, link_expression, reaches, external_refusal, operand_refusal, refusal_of_deed, lines_refusal}
 use Rattle.alm_asm.specs.Assembles.{is_external}
@@ -28,7 +28,7 @@ use Rattle.alm_asm.proofs.Unrefused.{sooner_none, line_below}
 use Rattle.alm_asm.proofs.Valued.{AreKnown, valued}
 
 -- if an external operand is not refused, its expression is not
-pub expression_none : (text : List ℕ) (tables : Tables) (spot : Spot) (line : Line36) (segment : Span) (entry : Option Span) (terms : List Term) (tag : ℕ)
+pub expression_none : (text : List ℕ) (tables : Tables) (spot : LocationCounter) (line : Line36) (segment : Span) (entry : Option Span) (terms : List Term) (tag : ℕ)
     → external_refusal text tables spot line segment entry terms tag ≡ None → link_expression text tables.symbols spot line segment entry terms ≡ None
 expression_none text tables spot line segment entry terms tag none =
     let at = refusal_at line segment.from E7 in
@@ -38,7 +38,7 @@ expression_none text tables spot line segment entry terms tag none =
     (sooner_none said reached (sooner_none (sooner said reached) named none).0).0
 
 -- the link of an external operand that is not refused
-given_link : (text : List ℕ) (tables : Tables) (spot : Spot) (line : Line36) (given : Option Arg) → AreKnown tables.symbols → operand_refusal text tables spot line given ≡ None
+given_link : (text : List ℕ) (tables : Tables) (spot : LocationCounter) (line : Line36) (given : Option Arg) → AreKnown tables.symbols → operand_refusal text tables spot line given ≡ None
     → is_external given ≡ true → (link : LinkFields) × (link_in text tables.symbols spot given ≡ Some link)
 given_link text tables spot line (Some (arg.Symbol span)) known none e = absurd (true≢false (sym e))
 given_link text tables spot line (Some (arg.Number word)) known none e = absurd (true≢false (sym e))
@@ -53,7 +53,7 @@ given_link text tables spot line (Some (arg.Operand pr (Some segment) entry term
 given_link text tables spot line None known none e = absurd (true≢false (sym e))
 
 -- if a line is not refused, its operand is not
-operand_none : (text : List ℕ) (tables : Tables) (spot : Spot) (line : Line36) (d : Deed) → refusal_of_deed text tables spot line d ≡ None
+operand_none : (text : List ℕ) (tables : Tables) (spot : LocationCounter) (line : Line36) (d : LineEffect) → refusal_of_deed text tables spot line d ≡ None
     → operand_refusal text tables spot line (first_arg (operand_args d line.args)) ≡ None
 operand_none text tables spot line deed.Nothing e = refl
 operand_none text tables spot line (deed.Instruction code bit27) e =

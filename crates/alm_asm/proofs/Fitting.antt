@@ -9,20 +9,20 @@ use Rattle.alm_parse.specs.declared.args.Arg.{Arg}
 use Rattle.alm_parse.specs.declared.line.Line36.{Line36}
 use Rattle.obj36_parts.specs.declared.section.Section.{Section}
 use Rattle.obj36_parts.specs.declared.section.Section.TheVariants.{Text, Linkage, Symbol, Static}
-use Rattle.alm_lines.specs.Sums.{no_sum, sum_plus, sum_turned, kind_of, is_even, is_one}
+use Rattle.alm_lines.specs.Sums.{no_sum, sum_plus, sum_turned, kind_of, is_zero, is_one}
 use Rattle.alm_lines.specs.Symbols.{sum_named}
 use Rattle.alm_lines.specs.Arguments.{name_at, first_arg, second_arg, symbol_in, terms_in, section_in}
-use Rattle.alm_lines.specs.Spots.{start, here_in, here, place, grown_in, entered, size_of, moved_by, below, end_of}
+use Rattle.alm_lines.specs.Spots.{start, here_in, here, place, grown_in, selected, size_of, moved_by, below, end_of}
 use Rattle.alm_lines.specs.Expressions.{symbol_sum, atom_sum, term_sum, added, sum_of}
 use Rattle.alm_lines.specs.Refusals.{has_value}
 use Rattle.alm_lines.specs.Layout.{value_by, value_of, own_symbol, own_sum, symbols_with, labelled, symbols_after, symbols_from}
 use Rattle.alm_lines.specs.declared.sum.Sum.{Sum}
 use Rattle.alm_lines.specs.declared.sum.Kind.{Kind}
-use Rattle.alm_lines.specs.declared.sum.Kind.TheVariants.{Absolute, Moved, Unsaid}
-use Rattle.alm_lines.specs.SpotFields.{Spot}
-use Rattle.alm_parse.specs.declared.deed.Deed.{Deed}
-use Rattle.alm_parse.specs.declared.deed.Deed.TheVariants as deed
-use Rattle.alm_lines.specs.declared.refusal.Room.TheVariants.{Half}
+use Rattle.alm_lines.specs.declared.sum.Kind.TheVariants.{Absolute, Moved, Inexpressible}
+use Rattle.alm_lines.specs.SpotFields.{LocationCounter}
+use Rattle.alm_parse.specs.declared.deed.LineEffect.{LineEffect}
+use Rattle.alm_parse.specs.declared.deed.LineEffect.TheVariants as deed
+use Rattle.alm_lines.specs.declared.refusal.ValueField.TheVariants.{Half}
 use Rattle.alm_asm.specs.LineRefusals.{is_static}
 use Rattle.alm_asm.proofs.EachSymbol.{Each, each_of_none, each_with_labels, each_with_own}
 
@@ -34,35 +34,35 @@ AllFit outer symbols = Each (Fits outer) symbols
 
 -- ---- places of lines
 
-grown_uses : (section : Section) (spot : Spot) (n : ℕ) → (grown_in section spot n).uses_outer ≡ spot.uses_outer
+grown_uses : (section : Section) (spot : LocationCounter) (n : ℕ) → (grown_in section spot n).uses_outer ≡ spot.uses_outer
 grown_uses Text spot n = refl
 grown_uses Linkage spot n = refl
 grown_uses Symbol spot n = refl
 grown_uses Static spot n = refl
 
-grown_section : (section : Section) (spot : Spot) (n : ℕ) → (grown_in section spot n).section ≡ spot.section
+grown_section : (section : Section) (spot : LocationCounter) (n : ℕ) → (grown_in section spot n).section ≡ spot.section
 grown_section Text spot n = refl
 grown_section Linkage spot n = refl
 grown_section Symbol spot n = refl
 grown_section Static spot n = refl
 
-entered_uses : (spot : Spot) (named : Section) → spot.uses_outer ≡ true → (entered spot named).uses_outer ≡ true
+entered_uses : (spot : LocationCounter) (named : Section) → spot.uses_outer ≡ true → (selected spot named).uses_outer ≡ true
 entered_uses spot Text e = e
 entered_uses spot Linkage e = e
 entered_uses spot Symbol e = e
 entered_uses spot Static e = refl
 
-entered_keeps : (spot : Spot) (named : Section) → (is_static spot.section ≡ true → spot.uses_outer ≡ true) → is_static (entered spot named).section ≡ true → (entered spot named).uses_outer ≡ true
+entered_keeps : (spot : LocationCounter) (named : Section) → (is_static spot.section ≡ true → spot.uses_outer ≡ true) → is_static (selected spot named).section ≡ true → (selected spot named).uses_outer ≡ true
 entered_keeps spot Text h e = absurd (true≢false (sym e))
 entered_keeps spot Linkage h e = absurd (true≢false (sym e))
 entered_keeps spot Symbol h e = h e
 entered_keeps spot Static h e = refl
 
-grown_keeps : (section : Section) (spot : Spot) (n : ℕ) → (is_static spot.section ≡ true → spot.uses_outer ≡ true)
+grown_keeps : (section : Section) (spot : LocationCounter) (n : ℕ) → (is_static spot.section ≡ true → spot.uses_outer ≡ true)
     → is_static (grown_in section spot n).section ≡ true → (grown_in section spot n).uses_outer ≡ true
 grown_keeps section spot n h e = grown_uses section spot n ∙ h (sym (ap is_static (grown_section section spot n)) ∙ e)
 
-moved_uses : (text : List ℕ) (d : Deed) (arguments : List Arg) (spot : Spot) → spot.uses_outer ≡ true → (moved_by text d arguments spot).uses_outer ≡ true
+moved_uses : (text : List ℕ) (d : LineEffect) (arguments : List Arg) (spot : LocationCounter) → spot.uses_outer ≡ true → (moved_by text d arguments spot).uses_outer ≡ true
 moved_uses text deed.Nothing arguments spot e = e
 moved_uses text (deed.Instruction code bit27) arguments spot e = grown_uses spot.section spot 1 ∙ e
 moved_uses text deed.Entry arguments spot e = e
@@ -75,7 +75,7 @@ moved_uses text deed.Block arguments spot e = grown_uses spot.section spot (size
 moved_uses text deed.Even arguments spot e = grown_uses spot.section spot (size_of deed.Even arguments (place spot)) ∙ e
 moved_uses text deed.Bound arguments spot e = e
 
-moved_keeps : (text : List ℕ) (d : Deed) (arguments : List Arg) (spot : Spot) → (is_static spot.section ≡ true → spot.uses_outer ≡ true)
+moved_keeps : (text : List ℕ) (d : LineEffect) (arguments : List Arg) (spot : LocationCounter) → (is_static spot.section ≡ true → spot.uses_outer ≡ true)
     → is_static (moved_by text d arguments spot).section ≡ true → (moved_by text d arguments spot).uses_outer ≡ true
 moved_keeps text deed.Nothing arguments spot h = h
 moved_keeps text (deed.Instruction code bit27) arguments spot h = grown_keeps spot.section spot 1 h
@@ -89,21 +89,21 @@ moved_keeps text deed.Block arguments spot h = grown_keeps spot.section spot (si
 moved_keeps text deed.Even arguments spot h = grown_keeps spot.section spot (size_of deed.Even arguments (place spot)) h
 moved_keeps text deed.Bound arguments spot h = h
 
-pub end_uses : (text : List ℕ) (spot : Spot) (lines : List Line36) → spot.uses_outer ≡ true → (end_of text spot lines).uses_outer ≡ true
+pub end_uses : (text : List ℕ) (spot : LocationCounter) (lines : List Line36) → spot.uses_outer ≡ true → (end_of text spot lines).uses_outer ≡ true
 unfolding end_of below
 end_uses text spot [] e = e
 end_uses text spot (line ∷ lines) e = end_uses text (below text spot line) lines (moved_uses text line.deed line.args spot e)
 
 -- Lines at a place. At their end it is known whether a line has selected the static section.
-pub record StandAt (text : List ℕ) (outer : Bool) (spot : Spot) (lines : List Line36) : Type 0 where
+pub record StandAt (text : List ℕ) (outer : Bool) (spot : LocationCounter) (lines : List Line36) : Type 0 where
   pub kept : is_static spot.section ≡ true → spot.uses_outer ≡ true
   pub ends : (end_of text spot lines).uses_outer ≡ outer
 
-pub others_stand : (text : List ℕ) (outer : Bool) (spot : Spot) (line : Line36) (lines : List Line36) → StandAt text outer spot (line ∷ lines) → StandAt text outer (below text spot line) lines
+pub others_stand : (text : List ℕ) (outer : Bool) (spot : LocationCounter) (line : Line36) (lines : List Line36) → StandAt text outer spot (line ∷ lines) → StandAt text outer (below text spot line) lines
 unfolding end_of below
 others_stand text outer spot line lines at = record { kept = moved_keeps text line.deed line.args spot at.kept; ends = at.ends }
 
-pub no_static : (text : List ℕ) (outer : Bool) (spot : Spot) (lines : List Line36) → StandAt text outer spot lines → outer ≡ false → is_static spot.section ≡ false
+pub no_static : (text : List ℕ) (outer : Bool) (spot : LocationCounter) (lines : List Line36) → StandAt text outer spot lines → outer ≡ false → is_static spot.section ≡ false
 no_static text outer spot lines at none = by (is_static spot.section) refl
   where
     by : (b : Bool) → is_static spot.section ≡ b → is_static spot.section ≡ false
@@ -112,7 +112,7 @@ no_static text outer spot lines at none = by (is_static spot.section) refl
 
 -- ---- sums
 
-pub here_fits : (outer : Bool) (section : Section) (spot : Spot) → (outer ≡ false → is_static section ≡ false) → Fits outer (here_in section spot)
+pub here_fits : (outer : Bool) (section : Section) (spot : LocationCounter) → (outer ≡ false → is_static section ≡ false) → Fits outer (here_in section spot)
 here_fits outer Text spot h none = refl
 here_fits outer Linkage spot h none = refl
 here_fits outer Symbol spot h none = refl
@@ -126,7 +126,7 @@ pub symbol_fits : (outer : Bool) (text : List ℕ) (symbols : List (List ℕ × 
 unfolding symbol_sum
 symbol_fits outer text symbols span all = unwrapped_fits outer (sum_named (name_at text span) symbols) (all (name_at text span))
 
-atom_fits : (outer : Bool) (text : List ℕ) (symbols : List (List ℕ × Sum)) (spot : Spot) (span : Span) (a : Atom) → AllFit outer symbols → (outer ≡ false → is_static spot.section ≡ false)
+atom_fits : (outer : Bool) (text : List ℕ) (symbols : List (List ℕ × Sum)) (spot : LocationCounter) (span : Span) (a : Atom) → AllFit outer symbols → (outer ≡ false → is_static spot.section ≡ false)
     → Fits outer (atom_sum text symbols spot span a)
 atom_fits outer text symbols spot span (atom.Number n) all h none = refl
 atom_fits outer text symbols spot span atom.Symbol all h none = symbol_fits outer text symbols span all none
@@ -137,7 +137,7 @@ unfolding sum_turned
 signed_fits outer true sum fits none = sym (fits none)
 signed_fits outer false sum fits none = fits none
 
-term_fits : (outer : Bool) (text : List ℕ) (symbols : List (List ℕ × Sum)) (spot : Spot) (term : Term) → AllFit outer symbols → (outer ≡ false → is_static spot.section ≡ false)
+term_fits : (outer : Bool) (text : List ℕ) (symbols : List (List ℕ × Sum)) (spot : LocationCounter) (term : Term) → AllFit outer symbols → (outer ≡ false → is_static spot.section ≡ false)
     → Fits outer (term_sum text symbols spot term)
 unfolding term_sum
 term_fits outer text symbols spot term all h =
@@ -147,14 +147,14 @@ plus_fits : (outer : Bool) (a b : Sum) → Fits outer a → Fits outer b → Fit
 unfolding sum_plus
 plus_fits outer a b f g none = λ i. f none i + g none i
 
-added_fits : (outer : Bool) (text : List ℕ) (symbols : List (List ℕ × Sum)) (spot : Spot) (sum : Sum) (terms : List Term) → AllFit outer symbols → (outer ≡ false → is_static spot.section ≡ false)
+added_fits : (outer : Bool) (text : List ℕ) (symbols : List (List ℕ × Sum)) (spot : LocationCounter) (sum : Sum) (terms : List Term) → AllFit outer symbols → (outer ≡ false → is_static spot.section ≡ false)
     → Fits outer sum → Fits outer (added text symbols spot sum terms)
 unfolding added
 added_fits outer text symbols spot sum [] all h fits = fits
 added_fits outer text symbols spot sum (term ∷ terms) all h fits =
     added_fits outer text symbols spot (sum_plus sum (term_sum text symbols spot term)) terms all h (plus_fits outer sum (term_sum text symbols spot term) fits (term_fits outer text symbols spot term all h))
 
-pub sum_fits : (outer : Bool) (text : List ℕ) (symbols : List (List ℕ × Sum)) (spot : Spot) (terms : List Term) → AllFit outer symbols → (outer ≡ false → is_static spot.section ≡ false)
+pub sum_fits : (outer : Bool) (text : List ℕ) (symbols : List (List ℕ × Sum)) (spot : LocationCounter) (terms : List Term) → AllFit outer symbols → (outer ≡ false → is_static spot.section ≡ false)
     → Fits outer (sum_of text symbols spot terms)
 sum_fits outer text symbols spot terms all h = added_fits outer text symbols spot no_sum terms all h (λ none. refl)
 
@@ -164,12 +164,12 @@ value_fits : (outer valued : Bool) (sum : Sum) → Fits outer (value_by valued s
 value_fits outer true sum none = refl
 value_fits outer false sum none = refl
 
-of_value_fits : (outer : Bool) (text : List ℕ) (symbols : List (List ℕ × Sum)) (spot : Spot) (line : Line36) → Fits outer (value_of text symbols spot line)
+of_value_fits : (outer : Bool) (text : List ℕ) (symbols : List (List ℕ × Sum)) (spot : LocationCounter) (line : Line36) → Fits outer (value_of text symbols spot line)
 unfolding value_of
 of_value_fits outer text symbols spot line =
     value_fits outer (has_value text symbols spot (terms_in (second_arg line.args)) Half false) (sum_of text symbols spot (terms_in (second_arg line.args)))
 
-own_sum_fits : (outer : Bool) (text : List ℕ) (symbols : List (List ℕ × Sum)) (spot : Spot) (line : Line36) (d : Deed) → (outer ≡ false → is_static spot.section ≡ false)
+own_sum_fits : (outer : Bool) (text : List ℕ) (symbols : List (List ℕ × Sum)) (spot : LocationCounter) (line : Line36) (d : LineEffect) → (outer ≡ false → is_static spot.section ≡ false)
     → Fits outer (own_sum text symbols spot line d)
 own_sum_fits outer text symbols spot line deed.Nothing h = here_fits outer spot.section spot h
 own_sum_fits outer text symbols spot line (deed.Instruction code bit27) h = here_fits outer spot.section spot h
@@ -183,7 +183,7 @@ own_sum_fits outer text symbols spot line deed.Block h = here_fits outer spot.se
 own_sum_fits outer text symbols spot line deed.Even h = here_fits outer spot.section spot h
 own_sum_fits outer text symbols spot line deed.Bound h = here_fits outer spot.section spot h
 
-line_fits : (outer : Bool) (text : List ℕ) (symbols : List (List ℕ × Sum)) (spot : Spot) (line : Line36) → AllFit outer symbols → (outer ≡ false → is_static spot.section ≡ false)
+line_fits : (outer : Bool) (text : List ℕ) (symbols : List (List ℕ × Sum)) (spot : LocationCounter) (line : Line36) → AllFit outer symbols → (outer ≡ false → is_static spot.section ≡ false)
     → AllFit outer (symbols_after text symbols spot line)
 unfolding symbols_after symbols_with
 line_fits outer text symbols spot line all h =
@@ -191,7 +191,7 @@ line_fits outer text symbols spot line all h =
     (each_with_labels (Fits outer) text (here spot) symbols line.labels all (here_fits outer spot.section spot h))
     (own_sum_fits outer text (labelled text symbols spot line) spot line line.deed h)
 
-lines_fit : (outer : Bool) (text : List ℕ) (symbols : List (List ℕ × Sum)) (spot : Spot) (lines : List Line36) → AllFit outer symbols → StandAt text outer spot lines
+lines_fit : (outer : Bool) (text : List ℕ) (symbols : List (List ℕ × Sum)) (spot : LocationCounter) (lines : List Line36) → AllFit outer symbols → StandAt text outer spot lines
     → AllFit outer (symbols_from text symbols spot lines)
 unfolding symbols_from
 lines_fit outer text symbols spot [] all at = all
@@ -212,9 +212,9 @@ good_kind outer (Moved Text) = true
 good_kind outer (Moved Linkage) = true
 good_kind outer (Moved Symbol) = false
 good_kind outer (Moved Static) = outer
-good_kind outer Unsaid = true
+good_kind outer Inexpressible = true
 
-kind_by : (outer a b c d : Bool) → (outer ≡ false → d ≡ false) → good_kind outer (cond a Absolute (cond b (Moved Text) (cond c (Moved Linkage) (cond d (Moved Static) Unsaid)))) ≡ true
+kind_by : (outer a b c d : Bool) → (outer ≡ false → d ≡ false) → good_kind outer (cond a Absolute (cond b (Moved Text) (cond c (Moved Linkage) (cond d (Moved Static) Inexpressible)))) ≡ true
 kind_by outer true b c d h = refl
 kind_by outer false true c d h = refl
 kind_by outer false false true d h = refl
@@ -225,6 +225,6 @@ kind_by outer false false false false h = refl
 pub kind_good : (outer : Bool) (s : Sum) → Fits outer s → good_kind outer (kind_of s) ≡ true
 unfolding kind_of
 kind_good outer s fits =
-    kind_by outer (is_even s.text && is_even s.inner && is_even s.outer) (is_one s.text && is_even s.inner && is_even s.outer) (is_even s.text && is_one s.inner && is_even s.outer) (is_even s.text && is_even s.inner && is_one s.outer)
+    kind_by outer (is_zero s.text && is_zero s.inner && is_zero s.outer) (is_one s.text && is_zero s.inner && is_zero s.outer) (is_zero s.text && is_one s.inner && is_zero s.outer) (is_zero s.text && is_zero s.inner && is_one s.outer)
     (λ none. let least : s.outer.up ≤ s.outer.down = (let e = fits none in omega arith) in
-    and_right (is_even s.text && is_even s.inner) (is_one s.outer) (and_left _ _ (le-ltb s.outer.down s.outer.up least)))
+    and_right (is_zero s.text && is_zero s.inner) (is_one s.outer) (and_left _ _ (le-ltb s.outer.down s.outer.up least)))

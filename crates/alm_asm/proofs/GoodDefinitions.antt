@@ -20,7 +20,7 @@ use Rattle.alm_asm.specs.Laws.{arg_is_named, args_are_named, lines_are_named}
 use Rattle.alm_lines.specs.declared.sum.Balance.{Balance}
 use Rattle.alm_lines.specs.declared.sum.Sum.{Sum}
 use Rattle.alm_lines.specs.declared.sum.Kind.{Kind}
-use Rattle.alm_lines.specs.declared.sum.Kind.TheVariants.{Absolute, Moved, Unsaid}
+use Rattle.alm_lines.specs.declared.sum.Kind.TheVariants.{Absolute, Moved, Inexpressible}
 use Rattle.alm_asm.proofs.Fitting.{AllFit, symbol_fits, good_kind, kind_good}
 
 pub half_small : (b : Balance) → half_of b < 2 ^ 18
@@ -33,13 +33,13 @@ class_good true (Moved Text) e = refl
 class_good true (Moved Linkage) e = refl
 class_good true (Moved Symbol) e = absurd (true≢false (sym e))
 class_good true (Moved Static) e = refl
-class_good true Unsaid e = refl
+class_good true Inexpressible e = refl
 class_good false Absolute e = refl
 class_good false (Moved Text) e = refl
 class_good false (Moved Linkage) e = refl
 class_good false (Moved Symbol) e = absurd (true≢false (sym e))
 class_good false (Moved Static) e = absurd (true≢false (sym e))
-class_good false Unsaid e = refl
+class_good false Inexpressible e = refl
 
 named_good : (outer : Bool) (text : List ℕ) (symbols : List (List ℕ × Sum)) (is_entry : Bool) (span : Span) → AllFit outer symbols → is_name (name_at text span) ≡ true
     → is_definition (version_of outer) (named text symbols is_entry span) ≡ true

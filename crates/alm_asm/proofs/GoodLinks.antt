@@ -28,12 +28,12 @@ use Rattle.obj36_parts.specs.Indexes.{same_link}
 use Rattle.alm_asm.specs.Definitions.{definitions_after}
 use Rattle.alm_asm.specs.LineRefusals.{unless, op_place, needs_static, may_name, link_expression, reaches, operand_refusal, refusal_of_deed, lines_refusal}
 use Rattle.alm_asm.specs.Laws.{segment_is_named, entry_is_named, args_are_named, lines_are_named}
-use Rattle.alm_lines.specs.SpotFields.{Spot}
+use Rattle.alm_lines.specs.SpotFields.{LocationCounter}
 use Rattle.alm_asm.specs.declared.tables.Tables.{Tables}
-use Rattle.alm_parse.specs.declared.deed.Deed.{Deed}
-use Rattle.alm_parse.specs.declared.deed.Deed.TheVariants as deed
-use Rattle.alm_lines.specs.declared.refusal.Code.TheVariants.{E7}
-use Rattle.alm_lines.specs.declared.refusal.Room.TheVariants.{Half}
+use Rattle.alm_parse.specs.declared.deed.LineEffect.{LineEffect}
+use Rattle.alm_parse.specs.declared.deed.LineEffect.TheVariants as deed
+use Rattle.alm_lines.specs.declared.refusal.AlmCode.TheVariants.{E7}
+use Rattle.alm_lines.specs.declared.refusal.ValueField.TheVariants.{Half}
 use Rattle.alm_asm.proofs.Unrefused.{sooner_none, unless_none, line_parts, head_line, other_lines}
 use Rattle.alm_asm.proofs.GoodDefinitions.{half_small}
 
@@ -81,7 +81,7 @@ link_by_parts false text (Some Static) name entry expr tag o n e x t = absurd (t
 tag_small : (tag : ℕ) → tag % 2 ^ 6 < 2 ^ 6
 tag_small tag = omega arith
 
-link_good : (text : List ℕ) (tables : Tables) (spot : Spot) (segment : Span) (entry : Option Span) (terms : List Term) (tag : ℕ) → may_name tables (own_section (slice_of text segment)) ≡ true
+link_good : (text : List ℕ) (tables : Tables) (spot : LocationCounter) (segment : Span) (entry : Option Span) (terms : List Term) (tag : ℕ) → may_name tables (own_section (slice_of text segment)) ≡ true
     → segment_is_named text (Some segment) ≡ true → entry_is_named text entry ≡ true → is_link (version_of tables.uses_outer) (link_of text tables.symbols spot segment entry terms tag) ≡ true
 unfolding link_of
 link_good text tables spot segment entry terms tag h n e =
@@ -101,7 +101,7 @@ valued_by version links link true all good = pushed_by version links link (list_
 valued_by version links link false all good = all
 
 -- with the link of the operand of an instruction that is not refused
-operand_good : (text : List ℕ) (tables : Tables) (links : List LinkFields) (spot : Spot) (line : Line36) (pr : Option ℕ) (segment entry : Option Span) (terms : List Term) (tag : ℕ)
+operand_good : (text : List ℕ) (tables : Tables) (links : List LinkFields) (spot : LocationCounter) (line : Line36) (pr : Option ℕ) (segment entry : Option Span) (terms : List Term) (tag : ℕ)
     → operand_refusal text tables spot line (Some (arg.Operand pr segment entry terms tag)) ≡ None → (segment_is_named text segment && entry_is_named text entry) ≡ true
     → list_all (is_link (version_of tables.uses_outer)) links ≡ true → list_all (is_link (version_of tables.uses_outer)) (with_link links (link_by text tables.symbols spot segment entry terms tag)) ≡ true
 operand_good text tables links spot line pr None entry terms tag e names all = all
@@ -114,7 +114,7 @@ operand_good text tables links spot line pr (Some segment) entry terms tag e nam
     valued_by (version_of tables.uses_outer) links (link_of text tables.symbols spot segment entry terms tag) (has_value text tables.symbols spot terms Half false) all
     (link_good text tables spot segment entry terms tag named parts.0 parts.1)
 
-given_good : (text : List ℕ) (tables : Tables) (links : List LinkFields) (spot : Spot) (line : Line36) (arguments : List Arg)
+given_good : (text : List ℕ) (tables : Tables) (links : List LinkFields) (spot : LocationCounter) (line : Line36) (arguments : List Arg)
     → operand_refusal text tables spot line (first_arg arguments) ≡ None → args_are_named text arguments ≡ true → list_all (is_link (version_of tables.uses_outer)) links ≡ true
     → list_all (is_link (version_of tables.uses_outer)) (with_link links (link_in text tables.symbols spot (first_arg arguments))) ≡ true
 unfolding args_are_named
@@ -126,7 +126,7 @@ given_good text tables links spot line (arg.Plain terms ∷ more) e names all = 
 given_good text tables links spot line (arg.Operand pr segment entry terms tag ∷ more) e names all =
     operand_good text tables links spot line pr segment entry terms tag e (and_parts (segment_is_named text segment && entry_is_named text entry) (args_are_named text more) names).0 all
 
-deed_good : (text : List ℕ) (tables : Tables) (links : List LinkFields) (spot : Spot) (line : Line36) (d : Deed)
+deed_good : (text : List ℕ) (tables : Tables) (links : List LinkFields) (spot : LocationCounter) (line : Line36) (d : LineEffect)
     → refusal_of_deed text tables spot line d ≡ None → args_are_named text line.args ≡ true → list_all (is_link (version_of tables.uses_outer)) links ≡ true
     → list_all (is_link (version_of tables.uses_outer)) (with_link links (link_in text tables.symbols spot (first_arg (operand_args d line.args)))) ≡ true
 deed_good text tables links spot line deed.Nothing e names all = all
@@ -143,7 +143,7 @@ deed_good text tables links spot line deed.Block e names all = all
 deed_good text tables links spot line deed.Even e names all = all
 deed_good text tables links spot line deed.Bound e names all = all
 
-pub links_good : (text : List ℕ) (tables : Tables) (done : List Named) (links : List LinkFields) (spot : Spot) (lines : List Line36)
+pub links_good : (text : List ℕ) (tables : Tables) (done : List Named) (links : List LinkFields) (spot : LocationCounter) (lines : List Line36)
     → lines_refusal text tables done spot lines ≡ None → lines_are_named text lines ≡ true → list_all (is_link (version_of tables.uses_outer)) links ≡ true
     → list_all (is_link (version_of tables.uses_outer)) (links_from text tables.symbols links spot lines) ≡ true
 unfolding links_from links_after lines_are_named

@@ -17,15 +17,15 @@ use Rattle.alm_lines.specs.Sums.{kind_of}
 use Rattle.alm_lines.specs.Arguments.{first_arg, second_arg, terms_in}
 use Rattle.alm_lines.specs.Spots.{count_in, place_in, place, grown_in, moved_by, below, end_of}
 use Rattle.alm_lines.specs.Expressions.{sum_of}
-use Rattle.alm_asm.specs.Marks.{mark, operand_part, operand_kind, operand_mark, marks_by, marks_after, marks_from}
+use Rattle.alm_asm.specs.Relocations.{mark, operand_part, operand_kind, operand_mark, marks_by, marks_after, marks_from}
 use Rattle.alm_asm.specs.Laws.{holds_words}
 use Rattle.alm_lines.specs.declared.sum.Sum.{Sum}
 use Rattle.alm_lines.specs.declared.sum.Kind.{Kind}
-use Rattle.alm_lines.specs.declared.sum.Kind.TheVariants.{Absolute, Moved, Unsaid}
-use Rattle.alm_lines.specs.SpotFields.{Spot}
+use Rattle.alm_lines.specs.declared.sum.Kind.TheVariants.{Absolute, Moved, Inexpressible}
+use Rattle.alm_lines.specs.SpotFields.{LocationCounter}
 use Rattle.alm_asm.specs.declared.tables.Tables.{Tables}
-use Rattle.alm_parse.specs.declared.deed.Deed.{Deed}
-use Rattle.alm_parse.specs.declared.deed.Deed.TheVariants as deed
+use Rattle.alm_parse.specs.declared.deed.LineEffect.{LineEffect}
+use Rattle.alm_parse.specs.declared.deed.LineEffect.TheVariants as deed
 use Rattle.alm_asm.specs.LineRefusals.{is_static}
 use Rattle.alm_asm.proofs.Fitting.{AllFit, StandAt, others_stand, no_static, sum_fits, good_kind, kind_good}
 use Rattle.alm_asm.proofs.PlaceLaws.{grown_self, moved_grows, grows_to_end}
@@ -124,7 +124,7 @@ limit_in Linkage text inner outer = inner
 limit_in Symbol text inner outer = 0
 limit_in Static text inner outer = outer
 
-place_good : (text inner outer : ℕ) (section : Section) (spot : Spot) → count_in section spot < limit_in section text inner outer → limit_in section text inner outer + 8 < 2 ^ 18
+place_good : (text inner outer : ℕ) (section : Section) (spot : LocationCounter) → count_in section spot < limit_in section text inner outer → limit_in section text inner outer + 8 < 2 ^ 18
     → is_place text inner outer section (place_in section spot % 2 ^ 18) ≡ true
 unfolding is_place
 place_good text inner outer Text spot h l = lt-ltb (spot.text % 2 ^ 18) text (omega arith)
@@ -133,7 +133,7 @@ place_good text inner outer Linkage spot h l =
 place_good text inner outer Symbol spot h l = absurd (omega arith)
 place_good text inner outer Static spot h l = lt-ltb (spot.outer % 2 ^ 18) outer (omega arith)
 
-place_small : (text inner outer : ℕ) (section : Section) (spot : Spot) → count_in section spot < limit_in section text inner outer → limit_in section text inner outer + 8 < 2 ^ 18
+place_small : (text inner outer : ℕ) (section : Section) (spot : LocationCounter) → count_in section spot < limit_in section text inner outer → limit_in section text inner outer + 8 < 2 ^ 18
     → place_in section spot % 2 ^ 18 ≡ place_in section spot
 place_small text inner outer Text spot h l = omega arith
 place_small text inner outer Linkage spot h l = omega arith
@@ -164,7 +164,7 @@ abbrev pub limit : Section → Room → ℕ
 limit section room = limit_in section room.text room.inner room.outer
 
 -- the number of the word at a place, among all places of an object
-abbrev pub word_number : Section → Spot → ℕ
+abbrev pub word_number : Section → LocationCounter → ℕ
 word_number section spot = place_number section * 2 ^ 18 + place_in section spot
 
 -- the relocations so far are good, and each is of a word before this place
@@ -179,10 +179,10 @@ one_more : (room : Room) (marks : List RelocFields) (r : RelocFields) → list_a
 one_more room marks r all good =
     list_all-append (is_good room) marks (r ∷ []) ∙ and_from (list_all (is_good room) marks) (list_all (is_good room) (r ∷ [])) all (and_from (is_good room r) true good refl)
 
-abbrev reloc : Spot → ℕ → Section → RelocFields
+abbrev reloc : LocationCounter → ℕ → Section → RelocFields
 reloc spot part target = record { section = spot.section; offset = place spot % 2 ^ 18; part = part; target = target }
 
-reloc_good : (room : Room) (spot : Spot) (part : ℕ) (target : Section) → count_in spot.section spot < limit spot.section room → limit spot.section room + 8 < 2 ^ 18 → part ≤ 2
+reloc_good : (room : Room) (spot : LocationCounter) (part : ℕ) (target : Section) → count_in spot.section spot < limit spot.section room → limit spot.section room + 8 < 2 ^ 18 → part ≤ 2
     → good_kind room.newer (Moved target) ≡ true → is_good room (reloc spot part target) ≡ true
 unfolding is_relocation
 reloc_good room spot part target h l p g =
@@ -195,18 +195,18 @@ reloc_good room spot part target h l p g =
     (and_from (is_place room.text room.inner room.outer spot.section (place_in spot.section spot % 2 ^ 18) && ltb (place_in spot.section spot % 2 ^ 18) (2 ^ 18)) (leb part 2)
     (and_from (is_place room.text room.inner room.outer spot.section (place_in spot.section spot % 2 ^ 18)) (ltb (place_in spot.section spot % 2 ^ 18) (2 ^ 18)) here small) well) fits
 
-reloc_order : (room : Room) (spot : Spot) (part : ℕ) (target : Section) → count_in spot.section spot < limit spot.section room → limit spot.section room + 8 < 2 ^ 18
+reloc_order : (room : Room) (spot : LocationCounter) (part : ℕ) (target : Section) → count_in spot.section spot < limit spot.section room → limit spot.section room + 8 < 2 ^ 18
     → order_of (reloc spot part target) ≡ word_number spot.section spot * 4 + part
 unfolding order_of
 reloc_order room spot part target h l =
     ap (λ n. (place_number spot.section * 2 ^ 18 + n) * 4 + part) (place_small room.text room.inner room.outer spot.section spot h l)
 
 -- a part of the word at this place
-pub mark_good : (room : Room) (spot : Spot) (part : ℕ) (kind : Kind) (marks : List RelocFields) → count_in spot.section spot < limit spot.section room → limit spot.section room + 8 < 2 ^ 18
+pub mark_good : (room : Room) (spot : LocationCounter) (part : ℕ) (kind : Kind) (marks : List RelocFields) → count_in spot.section spot < limit spot.section room → limit spot.section room + 8 < 2 ^ 18
     → part ≤ 2 → good_kind room.newer kind ≡ true → Good room (word_number spot.section spot) marks → Good room (word_number spot.section spot + 1) (marks ++ mark spot part kind)
 mark_good room spot part Absolute marks h l p g at =
     subst (λ (m : List RelocFields). Good room (word_number spot.section spot + 1) m) (sym (append-nil marks)) (further_good room (word_number spot.section spot) (word_number spot.section spot + 1) marks (omega arith) at)
-mark_good room spot part Unsaid marks h l p g at =
+mark_good room spot part Inexpressible marks h l p g at =
     subst (λ (m : List RelocFields). Good room (word_number spot.section spot + 1) m) (sym (append-nil marks)) (further_good room (word_number spot.section spot) (word_number spot.section spot + 1) marks (omega arith) at)
 mark_good room spot part (Moved target) marks h l p g at = record {
   order = pushed (word_number spot.section spot) marks (reloc spot part target) (reloc_order room spot part target h l) p at.order;
@@ -214,16 +214,16 @@ mark_good room spot part (Moved target) marks h l p g at = record {
 }
 
 -- both halves of the word at this place
-pub halves_good : (room : Room) (spot : Spot) (left right : Kind) (marks : List RelocFields) → count_in spot.section spot < limit spot.section room → limit spot.section room + 8 < 2 ^ 18
+pub halves_good : (room : Room) (spot : LocationCounter) (left right : Kind) (marks : List RelocFields) → count_in spot.section spot < limit spot.section room → limit spot.section room + 8 < 2 ^ 18
     → good_kind room.newer left ≡ true → good_kind room.newer right ≡ true → Good room (word_number spot.section spot) marks
     → Good room (word_number spot.section spot + 1) ((marks ++ mark spot 0 left) ++ mark spot 1 right)
 halves_good room spot Absolute right marks h l g q at =
     mark_good room spot 1 right (marks ++ []) h l (omega arith) q (subst (λ (m : List RelocFields). Good room (word_number spot.section spot) m) (sym (append-nil marks)) at)
-halves_good room spot Unsaid right marks h l g q at =
+halves_good room spot Inexpressible right marks h l g q at =
     mark_good room spot 1 right (marks ++ []) h l (omega arith) q (subst (λ (m : List RelocFields). Good room (word_number spot.section spot) m) (sym (append-nil marks)) at)
 halves_good room spot (Moved target) Absolute marks h l g q at =
     subst (λ (m : List RelocFields). Good room (word_number spot.section spot + 1) m) (sym (append-nil (marks ++ reloc spot 0 target ∷ []))) (mark_good room spot 0 (Moved target) marks h l (omega arith) g at)
-halves_good room spot (Moved target) Unsaid marks h l g q at =
+halves_good room spot (Moved target) Inexpressible marks h l g q at =
     subst (λ (m : List RelocFields). Good room (word_number spot.section spot + 1) m) (sym (append-nil (marks ++ reloc spot 0 target ∷ []))) (mark_good room spot 0 (Moved target) marks h l (omega arith) g at)
 halves_good room spot (Moved target) (Moved other) marks h l g q at = record {
   order = pair_pushed (word_number spot.section spot) marks (reloc spot 0 target) (reloc spot 1 other) (reloc_order room spot 0 target h l ∙ add_zero (word_number spot.section spot * 4)) refl (reloc_order room spot 1 other h l) refl at.order;
@@ -235,13 +235,13 @@ halves_good room spot (Moved target) (Moved other) marks h l g q at = record {
 
 -- ---- the relocations of lines
 
-numbers_grow : (to : Section) (a b : Spot) → count_in to a ≤ count_in to b → word_number to a ≤ word_number to b
+numbers_grow : (to : Section) (a b : LocationCounter) → count_in to a ≤ count_in to b → word_number to a ≤ word_number to b
 numbers_grow Text a b h = omega arith
 numbers_grow Linkage a b h = omega arith
 numbers_grow Symbol a b h = omega arith
 numbers_grow Static a b h = omega arith
 
-numbers_next : (to : Section) (a b : Spot) → count_in to b ≡ count_in to a + 1 → word_number to a + 1 ≤ word_number to b
+numbers_next : (to : Section) (a b : LocationCounter) → count_in to b ≡ count_in to a + 1 → word_number to a + 1 ≤ word_number to b
 numbers_next Text a b h = omega arith
 numbers_next Linkage a b h = omega arith
 numbers_next Symbol a b h = absurd (omega arith)
@@ -275,11 +275,11 @@ operand_kind_good outer (Some segment) sum g = refl
 operand_kind_good outer None sum g = g
 
 -- the word at this place has been passed
-passed : (room : Room) (spot : Spot) (marks : List RelocFields) → Good room (word_number spot.section spot) marks → Good room (word_number spot.section spot + 1) (marks ++ [])
+passed : (room : Room) (spot : LocationCounter) (marks : List RelocFields) → Good room (word_number spot.section spot) marks → Good room (word_number spot.section spot + 1) (marks ++ [])
 passed room spot marks at =
     subst (λ (m : List RelocFields). Good room (word_number spot.section spot + 1) m) (sym (append-nil marks)) (further_good room (word_number spot.section spot) (word_number spot.section spot + 1) marks (omega arith) at)
 
-operand_good : (room : Room) (text : List ℕ) (symbols : List (List ℕ × Sum)) (spot : Spot) (marks : List RelocFields) (arguments : List Arg) → AllFit room.newer symbols
+operand_good : (room : Room) (text : List ℕ) (symbols : List (List ℕ × Sum)) (spot : LocationCounter) (marks : List RelocFields) (arguments : List Arg) → AllFit room.newer symbols
     → (room.newer ≡ false → is_static spot.section ≡ false) → count_in spot.section spot < limit spot.section room → limit spot.section room + 8 < 2 ^ 18
     → Good room (word_number spot.section spot) marks → Good room (word_number spot.section spot + 1) (marks ++ operand_mark text symbols spot (first_arg arguments))
 operand_good room text symbols spot marks [] all none h l at = passed room spot marks at
@@ -292,7 +292,7 @@ operand_good room text symbols spot marks (arg.Operand pr segment entry terms ta
     (operand_kind_good room.newer segment (sum_of text symbols spot terms) (kind_good room.newer (sum_of text symbols spot terms) (sum_fits room.newer text symbols spot terms all none))) at
 
 -- a line of this section
-own_line : (room : Room) (text : List ℕ) (tables : Tables) (spot : Spot) (marks : List RelocFields) (arguments : List Arg) (d : Deed) → AllFit room.newer tables.symbols
+own_line : (room : Room) (text : List ℕ) (tables : Tables) (spot : LocationCounter) (marks : List RelocFields) (arguments : List Arg) (d : LineEffect) → AllFit room.newer tables.symbols
     → (room.newer ≡ false → is_static spot.section ≡ false) → holds_words spot.section ≡ true → count_in spot.section (moved_by text d arguments spot) ≤ limit spot.section room → limit spot.section room + 8 < 2 ^ 18
     → Good room (word_number spot.section spot) marks → Good room (word_number spot.section (moved_by text d arguments spot)) (marks_by text tables.symbols spot marks arguments d)
 own_line room text tables spot marks arguments deed.Nothing all none p h l at = at
@@ -328,7 +328,7 @@ own_line room text tables spot marks arguments deed.Even all none p h l at =
 own_line room text tables spot marks arguments deed.Bound all none p h l at = at
 
 -- a line in this or another section
-line_by : (room : Room) (text : List ℕ) (tables : Tables) (to : Section) (spot : Spot) (marks : List RelocFields) (arguments : List Arg) (d : Deed) (b : Bool) → same_section spot.section to ≡ b → AllFit room.newer tables.symbols
+line_by : (room : Room) (text : List ℕ) (tables : Tables) (to : Section) (spot : LocationCounter) (marks : List RelocFields) (arguments : List Arg) (d : LineEffect) (b : Bool) → same_section spot.section to ≡ b → AllFit room.newer tables.symbols
     → (room.newer ≡ false → is_static spot.section ≡ false) → holds_words to ≡ true → count_in to (moved_by text d arguments spot) ≤ limit to room → limit to room + 8 < 2 ^ 18
     → Good room (word_number to spot) marks → Good room (word_number to (moved_by text d arguments spot)) (cond b (marks_by text tables.symbols spot marks arguments d) marks)
 line_by room text tables to spot marks arguments d true e all none p h l at =
@@ -339,14 +339,14 @@ line_by room text tables to spot marks arguments d false e all none p h l at =
     further_good room (word_number to spot) (word_number to (moved_by text d arguments spot)) marks
     (numbers_grow to spot (moved_by text d arguments spot) (moved_grows to text tables spot arguments d p)) at
 
-line_good : (room : Room) (text : List ℕ) (tables : Tables) (to : Section) (spot : Spot) (marks : List RelocFields) (line : Line36) → AllFit room.newer tables.symbols
+line_good : (room : Room) (text : List ℕ) (tables : Tables) (to : Section) (spot : LocationCounter) (marks : List RelocFields) (line : Line36) → AllFit room.newer tables.symbols
     → (room.newer ≡ false → is_static spot.section ≡ false) → holds_words to ≡ true → count_in to (below text spot line) ≤ limit to room → limit to room + 8 < 2 ^ 18
     → Good room (word_number to spot) marks → Good room (word_number to (below text spot line)) (marks_after text tables.symbols to marks spot line)
 unfolding below marks_after
 line_good room text tables to spot marks line all none p h l at =
     line_by room text tables to spot marks line.args line.deed (same_section spot.section to) refl all none p h l at
 
-pub marks_good : (room : Room) (text : List ℕ) (tables : Tables) (to : Section) (marks : List RelocFields) (spot : Spot) (lines : List Line36) → AllFit room.newer tables.symbols
+pub marks_good : (room : Room) (text : List ℕ) (tables : Tables) (to : Section) (marks : List RelocFields) (spot : LocationCounter) (lines : List Line36) → AllFit room.newer tables.symbols
     → StandAt text room.newer spot lines → holds_words to ≡ true → count_in to (end_of text spot lines) ≤ limit to room → limit to room + 8 < 2 ^ 18
     → Good room (word_number to spot) marks → Good room (word_number to (end_of text spot lines)) (marks_from text tables.symbols to marks spot lines)
 unfolding end_of marks_from

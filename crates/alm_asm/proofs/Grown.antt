@@ -13,11 +13,11 @@ use Rattle.alm_lines.specs.Sums.{no_sum}
 use Rattle.alm_lines.specs.Symbols.{sum_named, with_symbol}
 use Rattle.alm_lines.specs.Arguments.{name_at, first_arg}
 use Rattle.alm_lines.specs.Spots.{start, below, end_of}
-use Rattle.alm_lines.specs.SpotFields.{Spot}
+use Rattle.alm_lines.specs.SpotFields.{LocationCounter}
 use Rattle.alm_lines.specs.Refusals.{refusal_at}
 use Rattle.alm_lines.specs.declared.sum.Sum.{Sum}
-use Rattle.alm_lines.specs.declared.refusal.Code.TheVariants.{E8}
-use Rattle.alm_lines.specs.declared.refusal.Refusal.{Refusal}
+use Rattle.alm_lines.specs.declared.refusal.AlmCode.TheVariants.{E8}
+use Rattle.alm_lines.specs.declared.refusal.AlmRefusal.{AlmRefusal}
 use Rattle.alm_asm.specs.Links.{operand_args, link_in, links_after, links_from}
 use Rattle.alm_asm.specs.Links.{with_link}
 use Rattle.alm_asm.specs.Definitions.{gives_entries, sum_refusal}
@@ -27,15 +27,15 @@ use Rattle.alm_asm.specs.declared.growth.Growth.{Growth}
 -- ---- the end
 
 -- the sizes of the sections with all lines
-unfoldable pub growth_from : List ℕ → List (List ℕ × Sum) → Growth → Spot → List Line36 → Growth
+unfoldable pub growth_from : List ℕ → List (List ℕ × Sum) → Growth → LocationCounter → List Line36 → Growth
 growth_from text symbols g spot [] = g
 growth_from text symbols g spot (line ∷ lines) = growth_from text symbols (grown_by text symbols spot g line) (below text spot line) lines
 
-refused_by : (b : Bool) (refusal : Refusal) (rest : Option Refusal) → cond b (Some refusal) rest ≡ None → (b ≡ false) × (rest ≡ None)
+refused_by : (b : Bool) (refusal : AlmRefusal) (rest : Option AlmRefusal) → cond b (Some refusal) rest ≡ None → (b ≡ false) × (rest ≡ None)
 refused_by true refusal rest e = absurd (true≢false (ap is_some e))
 refused_by false refusal rest e = (refl, e)
 
-not_over_from : (text : List ℕ) (symbols : List (List ℕ × Sum)) (g : Growth) (spot : Spot) (lines : List Line36) → is_over spot g ≡ false → growth_refusal text symbols g spot lines ≡ None
+not_over_from : (text : List ℕ) (symbols : List (List ℕ × Sum)) (g : Growth) (spot : LocationCounter) (lines : List Line36) → is_over spot g ≡ false → growth_refusal text symbols g spot lines ≡ None
     → is_over (end_of text spot lines) (growth_from text symbols g spot lines) ≡ false
 unfolding growth_refusal growth_from end_of
 not_over_from text symbols g spot [] e none = e
@@ -45,12 +45,12 @@ not_over_from text symbols g spot (line ∷ lines) e none =
     not_over_from text symbols after (below text spot line) lines parts.0 parts.1
 
 -- No section has more words than it may have.
-pub record IsWithin (spot : Spot) (g : Growth) : Type 0 where
+pub record IsWithin (spot : LocationCounter) (g : Growth) : Type 0 where
   pub definition : g.definition ≤ section_limit
   pub linkage : head_words + spot.inner + 2 * length g.links ≤ section_limit
   pub symbol : g.symbol ≤ section_limit
 
-within : (spot : Spot) (g : Growth) → is_over spot g ≡ false → IsWithin spot g
+within : (spot : LocationCounter) (g : Growth) → is_over spot g ≡ false → IsWithin spot g
 unfolding is_over
 within spot g e =
     let linkage = head_words + spot.inner + 2 * length g.links in
@@ -106,7 +106,7 @@ definition_follows g name =
     unless_there (is_some (sum_named name g.defined)) g (with_name (record g { defined = with_symbol g.defined name no_sum; definition = g.definition + 2 }) name)
     (onward g defined (with_name defined name) (record { links = refl; symbol = refl }) (name_follows defined name))
 
-unrefused_follows : (refusal : Option Refusal) (g : Growth) (name : List ℕ) → Follows g (with_unrefused refusal g name)
+unrefused_follows : (refusal : Option AlmRefusal) (g : Growth) (name : List ℕ) → Follows g (with_unrefused refusal g name)
 unrefused_follows (Some refusal) g name = stays g
 unrefused_follows None g name = definition_follows g name
 
@@ -153,7 +153,7 @@ given_links g (Some link) = link_once g link
 
 -- ---- a line
 
-pub line_links : (text : List ℕ) (symbols : List (List ℕ × Sum)) (spot : Spot) (g : Growth) (line : Line36) → (grown_by text symbols spot g line).links ≡ links_after text symbols g.links spot line
+pub line_links : (text : List ℕ) (symbols : List (List ℕ × Sum)) (spot : LocationCounter) (g : Growth) (line : Line36) → (grown_by text symbols spot g line).links ≡ links_after text symbols g.links spot line
 unfolding grown_by with_marks links_after
 line_links text symbols spot g line =
     let given = link_in text symbols spot (first_arg (operand_args line.deed line.args)) in
@@ -161,7 +161,7 @@ line_links text symbols spot g line =
     (given_links named given).links
     ∙ ap (λ (links : List LinkFields). with_link links given) (definitions_follow text symbols line g (gives_entries line.deed)).links
 
-pub line_symbol : (text : List ℕ) (symbols : List (List ℕ × Sum)) (spot : Spot) (g : Growth) (line : Line36)
+pub line_symbol : (text : List ℕ) (symbols : List (List ℕ × Sum)) (spot : LocationCounter) (g : Growth) (line : Line36)
     → (grown_by text symbols spot g line).symbol ≡ g.symbol + marks_count text symbols spot line.args line.deed
 unfolding grown_by with_marks
 line_symbol text symbols spot g line =
@@ -171,7 +171,7 @@ line_symbol text symbols spot g line =
     ((given_links named given).symbol ∙ (definitions_follow text symbols line g (gives_entries line.deed)).symbol)
 
 -- the links that are counted are those of the object
-pub links_grown : (text : List ℕ) (symbols : List (List ℕ × Sum)) (g : Growth) (spot : Spot) (lines : List Line36)
+pub links_grown : (text : List ℕ) (symbols : List (List ℕ × Sum)) (g : Growth) (spot : LocationCounter) (lines : List Line36)
     → (growth_from text symbols g spot lines).links ≡ links_from text symbols g.links spot lines
 unfolding growth_from links_from
 links_grown text symbols g spot [] = refl

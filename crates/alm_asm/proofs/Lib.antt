@@ -11,12 +11,12 @@ pub mod GoodDefinitions
 pub mod GoodLinks
 pub mod GoodMarks
 pub mod TooLong
-pub mod Placed
+pub mod PlacedWords
 pub mod LinksStanding
 pub mod SymbolsMean
 pub mod Assembling
 pub mod ReadNames
-pub mod SectionsStand
+pub mod SectionsAreOneKind
 pub mod LinksApart
 pub mod LinksSoFar
 pub mod EachSymbol

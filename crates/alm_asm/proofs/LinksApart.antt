@@ -13,7 +13,7 @@ use Rattle.alm_asm.specs.Links.{operand_args, link_in, with_link, links_after, l
 use Rattle.obj36_parts.specs.Indexes.{same_link}
 use Rattle.alm_asm.specs.Assembles.{are_apart}
 use Rattle.alm_lines.specs.declared.sum.Sum.{Sum}
-use Rattle.alm_lines.specs.SpotFields.{Spot}
+use Rattle.alm_lines.specs.SpotFields.{LocationCounter}
 
 link_turned : (a b : LinkFields) → same_link a b ≡ same_link b a
 unfolding same_link
@@ -45,7 +45,7 @@ with_apart : (links : List LinkFields) (given : Option LinkFields) → are_apart
 with_apart links None a = a
 with_apart links (Some l) a = with_by links l (list_any (same_link l) links) refl a
 
-from_apart : (text : List ℕ) (symbols : List (List ℕ × Sum)) (links : List LinkFields) (spot : Spot) (lines : List Line36) → are_apart links ≡ true → are_apart (links_from text symbols links spot lines) ≡ true
+from_apart : (text : List ℕ) (symbols : List (List ℕ × Sum)) (links : List LinkFields) (spot : LocationCounter) (lines : List Line36) → are_apart links ≡ true → are_apart (links_from text symbols links spot lines) ≡ true
 unfolding links_from links_after
 from_apart text symbols links spot [] a = a
 from_apart text symbols links spot (line ∷ lines) a =
@@ -56,5 +56,5 @@ no_links : are_apart [] ≡ true
 unfolding are_apart
 no_links = refl
 
-pub links_apart : (text : List ℕ) (symbols : List (List ℕ × Sum)) (spot : Spot) (lines : List Line36) → are_apart (links_from text symbols [] spot lines) ≡ true
+pub links_apart : (text : List ℕ) (symbols : List (List ℕ × Sum)) (spot : LocationCounter) (lines : List Line36) → are_apart (links_from text symbols [] spot lines) ≡ true
 links_apart text symbols spot lines = from_apart text symbols [] spot lines no_links

@@ -9,8 +9,8 @@ use Rattle.alm_tokens.specs.declared.span.Span.{Span}
 use Rattle.alm_tokens.specs.declared.expression.Term.{Term}
 use Rattle.alm_parse.specs.declared.args.Arg.{Arg}
 use Rattle.alm_parse.specs.declared.args.Arg.TheVariants as arg
-use Rattle.alm_parse.specs.declared.deed.Deed.{Deed}
-use Rattle.alm_parse.specs.declared.deed.Deed.TheVariants as deed
+use Rattle.alm_parse.specs.declared.deed.LineEffect.{LineEffect}
+use Rattle.alm_parse.specs.declared.deed.LineEffect.TheVariants as deed
 use Rattle.alm_parse.specs.declared.line.Line36.{Line36}
 use Rattle.alm_parse.specs.Bodies.{own_section}
 use Rattle.obj36_parts.specs.Fields.{LinkFields}
@@ -20,16 +20,16 @@ use Rattle.obj36_parts.specs.Indexes.{same_link}
 use Rattle.obj36_parts.specs.Sections.{is_text_section}
 use Rattle.alm_lines.specs.Arguments.{first_arg}
 use Rattle.alm_lines.specs.Spots.{below}
-use Rattle.alm_lines.specs.SpotFields.{Spot}
+use Rattle.alm_lines.specs.SpotFields.{LocationCounter}
 use Rattle.alm_lines.specs.Refusals.{sooner, refusal_at, has_value}
 use Rattle.alm_lines.specs.declared.sum.Sum.{Sum}
-use Rattle.alm_lines.specs.declared.refusal.Code.TheVariants.{E7}
-use Rattle.alm_lines.specs.declared.refusal.Room.TheVariants.{Half}
+use Rattle.alm_lines.specs.declared.refusal.AlmCode.TheVariants.{E7}
+use Rattle.alm_lines.specs.declared.refusal.ValueField.TheVariants.{Half}
 use Rattle.alm_asm.specs.Links.{link_of, operand_args, link_by, link_in, with_link, links_after, links_from, link_place}
 use Rattle.alm_asm.specs.Definitions.{gives_entries, definitions_after, definitions_refused}
 use Rattle.alm_asm.specs.LineRefusals.{unless, op_place, may_name, is_in_reach, link_expression, reaches}
 use Rattle.alm_asm.specs.LineRefusals.{operand_refusal, refusal_of_deed, line_refusal, with_links, lines_refusal}
-use Rattle.alm_lines.specs.declared.refusal.Refusal.{Refusal}
+use Rattle.alm_lines.specs.declared.refusal.AlmRefusal.{AlmRefusal}
 use Rattle.alm_asm.specs.declared.tables.Tables.{Tables}
 use Rattle.alm_asm.proofs.LinksStanding.{stays_with, added_with}
 
@@ -80,7 +80,7 @@ same_with : (l : LinkFields) (links : List LinkFields) (more : Option LinkFields
 same_with l links None e = refl
 same_with l links (Some other) e = same_by_other l other links (list_any (same_link other) links) e
 
-pub same_below : (text : List ℕ) (symbols : List (List ℕ × Sum)) (l : LinkFields) (links : List LinkFields) (spot : Spot) (lines : List Line36)
+pub same_below : (text : List ℕ) (symbols : List (List ℕ × Sum)) (l : LinkFields) (links : List LinkFields) (spot : LocationCounter) (lines : List Line36)
     → list_any (same_link l) links ≡ true → position (same_link l) (links_from text symbols links spot lines) ≡ position (same_link l) links
 unfolding links_from links_after
 same_below text symbols l links spot [] e = refl

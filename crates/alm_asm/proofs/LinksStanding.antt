@@ -11,7 +11,7 @@ use Rattle.alm_lines.specs.Spots.{start, below, end_of}
 use Rattle.alm_asm.specs.Links.{operand_args, link_in, with_link, links_after, links_from}
 use Rattle.obj36_parts.specs.Indexes.{same_link}
 use Rattle.alm_lines.specs.declared.sum.Sum.{Sum}
-use Rattle.alm_lines.specs.SpotFields.{Spot}
+use Rattle.alm_lines.specs.SpotFields.{LocationCounter}
 
 stays_by : (l other : LinkFields) (links : List LinkFields) (b : Bool) → list_any (same_link l) links ≡ true → list_any (same_link l) (cond b links (links ++ other ∷ [])) ≡ true
 stays_by l other links true e = e
@@ -21,7 +21,7 @@ pub stays_with : (l : LinkFields) (links : List LinkFields) (more : Option LinkF
 stays_with l links None e = e
 stays_with l links (Some other) e = stays_by l other links (list_any (same_link other) links) e
 
-stays_from : (text : List ℕ) (symbols : List (List ℕ × Sum)) (l : LinkFields) (links : List LinkFields) (spot : Spot) (lines : List Line36) → list_any (same_link l) links ≡ true
+stays_from : (text : List ℕ) (symbols : List (List ℕ × Sum)) (l : LinkFields) (links : List LinkFields) (spot : LocationCounter) (lines : List Line36) → list_any (same_link l) links ≡ true
     → list_any (same_link l) (links_from text symbols links spot lines) ≡ true
 unfolding links_from links_after
 stays_from text symbols l links spot [] e = e
@@ -37,7 +37,7 @@ added_by l links false e =
 pub added_with : (l : LinkFields) (links : List LinkFields) (given : Option LinkFields) → given ≡ Some l → list_any (same_link l) (with_link links given) ≡ true
 added_with l links given e = ap (λ (g : Option LinkFields). list_any (same_link l) (with_link links g)) e ∙ added_by l links (list_any (same_link l) links) refl
 
-follows : (text : List ℕ) (symbols : List (List ℕ × Sum)) (links : List LinkFields) (spot : Spot) (above lines : List Line36)
+follows : (text : List ℕ) (symbols : List (List ℕ × Sum)) (links : List LinkFields) (spot : LocationCounter) (above lines : List Line36)
     → links_from text symbols links spot (above ++ lines) ≡ links_from text symbols (links_from text symbols links spot above) (end_of text spot above) lines
 unfolding links_from end_of
 follows text symbols links spot [] lines = refl

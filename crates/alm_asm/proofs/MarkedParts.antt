@@ -13,7 +13,7 @@ use Rattle.alm_lines.specs.Expressions.{sum_of}
 use Rattle.alm_lines.specs.declared.sum.Balance.{Balance}
 use Rattle.alm_asm.specs.Links.{link_of, link_place}
 use Rattle.alm_asm.specs.Words.{plain_inst, pointed_inst, halves_word}
-use Rattle.alm_asm.specs.Marks.{operand_part}
+use Rattle.alm_asm.specs.Relocations.{operand_part}
 use Rattle.alm_asm.specs.Laws.{PartsAreMarked}
 use Rattle.alm_asm.proofs.OffsetsRead.{offset_below, offset_kept}
 

@@ -3,8 +3,8 @@ use Rattle.std.proofs.Common.{◌≡◌, ℕ, ◌+◌, ◌≤◌, Bool, true, fa
 use Rattle.std.proofs.lemmas.List.{length-append}
 use Rattle.alm_parse.specs.declared.args.Arg.{Arg}
 use Rattle.alm_parse.specs.declared.args.Arg.TheVariants as arg
-use Rattle.alm_parse.specs.declared.deed.Deed.{Deed}
-use Rattle.alm_parse.specs.declared.deed.Deed.TheVariants as deed
+use Rattle.alm_parse.specs.declared.deed.LineEffect.{LineEffect}
+use Rattle.alm_parse.specs.declared.deed.LineEffect.TheVariants as deed
 use Rattle.alm_parse.specs.declared.line.Line36.{Line36}
 use Rattle.obj36_parts.specs.declared.section.Section.{Section}
 use Rattle.obj36_parts.specs.declared.section.Section.TheVariants.{Text, Linkage, Symbol, Static}
@@ -14,15 +14,15 @@ use Rattle.obj36_parts.specs.Sections.{is_text_section, same_section}
 use Rattle.alm_lines.specs.Sums.{kind_of}
 use Rattle.alm_lines.specs.Arguments.{first_arg, second_arg, terms_in}
 use Rattle.alm_lines.specs.Spots.{below}
-use Rattle.alm_lines.specs.SpotFields.{Spot}
+use Rattle.alm_lines.specs.SpotFields.{LocationCounter}
 use Rattle.alm_lines.specs.Expressions.{sum_of, expression_place}
 use Rattle.alm_lines.specs.Refusals.{refusal_at, has_value}
 use Rattle.alm_lines.specs.declared.sum.Sum.{Sum}
 use Rattle.alm_lines.specs.declared.sum.Kind.{Kind}
-use Rattle.alm_lines.specs.declared.sum.Kind.TheVariants.{Absolute, Moved, Unsaid}
-use Rattle.alm_lines.specs.declared.refusal.Code.TheVariants.{E7}
-use Rattle.alm_lines.specs.declared.refusal.Room.TheVariants.{Half}
-use Rattle.alm_asm.specs.Marks.{mark, operand_part, operand_kind, operand_mark, marks_by, marks_after, marks_from}
+use Rattle.alm_lines.specs.declared.sum.Kind.TheVariants.{Absolute, Moved, Inexpressible}
+use Rattle.alm_lines.specs.declared.refusal.AlmCode.TheVariants.{E7}
+use Rattle.alm_lines.specs.declared.refusal.ValueField.TheVariants.{Half}
+use Rattle.alm_asm.specs.Relocations.{mark, operand_part, operand_kind, operand_mark, marks_by, marks_after, marks_from}
 use Rattle.alm_asm.specs.Definitions.{definitions_after}
 use Rattle.alm_asm.specs.LineRefusals.{unless, op_place, external_place, own_room, own_operand, operand_refusal, refusal_of_deed, lines_refusal}
 use Rattle.alm_asm.specs.Assembly.{static_section}
@@ -37,12 +37,12 @@ use Rattle.alm_asm.proofs.Grown.{growth_from, line_symbol}
 -- ---- a line
 
 -- An expression with a value is counted exactly if it has a relocation.
-mark_counted : (spot : Spot) (part : ℕ) (kind : Kind) (b : Bool) → b ≡ true → length (mark spot part kind) ≡ mark_count b kind
+mark_counted : (spot : LocationCounter) (part : ℕ) (kind : Kind) (b : Bool) → b ≡ true → length (mark spot part kind) ≡ mark_count b kind
 mark_counted spot part Absolute b e = refl
 mark_counted spot part (Moved target) b e = sym (ap (λ v. cond v 1 0) e)
-mark_counted spot part Unsaid b e = refl
+mark_counted spot part Inexpressible b e = refl
 
-operand_counted : (text : List ℕ) (tables : Tables) (spot : Spot) (line : Line36) (given : Option Arg) → AreKnown tables.symbols → operand_refusal text tables spot line given ≡ None
+operand_counted : (text : List ℕ) (tables : Tables) (spot : LocationCounter) (line : Line36) (given : Option Arg) → AreKnown tables.symbols → operand_refusal text tables spot line given ≡ None
     → length (operand_mark text tables.symbols spot given) ≡ operand_count text tables.symbols spot given
 operand_counted text tables spot line (Some (arg.Symbol span)) known none = refl
 operand_counted text tables spot line (Some (arg.Number word)) known none = refl
@@ -57,7 +57,7 @@ operand_counted text tables spot line (Some (arg.Operand pr (Some segment) entry
     (valued text tables.symbols spot line terms (external_place segment entry) Half false known free)
 operand_counted text tables spot line None known none = refl
 
-deed_counted : (text : List ℕ) (tables : Tables) (spot : Spot) (line : Line36) (marks : List RelocFields) (d : Deed) → AreKnown tables.symbols → refusal_of_deed text tables spot line d ≡ None
+deed_counted : (text : List ℕ) (tables : Tables) (spot : LocationCounter) (line : Line36) (marks : List RelocFields) (d : LineEffect) → AreKnown tables.symbols → refusal_of_deed text tables spot line d ≡ None
     → length (marks_by text tables.symbols spot marks line.args d) ≡ length marks + marks_count text tables.symbols spot line.args d
 deed_counted text tables spot line marks deed.Nothing known none = sym (add-zero (length marks))
 deed_counted text tables spot line marks (deed.Instruction code bit27) known none =
@@ -91,7 +91,7 @@ deed_counted text tables spot line marks deed.Bound known none = sym (add-zero (
 -- ---- the lines
 
 -- the number of relocations of lines in a section
-counts_in : List ℕ → List (List ℕ × Sum) → Section → Spot → List Line36 → ℕ
+counts_in : List ℕ → List (List ℕ × Sum) → Section → LocationCounter → List Line36 → ℕ
 counts_in text symbols section spot [] = 0
 counts_in text symbols section spot (line ∷ lines) =
     cond (same_section spot.section section) (marks_count text symbols spot line.args line.deed) 0 + counts_in text symbols section (below text spot line) lines
@@ -100,7 +100,7 @@ after_by : (b : Bool) (marks more : List RelocFields) (n : ℕ) → length more 
 after_by true marks more n e = e
 after_by false marks more n e = sym (add-zero (length marks))
 
-after_counted : (text : List ℕ) (tables : Tables) (section : Section) (marks : List RelocFields) (spot : Spot) (line : Line36) → AreKnown tables.symbols
+after_counted : (text : List ℕ) (tables : Tables) (section : Section) (marks : List RelocFields) (spot : LocationCounter) (line : Line36) → AreKnown tables.symbols
     → refusal_of_deed text tables spot line line.deed ≡ None
     → length (marks_after text tables.symbols section marks spot line) ≡ length marks + cond (same_section spot.section section) (marks_count text tables.symbols spot line.args line.deed) 0
 unfolding marks_after
@@ -108,7 +108,7 @@ after_counted text tables section marks spot line known none =
     after_by (same_section spot.section section) marks (marks_by text tables.symbols spot marks line.args line.deed) (marks_count text tables.symbols spot line.args line.deed)
     (deed_counted text tables spot line marks line.deed known none)
 
-from_counted : (text : List ℕ) (tables : Tables) (section : Section) (done : List Named) (marks : List RelocFields) (spot : Spot) (lines : List Line36) → AreKnown tables.symbols
+from_counted : (text : List ℕ) (tables : Tables) (section : Section) (done : List Named) (marks : List RelocFields) (spot : LocationCounter) (lines : List Line36) → AreKnown tables.symbols
     → lines_refusal text tables done spot lines ≡ None
     → length (marks_from text tables.symbols section marks spot lines) ≡ length marks + counts_in text tables.symbols section spot lines
 unfolding marks_from counts_in
@@ -131,7 +131,7 @@ once false Linkage n = omega arith
 once false Symbol n = omega arith
 once false Static n = omega arith
 
-grown_counts : (text : List ℕ) (symbols : List (List ℕ × Sum)) (newer : Bool) (g : Growth) (spot : Spot) (lines : List Line36)
+grown_counts : (text : List ℕ) (symbols : List (List ℕ × Sum)) (newer : Bool) (g : Growth) (spot : LocationCounter) (lines : List Line36)
     → g.symbol + counts_in text symbols Text spot lines + counts_in text symbols (static_section newer) spot lines ≤ (growth_from text symbols g spot lines).symbol
 unfolding growth_from counts_in
 grown_counts text symbols newer g spot [] = omega arith
@@ -142,7 +142,7 @@ grown_counts text symbols newer g spot (line ∷ lines) =
     omega arith
 
 -- Each relocation is counted.
-pub marks_counted : (text : List ℕ) (tables : Tables) (newer : Bool) (g : Growth) (spot : Spot) (lines : List Line36) → AreKnown tables.symbols → lines_refusal text tables [] spot lines ≡ None
+pub marks_counted : (text : List ℕ) (tables : Tables) (newer : Bool) (g : Growth) (spot : LocationCounter) (lines : List Line36) → AreKnown tables.symbols → lines_refusal text tables [] spot lines ≡ None
     → g.symbol + length (marks_from text tables.symbols (static_section newer) (marks_from text tables.symbols Text [] spot lines) spot lines) ≤ (growth_from text tables.symbols g spot lines).symbol
 marks_counted text tables newer g spot lines known none =
     let words = from_counted text tables Text [] [] spot lines known none in

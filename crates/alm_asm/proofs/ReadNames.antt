@@ -7,7 +7,7 @@ use Rattle.std.proofs.lemmas.Bool.{and_parts, and_from, leb-true}
 use Rattle.std.proofs.lemmas.List.{take_all}
 use Rattle.alm_parse.specs.SourceFields.{Source}
 use Rattle.alm_tokens.specs.declared.span.Span.{Span}
-use Rattle.alm_tokens.specs.declared.pieces.Piece.{Piece}
+use Rattle.alm_tokens.specs.declared.pieces.TextPiece.{TextPiece}
 use Rattle.alm_tokens.specs.declared.expression.Term.{Term}
 use Rattle.alm_parse.specs.declared.args.Arg.{Arg}
 use Rattle.alm_parse.specs.declared.args.Arg.TheVariants as arg
@@ -20,8 +20,8 @@ use Rattle.alm_tokens.specs.declared.numerals.Numeral.{Numeral}
 use Rattle.alm_tokens.specs.declared.numerals.Numeral.TheVariants as numeral
 use Rattle.alm_parse.specs.declared.operation.Operation.{Operation}
 use Rattle.alm_parse.specs.declared.operation.Operation.TheVariants as operation
-use Rattle.alm_parse.specs.declared.refusal.Refusal.{Refusal}
-use Rattle.alm_parse.specs.declared.refusal.Code.TheVariants.{E1}
+use Rattle.alm_parse.specs.declared.refusal.ParseRefusal.{ParseRefusal}
+use Rattle.alm_parse.specs.declared.refusal.ParseCode.TheVariants.{E1}
 use Rattle.alm_parse.specs.declared.fault.AlmFault.{AlmFault}
 use Rattle.alm_tokens.specs.Bytes.{begins_symbol, is_character}
 use Rattle.alm_tokens.specs.Tokens.{slice_of, is_text, is_symbol, span_at}
@@ -29,14 +29,14 @@ use Rattle.m36_text.specs.Results.{unless}
 use Rattle.alm_parse.specs.Refusals.{refused}
 use Rattle.alm_tokens.specs.Expressions.{is_term_at, expression_pieces, term_of}
 use Rattle.alm_parse.specs.Bodies.{place_of, body_of, own_section, is_segment, is_entry, is_tail, is_body, body_pieces}
-use Rattle.alm_parse.specs.Operands.{body_span, tag_given, entry_given, operand_of, is_operand, operand_given}
-use Rattle.alm_parse.specs.Members.{symbol_arg, symbols_given, number_arg, numbers_given}
+use Rattle.alm_parse.specs.Operands.{body_span, tag_given, entry_given, operand_of, is_operand, parse_operand}
+use Rattle.alm_parse.specs.Members.{symbol_arg, parse_symbols, number_arg, parse_numbers}
 use Rattle.alm_tokens.specs.Lists.{members, is_symbol_at, is_written_at, place_out}
-use Rattle.alm_parse.specs.Pairs.{value_of_members, value_given, halves_of_members, halves_given, block_of_members, block_given, used_section, is_section, section_given}
-use Rattle.alm_parse.specs.Characters.{place_bad, packed, is_ended, characters_by, characters_ended, characters_closed, characters_given}
+use Rattle.alm_parse.specs.Pairs.{value_of_members, parse_value, halves_of_members, parse_halves, block_of_members, parse_block, used_section, is_section, parse_section}
+use Rattle.alm_parse.specs.Characters.{place_bad, packed, is_ended, characters_by, characters_ended, characters_closed, parse_characters}
 use Rattle.alm_tokens.specs.Heads.{head_of}
 use Rattle.alm_parse.specs.Operations.{operation_of}
-use Rattle.alm_parse.specs.Lines.{missing, args_with, operand_for, args_by, args_of, label_refusal, line_of, line_with, line_by, line_from, line_unless, line_given}
+use Rattle.alm_parse.specs.Lines.{missing, args_with, operand_for, args_by, args_of, label_refusal, line_of, line_with, line_by, line_from, line_unless, parse_line}
 use Rattle.alm_tokens.specs.Rows.{rows_of}
 use Rattle.alm_parse.specs.Sources.{names_end, continued, read_lines, with_text, parsed}
 use Rattle.obj36_parts.specs.Names.{is_name_character, is_name}
@@ -63,7 +63,7 @@ symbol_named text span e =
 
 -- ---- the result if nothing is refused
 
-unless_ok : (refusal : Option Refusal) (value arguments : List Arg) → unless refusal value ≡ Ok arguments → (refusal ≡ None) × (value ≡ arguments)
+unless_ok : (refusal : Option ParseRefusal) (value arguments : List Arg) → unless refusal value ≡ Ok arguments → (refusal ≡ None) × (value ≡ arguments)
 unless_ok None value arguments e = (refl, cc)
 unless_ok (Some refusal) value arguments e = absurd cc
 
@@ -88,32 +88,32 @@ two_args : (text : List ℕ) (a b : Arg) → arg_is_named text a ≡ true → ar
 unfolding args_are_named
 two_args text a b e f = and_from (arg_is_named text a) (arg_is_named text b && true) e (and_from (arg_is_named text b) true f refl)
 
-symbols_named : (text : List ℕ) (pieces : List Piece) → list_all (is_symbol_at text) pieces ≡ true → args_are_named text (map symbol_arg pieces) ≡ true
+symbols_named : (text : List ℕ) (pieces : List TextPiece) → list_all (is_symbol_at text) pieces ≡ true → args_are_named text (map symbol_arg pieces) ≡ true
 unfolding args_are_named
 symbols_named text [] e = refl
 symbols_named text (piece ∷ pieces) e =
     let parts = and_parts (is_symbol_at text piece) (list_all (is_symbol_at text) pieces) e in
     and_from (is_name (name_at text piece.span)) (args_are_named text (map symbol_arg pieces)) (symbol_named text piece.span parts.0) (symbols_named text pieces parts.1)
 
-names : (text : List ℕ) (operand : Span) (arguments : List Arg) → symbols_given text operand ≡ Ok arguments → args_are_named text arguments ≡ true
-unfolding symbols_given
+names : (text : List ℕ) (operand : Span) (arguments : List Arg) → parse_symbols text operand ≡ Ok arguments → args_are_named text arguments ≡ true
+unfolding parse_symbols
 names text operand arguments e =
     let ok = unless_ok (refused text operand.from (list_all (is_symbol_at text) (members text operand)) None) (map symbol_arg (members text operand)) arguments e in
     carried text (map symbol_arg (members text operand)) arguments ok.1
     (symbols_named text (members text operand) (of_form text operand.from (list_all (is_symbol_at text) (members text operand)) None ok.0))
 
-numbers_named : (n : Numeral) (text : List ℕ) (pieces : List Piece) → args_are_named text (map (number_arg n text) pieces) ≡ true
+numbers_named : (n : Numeral) (text : List ℕ) (pieces : List TextPiece) → args_are_named text (map (number_arg n text) pieces) ≡ true
 unfolding args_are_named
 numbers_named n text [] = refl
 numbers_named n text (piece ∷ pieces) = numbers_named n text pieces
 
-numbers : (n : Numeral) (text : List ℕ) (operand : Span) (arguments : List Arg) → numbers_given n text operand ≡ Ok arguments → args_are_named text arguments ≡ true
-unfolding numbers_given
+numbers : (n : Numeral) (text : List ℕ) (operand : Span) (arguments : List Arg) → parse_numbers n text operand ≡ Ok arguments → args_are_named text arguments ≡ true
+unfolding parse_numbers
 numbers n text operand arguments e =
     let ok = unless_ok (refused text operand.from (list_all (is_written_at n text) (members text operand)) (place_out n text (members text operand))) (map (number_arg n text) (members text operand)) arguments e in
     carried text (map (number_arg n text) (members text operand)) arguments ok.1 (numbers_named n text (members text operand))
 
-value_by : (text : List ℕ) (at : ℕ) (pieces : List Piece) (arguments : List Arg) → value_of_members text at pieces ≡ Ok arguments → args_are_named text arguments ≡ true
+value_by : (text : List ℕ) (at : ℕ) (pieces : List TextPiece) (arguments : List Arg) → value_of_members text at pieces ≡ Ok arguments → args_are_named text arguments ≡ true
 value_by text at [] arguments e = absurd cc
 value_by text at (name ∷ []) arguments e = absurd cc
 value_by text at (name ∷ value ∷ []) arguments e =
@@ -126,11 +126,11 @@ value_by text at (name ∷ value ∷ []) arguments e =
     (two_args text (arg.Symbol name.span) (arg.Plain (map (term_of text) (expression_pieces text value))) (symbol_named text name.span symbol) refl)
 value_by text at (name ∷ value ∷ other ∷ more) arguments e = absurd cc
 
-value : (text : List ℕ) (operand : Span) (arguments : List Arg) → value_given text operand ≡ Ok arguments → args_are_named text arguments ≡ true
-unfolding value_given
+value : (text : List ℕ) (operand : Span) (arguments : List Arg) → parse_value text operand ≡ Ok arguments → args_are_named text arguments ≡ true
+unfolding parse_value
 value text operand arguments e = value_by text operand.from (members text operand) arguments e
 
-halves_by : (text : List ℕ) (at : ℕ) (pieces : List Piece) (arguments : List Arg) → halves_of_members text at pieces ≡ Ok arguments → args_are_named text arguments ≡ true
+halves_by : (text : List ℕ) (at : ℕ) (pieces : List TextPiece) (arguments : List Arg) → halves_of_members text at pieces ≡ Ok arguments → args_are_named text arguments ≡ true
 halves_by text at [] arguments e = absurd cc
 halves_by text at (left ∷ []) arguments e = absurd cc
 halves_by text at (left ∷ right ∷ []) arguments e =
@@ -142,11 +142,11 @@ halves_by text at (left ∷ right ∷ []) arguments e =
     (two_args text (arg.Plain (map (term_of text) (expression_pieces text left))) (arg.Plain (map (term_of text) (expression_pieces text right))) refl refl)
 halves_by text at (left ∷ right ∷ other ∷ more) arguments e = absurd cc
 
-halves : (text : List ℕ) (operand : Span) (arguments : List Arg) → halves_given text operand ≡ Ok arguments → args_are_named text arguments ≡ true
-unfolding halves_given
+halves : (text : List ℕ) (operand : Span) (arguments : List Arg) → parse_halves text operand ≡ Ok arguments → args_are_named text arguments ≡ true
+unfolding parse_halves
 halves text operand arguments e = halves_by text operand.from (members text operand) arguments e
 
-block_by : (text : List ℕ) (at : ℕ) (pieces : List Piece) (arguments : List Arg) → block_of_members text at pieces ≡ Ok arguments → args_are_named text arguments ≡ true
+block_by : (text : List ℕ) (at : ℕ) (pieces : List TextPiece) (arguments : List Arg) → block_of_members text at pieces ≡ Ok arguments → args_are_named text arguments ≡ true
 block_by text at [] arguments e = absurd cc
 block_by text at (name ∷ []) arguments e = absurd cc
 block_by text at (name ∷ count ∷ []) arguments e =
@@ -156,8 +156,8 @@ block_by text at (name ∷ count ∷ []) arguments e =
     (two_args text (arg.Symbol name.span) (number_arg numeral.Small text count) (symbol_named text name.span symbol) refl)
 block_by text at (name ∷ count ∷ other ∷ more) arguments e = absurd cc
 
-block : (text : List ℕ) (operand : Span) (arguments : List Arg) → block_given text operand ≡ Ok arguments → args_are_named text arguments ≡ true
-unfolding block_given
+block : (text : List ℕ) (operand : Span) (arguments : List Arg) → parse_block text operand ≡ Ok arguments → args_are_named text arguments ≡ true
+unfolding parse_block
 block text operand arguments e = block_by text operand.from (members text operand) arguments e
 
 -- the names of sections
@@ -182,8 +182,8 @@ section_by bytes false true c ea eb ec e = word_named (codes "link") bytes eb li
 section_by bytes false false true ea eb ec e = word_named (codes "static") bytes ec static_named
 section_by bytes false false false ea eb ec e = absurd (true≢false (sym e))
 
-section : (text : List ℕ) (operand : Span) (arguments : List Arg) → section_given text operand ≡ Ok arguments → args_are_named text arguments ≡ true
-unfolding section_given used_section
+section : (text : List ℕ) (operand : Span) (arguments : List Arg) → parse_section text operand ≡ Ok arguments → args_are_named text arguments ≡ true
+unfolding parse_section used_section
 section text operand arguments e =
     let bytes = slice_of text operand in
     let ok = unless_ok (refused text operand.from (is_section (slice_of text operand)) None) (arg.Symbol operand ∷ []) arguments e in
@@ -205,12 +205,12 @@ characters_close text rest (Some close) arguments e =
     characters_end text rest (span_at (rest.from + 1) close) (is_ended (slice_of text (span_at (close + 1) rest.to))) arguments e
 characters_close text rest None arguments e = absurd cc
 
-characters_begin : (text : List ℕ) (rest : Span) (refusal : Refusal) (b : Bool) (close : Option ℕ) (arguments : List Arg) → cond b (characters_closed text rest close) (Err refusal) ≡ Ok arguments → args_are_named text arguments ≡ true
+characters_begin : (text : List ℕ) (rest : Span) (refusal : ParseRefusal) (b : Bool) (close : Option ℕ) (arguments : List Arg) → cond b (characters_closed text rest close) (Err refusal) ≡ Ok arguments → args_are_named text arguments ≡ true
 characters_begin text rest refusal true close arguments e = characters_close text rest close arguments e
 characters_begin text rest refusal false close arguments e = absurd cc
 
-placed : (text : List ℕ) (operand : Span) (arguments : List Arg) → characters_given text operand ≡ Ok arguments → args_are_named text arguments ≡ true
-unfolding characters_given
+placed : (text : List ℕ) (operand : Span) (arguments : List Arg) → parse_characters text operand ≡ Ok arguments → args_are_named text arguments ≡ true
+unfolding parse_characters
 placed text operand arguments e =
     let delimiter = slice_index text operand.from in
     characters_begin text operand (record { place = operand.from; code = E1 }) (is_character (slice_index text operand.from)) (place_of text (span_at (operand.from + 1) operand.to) (slice_index text operand.from)) arguments e
@@ -239,7 +239,7 @@ body_named text (body.External segment entry tail) terms tag e =
     (entry_by text entry (length (slice_of text entry) == 0) (is_symbol (slice_of text entry)) two.1 (symbol_named text entry))
 body_named text (body.Plain whole) terms tag e = refl
 
-operand_by_body : (text : List ℕ) (at : ℕ) (b : Body) (pieces : List Piece) (tag : Option ℕ) (arguments : List Arg)
+operand_by_body : (text : List ℕ) (at : ℕ) (b : Body) (pieces : List TextPiece) (tag : Option ℕ) (arguments : List Arg)
     → unless (refused text at (is_operand text b pieces tag) (place_out numeral.Small text pieces)) (operand_of text b (map (term_of text) pieces) (unwrap_or tag 0) ∷ []) ≡ Ok arguments → args_are_named text arguments ≡ true
 operand_by_body text at b pieces tag arguments e =
     let ok = unless_ok (refused text at (is_operand text b pieces tag) (place_out numeral.Small text pieces)) (operand_of text b (map (term_of text) pieces) (unwrap_or tag 0) ∷ []) arguments e in
@@ -248,8 +248,8 @@ operand_by_body text at b pieces tag arguments e =
     carried text (operand_of text b (map (term_of text) pieces) (unwrap_or tag 0) ∷ []) arguments ok.1
     (one_arg text (operand_of text b (map (term_of text) pieces) (unwrap_or tag 0)) (body_named text b (map (term_of text) pieces) (unwrap_or tag 0) is))
 
-operand : (text : List ℕ) (span : Span) (arguments : List Arg) → operand_given text span ≡ Ok arguments → args_are_named text arguments ≡ true
-unfolding operand_given
+operand : (text : List ℕ) (span : Span) (arguments : List Arg) → parse_operand text span ≡ Ok arguments → args_are_named text arguments ≡ true
+unfolding parse_operand
 operand text span arguments e =
     let comma = place_of text span 44 in
     let b = body_of text (body_span span (place_of text span 44)) in
@@ -274,7 +274,7 @@ by_named : (o : Operation) (text : List ℕ) (op : ℕ) (given : Option Span) (a
 by_named o text op (Some span) arguments e = with_named o text span arguments e
 by_named o text op None arguments e = carried text [] arguments (unless_ok (missing o op) [] arguments e).1 (no_args text)
 
-line_with_named : (text : List ℕ) (row : Row) (head : Head) (given : Result (List Arg) Refusal) (line : Line36) → ((arguments : List Arg) → given ≡ Ok arguments → args_are_named text arguments ≡ true)
+line_with_named : (text : List ℕ) (row : Row) (head : Head) (given : Result (List Arg) ParseRefusal) (line : Line36) → ((arguments : List Arg) → given ≡ Ok arguments → args_are_named text arguments ≡ true)
     → line_with text row head given ≡ Ok line → args_are_named text line.args ≡ true
 line_with_named text row head (Ok arguments) line named e =
     let same : line_of text row head arguments ≡ line = cc in
@@ -293,12 +293,12 @@ line_from_named text row head None line e =
     let same : line_of text row head [] ≡ line = cc in
     sym (ap (λ (l : Line36). args_are_named text l.args) same) ∙ no_args text
 
-line_unless_named : (text : List ℕ) (row : Row) (head : Head) (refusal : Option Refusal) (line : Line36) → line_unless refusal text row head ≡ Ok line → args_are_named text line.args ≡ true
+line_unless_named : (text : List ℕ) (row : Row) (head : Head) (refusal : Option ParseRefusal) (line : Line36) → line_unless refusal text row head ≡ Ok line → args_are_named text line.args ≡ true
 line_unless_named text row head (Some refusal) line e = absurd cc
 line_unless_named text row head None line e = line_from_named text row head head.op line e
 
-line_named : (text : List ℕ) (row : Row) (line : Line36) → line_given text row ≡ Ok line → args_are_named text line.args ≡ true
-unfolding line_given
+line_named : (text : List ℕ) (row : Row) (line : Line36) → parse_line text row ≡ Ok line → args_are_named text line.args ≡ true
+unfolding parse_line
 line_named text row line e =
     line_unless_named text row (head_of text row.span) (label_refusal text (head_of text row.span).labels) line e
 
@@ -318,7 +318,7 @@ last_by text more lines rest true all next e =
     sym (ap (λ (l : List Line36). lines_are_named text l) same) ∙ all
 last_by text more lines rest false all next e = next e
 
-continued_named : (text : List ℕ) (row : Row) (before : List Line36) (further : List Line36 → Result (List Line36) AlmFault) (given : Result Line36 Refusal) (lines : List Line36)
+continued_named : (text : List ℕ) (row : Row) (before : List Line36) (further : List Line36 → Result (List Line36) AlmFault) (given : Result Line36 ParseRefusal) (lines : List Line36)
     → lines_are_named text before ≡ true → ((line : Line36) → given ≡ Ok line → args_are_named text line.args ≡ true)
     → ((more : List Line36) → lines_are_named text more ≡ true → further more ≡ Ok lines → lines_are_named text lines ≡ true)
     → continued text row before further given ≡ Ok lines → lines_are_named text lines ≡ true
@@ -333,7 +333,7 @@ read_named text before [] lines all e =
     let same : before ≡ lines = cc in
     sym (ap (λ (l : List Line36). lines_are_named text l) same) ∙ all
 read_named text before (row ∷ rows) lines all e =
-    continued_named text row before (λ more. read_lines text more rows) (line_given text row) lines all (line_named text row) (λ more named f. read_named text more rows lines named f) e
+    continued_named text row before (λ more. read_lines text more rows) (parse_line text row) lines all (line_named text row) (λ more named f. read_named text more rows lines named f) e
 
 with_text_named : (text : List ℕ) (given : Result (List Line36) AlmFault) (source : Source) → ((lines : List Line36) → given ≡ Ok lines → lines_are_named text lines ≡ true)
     → with_text text given ≡ Ok source → lines_are_named source.text source.lines ≡ true

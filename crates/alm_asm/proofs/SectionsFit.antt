@@ -4,18 +4,18 @@ use Rattle.std.proofs.lemmas.Bool.{le-leb}
 use Rattle.alm_parse.specs.SourceFields.{Source}
 use Rattle.obj36_parts.specs.declared.section.Section.TheVariants.{Text}
 use Rattle.obj36_parts.specs.Fields.{LinkFields}
-use Rattle.obj36_parts.specs.ObjectSegment.{is_newer_version, version_of, inner_statics, definition_names, outer_statics, are_distinct, definition_section, linkage_section, symbol_section, expressions_behind, section_limit, sections_fit}
+use Rattle.obj36_parts.specs.ObjectSegment.{is_newer_version, version_of, inner_statics, definition_names, outer_statics, are_distinct, definition_section, linkage_section, symbol_section, first_expression_at, section_limit, sections_fit}
 use Rattle.obj36_parts.specs.PartsFields.{PartsFields}
 use Rattle.obj36_parts.proofs.LengthLaws.{length-definition_part, length-linkage_part, length-symbol_part}
 use Rattle.alm_lines.specs.Spots.{start, count_in, end_of}
-use Rattle.alm_lines.specs.SpotFields.{Spot}
+use Rattle.alm_lines.specs.SpotFields.{LocationCounter}
 use Rattle.alm_lines.specs.Layout.{symbols_from}
 use Rattle.alm_asm.specs.Words.{words_from}
 use Rattle.alm_asm.specs.Growth.{at_first}
 use Rattle.alm_asm.specs.Assembly.{tables_of, static_section, evened, parts_with, parts_of, refusal_of}
 use Rattle.alm_asm.proofs.Unrefused.{no_layout_refusal, no_lines_refusal, no_growth_refusal}
 use Rattle.alm_asm.proofs.PlaceLaws.{places_count}
-use Rattle.alm_asm.proofs.Placed.{evened_length}
+use Rattle.alm_asm.proofs.PlacedWords.{evened_length}
 use Rattle.alm_asm.proofs.TooLong.{static_holds}
 use Rattle.alm_asm.proofs.Valued.{symbols_known}
 use Rattle.alm_asm.proofs.Grown.{end_within, links_grown}
@@ -24,12 +24,12 @@ use Rattle.alm_asm.proofs.DefinitionsCounted.{definitions_counted}
 use Rattle.alm_asm.proofs.CountsFit.{counts_fit}
 
 -- The limit is even, and so is the number of words of the linkage section with the evening word.
-linkage_fits : (newer : Bool) (ending : Spot) (words : List ℕ) (links : ℕ) → count_in (static_section newer) ending ≡ length words → 8 + ending.inner + 2 * links ≤ section_limit
+linkage_fits : (newer : Bool) (ending : LocationCounter) (words : List ℕ) (links : ℕ) → count_in (static_section newer) ending ≡ length words → 8 + ending.inner + 2 * links ≤ section_limit
     → 8 + length (cond (is_newer_version (version_of newer)) [] (evened newer words)) + 2 * links ≤ section_limit
 linkage_fits true ending words links same fits = omega arith
 linkage_fits false ending words links same fits = let even = evened_length false words in omega arith
 
-statics_fit : (newer : Bool) (ending : Spot) (words : List ℕ) → count_in (static_section newer) ending ≡ length words → ending.outer ≤ section_limit
+statics_fit : (newer : Bool) (ending : LocationCounter) (words : List ℕ) → count_in (static_section newer) ending ≡ length words → ending.outer ≤ section_limit
     → length (cond (is_newer_version (version_of newer)) (evened newer words) []) ≤ section_limit
 statics_fit true ending words same fits = omega arith
 statics_fit false ending words same fits = omega arith
@@ -82,7 +82,7 @@ are_within source none distinct =
       text = omega (arith, placed.text, places_count text tables Text lines refl);
       definition = omega (arith, named, within.definition, length-definition_part parts.definitions parts.links);
       statics = statics_fit newer ending statics same placed.outer;
-      linkage = omega (arith, linked, length-linkage_part (inner_statics parts) parts.links (expressions_behind (length parts.definitions)));
+      linkage = omega (arith, linked, length-linkage_part (inner_statics parts) parts.links (first_expression_at (length parts.definitions)));
       symbol = omega (arith, marked, within.symbol, length-symbol_part parts.relocations);
     }
 

@@ -8,24 +8,24 @@ use Rattle.std.specs.List.{list_any, position, position_or_len}
 use Rattle.alm_tokens.specs.declared.span.Span.{Span}
 use Rattle.alm_tokens.specs.declared.expression.Term.{Term}
 use Rattle.alm_parse.specs.declared.args.Arg.{Arg}
-use Rattle.alm_parse.specs.declared.deed.Deed.{Deed}
-use Rattle.alm_parse.specs.declared.deed.Deed.TheVariants as deed
+use Rattle.alm_parse.specs.declared.deed.LineEffect.{LineEffect}
+use Rattle.alm_parse.specs.declared.deed.LineEffect.TheVariants as deed
 use Rattle.alm_parse.specs.declared.line.Line36.{Line36}
 use Rattle.obj36_parts.specs.Fields.{LinkFields}
 use Rattle.obj36_parts.specs.ObjectSegment.{word_of_link}
 use Rattle.obj36_parts.specs.Indexes.{same_link, has_link}
 use Rattle.alm_lines.specs.Arguments.{first_arg, terms_in}
 use Rattle.alm_lines.specs.Spots.{below}
-use Rattle.alm_lines.specs.SpotFields.{Spot}
+use Rattle.alm_lines.specs.SpotFields.{LocationCounter}
 use Rattle.alm_lines.specs.Sums.{no_sum}
 use Rattle.alm_lines.specs.Values.{value_by, evaluated}
 use Rattle.alm_lines.proofs.ValueLaws.{no_terms}
 use Rattle.alm_lines.specs.Refusals.{has_value}
 use Rattle.alm_lines.specs.declared.sum.Sum.{Sum}
-use Rattle.alm_lines.specs.declared.refusal.Room.TheVariants.{Half}
+use Rattle.alm_lines.specs.declared.refusal.ValueField.TheVariants.{Half}
 use Rattle.alm_asm.specs.Links.{link_of, operand_args, link_by, link_in, with_link, links_after, links_from, link_place}
-use Rattle.alm_asm.specs.Seen.{place_in, is_below, seen_of, seen_with, with_seen, seen_from, AreFirst}
-use Rattle.alm_asm.specs.declared.seen.Seen.{Seen}
+use Rattle.alm_asm.specs.LineValues.{place_in, is_below, seen_of, seen_with, with_seen, seen_from, AreFirst}
+use Rattle.alm_asm.specs.declared.seen.LineValues.{LineValues}
 use Rattle.alm_asm.specs.declared.growth.Growth.{Growth}
 use Rattle.alm_asm.specs.Growth.{grown_by, with_definitions}
 use Rattle.alm_asm.specs.Definitions.{gives_entries}
@@ -35,7 +35,7 @@ use Rattle.alm_asm.proofs.Grown.{line_links, definitions_follow}
 
 -- ---- indexes
 
-place_stays : (text : List ℕ) (symbols : List (List ℕ × Sum)) (links : List LinkFields) (spot : Spot) (line : Line36) (lines : List Line36) (given : Option LinkFields)
+place_stays : (text : List ℕ) (symbols : List (List ℕ × Sum)) (links : List LinkFields) (spot : LocationCounter) (line : Line36) (lines : List Line36) (given : Option LinkFields)
     → link_in text symbols spot (first_arg (operand_args line.deed line.args)) ≡ given
     → place_in (links_after text symbols links spot line) given ≡ place_in (links_from text symbols links spot (line ∷ lines)) given
 unfolding links_from links_after
@@ -44,7 +44,7 @@ place_stays text symbols links spot line lines (Some l) e =
     sym (same_below text symbols l (links_after text symbols links spot line) (below text spot line) lines
     (added_with l links (link_in text symbols spot (first_arg (operand_args line.deed line.args))) e))
 
-pub seen_is : (text : List ℕ) (symbols : List (List ℕ × Sum)) (links later whole : List LinkFields) (spot : Spot) (line : Line36) (lines : List Line36) (seen : Seen)
+pub seen_is : (text : List ℕ) (symbols : List (List ℕ × Sum)) (links later whole : List LinkFields) (spot : LocationCounter) (line : Line36) (lines : List Line36) (seen : LineValues)
     → links_from text symbols links spot (line ∷ lines) ≡ whole
     → later ≡ links_after text symbols links spot line
     → seen.value ≡ evaluated text symbols spot (terms_in (first_arg line.args))
@@ -59,12 +59,12 @@ seen_is text symbols links later whole spot line lines seen all after value plac
     λ i. record { value = value i; place = at i }
 
 -- with one more line
-more_by : (arguments : List Arg) (before : List Seen) (seen : Seen) (later : List Seen) → with_seen before arguments seen ++ later ≡ before ++ seen_with arguments seen later
+more_by : (arguments : List Arg) (before : List LineValues) (seen : LineValues) (later : List LineValues) → with_seen before arguments seen ++ later ≡ before ++ seen_with arguments seen later
 unfolding seen_with with_seen
 more_by [] before seen later = refl
 more_by (argument ∷ arguments) before seen later = append_assoc before (seen ∷ []) later
 
-pub seen_more : (text : List ℕ) (symbols : List (List ℕ × Sum)) (links later whole : List LinkFields) (spot : Spot) (line : Line36) (lines : List Line36) (before : List Seen) (seen : Seen) (all after_it : List Seen)
+pub seen_more : (text : List ℕ) (symbols : List (List ℕ × Sum)) (links later whole : List LinkFields) (spot : LocationCounter) (line : Line36) (lines : List Line36) (before : List LineValues) (seen : LineValues) (all after_it : List LineValues)
     → links_from text symbols links spot (line ∷ lines) ≡ whole
     → later ≡ links_after text symbols links spot line
     → seen.value ≡ evaluated text symbols spot (terms_in (first_arg line.args))
@@ -75,13 +75,13 @@ pub seen_more : (text : List ℕ) (symbols : List (List ℕ × Sum)) (links late
 unfolding seen_from
 seen_more text symbols links later whole spot line lines before seen all after_it completes after value place so is =
     let rest = seen_from text symbols whole (below text spot line) lines in
-    ap (λ (x : List Seen). x ++ rest) is
+    ap (λ (x : List LineValues). x ++ rest) is
     ∙ more_by line.args before seen rest
-    ∙ ap (λ (x : Seen). before ++ seen_with line.args x rest)
+    ∙ ap (λ (x : LineValues). before ++ seen_with line.args x rest)
     (seen_is text symbols links later whole spot line lines seen completes after value place)
     ∙ so
 
-pub links_more : (text : List ℕ) (symbols : List (List ℕ × Sum)) (links later whole : List LinkFields) (spot : Spot) (line : Line36) (lines : List Line36)
+pub links_more : (text : List ℕ) (symbols : List (List ℕ × Sum)) (links later whole : List LinkFields) (spot : LocationCounter) (line : Line36) (lines : List Line36)
     → links_from text symbols links spot (line ∷ lines) ≡ whole
     → later ≡ links_after text symbols links spot line
     → links_from text symbols later (below text spot line) lines ≡ whole
@@ -91,7 +91,7 @@ links_more text symbols links later whole spot line lines all after =
 
 -- ---- a line without arguments
 
-nothing_given : (text : List ℕ) (symbols : List (List ℕ × Sum)) (spot : Spot) (d : Deed) → link_in text symbols spot (first_arg (operand_args d [])) ≡ None
+nothing_given : (text : List ℕ) (symbols : List (List ℕ × Sum)) (spot : LocationCounter) (d : LineEffect) → link_in text symbols spot (first_arg (operand_args d [])) ≡ None
 nothing_given text symbols spot deed.Nothing = refl
 nothing_given text symbols spot (deed.Instruction code bit27) = refl
 nothing_given text symbols spot deed.Entry = refl
@@ -104,29 +104,29 @@ nothing_given text symbols spot deed.Block = refl
 nothing_given text symbols spot deed.Even = refl
 nothing_given text symbols spot deed.Bound = refl
 
-pub none_seen : (text : List ℕ) (symbols : List (List ℕ × Sum)) (links : List LinkFields) (spot : Spot) (line : Line36) → line.args ≡ []
+pub none_seen : (text : List ℕ) (symbols : List (List ℕ × Sum)) (links : List LinkFields) (spot : LocationCounter) (line : Line36) → line.args ≡ []
     → None ≡ place_in links (link_in text symbols spot (first_arg (operand_args line.deed line.args)))
 none_seen text symbols links spot line e =
     sym (ap (λ (xs : List Arg). place_in links (link_in text symbols spot (first_arg (operand_args line.deed xs)))) e
     ∙ ap (place_in links) (nothing_given text symbols spot line.deed))
 
-pub none_valued : (text : List ℕ) (symbols : List (List ℕ × Sum)) (spot : Spot) (line : Line36) → line.args ≡ []
+pub none_valued : (text : List ℕ) (symbols : List (List ℕ × Sum)) (spot : LocationCounter) (line : Line36) → line.args ≡ []
     → value_by no_sum None ≡ evaluated text symbols spot (terms_in (first_arg line.args))
 none_valued text symbols spot line e =
     sym (ap (λ (xs : List Arg). evaluated text symbols spot (terms_in (first_arg xs))) e ∙ no_terms text symbols spot)
 
-pub none_with : (arguments : List Arg) (seen : Seen) (later : List Seen) → arguments ≡ [] → seen_with arguments seen later ≡ later
+pub none_with : (arguments : List Arg) (seen : LineValues) (later : List LineValues) → arguments ≡ [] → seen_with arguments seen later ≡ later
 unfolding seen_with
 none_with arguments seen later e = ap (λ (xs : List Arg). seen_with xs seen later) e
 
-pub some_with : (arguments : List Arg) (seen : Seen) (later : List Seen) → 0 < length arguments → seen_with arguments seen later ≡ seen ∷ later
+pub some_with : (arguments : List Arg) (seen : LineValues) (later : List LineValues) → 0 < length arguments → seen_with arguments seen later ≡ seen ∷ later
 unfolding seen_with
 some_with [] seen later some = absurd (omega (arith, some))
 some_with (argument ∷ arguments) seen later some = refl
 
 -- ---- a link by its index
 
-pub by_place : (text : List ℕ) (symbols : List (List ℕ × Sum)) (spot : Spot) (segment : Span) (entry : Option Span) (terms : List Term) (tag first : ℕ) (links : List LinkFields) (place : Option ℕ)
+pub by_place : (text : List ℕ) (symbols : List (List ℕ × Sum)) (spot : LocationCounter) (segment : Span) (entry : Option Span) (terms : List Term) (tag first : ℕ) (links : List LinkFields) (place : Option ℕ)
     → has_value text symbols spot terms Half false ≡ true
     → place ≡ place_in links (link_by text symbols spot (Some segment) entry terms tag)
     → link_place links first (link_of text symbols spot segment entry terms tag) ≡ word_of_link first (unwrap_or place 0)
@@ -136,7 +136,7 @@ by_place text symbols spot segment entry terms tag first links place valued e =
     let at : place ≡ place_in links (Some link) = e ∙ ap (λ (b : Bool). place_in links (if b then Some link else None)) valued in
     ap (λ (p : Option ℕ). word_of_link first (unwrap_or p 0)) (sym at)
 
-pub linked_at : (text : List ℕ) (symbols : List (List ℕ × Sum)) (spot : Spot) (segment : Span) (entry : Option Span) (terms : List Term) (tag : ℕ) (links : List LinkFields) (place : Option ℕ)
+pub linked_at : (text : List ℕ) (symbols : List (List ℕ × Sum)) (spot : LocationCounter) (segment : Span) (entry : Option Span) (terms : List Term) (tag : ℕ) (links : List LinkFields) (place : Option ℕ)
     → has_value text symbols spot terms Half false ≡ true
     → place ≡ place_in links (link_by text symbols spot (Some segment) entry terms tag)
     → position (same_link (link_of text symbols spot segment entry terms tag)) links ≡ place
@@ -178,7 +178,7 @@ appended_by links None = ([], sym (append-nil links))
 appended_by links (Some link) = appended_if links link (list_any (same_link link) links)
 
 -- the links of lines are added after those so far
-appended : (text : List ℕ) (symbols : List (List ℕ × Sum)) (links : List LinkFields) (spot : Spot) (lines : List Line36)
+appended : (text : List ℕ) (symbols : List (List ℕ × Sum)) (links : List LinkFields) (spot : LocationCounter) (lines : List Line36)
     → (more : List LinkFields) × (links_from text symbols links spot lines ≡ links ++ more)
 unfolding links_from links_after
 appended text symbols links spot [] = ([], sym (append-nil links))
@@ -188,14 +188,14 @@ appended text symbols links spot (line ∷ lines) =
     let below = appended text symbols (links_after text symbols links spot line) (below text spot line) lines in
     (here.0 ++ below.0, below.1 ∙ ap (λ (x : List LinkFields). x ++ below.0) here.1 ∙ append_assoc links here.0 below.0)
 
-pub first_links : (text : List ℕ) (symbols : List (List ℕ × Sum)) (links all : List LinkFields) (spot : Spot) (lines : List Line36)
+pub first_links : (text : List ℕ) (symbols : List (List ℕ × Sum)) (links all : List LinkFields) (spot : LocationCounter) (lines : List Line36)
     → links_from text symbols links spot lines ≡ all → AreFirst links all
 first_links text symbols links all spot lines e =
     let so = appended text symbols links spot lines in
     subst (AreFirst links) (sym so.1 ∙ e) (first_append links so.0)
 
 -- a link whose index is below the length of `some` is in `some`
-pub noted_is : (text : List ℕ) (symbols : List (List ℕ × Sum)) (spot : Spot) (segment : Span) (entry : Option Span) (terms : List Term) (tag : ℕ) (some all : List LinkFields) (place : Option ℕ)
+pub noted_is : (text : List ℕ) (symbols : List (List ℕ × Sum)) (spot : LocationCounter) (segment : Span) (entry : Option Span) (terms : List Term) (tag : ℕ) (some all : List LinkFields) (place : Option ℕ)
     → AreFirst some all → has_value text symbols spot terms Half false ≡ true
     → place ≡ place_in all (link_by text symbols spot (Some segment) entry terms tag)
     → is_below place (length some) ≡ true
@@ -213,7 +213,7 @@ first_kept text symbols line g h all first is =
     (sym (ap (λ (x : Growth). x.links) is ∙ (definitions_follow text symbols line g (gives_entries line.deed)).links)) first
 
 -- the links that are counted
-pub grown_links : (text : List ℕ) (symbols : List (List ℕ × Sum)) (g h : Growth) (all : List LinkFields) (spot : Spot) (line : Line36) (lines : List Line36)
+pub grown_links : (text : List ℕ) (symbols : List (List ℕ × Sum)) (g h : Growth) (all : List LinkFields) (spot : LocationCounter) (line : Line36) (lines : List Line36)
     → links_from text symbols g.links spot (line ∷ lines) ≡ all
     → h ≡ grown_by text symbols spot g line
     → links_from text symbols h.links (below text spot line) lines ≡ all

@@ -8,39 +8,39 @@ use Rattle.alm_lines.specs.Symbols.{same_name, sum_named, with_symbol}
 use Rattle.alm_lines.specs.Arguments.{name_at}
 use Rattle.alm_lines.specs.Spots.{start, here, below, end_of}
 use Rattle.alm_lines.specs.Refusals.{sooner, refusal_at}
-use Rattle.alm_lines.specs.Layout.{again, with_labels, labels_refused, own_symbol, own_refusal, own_sum, with_own, own_again, symbols_with, refused_with, over, labelled, symbols_after, refused_after, symbols_from, layout_refusal}
+use Rattle.alm_lines.specs.Layout.{redefinition, with_labels, labels_refused, own_symbol, own_refusal, own_sum, with_own, own_redefinition, symbols_with, refused_with, over, labelled, symbols_after, refused_after, symbols_from, layout_refusal}
 use Rattle.alm_lines.specs.declared.sum.Sum.{Sum}
-use Rattle.alm_lines.specs.SpotFields.{Spot}
+use Rattle.alm_lines.specs.SpotFields.{LocationCounter}
 use Rattle.alm_lines.specs.Expressions.{is_defined}
-use Rattle.alm_lines.specs.declared.refusal.Code.TheVariants.{E5}
-use Rattle.alm_lines.specs.declared.refusal.Refusal.{Refusal}
+use Rattle.alm_lines.specs.declared.refusal.AlmCode.TheVariants.{E5}
+use Rattle.alm_lines.specs.declared.refusal.AlmRefusal.{AlmRefusal}
 use Rattle.alm_asm.proofs.Unrefused.{sooner_none}
 use Rattle.alm_asm.proofs.SymbolsStand.{labels_stay, own_stays, lines_stay}
 
 -- ---- refusals of symbols
 
-some_none : (b : Bool) (refusal : Refusal) → cond b (Some refusal) None ≡ None → b ≡ false
+some_none : (b : Bool) (refusal : AlmRefusal) → cond b (Some refusal) None ≡ None → b ≡ false
 some_none true refusal e = absurd (true≢false (ap is_some e))
 some_none false refusal e = refl
 
-fresh : (text : List ℕ) (line : Line36) (symbols : List (List ℕ × Sum)) (span : Span) → again text line symbols span ≡ None → is_some (sum_named (name_at text span) symbols) ≡ false
-unfolding again is_defined
+fresh : (text : List ℕ) (line : Line36) (symbols : List (List ℕ × Sum)) (span : Span) → redefinition text line symbols span ≡ None → is_some (sum_named (name_at text span) symbols) ≡ false
+unfolding redefinition is_defined
 fresh text line symbols span e = some_none (is_some (sum_named (name_at text span) symbols)) (refusal_at line span.from E5) e
 
-labels_first : (text : List ℕ) (line : Line36) (its : Sum) (symbols : List (List ℕ × Sum)) (first : Option Refusal) (spans : List Span) → labels_refused text line its symbols first spans ≡ None → first ≡ None
+labels_first : (text : List ℕ) (line : Line36) (its : Sum) (symbols : List (List ℕ × Sum)) (first : Option AlmRefusal) (spans : List Span) → labels_refused text line its symbols first spans ≡ None → first ≡ None
 unfolding labels_refused
 labels_first text line its symbols first [] e = e
 labels_first text line its symbols first (span ∷ spans) e =
-    (sooner_none first (again text line symbols span) (labels_first text line its (with_symbol symbols (name_at text span) its) (sooner first (again text line symbols span)) spans e)).0
+    (sooner_none first (redefinition text line symbols span) (labels_first text line its (with_symbol symbols (name_at text span) its) (sooner first (redefinition text line symbols span)) spans e)).0
 
-pub after_parts : (text : List ℕ) (first : Option Refusal) (symbols : List (List ℕ × Sum)) (spot : Spot) (line : Line36) → refused_after text first symbols spot line ≡ None
+pub after_parts : (text : List ℕ) (first : Option AlmRefusal) (symbols : List (List ℕ × Sum)) (spot : LocationCounter) (line : Line36) → refused_after text first symbols spot line ≡ None
     → (labels_refused text line (here spot) symbols first line.labels ≡ None) × (refused_with text (labelled text symbols spot line) spot line line.deed ≡ None)
 unfolding refused_after
 after_parts text first symbols spot line e =
     sooner_none (labels_refused text line (here spot) symbols first line.labels) (refused_with text (labelled text symbols spot line) spot line line.deed)
     (sooner_none (sooner (labels_refused text line (here spot) symbols first line.labels) (refused_with text (labelled text symbols spot line) spot line line.deed)) (over line (below text spot line)) e).0
 
-pub layout_first : (text : List ℕ) (first : Option Refusal) (symbols : List (List ℕ × Sum)) (spot : Spot) (lines : List Line36) → layout_refusal text first symbols spot lines ≡ None → first ≡ None
+pub layout_first : (text : List ℕ) (first : Option AlmRefusal) (symbols : List (List ℕ × Sum)) (spot : LocationCounter) (lines : List Line36) → layout_refusal text first symbols spot lines ≡ None → first ≡ None
 unfolding layout_refusal
 layout_first text first symbols spot [] e = e
 layout_first text first symbols spot (line ∷ lines) e =
@@ -63,25 +63,25 @@ unfolding sum_named with_symbol
 defined symbols name its e =
     ap (λ b. lookup (same_name name) (cond b symbols (symbols ++ (name, its) ∷ []))) e ∙ found_last name symbols its e
 
-label_means : (text : List ℕ) (line : Line36) (its : Sum) (symbols : List (List ℕ × Sum)) (first : Option Refusal) (before : List Span) (span : Span) (after : List Span)
+label_means : (text : List ℕ) (line : Line36) (its : Sum) (symbols : List (List ℕ × Sum)) (first : Option AlmRefusal) (before : List Span) (span : Span) (after : List Span)
     → labels_refused text line its symbols first (before ++ span ∷ after) ≡ None → sum_named (name_at text span) (with_labels text its symbols (before ++ span ∷ after)) ≡ Some its
 unfolding labels_refused with_labels
 label_means text line its symbols first [] span after e =
-    let none = labels_first text line its (with_symbol symbols (name_at text span) its) (sooner first (again text line symbols span)) after e in
-    let own = fresh text line symbols span (sooner_none first (again text line symbols span) none).1 in
+    let none = labels_first text line its (with_symbol symbols (name_at text span) its) (sooner first (redefinition text line symbols span)) after e in
+    let own = fresh text line symbols span (sooner_none first (redefinition text line symbols span) none).1 in
     labels_stay text (name_at text span) its its (with_symbol symbols (name_at text span) its) after (defined symbols (name_at text span) its own)
 label_means text line its symbols first (other ∷ before) span after e =
-    label_means text line its (with_symbol symbols (name_at text other) its) (sooner first (again text line symbols other)) before span after e
+    label_means text line its (with_symbol symbols (name_at text other) its) (sooner first (redefinition text line symbols other)) before span after e
 
-own_means : (text : List ℕ) (line : Line36) (symbols : List (List ℕ × Sum)) (own : Option Span) (its : Sum) (span : Span) → own ≡ Some span → own_again text line symbols own ≡ None
+own_means : (text : List ℕ) (line : Line36) (symbols : List (List ℕ × Sum)) (own : Option Span) (its : Sum) (span : Span) → own ≡ Some span → own_redefinition text line symbols own ≡ None
     → sum_named (name_at text span) (with_own text symbols own its) ≡ Some its
 own_means text line symbols own its span e none =
-    let here : again text line symbols span ≡ None = sym (ap (own_again text line symbols) e) ∙ none in
+    let here : redefinition text line symbols span ≡ None = sym (ap (own_redefinition text line symbols) e) ∙ none in
     ap (λ (o : Option Span). sum_named (name_at text span) (with_own text symbols o its)) e ∙ defined symbols (name_at text span) its (fresh text line symbols span here)
 
 -- ---- in a line
 
-labels_of_line : (text : List ℕ) (first : Option Refusal) (symbols : List (List ℕ × Sum)) (spot : Spot) (line : Line36) (before : List Span) (span : Span) (after : List Span)
+labels_of_line : (text : List ℕ) (first : Option AlmRefusal) (symbols : List (List ℕ × Sum)) (spot : LocationCounter) (line : Line36) (before : List Span) (span : Span) (after : List Span)
     → refused_after text first symbols spot line ≡ None → line.labels ≡ before ++ span ∷ after → sum_named (name_at text span) (symbols_after text symbols spot line) ≡ Some (here spot)
 unfolding symbols_after symbols_with
 labels_of_line text first symbols spot line before span after e split =
@@ -91,23 +91,23 @@ labels_of_line text first symbols spot line before span after e split =
     ap (λ (l : List Span). sum_named (name_at text span) (with_labels text (here spot) symbols l)) split ∙ label_means text line (here spot) symbols first before span after split_labels in
     own_stays text (name_at text span) (own_sum text (labelled text symbols spot line) spot line line.deed) (here spot) (labelled text symbols spot line) (own_symbol line.deed line.args) means
 
-own_of_line : (text : List ℕ) (first : Option Refusal) (symbols : List (List ℕ × Sum)) (spot : Spot) (line : Line36) (span : Span)
+own_of_line : (text : List ℕ) (first : Option AlmRefusal) (symbols : List (List ℕ × Sum)) (spot : LocationCounter) (line : Line36) (span : Span)
     → refused_after text first symbols spot line ≡ None → own_symbol line.deed line.args ≡ Some span
     → sum_named (name_at text span) (symbols_after text symbols spot line) ≡ Some (own_sum text (labelled text symbols spot line) spot line line.deed)
 unfolding symbols_after symbols_with refused_with
 own_of_line text first symbols spot line span e own =
-    let parts = sooner_none (own_again text line (labelled text symbols spot line) (own_symbol line.deed line.args)) (own_refusal text (labelled text symbols spot line) spot line line.deed) (after_parts text first symbols spot line e).1 in
+    let parts = sooner_none (own_redefinition text line (labelled text symbols spot line) (own_symbol line.deed line.args)) (own_refusal text (labelled text symbols spot line) spot line line.deed) (after_parts text first symbols spot line e).1 in
     own_means text line (labelled text symbols spot line) (own_symbol line.deed line.args) (own_sum text (labelled text symbols spot line) spot line line.deed) span own parts.0
 
 -- ---- in lines
 
-symbols_follow : (text : List ℕ) (symbols : List (List ℕ × Sum)) (spot : Spot) (above lines : List Line36)
+symbols_follow : (text : List ℕ) (symbols : List (List ℕ × Sum)) (spot : LocationCounter) (above lines : List Line36)
     → symbols_from text symbols spot (above ++ lines) ≡ symbols_from text (symbols_from text symbols spot above) (end_of text spot above) lines
 unfolding symbols_from end_of
 symbols_follow text symbols spot [] lines = refl
 symbols_follow text symbols spot (line ∷ above) lines = symbols_follow text (symbols_after text symbols spot line) (below text spot line) above lines
 
-refusals_follow : (text : List ℕ) (first : Option Refusal) (symbols : List (List ℕ × Sum)) (spot : Spot) (above lines : List Line36)
+refusals_follow : (text : List ℕ) (first : Option AlmRefusal) (symbols : List (List ℕ × Sum)) (spot : LocationCounter) (above lines : List Line36)
     → layout_refusal text first symbols spot (above ++ lines) ≡ layout_refusal text (layout_refusal text first symbols spot above) (symbols_from text symbols spot above) (end_of text spot above) lines
 unfolding layout_refusal symbols_from end_of
 refusals_follow text first symbols spot [] lines = refl

@@ -8,7 +8,7 @@ use Rattle.alm_lines.specs.Arguments.{name_at}
 use Rattle.alm_lines.specs.Spots.{start, here, below}
 use Rattle.alm_lines.specs.Layout.{with_labels, own_symbol, own_sum, with_own, symbols_with, labelled, symbols_after, symbols_from}
 use Rattle.alm_lines.specs.declared.sum.Sum.{Sum}
-use Rattle.alm_lines.specs.SpotFields.{Spot}
+use Rattle.alm_lines.specs.SpotFields.{LocationCounter}
 
 stays_by : (b : Bool) (first sum : Sum) (rest more : Option Sum) → (rest ≡ Some sum → more ≡ Some sum) → cond b (Some first) rest ≡ Some sum → cond b (Some first) more ≡ Some sum
 stays_by true first sum rest more stays e = e
@@ -41,21 +41,21 @@ pub own_stays : (text name : List ℕ) (its sum : Sum) (symbols : List (List ℕ
 own_stays text name its sum symbols None e = e
 own_stays text name its sum symbols (Some span) e = stays name symbols (name_at text span) its sum e
 
-line_stays : (text name : List ℕ) (sum : Sum) (symbols : List (List ℕ × Sum)) (spot : Spot) (line : Line36) → sum_named name symbols ≡ Some sum
+line_stays : (text name : List ℕ) (sum : Sum) (symbols : List (List ℕ × Sum)) (spot : LocationCounter) (line : Line36) → sum_named name symbols ≡ Some sum
     → sum_named name (symbols_after text symbols spot line) ≡ Some sum
 unfolding symbols_after symbols_with
 line_stays text name sum symbols spot line e =
     own_stays text name (own_sum text (labelled text symbols spot line) spot line line.deed) sum (labelled text symbols spot line) (own_symbol line.deed line.args)
     (labels_stay text name (here spot) sum symbols line.labels e)
 
-pub lines_stay : (text name : List ℕ) (sum : Sum) (symbols : List (List ℕ × Sum)) (spot : Spot) (lines : List Line36) → sum_named name symbols ≡ Some sum
+pub lines_stay : (text name : List ℕ) (sum : Sum) (symbols : List (List ℕ × Sum)) (spot : LocationCounter) (lines : List Line36) → sum_named name symbols ≡ Some sum
     → sum_named name (symbols_from text symbols spot lines) ≡ Some sum
 unfolding symbols_from
 lines_stay text name sum symbols spot [] e = e
 lines_stay text name sum symbols spot (line ∷ lines) e =
     lines_stay text name sum (symbols_after text symbols spot line) (below text spot line) lines (line_stays text name sum symbols spot line e)
 
-stay_from : (text name : List ℕ) (sum : Sum) (symbols : List (List ℕ × Sum)) (spot : Spot) (above lines : List Line36)
+stay_from : (text name : List ℕ) (sum : Sum) (symbols : List (List ℕ × Sum)) (spot : LocationCounter) (above lines : List Line36)
     → sum_named name (symbols_from text symbols spot above) ≡ Some sum → sum_named name (symbols_from text symbols spot (above ++ lines)) ≡ Some sum
 unfolding symbols_from
 stay_from text name sum symbols spot [] lines e = lines_stay text name sum symbols spot lines e

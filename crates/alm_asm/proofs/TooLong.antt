@@ -17,7 +17,7 @@ use Rattle.obj36_parts.proofs.LengthLaws.{length-words_of, least_size}
 use Rattle.alm_lines.specs.Spots.{start, count_in, below, end_of}
 use Rattle.alm_asm.specs.Links.{links_from}
 use Rattle.alm_asm.specs.Words.{words_from}
-use Rattle.alm_asm.specs.Marks.{marks_from}
+use Rattle.alm_asm.specs.Relocations.{marks_from}
 use Rattle.alm_lines.specs.Layout.{symbols_from}
 use Rattle.alm_asm.specs.Definitions.{definitions_from}
 use Rattle.alm_asm.specs.LineRefusals.{lines_refusal}
@@ -25,10 +25,10 @@ use Rattle.alm_asm.proofs.Unrefused.{no_lines_refusal}
 use Rattle.alm_asm.specs.Assembly.{tables_of, bound_by, bound_from, static_section, evened, parts_with, parts_of, refusal_of}
 use Rattle.alm_asm.specs.Laws.{holds_words, lines_are_named}
 use Rattle.alm_lines.specs.declared.sum.Sum.{Sum}
-use Rattle.alm_lines.specs.SpotFields.{Spot}
+use Rattle.alm_lines.specs.SpotFields.{LocationCounter}
 use Rattle.alm_asm.specs.declared.tables.Tables.{Tables}
-use Rattle.alm_parse.specs.declared.deed.Deed.{Deed}
-use Rattle.alm_parse.specs.declared.deed.Deed.TheVariants as deed
+use Rattle.alm_parse.specs.declared.deed.LineEffect.{LineEffect}
+use Rattle.alm_parse.specs.declared.deed.LineEffect.TheVariants as deed
 use Rattle.alm_asm.proofs.Distinct.{distinct}
 use Rattle.alm_asm.proofs.Fitting.{AllFit, StandAt, start_stands, symbols_fit}
 use Rattle.alm_asm.proofs.GoodDefinitions.{definitions_good}
@@ -80,7 +80,7 @@ by_size p false e good = by (is_well_formed p) refl
 
 -- ---- the entry bound
 
-bound_kept : (spot : Spot) (bound : ℕ) (d : Deed) → bound ≤ spot.text → bound_by spot bound d ≤ spot.text
+bound_kept : (spot : LocationCounter) (bound : ℕ) (d : LineEffect) → bound ≤ spot.text → bound_by spot bound d ≤ spot.text
 bound_kept spot bound deed.Nothing h = h
 bound_kept spot bound (deed.Instruction code bit27) h = h
 bound_kept spot bound deed.Entry h = h
@@ -93,7 +93,7 @@ bound_kept spot bound deed.Block h = h
 bound_kept spot bound deed.Even h = h
 bound_kept spot bound deed.Bound h = omega arith
 
-bound_good : (text : List ℕ) (tables : Tables) (bound : ℕ) (spot : Spot) (lines : List Line36) → bound ≤ spot.text → bound_from text bound spot lines ≤ (end_of text spot lines).text
+bound_good : (text : List ℕ) (tables : Tables) (bound : ℕ) (spot : LocationCounter) (lines : List Line36) → bound ≤ spot.text → bound_from text bound spot lines ≤ (end_of text spot lines).text
 unfolding bound_from end_of
 bound_good text tables bound spot [] h = h
 bound_good text tables bound spot (line ∷ lines) h =

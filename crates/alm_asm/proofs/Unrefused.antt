@@ -13,55 +13,55 @@ use Rattle.alm_lines.specs.Layout.{layout_refusal}
 use Rattle.alm_asm.specs.Growth.{at_first, growth_refusal}
 use Rattle.alm_asm.specs.Assembly.{tables_of, refusal_of}
 use Rattle.alm_lines.specs.declared.sum.Sum.{Sum}
-use Rattle.alm_lines.specs.SpotFields.{Spot}
+use Rattle.alm_lines.specs.SpotFields.{LocationCounter}
 use Rattle.alm_asm.specs.declared.tables.Tables.{Tables}
-use Rattle.alm_lines.specs.declared.refusal.Refusal.{Refusal}
+use Rattle.alm_lines.specs.declared.refusal.AlmRefusal.{AlmRefusal}
 
-pub sooner_none : (a b : Option Refusal) → sooner a b ≡ None → (a ≡ None) × (b ≡ None)
+pub sooner_none : (a b : Option AlmRefusal) → sooner a b ≡ None → (a ≡ None) × (b ≡ None)
 sooner_none None b e = (refl, e)
 sooner_none (Some a) None e = absurd (true≢false (ap is_some e))
 sooner_none (Some a) (Some b) e = absurd (true≢false (ap is_some e))
 
-pub unless_none : (b : Bool) (refusal : Refusal) → unless b refusal ≡ None → b ≡ true
+pub unless_none : (b : Bool) (refusal : AlmRefusal) → unless b refusal ≡ None → b ≡ true
 unless_none true refusal e = refl
 unless_none false refusal e = absurd (true≢false (ap is_some e))
 
-pub names_first : (text : List ℕ) (symbols : List (List ℕ × Sum)) (line : Line36) (is_entry : Bool) (done : List Named) (first : Option Refusal) (arguments : List Arg)
+pub names_first : (text : List ℕ) (symbols : List (List ℕ × Sum)) (line : Line36) (is_entry : Bool) (done : List Named) (first : Option AlmRefusal) (arguments : List Arg)
     → names_refused text symbols line is_entry done first arguments ≡ None → first ≡ None
 unfolding names_refused
 names_first text symbols line is_entry done first [] e = e
 names_first text symbols line is_entry done first (arg ∷ arguments) e =
     (sooner_none first (arg_refusal text symbols line is_entry done arg) (names_first text symbols line is_entry (done ++ named_by text symbols is_entry arg) (sooner first (arg_refusal text symbols line is_entry done arg)) arguments e)).0
 
-pub either_none : (a b : Option Refusal) → option_or a b ≡ None → (a ≡ None) × (b ≡ None)
+pub either_none : (a b : Option AlmRefusal) → option_or a b ≡ None → (a ≡ None) × (b ≡ None)
 either_none None b e = (refl, e)
 either_none (Some a) b e = absurd (true≢false (ap is_some e))
 
-pub line_parts : (text : List ℕ) (tables : Tables) (done : List Named) (spot : Spot) (line : Line36) → line_refusal text tables done spot line ≡ None
+pub line_parts : (text : List ℕ) (tables : Tables) (done : List Named) (spot : LocationCounter) (line : Line36) → line_refusal text tables done spot line ≡ None
     → (definitions_refused text tables.symbols line done None line.args (gives_entries line.deed) ≡ None) × (refusal_of_deed text tables spot line line.deed ≡ None)
 unfolding line_refusal
 line_parts text tables done spot line e =
     sooner_none (definitions_refused text tables.symbols line done None line.args (gives_entries line.deed)) (refusal_of_deed text tables spot line line.deed) e
 
 -- the first line is not refused, nor are the others
-both_none : (text : List ℕ) (tables : Tables) (done : List Named) (spot : Spot) (line : Line36) (lines : List Line36)
+both_none : (text : List ℕ) (tables : Tables) (done : List Named) (spot : LocationCounter) (line : Line36) (lines : List Line36)
     → lines_refusal text tables done spot (line ∷ lines) ≡ None
     → (line_refusal text tables done spot line ≡ None) × (lines_refusal text tables (definitions_after text tables.symbols done line) (below text spot line) lines ≡ None)
 unfolding lines_refusal
 both_none text tables done spot line lines e =
     either_none (line_refusal text tables done spot line) (lines_refusal text tables (definitions_after text tables.symbols done line) (below text spot line) lines) e
 
-pub head_line : (text : List ℕ) (tables : Tables) (done : List Named) (spot : Spot) (line : Line36) (lines : List Line36)
+pub head_line : (text : List ℕ) (tables : Tables) (done : List Named) (spot : LocationCounter) (line : Line36) (lines : List Line36)
     → lines_refusal text tables done spot (line ∷ lines) ≡ None → line_refusal text tables done spot line ≡ None
 head_line text tables done spot line lines e = (both_none text tables done spot line lines e).0
 
-pub other_lines : (text : List ℕ) (tables : Tables) (done : List Named) (spot : Spot) (line : Line36) (lines : List Line36)
+pub other_lines : (text : List ℕ) (tables : Tables) (done : List Named) (spot : LocationCounter) (line : Line36) (lines : List Line36)
     → lines_refusal text tables done spot (line ∷ lines) ≡ None
     → lines_refusal text tables (definitions_after text tables.symbols done line) (below text spot line) lines ≡ None
 other_lines text tables done spot line lines e = (both_none text tables done spot line lines e).1
 
 -- and if lines are not refused, no first part of them is
-pub lines_above : (text : List ℕ) (tables : Tables) (done : List Named) (spot : Spot) (above lines : List Line36)
+pub lines_above : (text : List ℕ) (tables : Tables) (done : List Named) (spot : LocationCounter) (above lines : List Line36)
     → lines_refusal text tables done spot (above ++ lines) ≡ None → lines_refusal text tables done spot above ≡ None
 unfolding lines_refusal
 lines_above text tables done spot [] lines e = refl
@@ -71,7 +71,7 @@ lines_above text tables done spot (line ∷ above) lines e =
     ap (λ r. option_or r (lines_refusal text tables (definitions_after text tables.symbols done line) (below text spot line) above)) parts.0 ∙ rest
 
 -- nor is the line after these
-pub line_below : (text : List ℕ) (tables : Tables) (done : List Named) (spot : Spot) (above : List Line36) (line : Line36) (others : List Line36)
+pub line_below : (text : List ℕ) (tables : Tables) (done : List Named) (spot : LocationCounter) (above : List Line36) (line : Line36) (others : List Line36)
     → lines_refusal text tables done spot (above ++ line ∷ others) ≡ None → refusal_of_deed text tables (end_of text spot above) line line.deed ≡ None
 unfolding end_of
 line_below text tables done spot [] line others e = (line_parts text tables done spot line (head_line text tables done spot line others e)).1

@@ -6,8 +6,8 @@ use Rattle.alm_tokens.specs.declared.expression.Atom.{Atom}
 use Rattle.alm_tokens.specs.declared.expression.Atom.TheVariants as atom
 use Rattle.alm_tokens.specs.declared.expression.Term.{Term}
 use Rattle.alm_parse.specs.declared.line.Line36.{Line36}
-use Rattle.alm_parse.specs.declared.deed.Deed.{Deed}
-use Rattle.alm_parse.specs.declared.deed.Deed.TheVariants as deed
+use Rattle.alm_parse.specs.declared.deed.LineEffect.{LineEffect}
+use Rattle.alm_parse.specs.declared.deed.LineEffect.TheVariants as deed
 use Rattle.obj36_parts.specs.declared.section.Section.{Section}
 use Rattle.obj36_parts.specs.declared.section.Section.TheVariants.{Text, Linkage, Symbol, Static}
 use Rattle.alm_lines.specs.Sums.{no_sum, sum_plus, sum_turned}
@@ -15,13 +15,13 @@ use Rattle.alm_lines.specs.Symbols.{sum_named}
 use Rattle.alm_lines.specs.Arguments.{name_at, second_arg, terms_in}
 use Rattle.alm_lines.specs.Spots.{start, here_in, here, below}
 use Rattle.alm_lines.specs.Expressions.{symbol_sum, atom_sum, term_sum, added, sum_of, place_undefined, expression_place}
-use Rattle.alm_lines.specs.Refusals.{is_said, refusal_by, expression_refusal, has_value}
-use Rattle.alm_lines.specs.Layout.{own_symbol, own_refusal, value_by, value_of, own_sum, own_again, symbols_with, refused_with, labelled, symbols_after, refused_after, symbols_from, layout_refusal}
-use Rattle.alm_lines.specs.SpotFields.{Spot}
+use Rattle.alm_lines.specs.Refusals.{is_expressible, refusal_by, expression_refusal, has_value}
+use Rattle.alm_lines.specs.Layout.{own_symbol, own_refusal, value_by, value_of, own_sum, own_redefinition, symbols_with, refused_with, labelled, symbols_after, refused_after, symbols_from, layout_refusal}
+use Rattle.alm_lines.specs.SpotFields.{LocationCounter}
 use Rattle.alm_lines.specs.declared.sum.Sum.{Sum}
-use Rattle.alm_lines.specs.declared.refusal.Refusal.{Refusal}
-use Rattle.alm_lines.specs.declared.refusal.Room.{Room}
-use Rattle.alm_lines.specs.declared.refusal.Room.TheVariants.{Half}
+use Rattle.alm_lines.specs.declared.refusal.AlmRefusal.{AlmRefusal}
+use Rattle.alm_lines.specs.declared.refusal.ValueField.{ValueField}
+use Rattle.alm_lines.specs.declared.refusal.ValueField.TheVariants.{Half}
 use Rattle.alm_asm.proofs.EachSymbol.{Each, each_of_none, each_with_labels, each_with_own}
 use Rattle.alm_asm.proofs.SymbolsMean.{after_parts, layout_first}
 use Rattle.alm_asm.proofs.Unrefused.{sooner_none}
@@ -35,7 +35,7 @@ AreKnown symbols = Each IsKnown symbols
 
 -- ---- sums
 
-here_known : (section : Section) (spot : Spot) → IsKnown (here_in section spot)
+here_known : (section : Section) (spot : LocationCounter) → IsKnown (here_in section spot)
 here_known Text spot = refl
 here_known Linkage spot = refl
 here_known Symbol spot = refl
@@ -49,7 +49,7 @@ symbol_known : (text : List ℕ) (symbols : List (List ℕ × Sum)) (span : Span
 unfolding symbol_sum
 symbol_known text symbols span all = unwrapped_known (sum_named (name_at text span) symbols) (all (name_at text span))
 
-atom_known : (text : List ℕ) (symbols : List (List ℕ × Sum)) (spot : Spot) (span : Span) (a : Atom) → AreKnown symbols → IsKnown (atom_sum text symbols spot span a)
+atom_known : (text : List ℕ) (symbols : List (List ℕ × Sum)) (spot : LocationCounter) (span : Span) (a : Atom) → AreKnown symbols → IsKnown (atom_sum text symbols spot span a)
 atom_known text symbols spot span (atom.Number n) all = refl
 atom_known text symbols spot span atom.Symbol all = symbol_known text symbols span all
 atom_known text symbols spot span atom.Here all = here_known spot.section spot
@@ -59,7 +59,7 @@ unfolding sum_turned
 signed_known true sum e = e
 signed_known false sum e = e
 
-term_known : (text : List ℕ) (symbols : List (List ℕ × Sum)) (spot : Spot) (term : Term) → AreKnown symbols → IsKnown (term_sum text symbols spot term)
+term_known : (text : List ℕ) (symbols : List (List ℕ × Sum)) (spot : LocationCounter) (term : Term) → AreKnown symbols → IsKnown (term_sum text symbols spot term)
 unfolding term_sum
 term_known text symbols spot term all =
     signed_known term.minus (atom_sum text symbols spot term.span term.what) (atom_known text symbols spot term.span term.what all)
@@ -68,7 +68,7 @@ plus_known : (a b : Sum) → IsKnown a → IsKnown b → IsKnown (sum_plus a b)
 unfolding sum_plus
 plus_known a b e f = or_from a.unknown b.unknown e f
 
-added_known : (text : List ℕ) (symbols : List (List ℕ × Sum)) (spot : Spot) (sum : Sum) (terms : List Term) → AreKnown symbols → IsKnown sum → IsKnown (added text symbols spot sum terms)
+added_known : (text : List ℕ) (symbols : List (List ℕ × Sum)) (spot : LocationCounter) (sum : Sum) (terms : List Term) → AreKnown symbols → IsKnown sum → IsKnown (added text symbols spot sum terms)
 unfolding added
 added_known text symbols spot sum [] all e = e
 added_known text symbols spot sum (term ∷ terms) all e =
@@ -86,14 +86,14 @@ valued_by true unknown said m u s = absurd (true≢false m)
 valued_by false true said m u s = absurd (true≢false u)
 valued_by false false said m u s = s
 
-pub valued : (text : List ℕ) (symbols : List (List ℕ × Sum)) (spot : Spot) (line : Line36) (terms : List Term) (place : ℕ) (room : Room) (may_move : Bool) → AreKnown symbols
+pub valued : (text : List ℕ) (symbols : List (List ℕ × Sum)) (spot : LocationCounter) (line : Line36) (terms : List Term) (place : ℕ) (room : ValueField) (may_move : Bool) → AreKnown symbols
     → expression_refusal text symbols spot line terms place room may_move ≡ None → has_value text symbols spot terms room may_move ≡ true
 unfolding expression_refusal has_value
 valued text symbols spot line terms place room may_move all e =
     let sum = sum_of text symbols spot terms in
     let missing = place_undefined text symbols terms in
-    let parts = said_by line missing place (sum.unknown || is_said room may_move sum) e in
-    valued_by (is_some missing) sum.unknown (is_said room may_move sum) parts.0 (added_known text symbols spot no_sum terms all refl) parts.1
+    let parts = said_by line missing place (sum.unknown || is_expressible room may_move sum) e in
+    valued_by (is_some missing) sum.unknown (is_expressible room may_move sum) parts.0 (added_known text symbols spot no_sum terms all refl) parts.1
 
 -- ---- symbols
 
@@ -101,7 +101,7 @@ value_known : (b : Bool) (sum : Sum) → b ≡ true → IsKnown (value_by b sum)
 value_known true sum e = refl
 value_known false sum e = absurd (true≢false (sym e))
 
-own_known : (text : List ℕ) (symbols : List (List ℕ × Sum)) (spot : Spot) (line : Line36) (d : Deed) → AreKnown symbols → own_refusal text symbols spot line d ≡ None
+own_known : (text : List ℕ) (symbols : List (List ℕ × Sum)) (spot : LocationCounter) (line : Line36) (d : LineEffect) → AreKnown symbols → own_refusal text symbols spot line d ≡ None
     → IsKnown (own_sum text symbols spot line d)
 unfolding value_of
 own_known text symbols spot line deed.Nothing all e = here_known spot.section spot
@@ -118,16 +118,16 @@ own_known text symbols spot line deed.Block all e = here_known spot.section spot
 own_known text symbols spot line deed.Even all e = here_known spot.section spot
 own_known text symbols spot line deed.Bound all e = here_known spot.section spot
 
-line_known : (text : List ℕ) (first : Option Refusal) (symbols : List (List ℕ × Sum)) (spot : Spot) (line : Line36) → AreKnown symbols → refused_after text first symbols spot line ≡ None
+line_known : (text : List ℕ) (first : Option AlmRefusal) (symbols : List (List ℕ × Sum)) (spot : LocationCounter) (line : Line36) → AreKnown symbols → refused_after text first symbols spot line ≡ None
     → AreKnown (symbols_after text symbols spot line)
 unfolding symbols_after symbols_with refused_with
 line_known text first symbols spot line all e =
     let so_far = labelled text symbols spot line in
     let known = each_with_labels IsKnown text (here spot) symbols line.labels all (here_known spot.section spot) in
-    let own = sooner_none (own_again text line so_far (own_symbol line.deed line.args)) (own_refusal text so_far spot line line.deed) (after_parts text first symbols spot line e).1 in
+    let own = sooner_none (own_redefinition text line so_far (own_symbol line.deed line.args)) (own_refusal text so_far spot line line.deed) (after_parts text first symbols spot line e).1 in
     each_with_own IsKnown text (own_sum text so_far spot line line.deed) so_far (own_symbol line.deed line.args) known (own_known text so_far spot line line.deed known own.1)
 
-lines_known : (text : List ℕ) (first : Option Refusal) (symbols : List (List ℕ × Sum)) (spot : Spot) (lines : List Line36) → AreKnown symbols
+lines_known : (text : List ℕ) (first : Option AlmRefusal) (symbols : List (List ℕ × Sum)) (spot : LocationCounter) (lines : List Line36) → AreKnown symbols
     → layout_refusal text first symbols spot lines ≡ None → AreKnown (symbols_from text symbols spot lines)
 unfolding layout_refusal symbols_from
 lines_known text first symbols spot [] all e = all

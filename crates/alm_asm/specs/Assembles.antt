@@ -27,22 +27,22 @@ use Rattle.alm_asm.specs.Definitions.{definitions_from}
 use Rattle.alm_asm.specs.LineRefusals.{is_static}
 use Rattle.alm_asm.specs.Assembly.{tables_of, static_section, relocations_of}
 use Rattle.alm_lines.specs.declared.sum.Sum.{Sum}
-use Rattle.alm_lines.specs.SpotFields.{Spot}
+use Rattle.alm_lines.specs.SpotFields.{LocationCounter}
 use Rattle.alm_asm.specs.declared.tables.Tables.{Tables}
-use Rattle.alm_parse.specs.declared.deed.Deed.{Deed}
-use Rattle.alm_parse.specs.declared.deed.Deed.TheVariants as deed
+use Rattle.alm_parse.specs.declared.deed.LineEffect.{LineEffect}
+use Rattle.alm_parse.specs.declared.deed.LineEffect.TheVariants as deed
 
 -- ---- terms of the relation
 
 -- words that are part of others, after the first `count` of these
-pub record StandsBehind (count : ℕ) (part words : List ℕ) : Type 0 where
+pub record FollowsAt (count : ℕ) (part words : List ℕ) : Type 0 where
   pub front : List ℕ
   pub rest : List ℕ
   pub whole : words ≡ front ++ part ++ rest
   pub place : length front ≡ count
 
 -- the place of the line after some others
-abbrev pub spot_below : Source → List Line36 → Spot
+abbrev pub spot_below : Source → List Line36 → LocationCounter
 spot_below source above = end_of source.text start above
 
 -- the lines of a source are those above a line, the line, and the others
@@ -59,7 +59,7 @@ words_placed source above line =
     words_by source.text (meaning_of source) (spot_below source above) line.args line.deed
 
 -- whether the operation is `use` and this section, to which it changes, is the static one
-abbrev pub enters_static : Deed → Section → Bool
+abbrev pub enters_static : LineEffect → Section → Bool
 enters_static deed.Nothing section = false
 enters_static (deed.Instruction code bit27) section = false
 enters_static deed.Entry section = false
@@ -78,7 +78,7 @@ is_use_static text line =
     enters_static line.deed (section_in text (symbol_in (first_arg line.args)))
 
 -- whether an operation is `entrybound`
-abbrev pub is_bound : Deed → Bool
+abbrev pub is_bound : LineEffect → Bool
 is_bound deed.Nothing = false
 is_bound (deed.Instruction code bit27) = false
 is_bound deed.Entry = false
@@ -98,8 +98,8 @@ is_entrybound line = is_bound line.deed
 -- ---- the relation
 
 -- Each line is in the text or in static words, which are all of one kind in a source.
-abbrev pub SectionsStand : Source → Type 0
-SectionsStand source =
+abbrev pub SectionsAreOneKind : Source → Type 0
+SectionsAreOneKind source =
     (above : List Line36) (line : Line36) (others : List Line36) → IsSplit source above line others
     → ((spot_below source above).section ≡ Text) ⊎
     ((spot_below source above).section ≡ static_section (meaning_of source).uses_outer)
@@ -110,7 +110,7 @@ abbrev pub PlacesIn : Source → Section → List ℕ → Type 0
 PlacesIn source section words =
     (above : List Line36) (line : Line36) (others : List Line36) → IsSplit source above line others
     → (spot_below source above).section ≡ section
-    → StandsBehind (count_in section (spot_below source above)) (words_placed source above line)
+    → FollowsAt (count_in section (spot_below source above)) (words_placed source above line)
     words
 
 -- `PlacesIn` holds of the text.
@@ -172,8 +172,8 @@ is_external (Some (arg.Operand pr segment entry terms tag)) = is_some segment
 is_external None = false
 
 -- Each external operand is a link, and the list of links has it.
-abbrev pub LinksStand : Source → PartsFields → Type 0
-LinksStand source parts =
+abbrev pub HasEachLink : Source → PartsFields → Type 0
+HasEachLink source parts =
     (above : List Line36) (line : Line36) (others : List Line36) → IsSplit source above line others
     → is_external (first_arg (operand_args line.deed line.args)) ≡ true
     → (link : LinkFields)
@@ -195,18 +195,18 @@ BoundIs source parts =
 
 -- The parts are the object of the lines.
 pub record Assembles (source : Source) (parts : PartsFields) : Type 0 where
-  pub sections : SectionsStand source
+  pub sections : SectionsAreOneKind source
   pub text : PlacesText source parts
   pub statics : PlacesStatics source parts
   pub text_length : length parts.text ≡ (spot_below source source.lines).text
   pub statics_length :
       length parts.statics ≡ evened_count (meaning_of source).uses_outer (static_count source)
   pub evening :
-      StandsBehind (static_count source)
+      FollowsAt (static_count source)
       (evening_words (meaning_of source).uses_outer (static_count source)) parts.statics
   pub labels : LabelsMean source
   pub own : OwnMean source
-  pub links : LinksStand source parts
+  pub links : HasEachLink source parts
   pub links_in_order :
       parts.links ≡ links_from source.text (meaning_of source).symbols [] start source.lines
   pub links_apart : are_apart parts.links ≡ true

@@ -10,29 +10,29 @@ use Rattle.obj36_parts.specs.declared.section.Section.{Section}
 use Rattle.obj36_parts.specs.declared.section.Section.TheVariants.{Text, Linkage, Static}
 use Rattle.obj36_parts.specs.Fields.{RelocFields}
 use Rattle.obj36_parts.specs.PartsFields.{PartsFields}
-use Rattle.obj36_parts.specs.ObjectSegment.{evened_words}
+use Rattle.obj36_parts.specs.ObjectSegment.{padded_to_even}
 use Rattle.obj36_parts.specs.ObjectSegment.{evened as even_number, is_well_formed, first_link_by}
 use Rattle.alm_lines.specs.Spots.{start, below, end_of}
 use Rattle.alm_lines.specs.Refusals.{fault_of, sooner}
 use Rattle.alm_lines.specs.Layout.{symbols_from, layout_refusal}
 use Rattle.alm_asm.specs.Links.{links_from}
 use Rattle.alm_asm.specs.Words.{words_from}
-use Rattle.alm_asm.specs.Marks.{marks_from}
+use Rattle.alm_asm.specs.Relocations.{marks_from}
 use Rattle.alm_asm.specs.Definitions.{definitions_from}
 use Rattle.alm_asm.specs.LineRefusals.{lines_refusal}
 use Rattle.alm_asm.specs.Parts.{parts_by}
 use Rattle.alm_asm.specs.Growth.{at_first, growth_refusal}
-use Rattle.alm_lines.specs.SpotFields.{Spot}
+use Rattle.alm_lines.specs.SpotFields.{LocationCounter}
 use Rattle.alm_asm.specs.declared.tables.Tables.{Tables}
-use Rattle.alm_parse.specs.declared.deed.Deed.{Deed}
-use Rattle.alm_parse.specs.declared.deed.Deed.TheVariants as deed
-use Rattle.alm_lines.specs.declared.refusal.Refusal.{Refusal}
+use Rattle.alm_parse.specs.declared.deed.LineEffect.{LineEffect}
+use Rattle.alm_parse.specs.declared.deed.LineEffect.TheVariants as deed
+use Rattle.alm_lines.specs.declared.refusal.AlmRefusal.{AlmRefusal}
 
 -- ---- tables
 
 -- Links are in the linkage section after its head and the static words there, of which there is an
 -- even number.
-abbrev pub first_link : Spot → ℕ
+abbrev pub first_link : LocationCounter → ℕ
 first_link ending = first_link_by ending.uses_outer (even_number ending.inner)
 
 -- the symbols of all lines with their sums, the links, and where the links and the static words are
@@ -48,7 +48,7 @@ tables_of text lines =
 -- ---- the entry bound
 
 -- the place in the text of the last `entrybound` line, or else the bound so far
-abbrev pub bound_by : Spot → ℕ → Deed → ℕ
+abbrev pub bound_by : LocationCounter → ℕ → LineEffect → ℕ
 bound_by spot bound deed.Nothing = bound
 bound_by spot bound (deed.Instruction code bit27) = bound
 bound_by spot bound deed.Entry = bound
@@ -62,7 +62,7 @@ bound_by spot bound deed.Even = bound
 bound_by spot bound deed.Bound = spot.text % 2 ^ 18
 
 -- the entry bound of the lines, which is `bound` if none of them is an `entrybound` line
-unfoldable pub bound_from : List ℕ → ℕ → Spot → List Line36 → ℕ
+unfoldable pub bound_from : List ℕ → ℕ → LocationCounter → List Line36 → ℕ
 bound_from text bound spot [] = bound
 bound_from text bound spot (line ∷ lines) =
     bound_from text (bound_by spot bound line.deed) (below text spot line) lines
@@ -78,7 +78,7 @@ static_section false = Linkage
 -- zero word follows an odd number of words.
 abbrev pub evened : Bool → List ℕ → List ℕ
 evened true words = words
-evened false words = evened_words words
+evened false words = padded_to_even words
 
 -- the relocations of lines: those of the text, and then those of the static words
 abbrev pub relocations_of : List ℕ → Tables → List Line36 → List RelocFields
@@ -108,7 +108,7 @@ parts_of source = parts_with source.text (tables_of source.text source.lines) so
 -- ---- the refusal
 
 -- the first refusal in the order of the text, if there is one
-abbrev pub refusal_in : List ℕ → List Line36 → Option Refusal
+abbrev pub refusal_in : List ℕ → List Line36 → Option AlmRefusal
 refusal_in text lines =
     let tables = tables_of text lines in
     sooner
@@ -118,11 +118,11 @@ refusal_in text lines =
     (growth_refusal text tables.symbols at_first start lines)
 
 -- the first refusal of a source in the order of the text, if there is one
-unfoldable pub refusal_of : Source → Option Refusal
+unfoldable pub refusal_of : Source → Option AlmRefusal
 refusal_of source = refusal_in source.text source.lines
 
 -- the tables of lines, unless a line is refused
-abbrev pub unless_refused : List ℕ → List Line36 → Option Refusal → Result Tables AlmFault
+abbrev pub unless_refused : List ℕ → List Line36 → Option AlmRefusal → Result Tables AlmFault
 unless_refused text lines refusal = unless (option_map fault_of refusal) (tables_of text lines)
 
 -- the number of the last line, or 1
@@ -137,7 +137,7 @@ made parts number true = Ok parts
 made parts number false = Err (E8 number 1)
 
 -- the parts of a source, or its refusal
-abbrev pub assembled_by : Source → Option Refusal → Result PartsFields AlmFault
+abbrev pub assembled_by : Source → Option AlmRefusal → Result PartsFields AlmFault
 assembled_by source (Some refusal) = Err (fault_of refusal)
 assembled_by source None =
     made (parts_of source) (last_line 1 source.lines) (is_well_formed (parts_of source))

@@ -16,12 +16,12 @@ use Rattle.alm_lines.specs.Expressions.{symbol_sum}
 use Rattle.alm_lines.specs.Refusals.{sooner, refusal_at, has_room}
 use Rattle.alm_lines.specs.declared.sum.Sum.{Sum}
 use Rattle.alm_lines.specs.declared.sum.Kind.{Kind}
-use Rattle.alm_lines.specs.declared.sum.Kind.TheVariants.{Absolute, Moved, Unsaid}
-use Rattle.alm_parse.specs.declared.deed.Deed.{Deed}
-use Rattle.alm_parse.specs.declared.deed.Deed.TheVariants as deed
-use Rattle.alm_lines.specs.declared.refusal.Code.TheVariants.{E5, E6, E7}
-use Rattle.alm_lines.specs.declared.refusal.Refusal.{Refusal}
-use Rattle.alm_lines.specs.declared.refusal.Room.TheVariants.{Half}
+use Rattle.alm_lines.specs.declared.sum.Kind.TheVariants.{Absolute, Moved, Inexpressible}
+use Rattle.alm_parse.specs.declared.deed.LineEffect.{LineEffect}
+use Rattle.alm_parse.specs.declared.deed.LineEffect.TheVariants as deed
+use Rattle.alm_lines.specs.declared.refusal.AlmCode.TheVariants.{E5, E6, E7}
+use Rattle.alm_lines.specs.declared.refusal.AlmRefusal.{AlmRefusal}
+use Rattle.alm_lines.specs.declared.refusal.ValueField.TheVariants.{Half}
 
 -- ---- the definitions
 
@@ -30,7 +30,7 @@ use Rattle.alm_lines.specs.declared.refusal.Room.TheVariants.{Half}
 abbrev pub section_of : Kind → Section
 section_of Absolute = Text
 section_of (Moved section) = section
-section_of Unsaid = Text
+section_of Inexpressible = Text
 
 -- the definition of a name, with the section and the value of its symbol
 unfoldable pub named : List ℕ → List (List ℕ × Sum) → Bool → Span → Named
@@ -60,7 +60,7 @@ with_names text symbols is_entry done (arg ∷ arguments) =
     with_names text symbols is_entry (done ++ named_by text symbols is_entry arg) arguments
 
 -- whether a line has definitions, and if so whether they are entries
-abbrev pub gives_entries : Deed → Option Bool
+abbrev pub gives_entries : LineEffect → Option Bool
 gives_entries deed.Nothing = None
 gives_entries (deed.Instruction code bit27) = None
 gives_entries deed.Entry = Some true
@@ -105,37 +105,37 @@ is_label_kind is_entry (Moved Text) = true
 is_label_kind is_entry (Moved Linkage) = not is_entry
 is_label_kind is_entry (Moved Symbol) = not is_entry
 is_label_kind is_entry (Moved Static) = not is_entry
-is_label_kind is_entry Unsaid = false
+is_label_kind is_entry Inexpressible = false
 
 -- whether a sum is a label that may be defined, and its value fits a half
 unfoldable pub is_label : Bool → Sum → Bool
 is_label is_entry sum = has_room Half sum.value && is_label_kind is_entry (kind_of sum)
 
 -- E7 at the index `at`, unless the symbol is such a label
-abbrev pub label_refusal : Line36 → ℕ → Bool → Option Refusal
+abbrev pub label_refusal : Line36 → ℕ → Bool → Option AlmRefusal
 label_refusal line at true = None
 label_refusal line at false = Some (refusal_at line at E7)
 
 -- E6 for a symbol that is not defined, and E7 for one that is not such a label
-abbrev pub sum_refusal : Line36 → ℕ → Bool → Option Sum → Option Refusal
+abbrev pub sum_refusal : Line36 → ℕ → Bool → Option Sum → Option AlmRefusal
 sum_refusal line at is_entry None = Some (refusal_at line at E6)
 sum_refusal line at is_entry (Some sum) = label_refusal line at (is_label is_entry sum)
 
 -- E5 for a name that has a definition already, and otherwise as `sum_refusal`
-abbrev pub taken_refusal : Line36 → ℕ → Bool → Option Sum → Bool → Option Refusal
+abbrev pub taken_refusal : Line36 → ℕ → Bool → Option Sum → Bool → Option AlmRefusal
 taken_refusal line at is_entry sum true = Some (refusal_at line at E5)
 taken_refusal line at is_entry sum false = sum_refusal line at is_entry sum
 
 -- the refusal of a name that a line defines, given the definitions above it, if any
 unfoldable pub name_refusal : List ℕ → List (List ℕ × Sum) → Line36 → Bool → List Named → Span
-    → Option Refusal
+    → Option AlmRefusal
 name_refusal text symbols line is_entry done span =
     taken_refusal line span.from is_entry (sum_named (name_at text span) symbols)
     (is_taken done (name_at text span))
 
 -- the refusal of an argument as a name that a line defines; only symbols are names
 abbrev pub arg_refusal : List ℕ → List (List ℕ × Sum) → Line36 → Bool → List Named → Arg
-    → Option Refusal
+    → Option AlmRefusal
 arg_refusal text symbols line is_entry done (arg.Symbol span) =
     name_refusal text symbols line is_entry done span
 arg_refusal text symbols line is_entry done (arg.Number word) = None
@@ -146,15 +146,15 @@ arg_refusal text symbols line is_entry done (arg.Operand pr segment entry terms 
 -- the first in the text of `first` and the refusals of these arguments, each given the definitions
 -- of those before it
 unfoldable pub names_refused : List ℕ → List (List ℕ × Sum) → Line36 → Bool → List Named
-    → Option Refusal → List Arg → Option Refusal
+    → Option AlmRefusal → List Arg → Option AlmRefusal
 names_refused text symbols line is_entry done first [] = first
 names_refused text symbols line is_entry done first (arg ∷ arguments) =
     names_refused text symbols line is_entry (done ++ named_by text symbols is_entry arg)
     (sooner first (arg_refusal text symbols line is_entry done arg)) arguments
 
 -- As `names_refused`, for a line that may define no names. Then only `first` can refuse it.
-abbrev pub definitions_refused : List ℕ → List (List ℕ × Sum) → Line36 → List Named → Option Refusal
-    → List Arg → Option Bool → Option Refusal
+abbrev pub definitions_refused : List ℕ → List (List ℕ × Sum) → Line36 → List Named → Option AlmRefusal
+    → List Arg → Option Bool → Option AlmRefusal
 definitions_refused text symbols line done first arguments None = first
 definitions_refused text symbols line done first arguments (Some is_entry) =
     names_refused text symbols line is_entry done first arguments

@@ -20,20 +20,20 @@ use Rattle.alm_lines.specs.Spots.{below}
 use Rattle.alm_lines.specs.Refusals.{refusal_at, has_value, is_over_limit}
 use Rattle.alm_asm.specs.Links.{operand_args, link_in}
 use Rattle.alm_lines.specs.Expressions.{sum_of}
-use Rattle.alm_asm.specs.Marks.{operand_kind}
+use Rattle.alm_asm.specs.Relocations.{operand_kind}
 use Rattle.alm_asm.specs.Definitions.{gives_entries, sum_refusal}
 use Rattle.alm_asm.specs.LineRefusals.{own_room}
 use Rattle.alm_lines.specs.declared.sum.Sum.{Sum}
 use Rattle.alm_lines.specs.declared.sum.Kind.{Kind}
-use Rattle.alm_lines.specs.declared.sum.Kind.TheVariants.{Absolute, Moved, Unsaid}
-use Rattle.alm_lines.specs.declared.refusal.Room.{Room}
-use Rattle.alm_lines.specs.declared.refusal.Room.TheVariants.{Half}
-use Rattle.alm_parse.specs.declared.deed.Deed.{Deed}
-use Rattle.alm_parse.specs.declared.deed.Deed.TheVariants as deed
-use Rattle.alm_lines.specs.SpotFields.{Spot}
+use Rattle.alm_lines.specs.declared.sum.Kind.TheVariants.{Absolute, Moved, Inexpressible}
+use Rattle.alm_lines.specs.declared.refusal.ValueField.{ValueField}
+use Rattle.alm_lines.specs.declared.refusal.ValueField.TheVariants.{Half}
+use Rattle.alm_parse.specs.declared.deed.LineEffect.{LineEffect}
+use Rattle.alm_parse.specs.declared.deed.LineEffect.TheVariants as deed
+use Rattle.alm_lines.specs.SpotFields.{LocationCounter}
 use Rattle.alm_asm.specs.declared.growth.Growth.{Growth}
-use Rattle.alm_lines.specs.declared.refusal.Code.TheVariants.{E8}
-use Rattle.alm_lines.specs.declared.refusal.Refusal.{Refusal}
+use Rattle.alm_lines.specs.declared.refusal.AlmCode.TheVariants.{E8}
+use Rattle.alm_lines.specs.declared.refusal.AlmRefusal.{AlmRefusal}
 
 -- Before the first line the definition section has its two first words, and the symbol section the
 -- number of relocations.
@@ -70,7 +70,7 @@ with_definition g name =
     (record g { defined = with_symbol g.defined name no_sum; definition = g.definition + 2 }) name
 
 -- a definition of `entry` or `segdef` is counted unless it is refused
-abbrev pub with_unrefused : Option Refusal → Growth → List ℕ → Growth
+abbrev pub with_unrefused : Option AlmRefusal → Growth → List ℕ → Growth
 with_unrefused (Some refusal) g name = g
 with_unrefused None g name = with_definition g name
 
@@ -120,10 +120,10 @@ with_link_given g (Some link) = with_link_once g link
 abbrev pub mark_count : Bool → Kind → ℕ
 mark_count valued Absolute = 0
 mark_count valued (Moved section) = if valued then 1 else 0
-mark_count valued Unsaid = 0
+mark_count valued Inexpressible = 0
 
 -- The field that the expression of an operand must fit. After an external name it is a half.
-abbrev pub operand_room : Option ℕ → Option Span → Room
+abbrev pub operand_room : Option ℕ → Option Span → ValueField
 operand_room pr (Some segment) = Half
 operand_room pr None = own_room pr
 
@@ -134,7 +134,7 @@ is_own (Some segment) = false
 is_own None = true
 
 -- the number of relocations of the operand of an instruction: 0 or 1
-abbrev pub operand_count : List ℕ → List (List ℕ × Sum) → Spot → Option Arg → ℕ
+abbrev pub operand_count : List ℕ → List (List ℕ × Sum) → LocationCounter → Option Arg → ℕ
 operand_count text symbols spot (Some (arg.Symbol span)) = 0
 operand_count text symbols spot (Some (arg.Number word)) = 0
 operand_count text symbols spot (Some (arg.Chars words)) = 0
@@ -146,13 +146,13 @@ operand_count text symbols spot (Some (arg.Operand pr segment entry terms tag)) 
 operand_count text symbols spot None = 0
 
 -- the number of relocations of an expression that is a half of a word: 0 or 1
-abbrev pub half_count : List ℕ → List (List ℕ × Sum) → Spot → List Term → ℕ
+abbrev pub half_count : List ℕ → List (List ℕ × Sum) → LocationCounter → List Term → ℕ
 half_count text symbols spot terms =
     mark_count (has_value text symbols spot terms Half true)
     (kind_of (sum_of text symbols spot terms))
 
 -- the number of relocations of the words that a line places
-abbrev pub marks_count : List ℕ → List (List ℕ × Sum) → Spot → List Arg → Deed → ℕ
+abbrev pub marks_count : List ℕ → List (List ℕ × Sum) → LocationCounter → List Arg → LineEffect → ℕ
 marks_count text symbols spot arguments deed.Nothing = 0
 marks_count text symbols spot arguments (deed.Instruction code bit27) =
     operand_count text symbols spot (first_arg arguments)
@@ -169,14 +169,14 @@ marks_count text symbols spot arguments deed.Even = 0
 marks_count text symbols spot arguments deed.Bound = 0
 
 -- the sizes with the relocations of a line
-unfoldable pub with_marks : List ℕ → List (List ℕ × Sum) → Spot → Line36 → Growth → Growth
+unfoldable pub with_marks : List ℕ → List (List ℕ × Sum) → LocationCounter → Line36 → Growth → Growth
 with_marks text symbols spot line g =
     record g { symbol = g.symbol + marks_count text symbols spot line.args line.deed }
 
 -- ---- lines
 
 -- the sizes with the definitions, the link and the relocations of a line
-unfoldable pub grown_by : List ℕ → List (List ℕ × Sum) → Spot → Growth → Line36 → Growth
+unfoldable pub grown_by : List ℕ → List (List ℕ × Sum) → LocationCounter → Growth → Line36 → Growth
 grown_by text symbols spot g line =
     with_marks text symbols spot line
     (with_link_given (with_definitions text symbols line g (gives_entries line.deed))
@@ -184,14 +184,14 @@ grown_by text symbols spot g line =
 
 -- The linkage section has its head, static words and links. The zero word after an odd number of
 -- static words is not counted: the limit is even, and so is the number of all other words.
-unfoldable pub is_over : Spot → Growth → Bool
+unfoldable pub is_over : LocationCounter → Growth → Bool
 is_over spot g =
     is_over_limit g.definition || is_over_limit (linkage_length spot.inner (length g.links))
     || is_over_limit g.symbol
 
 -- the refusal of the first line with which one of these sections is too long
-unfoldable pub growth_refusal : List ℕ → List (List ℕ × Sum) → Growth → Spot → List Line36
-    → Option Refusal
+unfoldable pub growth_refusal : List ℕ → List (List ℕ × Sum) → Growth → LocationCounter → List Line36
+    → Option AlmRefusal
 growth_refusal text symbols g spot [] = None
 growth_refusal text symbols g spot (line ∷ lines) =
     if is_over (below text spot line) (grown_by text symbols spot g line) then Some

@@ -22,13 +22,13 @@ use Rattle.alm_asm.specs.Assembly.{parts_of, refusal_of}
 use Rattle.alm_lines.specs.Sums.{half_of, offset_of}
 use Rattle.alm_lines.specs.Symbols.{sum_named}
 use Rattle.alm_lines.specs.Spots.{start, count_in, place, size_of, end_of}
-use Rattle.alm_lines.specs.SpotFields.{Spot}
+use Rattle.alm_lines.specs.SpotFields.{LocationCounter}
 use Rattle.alm_asm.specs.Links.{link_of, link_place}
-use Rattle.alm_asm.specs.Marks.{operand_part}
+use Rattle.alm_asm.specs.Relocations.{operand_part}
 use Rattle.alm_asm.specs.Words.{pointed_inst, inst_by, halves_word, words_of_line, words_from}
 use Rattle.alm_lines.specs.Layout.{symbols_from}
 use Rattle.alm_lines.specs.Refusals.{has_room}
-use Rattle.alm_lines.specs.declared.refusal.Room.TheVariants.{Offset}
+use Rattle.alm_lines.specs.declared.refusal.ValueField.TheVariants.{Offset}
 use Rattle.alm_lines.specs.declared.sum.Balance.{Balance}
 use Rattle.alm_lines.specs.declared.sum.Sum.{Sum}
 use Rattle.alm_asm.specs.declared.tables.Tables.{Tables}
@@ -51,7 +51,7 @@ PlacesCount =
 -- The size of any line is the number of words that it places in its section.
 abbrev pub SizesCount : Type 0
 SizesCount =
-    (text : List ℕ) (tables : Tables) (spot : Spot) (line : Line36)
+    (text : List ℕ) (tables : Tables) (spot : LocationCounter) (line : Line36)
     → size_of line.deed line.args (place spot)
     ≡ length (words_of_line text tables spot.section spot line)
 
@@ -82,26 +82,26 @@ OffsetsAreRead =
 -- after a pointer register, or either half. For an external operand it holds the offset of the
 -- link.
 pub record PartsAreMarked : Type 0 where
-  pub plain : (text : List ℕ) (tables : Tables) (spot : Spot) (code : ℕ) (bit27 : Bool)
+  pub plain : (text : List ℕ) (tables : Tables) (spot : LocationCounter) (code : ℕ) (bit27 : Bool)
       (entry : Option Span) (terms : List Term) (tag : ℕ)
       → part_of (operand_part None None)
       (inst_word (inst_by text tables spot code bit27 None None entry terms tag))
       ≡ half_of (sum_of text tables.symbols spot terms).value
-  pub through : (text : List ℕ) (tables : Tables) (spot : Spot) (code : ℕ) (bit27 : Bool) (pr : ℕ)
+  pub through : (text : List ℕ) (tables : Tables) (spot : LocationCounter) (code : ℕ) (bit27 : Bool) (pr : ℕ)
       (entry : Option Span) (terms : List Term) (tag : ℕ)
       → part_of (operand_part (Some pr) None)
       (inst_word (inst_by text tables spot code bit27 (Some pr) None entry terms tag))
       ≡ offset_of (sum_of text tables.symbols spot terms).value
-  pub linked : (text : List ℕ) (tables : Tables) (spot : Spot) (code : ℕ) (bit27 : Bool)
+  pub linked : (text : List ℕ) (tables : Tables) (spot : LocationCounter) (code : ℕ) (bit27 : Bool)
       (pr : Option ℕ) (segment : Span) (entry : Option Span) (terms : List Term) (tag : ℕ)
       → part_of (operand_part pr (Some segment))
       (inst_word (inst_by text tables spot code bit27 pr (Some segment) entry terms tag))
       ≡ link_place tables.links tables.first_link
       (link_of text tables.symbols spot segment entry terms tag) % 2 ^ 15
-  pub first : (text : List ℕ) (tables : Tables) (spot : Spot) (arguments : List Arg)
+  pub first : (text : List ℕ) (tables : Tables) (spot : LocationCounter) (arguments : List Arg)
       → part_of left_part (halves_word text tables spot arguments)
       ≡ half_of (sum_of text tables.symbols spot (terms_in (first_arg arguments))).value
-  pub second : (text : List ℕ) (tables : Tables) (spot : Spot) (arguments : List Arg)
+  pub second : (text : List ℕ) (tables : Tables) (spot : LocationCounter) (arguments : List Arg)
       → part_of right_part (halves_word text tables spot arguments)
       ≡ half_of (sum_of text tables.symbols spot (terms_in (second_arg arguments))).value
 

@@ -10,9 +10,9 @@ pub use Rattle.alm_lines.specs.Expressions
 pub use Rattle.alm_lines.specs.Refusals
 pub use Rattle.alm_lines.specs.Layout
 pub mod Links
-pub mod Seen
+pub mod LineValues
 pub mod Words
-pub mod Marks
+pub mod Relocations
 pub mod Definitions
 pub mod LineRefusals
 pub mod Growth

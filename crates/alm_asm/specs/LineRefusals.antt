@@ -22,18 +22,18 @@ use Rattle.alm_lines.specs.Refusals.{sooner, refusal_at, expression_refusal}
 use Rattle.alm_lines.specs.Refusals.{number_refusal, has_number}
 use Rattle.alm_asm.specs.Links.{link_of, link_place}
 use Rattle.alm_asm.specs.Definitions.{gives_entries, definitions_after, definitions_refused}
-use Rattle.alm_lines.specs.SpotFields.{Spot}
+use Rattle.alm_lines.specs.SpotFields.{LocationCounter}
 use Rattle.alm_lines.specs.declared.sum.Sum.{Sum}
 use Rattle.alm_asm.specs.declared.tables.Tables.{Tables}
-use Rattle.alm_parse.specs.declared.deed.Deed.{Deed}
-use Rattle.alm_parse.specs.declared.deed.Deed.TheVariants as deed
-use Rattle.alm_lines.specs.declared.refusal.Code.TheVariants.{E7}
-use Rattle.alm_lines.specs.declared.refusal.Refusal.{Refusal}
-use Rattle.alm_lines.specs.declared.refusal.Room.{Room}
-use Rattle.alm_lines.specs.declared.refusal.Room.TheVariants.{Half, Offset}
+use Rattle.alm_parse.specs.declared.deed.LineEffect.{LineEffect}
+use Rattle.alm_parse.specs.declared.deed.LineEffect.TheVariants as deed
+use Rattle.alm_lines.specs.declared.refusal.AlmCode.TheVariants.{E7}
+use Rattle.alm_lines.specs.declared.refusal.AlmRefusal.{AlmRefusal}
+use Rattle.alm_lines.specs.declared.refusal.ValueField.{ValueField}
+use Rattle.alm_lines.specs.declared.refusal.ValueField.TheVariants.{Half, Offset}
 
 -- the refusal, unless the condition holds
-abbrev pub unless : Bool → Refusal → Option Refusal
+abbrev pub unless : Bool → AlmRefusal → Option AlmRefusal
 unless true refusal = None
 unless false refusal = Some refusal
 
@@ -66,7 +66,7 @@ abbrev pub may_name : Tables → Option Section → Bool
 may_name tables own = tables.uses_outer || not (needs_static own)
 
 -- A link must be in the reach of `pr4|`.
-unfoldable pub is_in_reach : List ℕ → Tables → Spot → Span → Option Span → List Term → ℕ → Bool
+unfoldable pub is_in_reach : List ℕ → Tables → LocationCounter → Span → Option Span → List Term → ℕ → Bool
 is_in_reach text tables spot segment entry terms tag =
     nat_lt
     (link_place tables.links tables.first_link
@@ -74,26 +74,26 @@ is_in_reach text tables spot segment entry terms tag =
 
 -- The bounds of an expression: those of bits 3 to 17 after a pointer register, and otherwise those
 -- of a half.
-abbrev pub own_room : Option ℕ → Room
+abbrev pub own_room : Option ℕ → ValueField
 own_room (Some pr) = Offset
 own_room None = Half
 
 -- the refusal of the expression after an external name
-abbrev pub link_expression : List ℕ → List (List ℕ × Sum) → Spot → Line36 → Span → Option Span
-    → List Term → Option Refusal
+abbrev pub link_expression : List ℕ → List (List ℕ × Sum) → LocationCounter → Line36 → Span → Option Span
+    → List Term → Option AlmRefusal
 link_expression text symbols spot line segment entry terms =
     number_refusal text symbols spot line terms (external_place segment entry)
 
 -- An operand whose expression has no value is not a link, so its place is not checked.
-unfoldable pub reaches : List ℕ → Tables → Spot → Span → Option Span → List Term → ℕ → Bool
+unfoldable pub reaches : List ℕ → Tables → LocationCounter → Span → Option Span → List Term → ℕ → Bool
 reaches text tables spot segment entry terms tag =
     not (has_number text tables.symbols spot terms)
     || is_in_reach text tables spot segment entry terms tag
 
 -- The refusal of an external operand: that of its expression; or E7 at its segment, if its link is
 -- out of reach or it names a static section that the lines do not have.
-abbrev pub external_refusal : List ℕ → Tables → Spot → Line36 → Span → Option Span → List Term → ℕ
-    → Option Refusal
+abbrev pub external_refusal : List ℕ → Tables → LocationCounter → Line36 → Span → Option Span → List Term → ℕ
+    → Option AlmRefusal
 external_refusal text tables spot line segment entry terms tag =
     let at = refusal_at line segment.from E7 in
     sooner
@@ -103,20 +103,20 @@ external_refusal text tables spot line segment entry terms tag =
     (unless (may_name tables (own_section (slice_of text segment))) at)
 
 -- the refusal of an operand that is an expression
-abbrev pub own_operand : List ℕ → Tables → Spot → Line36 → Room → List Term → Option Refusal
+abbrev pub own_operand : List ℕ → Tables → LocationCounter → Line36 → ValueField → List Term → Option AlmRefusal
 own_operand text tables spot line room terms =
     expression_refusal text tables.symbols spot line terms (expression_place terms) room true
 
 -- the refusal of an operand: external if it names a segment, and otherwise an expression
-abbrev pub operand_by : List ℕ → Tables → Spot → Line36 → Option ℕ → Option Span → Option Span
-    → List Term → ℕ → Option Refusal
+abbrev pub operand_by : List ℕ → Tables → LocationCounter → Line36 → Option ℕ → Option Span → Option Span
+    → List Term → ℕ → Option AlmRefusal
 operand_by text tables spot line pr (Some segment) entry terms tag =
     external_refusal text tables spot line segment entry terms tag
 operand_by text tables spot line pr None entry terms tag =
     own_operand text tables spot line (own_room pr) terms
 
 -- the refusal of the operand of an instruction, if it has one; no other argument is refused here
-abbrev pub operand_refusal : List ℕ → Tables → Spot → Line36 → Option Arg → Option Refusal
+abbrev pub operand_refusal : List ℕ → Tables → LocationCounter → Line36 → Option Arg → Option AlmRefusal
 operand_refusal text tables spot line (Some (arg.Symbol span)) = None
 operand_refusal text tables spot line (Some (arg.Number word)) = None
 operand_refusal text tables spot line (Some (arg.Chars words)) = None
@@ -128,32 +128,32 @@ operand_refusal text tables spot line None = None
 -- ---- operations
 
 -- Whether a `use` line may change to a section: the static words of a source are in one section.
-abbrev pub may_enter : Spot → Section → Bool
+abbrev pub may_enter : LocationCounter → Section → Bool
 may_enter spot Text = true
 may_enter spot Linkage = not spot.uses_outer
 may_enter spot Symbol = true
 may_enter spot Static = not spot.uses_inner
 
 -- The refusal of an instruction: E7 at the operation outside the text, and those of its operand.
-abbrev pub instruction_refusal : List ℕ → Tables → Spot → Line36 → Option Refusal
+abbrev pub instruction_refusal : List ℕ → Tables → LocationCounter → Line36 → Option AlmRefusal
 instruction_refusal text tables spot line =
     sooner (unless (is_text_section spot.section) (refusal_at line (op_place line.op) E7))
     (operand_refusal text tables spot line (first_arg line.args))
 
 -- the refusal of a `use` line: E7 at the operation, if the static words are in the other section
-abbrev pub use_refusal : List ℕ → Spot → Line36 → Option Refusal
+abbrev pub use_refusal : List ℕ → LocationCounter → Line36 → Option AlmRefusal
 use_refusal text spot line =
     unless (may_enter spot (section_in text (symbol_in (first_arg line.args))))
     (refusal_at line (op_place line.op) E7)
 
 -- the first refusal of the two expressions of a `zero` line
-abbrev pub halves_refusal : List ℕ → Tables → Spot → Line36 → Option Refusal
+abbrev pub halves_refusal : List ℕ → Tables → LocationCounter → Line36 → Option AlmRefusal
 halves_refusal text tables spot line =
     sooner (own_operand text tables spot line Half (terms_in (first_arg line.args)))
     (own_operand text tables spot line Half (terms_in (second_arg line.args)))
 
 -- the refusal of the operation of a line, without those of definitions and of symbols
-abbrev pub refusal_of_deed : List ℕ → Tables → Spot → Line36 → Deed → Option Refusal
+abbrev pub refusal_of_deed : List ℕ → Tables → LocationCounter → Line36 → LineEffect → Option AlmRefusal
 refusal_of_deed text tables spot line deed.Nothing = None
 refusal_of_deed text tables spot line (deed.Instruction code bit27) =
     instruction_refusal text tables spot line
@@ -174,7 +174,7 @@ abbrev pub with_links : Tables → List LinkFields → Tables
 with_links tables links = record tables { links = links }
 
 -- the first refusal of a line: of its definitions or of its operation
-unfoldable pub line_refusal : List ℕ → Tables → List Named → Spot → Line36 → Option Refusal
+unfoldable pub line_refusal : List ℕ → Tables → List Named → LocationCounter → Line36 → Option AlmRefusal
 line_refusal text tables done spot line =
     sooner
     (definitions_refused text tables.symbols line done None line.args (gives_entries line.deed))
@@ -182,7 +182,7 @@ line_refusal text tables done spot line =
 
 -- The refusal of the first line that is refused. It is earlier in the text than those of all lines
 -- below.
-unfoldable pub lines_refusal : List ℕ → Tables → List Named → Spot → List Line36 → Option Refusal
+unfoldable pub lines_refusal : List ℕ → Tables → List Named → LocationCounter → List Line36 → Option AlmRefusal
 lines_refusal text tables done spot [] = None
 lines_refusal text tables done spot (line ∷ lines) =
     option_or

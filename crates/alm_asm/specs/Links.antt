@@ -22,9 +22,9 @@ use Rattle.alm_lines.specs.Spots.{below}
 use Rattle.alm_lines.specs.Expressions.{sum_of}
 use Rattle.alm_lines.specs.Refusals.{has_number}
 use Rattle.alm_lines.specs.declared.sum.Sum.{Sum}
-use Rattle.alm_lines.specs.SpotFields.{Spot}
-use Rattle.alm_parse.specs.declared.deed.Deed.{Deed}
-use Rattle.alm_parse.specs.declared.deed.Deed.TheVariants as deed
+use Rattle.alm_lines.specs.SpotFields.{LocationCounter}
+use Rattle.alm_parse.specs.declared.deed.LineEffect.{LineEffect}
+use Rattle.alm_parse.specs.declared.deed.LineEffect.TheVariants as deed
 
 -- ---- a link
 
@@ -52,7 +52,7 @@ entry_name text (Some span) = name_at text span
 entry_name text None = []
 
 -- the link of an external operand
-unfoldable pub link_of : List ℕ → List (List ℕ × Sum) → Spot → Span → Option Span → List Term → ℕ
+unfoldable pub link_of : List ℕ → List (List ℕ × Sum) → LocationCounter → Span → Option Span → List Term → ℕ
     → LinkFields
 link_of text symbols spot segment entry terms tag =
     record {
@@ -67,7 +67,7 @@ link_of text symbols spot segment entry terms tag =
 -- ---- the links of lines
 
 -- the operand of an instruction; other operations have none
-abbrev pub operand_args : Deed → List Arg → List Arg
+abbrev pub operand_args : LineEffect → List Arg → List Arg
 operand_args deed.Nothing arguments = []
 operand_args (deed.Instruction code bit27) arguments = arguments
 operand_args deed.Entry arguments = []
@@ -81,7 +81,7 @@ operand_args deed.Even arguments = []
 operand_args deed.Bound arguments = []
 
 -- An external operand whose expression has no value is not a link.
-abbrev pub link_by : List ℕ → List (List ℕ × Sum) → Spot → Option Span → Option Span → List Term → ℕ
+abbrev pub link_by : List ℕ → List (List ℕ × Sum) → LocationCounter → Option Span → Option Span → List Term → ℕ
     → Option LinkFields
 link_by text symbols spot (Some segment) entry terms tag =
     if has_number text symbols spot terms
@@ -90,7 +90,7 @@ link_by text symbols spot (Some segment) entry terms tag =
 link_by text symbols spot None entry terms tag = None
 
 -- the link of an operand, if it is external and its expression has a value
-abbrev pub link_in : List ℕ → List (List ℕ × Sum) → Spot → Option Arg → Option LinkFields
+abbrev pub link_in : List ℕ → List (List ℕ × Sum) → LocationCounter → Option Arg → Option LinkFields
 link_in text symbols spot (Some (arg.Symbol span)) = None
 link_in text symbols spot (Some (arg.Number word)) = None
 link_in text symbols spot (Some (arg.Chars words)) = None
@@ -105,13 +105,13 @@ with_link links None = links
 with_link links (Some link) = with_unless (has_link link links) links link
 
 -- the links with that of a line
-unfoldable pub links_after : List ℕ → List (List ℕ × Sum) → List LinkFields → Spot → Line36
+unfoldable pub links_after : List ℕ → List (List ℕ × Sum) → List LinkFields → LocationCounter → Line36
     → List LinkFields
 links_after text symbols links spot line =
     with_link links (link_in text symbols spot (first_arg (operand_args line.deed line.args)))
 
 -- the links of the lines, after those so far
-unfoldable pub links_from : List ℕ → List (List ℕ × Sum) → List LinkFields → Spot → List Line36
+unfoldable pub links_from : List ℕ → List (List ℕ × Sum) → List LinkFields → LocationCounter → List Line36
     → List LinkFields
 links_from text symbols links spot [] = links
 links_from text symbols links spot (line ∷ lines) =

@@ -3,10 +3,10 @@ use Rattle.std.specs.Prelude.{ℕ}
 use Rattle.obj36_parts.specs.PartsFields.{PartsFields}
 use Rattle.obj36_parts.specs.ObjectSegment.{version_of}
 use Rattle.alm_asm.specs.declared.tables.Tables.{Tables}
-use Rattle.alm_asm.specs.declared.parts.Placed.{Placed}
-use Rattle.alm_asm.specs.declared.parts.Noted.{Noted}
+use Rattle.alm_asm.specs.declared.parts.PlacedWords.{PlacedWords}
+use Rattle.alm_asm.specs.declared.parts.DefinitionsAndRelocations.{DefinitionsAndRelocations}
 
-abbrev pub parts_by : Tables → Placed → Noted → ℕ → PartsFields
+abbrev pub parts_by : Tables → PlacedWords → DefinitionsAndRelocations → ℕ → PartsFields
 parts_by tables placed noted entry_bound =
     record {
       text = placed.text;

@@ -17,10 +17,10 @@ use Rattle.alm_lines.specs.Arguments.{first_arg, second_arg, terms_in, number_in
 use Rattle.alm_lines.specs.Spots.{place, below}
 use Rattle.alm_lines.specs.Expressions.{sum_of}
 use Rattle.alm_asm.specs.Links.{link_of, link_place}
-use Rattle.alm_lines.specs.SpotFields.{Spot}
+use Rattle.alm_lines.specs.SpotFields.{LocationCounter}
 use Rattle.alm_asm.specs.declared.tables.Tables.{Tables}
-use Rattle.alm_parse.specs.declared.deed.Deed.{Deed}
-use Rattle.alm_parse.specs.declared.deed.Deed.TheVariants as deed
+use Rattle.alm_parse.specs.declared.deed.LineEffect.{LineEffect}
+use Rattle.alm_parse.specs.declared.deed.LineEffect.TheVariants as deed
 
 -- ---- instructions
 
@@ -54,7 +54,7 @@ own_inst code bit27 (Some pr) y offset tag = pointed_inst code bit27 pr offset t
 own_inst code bit27 None y offset tag = plain_inst code bit27 y tag
 
 -- The fields of an instruction with this operand. An external operand is `pr4|link,*`.
-abbrev pub inst_by : List ℕ → Tables → Spot → ℕ → Bool → Option ℕ → Option Span → Option Span
+abbrev pub inst_by : List ℕ → Tables → LocationCounter → ℕ → Bool → Option ℕ → Option Span → Option Span
     → List Term → ℕ → InstFields
 inst_by text tables spot code bit27 pr (Some segment) entry terms tag =
     pointed_inst code bit27 linkage_register
@@ -65,7 +65,7 @@ inst_by text tables spot code bit27 pr None entry terms tag =
     (offset_of (sum_of text tables.symbols spot terms).value) tag
 
 -- The fields of an instruction with this argument. Without an operand its address and tag are 0.
-abbrev pub inst_in : List ℕ → Tables → Spot → ℕ → Bool → Option Arg → InstFields
+abbrev pub inst_in : List ℕ → Tables → LocationCounter → ℕ → Bool → Option Arg → InstFields
 inst_in text tables spot code bit27 (Some (arg.Symbol span)) = plain_inst code bit27 0 0
 inst_in text tables spot code bit27 (Some (arg.Number word)) = plain_inst code bit27 0 0
 inst_in text tables spot code bit27 (Some (arg.Chars words)) = plain_inst code bit27 0 0
@@ -77,18 +77,18 @@ inst_in text tables spot code bit27 None = plain_inst code bit27 0 0
 -- ---- the words of a line
 
 -- the word of an instruction
-unfoldable pub instruction_word : List ℕ → Tables → Spot → ℕ → Bool → List Arg → ℕ
+unfoldable pub instruction_word : List ℕ → Tables → LocationCounter → ℕ → Bool → List Arg → ℕ
 instruction_word text tables spot code bit27 arguments =
     inst_word (inst_in text tables spot code bit27 (first_arg arguments))
 
 -- the word of a `zero` line: the values of its two expressions
-unfoldable pub halves_word : List ℕ → Tables → Spot → List Arg → ℕ
+unfoldable pub halves_word : List ℕ → Tables → LocationCounter → List Arg → ℕ
 halves_word text tables spot arguments =
     half_of (sum_of text tables.symbols spot (terms_in (first_arg arguments))).value * 2 ^ 18
     + half_of (sum_of text tables.symbols spot (terms_in (second_arg arguments))).value
 
 -- the words that a line places, by its operation
-abbrev pub words_by : List ℕ → Tables → Spot → List Arg → Deed → List ℕ
+abbrev pub words_by : List ℕ → Tables → LocationCounter → List Arg → LineEffect → List ℕ
 words_by text tables spot arguments deed.Nothing = []
 words_by text tables spot arguments (deed.Instruction code bit27) =
     instruction_word text tables spot code bit27 arguments ∷ []
@@ -103,12 +103,12 @@ words_by text tables spot arguments deed.Even = replicate (place spot % 2) 0
 words_by text tables spot arguments deed.Bound = []
 
 -- the words that a line places in a section
-unfoldable pub words_of_line : List ℕ → Tables → Section → Spot → Line36 → List ℕ
+unfoldable pub words_of_line : List ℕ → Tables → Section → LocationCounter → Line36 → List ℕ
 words_of_line text tables section spot line =
     if same_section spot.section section then words_by text tables spot line.args line.deed else []
 
 -- the words of the lines in a section, after those so far
-unfoldable pub words_from : List ℕ → Tables → Section → List ℕ → Spot → List Line36 → List ℕ
+unfoldable pub words_from : List ℕ → Tables → Section → List ℕ → LocationCounter → List Line36 → List ℕ
 words_from text tables section words spot [] = words
 words_from text tables section words spot (line ∷ lines) =
     words_from text tables section (words ++ words_of_line text tables section spot line)

@@ -4,7 +4,7 @@ ghost use Rattle.std.specs.Prelude.{ℕ, [], ◌≡◌, ◌^◌, ◌<◌, length
 ghost use Rattle.std.specs.Prelude.{Option, None, Ok, IfOk, true};
 ghost use Rattle.alm_parse.specs.Sources.{ParseSays};
 ghost use Rattle.alm_lines.specs.Spots.{start, HasRoom};
-ghost use Rattle.alm_asm.specs.Seen.{seen_from};
+ghost use Rattle.alm_asm.specs.LineValues.{seen_from};
 ghost use Rattle.obj36_parts.specs.ObjectSegment.{is_well_formed};
 ghost use Rattle.alm_lines.specs.Layout.{layout_refusal};
 ghost use Rattle.alm_lines.specs.Refusals.{sooner};
@@ -18,12 +18,12 @@ ghost use Rattle.alm_asm.specs.Assembly.{refusal_in, unless_refused, assembled};
 use crate::growth::growth_refusal;
 use crate::line_refusal::lines_refusal;
 use crate::parts::parts_with;
-use crate::seen::{Seen, SeenLines, see_lines};
+use crate::seen::{AllLineValues, LineValues, compute_values};
 use crate::tables::Tables;
 use alm_lines::count::Count;
 use alm_lines::layout::layout_of;
-use alm_lines::refusal::{Refusal, fault_of, sooner};
-use alm_lines::spot::{Spot, end_of};
+use alm_lines::refusal::{AlmRefusal, fault_of, sooner};
+use alm_lines::spot::{LocationCounter, end_of};
 use alm_lines::symbols::Symbols;
 use alm_parse::{AlmFault, Line36, Lines36};
 use m36_word::NoMemory;
@@ -31,7 +31,7 @@ use obj36::{Links, Object, Parts};
 use obj36_parts::sections::HEAD_WORDS;
 use std::alloc::Global;
 
-fn first_link(ending: Spot) -> Count
+fn first_link(ending: LocationCounter) -> Count
     requires { HasRoom 0 ending }
     ensures { result ≡ first_link ending }
 {
@@ -44,17 +44,17 @@ fn first_link(ending: Spot) -> Count
 /// The tables of lines, the values of the lines, and the first refusal of the layout: of the
 /// definition of a symbol or of the length of a section.
 #[derive(Drop)]
-struct Found {
+struct TablesAndValues {
     tables: Tables,
-    seen: SeenLines,
-    refused: Option<Refusal>,
+    seen: AllLineValues,
+    refused: Option<AlmRefusal>,
 }
 
 // The links of lines, and the values of the lines.
 #[derive(Drop)]
 struct Linked {
     links: Links,
-    seen: SeenLines,
+    seen: AllLineValues,
 }
 
 // The links of the lines, and for each line with arguments the value and the link.
@@ -71,7 +71,7 @@ fn linked_in(
         linked.seen ≡ seen_from text.now symbols.now linked.links start lines.now) }
 {
     let mut links = Links::new(alloc, symbols.seed());
-    match see_lines(alloc, text, symbols, &mut links, lines) {
+    match compute_values(alloc, text, symbols, &mut links, lines) {
         Ok(seen) => Ok(Linked { links, seen }),
         Err(fault) => {
             // Dropped explicitly, so that the drop is proved once for its type.
@@ -83,7 +83,7 @@ fn linked_in(
 
 // The tables of the lines, and for each line with arguments the value and the link.
 #[tactic(auto, unfolding(crate::specs::Assembly::tables_of))]
-fn found_in(alloc: Global, text: &[u8], lines: &[Line36]) -> Result<Found, NoMemory>
+fn found_in(alloc: Global, text: &[u8], lines: &[Line36]) -> Result<TablesAndValues, NoMemory>
     requires { length lines.now < 2 ^ 32 }
     ensures tables { IfOk result (λ found. found.tables ≡ tables_of text.now lines.now) }
     ensures seen { IfOk result (λ found.
@@ -97,7 +97,7 @@ fn found_in(alloc: Global, text: &[u8], lines: &[Line36]) -> Result<Found, NoMem
     let ending = end_of(alloc, text, lines)?;
     let layout = layout_of(alloc, text, lines)?;
     match linked_in(alloc, text, &layout.symbols, lines) {
-        Ok(linked) => Ok(Found {
+        Ok(linked) => Ok(TablesAndValues {
             tables: Tables {
                 symbols: layout.symbols,
                 links: linked.links,
@@ -119,11 +119,11 @@ fn found_in(alloc: Global, text: &[u8], lines: &[Line36]) -> Result<Found, NoMem
 fn first_refusal(
     alloc: Global,
     text: &[u8],
-    found: Option<Refusal>,
+    found: Option<AlmRefusal>,
     tables: &Tables,
     lines: &[Line36],
-    seen: &[Seen],
-) -> Result<Option<Refusal>, NoMemory>
+    seen: &[LineValues],
+) -> Result<Option<AlmRefusal>, NoMemory>
     requires count { length lines.now < 2 ^ 32 }
     requires seen { seen.now
         ≡ seen_from text.now tables.now.symbols tables.now.links start lines.now }
@@ -140,12 +140,12 @@ fn first_refusal(
 }
 
 // The tables of lines, or the first refusal. Sets `seen` to the values of the lines.
-#[tactic(auto, using(crate::proofs::AssemblyLaws::telling))]
+#[tactic(auto, using(crate::proofs::AssemblyLaws::refuses_or_tables))]
 fn tables_in(
     alloc: Global,
     text: &[u8],
     lines: &[Line36],
-    seen: &mut SeenLines,
+    seen: &mut AllLineValues,
 ) -> Result<Tables, AlmFault>
     requires { length lines.now < 2 ^ 32 }
     ensures seen { IfOk result (λ tables.
@@ -153,7 +153,7 @@ fn tables_in(
     ensures says { ParseSays result
         (unless_refused text.now lines.now (refusal_in text.now lines.now)) }
 {
-    let Found {
+    let TablesAndValues {
         tables,
         seen: lines_seen,
         refused,
@@ -213,7 +213,7 @@ fn object_with(
     text: &[u8],
     tables: Tables,
     lines: &[Line36],
-    seen: &[Seen],
+    seen: &[LineValues],
 ) -> Result<Object, AlmFault>
     requires count { length lines.now < 2 ^ 32 }
     requires seen { seen.now ≡ seen_from text.now tables.symbols tables.links start lines.now }
@@ -226,7 +226,11 @@ fn object_with(
 }
 
 // The object of lines, or the first refusal. Sets `seen` to the values of the lines.
-fn meaning_seen(alloc: Global, lines: &Lines36, seen: &mut SeenLines) -> Result<Object, AlmFault>
+fn meaning_seen(
+    alloc: Global,
+    lines: &Lines36,
+    seen: &mut AllLineValues,
+) -> Result<Object, AlmFault>
     ensures { ParseSays result (assembled lines.now) }
 {
     let text = lines.text();
@@ -241,7 +245,7 @@ fn meaning_seen(alloc: Global, lines: &Lines36, seen: &mut SeenLines) -> Result<
 fn meaning(alloc: Global, lines: &Lines36) -> Result<Object, AlmFault>
     ensures { ParseSays result (assembled lines.now) }
 {
-    let mut seen = SeenLines::new(alloc);
+    let mut seen = AllLineValues::new(alloc);
     let object = meaning_seen(alloc, lines, &mut seen);
     // Dropped explicitly, so that the drop is proved once for its type.
     drop(seen);

@@ -11,10 +11,10 @@ ghost use Rattle.alm_asm.specs.Definitions.{definitions_refused};
 
 use alm_lines::arguments::name_at;
 use alm_lines::expression::symbol_sum;
-use alm_lines::refusal::{Code, Refusal, Room, has_room, refusal_at, sooner};
+use alm_lines::refusal::{AlmCode, AlmRefusal, ValueField, has_room, refusal_at, sooner};
 use alm_lines::sum::{Kind, Sum};
 use alm_lines::symbols::Symbols;
-use alm_parse::{Arg, Deed, Line36, Span};
+use alm_parse::{Arg, Line36, LineEffect, Span};
 use m36_text::Name;
 use m36_word::NoMemory;
 use obj36::{Def, Defs, Named, Section};
@@ -25,7 +25,7 @@ fn section_of(kind: Kind) -> Section
 {
     match kind {
         Kind::Moved(section) => section,
-        Kind::Absolute | Kind::Unsaid => Section::Text,
+        Kind::Absolute | Kind::Inexpressible => Section::Text,
     }
 }
 
@@ -61,21 +61,21 @@ fn push_named(
 }
 
 /// Whether a line has definitions, and if so whether they are entries.
-pub fn gives_entries(deed: Deed) -> Option<bool>
+pub fn gives_entries(deed: LineEffect) -> Option<bool>
     ensures { result ≡ gives_entries deed }
 {
     match deed {
-        Deed::Entry => Some(true),
-        Deed::Segdef => Some(false),
-        Deed::Nothing
-        | Deed::Instruction(_, _)
-        | Deed::Equ
-        | Deed::Use
-        | Deed::Words
-        | Deed::Zero
-        | Deed::Block
-        | Deed::Even
-        | Deed::Bound => None,
+        LineEffect::Entry => Some(true),
+        LineEffect::Segdef => Some(false),
+        LineEffect::Nothing
+        | LineEffect::Instruction(_, _)
+        | LineEffect::Equ
+        | LineEffect::Use
+        | LineEffect::Words
+        | LineEffect::Zero
+        | LineEffect::Block
+        | LineEffect::Even
+        | LineEffect::Bound => None,
     }
 }
 
@@ -94,7 +94,7 @@ fn is_label_kind(is_entry: bool, kind: Kind) -> bool
         Kind::Moved(Section::Linkage)
         | Kind::Moved(Section::Symbol)
         | Kind::Moved(Section::Static) => !is_entry,
-        Kind::Absolute | Kind::Unsaid => false,
+        Kind::Absolute | Kind::Inexpressible => false,
     }
 }
 
@@ -102,21 +102,21 @@ fn is_label_kind(is_entry: bool, kind: Kind) -> bool
 fn is_label(is_entry: bool, sum: Sum) -> bool
     ensures { result ≡ is_label is_entry sum }
 {
-    has_room(Room::Half, sum.value) && is_label_kind(is_entry, sum.kind())
+    has_room(ValueField::Half, sum.value) && is_label_kind(is_entry, sum.kind())
 }
 
 /// The refusal of a name of `entry` or `segdef`: E6 if its symbol is not defined, E7 if the sum of
 /// the symbol is not that of a suitable label.
-pub fn sum_refusal(line: &Line36, at: u64, is_entry: bool, sum: Option<Sum>) -> Option<Refusal>
+pub fn sum_refusal(line: &Line36, at: u64, is_entry: bool, sum: Option<Sum>) -> Option<AlmRefusal>
     ensures { result ≡ sum_refusal line.now at is_entry sum }
 {
     match sum {
-        None => Some(refusal_at(line, at, Code::E6)),
+        None => Some(refusal_at(line, at, AlmCode::E6)),
         Some(sum) => {
             if is_label(is_entry, sum) {
                 None
             } else {
-                Some(refusal_at(line, at, Code::E7))
+                Some(refusal_at(line, at, AlmCode::E7))
             }
         }
     }
@@ -130,12 +130,12 @@ fn name_refusal(
     is_entry: bool,
     done: &Defs,
     span: Span,
-) -> Option<Refusal>
+) -> Option<AlmRefusal>
     ensures { result ≡ name_refusal text.now symbols.now line.now is_entry done.now span }
 {
     let name = name_at(text, span);
     if is_taken(done, &name) {
-        return Some(refusal_at(line, span.from as u64, Code::E5));
+        return Some(refusal_at(line, span.from as u64, AlmCode::E5));
     }
     sum_refusal(line, span.from as u64, is_entry, symbols.find(&name))
 }
@@ -147,7 +147,7 @@ fn arg_refusal(
     is_entry: bool,
     done: &Defs,
     arg: &Arg,
-) -> Option<Refusal>
+) -> Option<AlmRefusal>
     ensures { result ≡ arg_refusal text.now symbols.now line.now is_entry done.now arg.now }
 {
     match arg {
@@ -164,9 +164,9 @@ fn push_names(
     symbols: &Symbols,
     line: &Line36,
     is_entry: bool,
-    refused: Option<Refusal>,
+    refused: Option<AlmRefusal>,
     done: &mut Defs,
-) -> Result<Option<Refusal>, NoMemory>
+) -> Result<Option<AlmRefusal>, NoMemory>
     ensures definitions { OnOk result
         (done.new ≡ with_names text.now symbols.now is_entry done.old line.now.args) }
     ensures refused { IfOk result (λ r.
@@ -190,9 +190,9 @@ pub fn push_definitions(
     text: &[u8],
     symbols: &Symbols,
     line: &Line36,
-    refused: Option<Refusal>,
+    refused: Option<AlmRefusal>,
     done: &mut Defs,
-) -> Result<Option<Refusal>, NoMemory>
+) -> Result<Option<AlmRefusal>, NoMemory>
     ensures definitions { OnOk result
         (done.new ≡ definitions_after text.now symbols.now done.old line.now) }
     ensures refused { IfOk result (λ r.

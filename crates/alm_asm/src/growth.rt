@@ -5,7 +5,7 @@ ghost use Rattle.std.specs.Prelude.{◌≤◌, length, if◌then◌else◌, Opti
 ghost use Rattle.obj36_parts.specs.ObjectSegment.{section_limit};
 ghost use Rattle.alm_lines.specs.Arguments.{first_arg, terms_in};
 ghost use Rattle.alm_lines.specs.Values.{evaluated};
-ghost use Rattle.alm_asm.specs.Seen.{place_in, is_below, seen_from, AreFirst};
+ghost use Rattle.alm_asm.specs.LineValues.{place_in, is_below, seen_from, AreFirst};
 ghost use Rattle.alm_lines.specs.Spots.{start, below};
 ghost use Rattle.alm_asm.specs.Links.{operand_args, link_by, link_in, links_from};
 ghost use Rattle.alm_asm.specs.Definitions.{gives_entries};
@@ -18,16 +18,16 @@ ghost use Rattle.alm_asm.specs.Growth.{marks_count, with_marks, grown_by, is_ove
 use crate::definitions::{gives_entries, sum_refusal};
 use crate::line_refusal::own_room;
 use crate::links::link_of;
-use crate::marks::kind_given;
-use crate::seen::{Seen, next_seen};
+use crate::relocations::kind_given;
+use crate::seen::{LineValues, next_values};
 use crate::tables::Tables;
 use alm_lines::arguments::{first_terms, name_at, second_terms};
-use alm_lines::refusal::{Code, Refusal, Room, is_over_limit, refusal_at};
-use alm_lines::spot::{Spot, below};
+use alm_lines::refusal::{AlmCode, AlmRefusal, ValueField, is_over_limit, refusal_at};
+use alm_lines::spot::{LocationCounter, below};
 use alm_lines::sum::{Kind, absolute};
 use alm_lines::symbols::Symbols;
 use alm_lines::value::{Value, evaluate, is_valued, kind_valued};
-use alm_parse::{Arg, Deed, Line36, Span, Term};
+use alm_parse::{Arg, Line36, LineEffect, Span, Term};
 use m36_text::{HashSeed, Name};
 use m36_word::NoMemory;
 use obj36::{Link, Links};
@@ -134,7 +134,7 @@ impl Growth {
     }
 
     #[tactic(auto, unfolding(crate::specs::Growth::is_over))]
-    fn is_over(&self, spot: Spot) -> bool
+    fn is_over(&self, spot: LocationCounter) -> bool
         ensures value { result ≡ is_over spot self.now }
         ensures definition { result ≡ false → self.now.definition ≤ section_limit }
         ensures symbol { result ≡ false → self.now.symbol ≤ section_limit }
@@ -213,7 +213,7 @@ fn take_definitions(
 }
 
 // Whether a link has an index, and this is below `count`.
-fn is_noted(place: Option<u64>, count: usize) -> bool
+fn is_index_below(place: Option<u64>, count: usize) -> bool
     ensures { result ≡ is_below place count }
 {
     match place {
@@ -228,7 +228,7 @@ fn take_external(
     text: &[u8],
     symbols: &Symbols,
     _links: &Links,
-    spot: Spot,
+    spot: LocationCounter,
     growth: &mut Growth,
     segment: Span,
     entry: Option<Span>,
@@ -249,10 +249,10 @@ fn take_external(
         ≡ with_link_given growth.old
         (link_by text.now symbols.now spot (Option.Some segment) entry terms.now tag)) }
 {
-    if !is_valued(text, symbols, spot, terms, Room::Half, false, value) {
+    if !is_valued(text, symbols, spot, terms, ValueField::Half, false, value) {
         return Ok(());
     }
-    if is_noted(place, growth.links.items().len()) {
+    if is_index_below(place, growth.links.items().len()) {
         return Ok(());
     }
     let link = link_of(text, symbols, spot, segment, entry, terms, tag, value);
@@ -264,7 +264,7 @@ fn take_operand(
     text: &[u8],
     symbols: &Symbols,
     _links: &Links,
-    spot: Spot,
+    spot: LocationCounter,
     args: &[Arg],
     value: Value,
     place: Option<u64>,
@@ -305,7 +305,7 @@ fn take_link(
     text: &[u8],
     symbols: &Symbols,
     _links: &Links,
-    spot: Spot,
+    spot: LocationCounter,
     line: &Line36,
     value: Value,
     place: Option<u64>,
@@ -326,20 +326,20 @@ fn take_link(
         (first_arg (operand_args line.now.deed line.now.args)))) }
 {
     match line.deed {
-        Deed::Instruction(_, _) => {
+        LineEffect::Instruction(_, _) => {
             let args = line.args.items();
             take_operand(text, symbols, _links, spot, args, value, place, growth)
         }
-        Deed::Nothing
-        | Deed::Entry
-        | Deed::Segdef
-        | Deed::Equ
-        | Deed::Use
-        | Deed::Words
-        | Deed::Zero
-        | Deed::Block
-        | Deed::Even
-        | Deed::Bound => Ok(()),
+        LineEffect::Nothing
+        | LineEffect::Entry
+        | LineEffect::Segdef
+        | LineEffect::Equ
+        | LineEffect::Use
+        | LineEffect::Words
+        | LineEffect::Zero
+        | LineEffect::Block
+        | LineEffect::Even
+        | LineEffect::Bound => Ok(()),
     }
 }
 
@@ -349,15 +349,15 @@ fn mark_count(is_valued: bool, kind: Kind) -> u64
 {
     match kind {
         Kind::Moved(_) => is_valued as u64,
-        Kind::Absolute | Kind::Unsaid => 0,
+        Kind::Absolute | Kind::Inexpressible => 0,
     }
 }
 
-fn operand_room(pr: Option<u8>, segment: Option<Span>) -> Room
+fn operand_room(pr: Option<u8>, segment: Option<Span>) -> ValueField
     ensures { result ≡ operand_room pr segment }
 {
     match segment {
-        Some(_) => Room::Half,
+        Some(_) => ValueField::Half,
         None => own_room(pr),
     }
 }
@@ -371,7 +371,13 @@ fn is_own(segment: Option<Span>) -> bool
     }
 }
 
-fn operand_count(text: &[u8], symbols: &Symbols, spot: Spot, args: &[Arg], value: Value) -> u64
+fn operand_count(
+    text: &[u8],
+    symbols: &Symbols,
+    spot: LocationCounter,
+    args: &[Arg],
+    value: Value,
+) -> u64
     requires { value ≡ evaluated text.now symbols.now spot (terms_in (first_arg args.now)) }
     ensures value { result ≡ operand_count text.now symbols.now spot (first_arg args.now) }
     ensures bound { result ≤ 1 }
@@ -397,39 +403,51 @@ fn operand_count(text: &[u8], symbols: &Symbols, spot: Spot, args: &[Arg], value
     }
 }
 
-fn half_count(text: &[u8], symbols: &Symbols, spot: Spot, terms: &[Term], value: Value) -> u64
+fn half_count(
+    text: &[u8],
+    symbols: &Symbols,
+    spot: LocationCounter,
+    terms: &[Term],
+    value: Value,
+) -> u64
     requires { value ≡ evaluated text.now symbols.now spot terms.now }
     ensures value { result ≡ half_count text.now symbols.now spot terms.now }
     ensures bound { result ≤ 1 }
 {
-    let has_value = is_valued(text, symbols, spot, terms, Room::Half, true, value);
+    let has_value = is_valued(text, symbols, spot, terms, ValueField::Half, true, value);
     mark_count(has_value, kind_valued(text, symbols, spot, terms, value))
 }
 
-fn marks_count(text: &[u8], symbols: &Symbols, spot: Spot, line: &Line36, value: Value) -> u64
+fn marks_count(
+    text: &[u8],
+    symbols: &Symbols,
+    spot: LocationCounter,
+    line: &Line36,
+    value: Value,
+) -> u64
     requires { value ≡ evaluated text.now symbols.now spot (terms_in (first_arg line.now.args)) }
     ensures value { result ≡ marks_count text.now symbols.now spot line.now.args line.now.deed }
     ensures bound { result ≤ 2 }
 {
     let args = line.args.items();
     match line.deed {
-        Deed::Instruction(_, _) => operand_count(text, symbols, spot, args, value),
-        Deed::Zero => {
+        LineEffect::Instruction(_, _) => operand_count(text, symbols, spot, args, value),
+        LineEffect::Zero => {
             let second = second_terms(args);
             let other = evaluate(text, symbols, spot, second);
             let left = half_count(text, symbols, spot, first_terms(args), value);
             let right = half_count(text, symbols, spot, second, other);
             left + right
         }
-        Deed::Nothing
-        | Deed::Entry
-        | Deed::Segdef
-        | Deed::Equ
-        | Deed::Use
-        | Deed::Words
-        | Deed::Block
-        | Deed::Even
-        | Deed::Bound => 0,
+        LineEffect::Nothing
+        | LineEffect::Entry
+        | LineEffect::Segdef
+        | LineEffect::Equ
+        | LineEffect::Use
+        | LineEffect::Words
+        | LineEffect::Block
+        | LineEffect::Even
+        | LineEffect::Bound => 0,
     }
 }
 
@@ -438,7 +456,7 @@ fn marks_count(text: &[u8], symbols: &Symbols, spot: Spot, line: &Line36, value:
 fn take_marks(
     text: &[u8],
     symbols: &Symbols,
-    spot: Spot,
+    spot: LocationCounter,
     line: &Line36,
     value: Value,
     growth: &mut Growth,
@@ -456,10 +474,10 @@ fn take_line(
     text: &[u8],
     symbols: &Symbols,
     links: &Links,
-    spot: Spot,
+    spot: LocationCounter,
     line: &Line36,
     _more: &[Line36],
-    seen: &Seen,
+    seen: &LineValues,
     growth: &mut Growth,
 ) -> Result<(), NoMemory>
     requires value { seen.now.value
@@ -493,9 +511,9 @@ fn take_lines(
     text: &[u8],
     tables: &Tables,
     lines: &[Line36],
-    seen: &[Seen],
+    seen: &[LineValues],
     growth: &mut Growth,
-) -> Result<Option<Refusal>, NoMemory>
+) -> Result<Option<AlmRefusal>, NoMemory>
     requires count { length lines.now < 2 ^ 32 }
     requires seen { seen.now
         ≡ seen_from text.now tables.now.symbols tables.now.links start lines.now }
@@ -506,11 +524,19 @@ fn take_lines(
     ensures { IfOk result (λ r.
         r ≡ growth_refusal text.now tables.now.symbols growth.old start lines.now) }
 {
-    let mut spot = Spot::start();
+    let mut spot = LocationCounter::start();
     let mut rest = lines;
     let mut left = seen;
     while let [line, more @ ..] = rest {
-        let (seen, later) = next_seen(text, &tables.symbols, &tables.links, spot, line, more, left);
+        let (seen, later) = next_values(
+            text,
+            &tables.symbols,
+            &tables.links,
+            spot,
+            line,
+            more,
+            left,
+        );
         take_line(
             text,
             &tables.symbols,
@@ -523,7 +549,7 @@ fn take_lines(
         )?;
         spot = below(alloc, text, spot, line)?;
         if growth.is_over(spot) {
-            return Ok(Some(refusal_at(line, line.start as u64, Code::E8)));
+            return Ok(Some(refusal_at(line, line.start as u64, AlmCode::E8)));
         }
         rest = more;
         left = later;
@@ -538,8 +564,8 @@ pub fn growth_refusal(
     text: &[u8],
     tables: &Tables,
     lines: &[Line36],
-    seen: &[Seen],
-) -> Result<Option<Refusal>, NoMemory>
+    seen: &[LineValues],
+) -> Result<Option<AlmRefusal>, NoMemory>
     requires count { length lines.now < 2 ^ 32 }
     requires seen { seen.now
         ≡ seen_from text.now tables.now.symbols tables.now.links start lines.now }

@@ -4,7 +4,7 @@ ghost use Rattle.std.specs.Prelude.{ℕ, [], ◌≡◌, ◌+◌, ◌^◌, ◌<�
 ghost use Rattle.std.specs.Prelude.{Option, OnOk, IfOk, nat_lt, unwrap_or};
 ghost use Rattle.alm_lines.specs.Arguments.{first_arg, terms_in};
 ghost use Rattle.alm_lines.specs.Values.{evaluated};
-ghost use Rattle.alm_asm.specs.Seen.{place_in, seen_from};
+ghost use Rattle.alm_asm.specs.LineValues.{place_in, seen_from};
 ghost use Rattle.obj36_parts.specs.ObjectSegment.{word_of_link};
 ghost use Rattle.m36_word.specs.Field.{offset_limit};
 ghost use Rattle.alm_lines.specs.Spots.{start};
@@ -19,23 +19,23 @@ ghost use Rattle.alm_asm.specs.Links.{operand_args, link_by, link_in};
 
 use crate::definitions::push_definitions;
 use crate::links::offset_of_link;
-use crate::seen::{Seen, next_seen};
+use crate::seen::{LineValues, next_values};
 use crate::tables::Tables;
 use alm_lines::arguments::{first_symbol, first_terms, second_terms, section_in};
 use alm_lines::count::Count;
 use alm_lines::expression::expression_place;
-use alm_lines::refusal::{Code, Refusal, Room, Wanted, refusal_at, sooner};
-use alm_lines::spot::{Spot, below};
+use alm_lines::refusal::{AlmCode, AlmRefusal, Requirement, ValueField, refusal_at, sooner};
+use alm_lines::spot::{LocationCounter, below};
 use alm_lines::symbols::Symbols;
 use alm_lines::value::{Value, evaluate, is_valued, value_refused};
-use alm_parse::{Arg, Deed, Line36, Span, Term, own_section};
+use alm_parse::{Arg, Line36, LineEffect, Span, Term, own_section};
 use m36_word::NoMemory;
 use obj36::{Defs, Section};
 use obj36_parts::halves::OFFSET_LIMIT;
 use obj36_parts::sections::is_text_section;
 use std::alloc::Global;
 
-fn unless(holds: bool, refusal: Refusal) -> Option<Refusal>
+fn unless(holds: bool, refusal: AlmRefusal) -> Option<AlmRefusal>
     ensures { result ≡ unless holds refusal }
 {
     if holds { None } else { Some(refusal) }
@@ -76,12 +76,12 @@ fn may_name(tables: &Tables, own: Option<Section>) -> bool
 
 /// The field that the expression of an operand must fit: the offset after a pointer register, or
 /// half a word.
-pub fn own_room(pr: Option<u8>) -> Room
+pub fn own_room(pr: Option<u8>) -> ValueField
     ensures { result ≡ own_room pr }
 {
     match pr {
-        Some(_) => Room::Offset,
-        None => Room::Half,
+        Some(_) => ValueField::Offset,
+        None => ValueField::Half,
     }
 }
 
@@ -89,20 +89,20 @@ pub fn own_room(pr: Option<u8>) -> Room
 fn link_expression_refusal(
     text: &[u8],
     symbols: &Symbols,
-    spot: Spot,
+    spot: LocationCounter,
     line: &Line36,
     segment: Span,
     entry: Option<Span>,
     terms: &[Term],
     value: Value,
-) -> Option<Refusal>
+) -> Option<AlmRefusal>
     requires { value ≡ evaluated text.now symbols.now spot terms.now }
     ensures { result
         ≡ link_expression text.now symbols.now spot line.now segment entry terms.now }
 {
-    let wanted = Wanted {
+    let wanted = Requirement {
         place: external_place(segment, entry),
-        room: Room::Half,
+        room: ValueField::Half,
         may_move: false,
     };
     value_refused(text, symbols, spot, line, terms, wanted, value)
@@ -119,7 +119,7 @@ fn is_in_reach(first: Count, place: Option<u64>) -> bool
 fn reaches(
     text: &[u8],
     tables: &Tables,
-    spot: Spot,
+    spot: LocationCounter,
     _segment: Span,
     _entry: Option<Span>,
     terms: &[Term],
@@ -134,7 +134,7 @@ fn reaches(
     ensures { result ≡ reaches text.now tables.now spot _segment _entry terms.now _tag }
 {
     let symbols = &tables.symbols;
-    if !is_valued(text, symbols, spot, terms, Room::Half, false, value) {
+    if !is_valued(text, symbols, spot, terms, ValueField::Half, false, value) {
         return true;
     }
     is_in_reach(tables.first_link, place)
@@ -143,7 +143,7 @@ fn reaches(
 fn external_refusal(
     text: &[u8],
     tables: &Tables,
-    spot: Spot,
+    spot: LocationCounter,
     line: &Line36,
     segment: Span,
     entry: Option<Span>,
@@ -151,7 +151,7 @@ fn external_refusal(
     tag: u8,
     value: Value,
     place: Option<u64>,
-) -> Option<Refusal>
+) -> Option<AlmRefusal>
     requires value { value ≡ evaluated text.now tables.now.symbols spot terms.now }
     requires place { place
         ≡ place_in tables.now.links
@@ -159,7 +159,7 @@ fn external_refusal(
     ensures { result
         ≡ external_refusal text.now tables.now spot line.now segment entry terms.now tag }
 {
-    let at = refusal_at(line, segment.from as u64, Code::E7);
+    let at = refusal_at(line, segment.from as u64, AlmCode::E7);
     let expression = link_expression_refusal(
         text,
         &tables.symbols,
@@ -179,16 +179,16 @@ fn external_refusal(
 fn own_operand_refusal(
     text: &[u8],
     tables: &Tables,
-    spot: Spot,
+    spot: LocationCounter,
     line: &Line36,
-    room: Room,
+    room: ValueField,
     terms: &[Term],
     value: Value,
-) -> Option<Refusal>
+) -> Option<AlmRefusal>
     requires { value ≡ evaluated text.now tables.now.symbols spot terms.now }
     ensures { result ≡ own_operand text.now tables.now spot line.now room terms.now }
 {
-    let wanted = Wanted {
+    let wanted = Requirement {
         place: expression_place(terms) as u64,
         room,
         may_move: true,
@@ -199,11 +199,11 @@ fn own_operand_refusal(
 fn operand_refusal(
     text: &[u8],
     tables: &Tables,
-    spot: Spot,
+    spot: LocationCounter,
     line: &Line36,
     value: Value,
     place: Option<u64>,
-) -> Option<Refusal>
+) -> Option<AlmRefusal>
     requires value { value
         ≡ evaluated text.now tables.now.symbols spot (terms_in (first_arg line.now.args)) }
     requires place { place
@@ -235,7 +235,7 @@ fn operand_refusal(
     }
 }
 
-fn may_enter(spot: Spot, section: Section) -> bool
+fn may_enter(spot: LocationCounter, section: Section) -> bool
     ensures { result ≡ may_enter spot section }
 {
     match section {
@@ -248,11 +248,11 @@ fn may_enter(spot: Spot, section: Section) -> bool
 fn instruction_refusal(
     text: &[u8],
     tables: &Tables,
-    spot: Spot,
+    spot: LocationCounter,
     line: &Line36,
     value: Value,
     place: Option<u64>,
-) -> Option<Refusal>
+) -> Option<AlmRefusal>
     requires value { value
         ≡ evaluated text.now tables.now.symbols spot (terms_in (first_arg line.now.args)) }
     requires place { place
@@ -261,25 +261,25 @@ fn instruction_refusal(
     ensures { result ≡ instruction_refusal text.now tables.now spot line.now }
 {
     let operand = operand_refusal(text, tables, spot, line, value, place);
-    let at = refusal_at(line, op_place(line.op), Code::E7);
+    let at = refusal_at(line, op_place(line.op), AlmCode::E7);
     sooner(unless(is_text_section(spot.section), at), operand)
 }
 
-fn use_refusal(text: &[u8], spot: Spot, line: &Line36) -> Option<Refusal>
+fn use_refusal(text: &[u8], spot: LocationCounter, line: &Line36) -> Option<AlmRefusal>
     ensures { result ≡ use_refusal text.now spot line.now }
 {
     let section = section_in(text, first_symbol(line.args.items()));
-    let at = refusal_at(line, op_place(line.op), Code::E7);
+    let at = refusal_at(line, op_place(line.op), AlmCode::E7);
     unless(may_enter(spot, section), at)
 }
 
 fn halves_refusal(
     text: &[u8],
     tables: &Tables,
-    spot: Spot,
+    spot: LocationCounter,
     line: &Line36,
     value: Value,
-) -> Option<Refusal>
+) -> Option<AlmRefusal>
     requires { value
         ≡ evaluated text.now tables.now.symbols spot (terms_in (first_arg line.now.args)) }
     ensures { result ≡ halves_refusal text.now tables.now spot line.now }
@@ -288,20 +288,20 @@ fn halves_refusal(
     let first = first_terms(args);
     let second = second_terms(args);
     let other = evaluate(text, &tables.symbols, spot, second);
-    let left = own_operand_refusal(text, tables, spot, line, Room::Half, first, value);
-    let right = own_operand_refusal(text, tables, spot, line, Room::Half, second, other);
+    let left = own_operand_refusal(text, tables, spot, line, ValueField::Half, first, value);
+    let right = own_operand_refusal(text, tables, spot, line, ValueField::Half, second, other);
     sooner(left, right)
 }
 
 fn refusal_of_deed(
     text: &[u8],
     tables: &Tables,
-    spot: Spot,
+    spot: LocationCounter,
     line: &Line36,
-    deed: Deed,
+    deed: LineEffect,
     value: Value,
     place: Option<u64>,
-) -> Option<Refusal>
+) -> Option<AlmRefusal>
     requires value { value
         ≡ evaluated text.now tables.now.symbols spot (terms_in (first_arg line.now.args)) }
     requires place { place
@@ -310,17 +310,19 @@ fn refusal_of_deed(
     ensures { result ≡ refusal_of_deed text.now tables.now spot line.now deed }
 {
     match deed {
-        Deed::Instruction(_, _) => instruction_refusal(text, tables, spot, line, value, place),
-        Deed::Use => use_refusal(text, spot, line),
-        Deed::Zero => halves_refusal(text, tables, spot, line, value),
-        Deed::Nothing
-        | Deed::Entry
-        | Deed::Segdef
-        | Deed::Equ
-        | Deed::Words
-        | Deed::Block
-        | Deed::Even
-        | Deed::Bound => None,
+        LineEffect::Instruction(_, _) => instruction_refusal(
+            text, tables, spot, line, value, place,
+        ),
+        LineEffect::Use => use_refusal(text, spot, line),
+        LineEffect::Zero => halves_refusal(text, tables, spot, line, value),
+        LineEffect::Nothing
+        | LineEffect::Entry
+        | LineEffect::Segdef
+        | LineEffect::Equ
+        | LineEffect::Words
+        | LineEffect::Block
+        | LineEffect::Even
+        | LineEffect::Bound => None,
     }
 }
 
@@ -329,11 +331,11 @@ fn refusal_of_deed(
 fn take_line(
     text: &[u8],
     tables: &Tables,
-    spot: Spot,
+    spot: LocationCounter,
     line: &Line36,
-    seen: &Seen,
+    seen: &LineValues,
     done: &mut Defs,
-) -> Result<Option<Refusal>, NoMemory>
+) -> Result<Option<AlmRefusal>, NoMemory>
     requires value { seen.now.value
         ≡ evaluated text.now tables.now.symbols spot (terms_in (first_arg line.now.args)) }
     requires place { seen.now.place
@@ -357,20 +359,28 @@ fn take_lines(
     text: &[u8],
     tables: &Tables,
     lines: &[Line36],
-    seen: &[Seen],
+    seen: &[LineValues],
     done: &mut Defs,
-) -> Result<Option<Refusal>, NoMemory>
+) -> Result<Option<AlmRefusal>, NoMemory>
     requires count { length lines.now < 2 ^ 32 }
     requires seen { seen.now
         ≡ seen_from text.now tables.now.symbols tables.now.links start lines.now }
     ensures { IfOk result (λ r.
         r ≡ lines_refusal text.now tables.now done.old start lines.now) }
 {
-    let mut spot = Spot::start();
+    let mut spot = LocationCounter::start();
     let mut rest = lines;
     let mut left = seen;
     while let [line, more @ ..] = rest {
-        let (seen, later) = next_seen(text, &tables.symbols, &tables.links, spot, line, more, left);
+        let (seen, later) = next_values(
+            text,
+            &tables.symbols,
+            &tables.links,
+            spot,
+            line,
+            more,
+            left,
+        );
         if let Some(refusal) = take_line(text, tables, spot, line, &seen, done)? {
             return Ok(Some(refusal));
         }
@@ -387,8 +397,8 @@ pub fn lines_refusal(
     text: &[u8],
     tables: &Tables,
     lines: &[Line36],
-    seen: &[Seen],
-) -> Result<Option<Refusal>, NoMemory>
+    seen: &[LineValues],
+) -> Result<Option<AlmRefusal>, NoMemory>
     requires count { length lines.now < 2 ^ 32 }
     requires seen { seen.now
         ≡ seen_from text.now tables.now.symbols tables.now.links start lines.now }

@@ -4,7 +4,7 @@ ghost use Rattle.std.specs.Prelude.{ℕ, [], ◌≡◌, ◌^◌, ◌<◌, ◌≤
 ghost use Rattle.std.specs.Prelude.{OnOk, IfOk, position, unwrap_or};
 ghost use Rattle.obj36_parts.specs.ObjectSegment.{word_of_link};
 ghost use Rattle.obj36_parts.specs.Indexes.{same_link};
-ghost use Rattle.alm_asm.specs.Seen.{place_in};
+ghost use Rattle.alm_asm.specs.LineValues.{place_in};
 ghost use Rattle.alm_lines.specs.Arguments.{name_at, first_arg, terms_in};
 ghost use Rattle.alm_lines.specs.Values.{evaluated};
 ghost use Rattle.obj36_parts.specs.Sections.{same_section};
@@ -14,11 +14,11 @@ ghost use Rattle.alm_asm.specs.Links.{links_after, link_place};
 
 use alm_lines::arguments::name_at;
 use alm_lines::count::Count;
-use alm_lines::refusal::Room;
-use alm_lines::spot::Spot;
+use alm_lines::refusal::ValueField;
+use alm_lines::spot::LocationCounter;
 use alm_lines::symbols::Symbols;
 use alm_lines::value::{Value, is_valued};
-use alm_parse::{Arg, Deed, Line36, Span, Term, own_section};
+use alm_parse::{Arg, Line36, LineEffect, Span, Term, own_section};
 use m36_text::Name;
 use m36_word::NoMemory;
 use obj36::{Link, Links, Section};
@@ -67,7 +67,7 @@ fn entry_name(text: &[u8], entry: Option<Span>) -> Name
 pub fn link_of(
     text: &[u8],
     _symbols: &Symbols,
-    _spot: Spot,
+    _spot: LocationCounter,
     segment: Span,
     entry: Option<Span>,
     _terms: &[Term],
@@ -92,7 +92,7 @@ pub fn link_of(
 fn external_link(
     text: &[u8],
     symbols: &Symbols,
-    spot: Spot,
+    spot: LocationCounter,
     segment: Span,
     entry: Option<Span>,
     terms: &[Term],
@@ -103,13 +103,19 @@ fn external_link(
     ensures { result
         ≡ link_by text.now symbols.now spot (Option.Some segment) entry terms.now tag }
 {
-    if !is_valued(text, symbols, spot, terms, Room::Half, false, value) {
+    if !is_valued(text, symbols, spot, terms, ValueField::Half, false, value) {
         return None;
     }
     Some(link_of(text, symbols, spot, segment, entry, terms, tag, value))
 }
 
-fn link_in(text: &[u8], symbols: &Symbols, spot: Spot, args: &[Arg], value: Value) -> Option<Link>
+fn link_in(
+    text: &[u8],
+    symbols: &Symbols,
+    spot: LocationCounter,
+    args: &[Arg],
+    value: Value,
+) -> Option<Link>
     requires { value ≡ evaluated text.now symbols.now spot (terms_in (first_arg args.now)) }
     ensures { result ≡ link_in text.now symbols.now spot (first_arg args.now) }
 {
@@ -152,7 +158,7 @@ fn add_link(links: &mut Links, link: Link) -> Result<u64, NoMemory>
 }
 
 // Adds the link of an operand, if it has one. Returns the index of the link.
-fn note_given(links: &mut Links, link: Option<Link>) -> Result<Option<u64>, NoMemory>
+fn add_operand_link(links: &mut Links, link: Option<Link>) -> Result<Option<u64>, NoMemory>
     ensures links { OnOk result (links.new ≡ with_link links.old link) }
     ensures place { IfOk result (λ place. place ≡ place_in links.new link) }
 {
@@ -168,11 +174,11 @@ fn note_given(links: &mut Links, link: Option<Link>) -> Result<Option<u64>, NoMe
 /// Adds the link of a line, if it has one, and returns the index of the link. `value` is that of
 /// the first argument. Fails only with `NoMemory`.
 #[tactic(auto, unfolding(crate::specs::Links::links_after))]
-pub fn note_link(
+pub fn add_link_of_line(
     text: &[u8],
     symbols: &Symbols,
     links: &mut Links,
-    spot: Spot,
+    spot: LocationCounter,
     line: &Line36,
     value: Value,
 ) -> Result<Option<u64>, NoMemory>
@@ -186,20 +192,20 @@ pub fn note_link(
         (first_arg (operand_args line.now.deed line.now.args)))) }
 {
     match line.deed {
-        Deed::Instruction(_, _) => {
+        LineEffect::Instruction(_, _) => {
             let link = link_in(text, symbols, spot, line.args.items(), value);
-            note_given(links, link)
+            add_operand_link(links, link)
         }
-        Deed::Nothing
-        | Deed::Entry
-        | Deed::Segdef
-        | Deed::Equ
-        | Deed::Use
-        | Deed::Words
-        | Deed::Zero
-        | Deed::Block
-        | Deed::Even
-        | Deed::Bound => Ok(None),
+        LineEffect::Nothing
+        | LineEffect::Entry
+        | LineEffect::Segdef
+        | LineEffect::Equ
+        | LineEffect::Use
+        | LineEffect::Words
+        | LineEffect::Zero
+        | LineEffect::Block
+        | LineEffect::Even
+        | LineEffect::Bound => Ok(None),
     }
 }
 

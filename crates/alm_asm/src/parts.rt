@@ -2,7 +2,7 @@
 
 ghost use Rattle.std.specs.Prelude.{[], ◌≡◌, ◌^◌, ◌<◌, length, OnOk, IfOk};
 ghost use Rattle.alm_lines.specs.Spots.{start};
-ghost use Rattle.alm_asm.specs.Seen.{seen_from};
+ghost use Rattle.alm_asm.specs.LineValues.{seen_from};
 ghost use Rattle.obj36_parts.specs.declared.section.Section.TheVariants.{Text};
 ghost use Rattle.alm_asm.specs.Words.{words_from};
 ghost use Rattle.alm_asm.specs.Definitions.{definitions_from};
@@ -10,34 +10,34 @@ ghost use Rattle.alm_asm.specs.Parts.{parts_by};
 ghost use Rattle.alm_asm.specs.Assembly.{bound_by, bound_from, static_section, relocations_of, evened, parts_with};
 
 use crate::definitions::definitions_of;
-use crate::marks::push_marks_in;
-use crate::seen::Seen;
+use crate::relocations::push_marks_in;
+use crate::seen::LineValues;
 use crate::tables::Tables;
 use crate::words::words_in;
-use alm_lines::spot::{Spot, below};
-use alm_parse::{Deed, Line36};
+use alm_lines::spot::{LocationCounter, below};
+use alm_parse::{Line36, LineEffect};
 use m36_word::{NoMemory, Words};
 use obj36::{Defs, Parts, Relocs, Section};
 use obj36_parts::sections::{push_evening, version_of};
 use std::alloc::Global;
 
-fn bound_by(spot: Spot, bound: u32, deed: Deed) -> u32
+fn bound_by(spot: LocationCounter, bound: u32, deed: LineEffect) -> u32
     requires { bound < 2 ^ 18 }
     ensures value { result ≡ bound_by spot bound deed }
     ensures bound { result < 2 ^ 18 }
 {
     match deed {
-        Deed::Bound => (spot.text % (1 << 18)) as u32,
-        Deed::Nothing
-        | Deed::Instruction(_, _)
-        | Deed::Entry
-        | Deed::Segdef
-        | Deed::Equ
-        | Deed::Use
-        | Deed::Words
-        | Deed::Zero
-        | Deed::Block
-        | Deed::Even => bound,
+        LineEffect::Bound => (spot.text % (1 << 18)) as u32,
+        LineEffect::Nothing
+        | LineEffect::Instruction(_, _)
+        | LineEffect::Entry
+        | LineEffect::Segdef
+        | LineEffect::Equ
+        | LineEffect::Use
+        | LineEffect::Words
+        | LineEffect::Zero
+        | LineEffect::Block
+        | LineEffect::Even => bound,
     }
 }
 
@@ -49,7 +49,7 @@ fn bound_of(alloc: Global, text: &[u8], lines: &[Line36]) -> Result<u32, NoMemor
     ensures bound { IfOk result (λ bound. bound < 2 ^ 18) }
 {
     let mut bound = 0;
-    let mut spot = Spot::start();
+    let mut spot = LocationCounter::start();
     let mut rest = lines;
     while let [line, more @ ..] = rest {
         bound = bound_by(spot, bound, line.deed);
@@ -85,7 +85,7 @@ fn statics_of(
     text: &[u8],
     tables: &Tables,
     lines: &[Line36],
-    seen: &[Seen],
+    seen: &[LineValues],
 ) -> Result<Words, NoMemory>
     requires count { length lines.now < 2 ^ 32 }
     requires seen { seen.now
@@ -107,7 +107,7 @@ fn relocations_of(
     text: &[u8],
     tables: &Tables,
     lines: &[Line36],
-    seen: &[Seen],
+    seen: &[LineValues],
 ) -> Result<Relocs, NoMemory>
     requires count { length lines.now < 2 ^ 32 }
     requires seen { seen.now
@@ -123,7 +123,7 @@ fn relocations_of(
 
 /// The words of the text, and the static words.
 #[derive(Drop)]
-struct Placed {
+struct PlacedWords {
     text: Words,
     statics: Words,
 }
@@ -134,8 +134,8 @@ fn placed_in(
     text: &[u8],
     tables: &Tables,
     lines: &[Line36],
-    seen: &[Seen],
-) -> Result<Placed, NoMemory>
+    seen: &[LineValues],
+) -> Result<PlacedWords, NoMemory>
     requires count { length lines.now < 2 ^ 32 }
     requires seen { seen.now
         ≡ seen_from text.now tables.now.symbols tables.now.links start lines.now }
@@ -149,7 +149,7 @@ fn placed_in(
 {
     let words = words_in(alloc, text, tables, Section::Text, lines, seen)?;
     let statics = statics_of(alloc, text, tables, lines, seen)?;
-    Ok(Placed {
+    Ok(PlacedWords {
         text: words,
         statics,
     })
@@ -157,7 +157,7 @@ fn placed_in(
 
 /// The definitions and the relocations.
 #[derive(Drop)]
-struct Noted {
+struct DefinitionsAndRelocations {
     definitions: Defs,
     relocations: Relocs,
 }
@@ -168,8 +168,8 @@ fn noted_in(
     text: &[u8],
     tables: &Tables,
     lines: &[Line36],
-    seen: &[Seen],
-) -> Result<Noted, NoMemory>
+    seen: &[LineValues],
+) -> Result<DefinitionsAndRelocations, NoMemory>
     requires count { length lines.now < 2 ^ 32 }
     requires seen { seen.now
         ≡ seen_from text.now tables.now.symbols tables.now.links start lines.now }
@@ -180,7 +180,7 @@ fn noted_in(
 {
     let definitions = definitions_of(alloc, text, &tables.symbols, lines)?;
     let relocations = relocations_of(alloc, text, tables, lines, seen)?;
-    Ok(Noted {
+    Ok(DefinitionsAndRelocations {
         definitions,
         relocations,
     })
@@ -189,8 +189,8 @@ fn noted_in(
 /// All that the lines place in an object except the links.
 #[derive(Drop)]
 struct Contents {
-    placed: Placed,
-    noted: Noted,
+    placed: PlacedWords,
+    noted: DefinitionsAndRelocations,
     entry_bound: u32,
 }
 
@@ -217,7 +217,7 @@ fn contents_of(
     text: &[u8],
     tables: &Tables,
     lines: &[Line36],
-    seen: &[Seen],
+    seen: &[LineValues],
 ) -> Result<Contents, NoMemory>
     requires count { length lines.now < 2 ^ 32 }
     requires seen { seen.now
@@ -243,7 +243,7 @@ pub(crate) fn parts_with(
     text: &[u8],
     tables: Tables,
     lines: &[Line36],
-    seen: &[Seen],
+    seen: &[LineValues],
 ) -> Result<Parts, NoMemory>
     requires count { length lines.now < 2 ^ 32 }
     requires seen { seen.now ≡ seen_from text.now tables.symbols tables.links start lines.now }

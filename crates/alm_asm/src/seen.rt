@@ -5,11 +5,11 @@ ghost use Rattle.alm_lines.specs.Arguments.{first_arg, terms_in};
 ghost use Rattle.alm_lines.specs.Spots.{start, below};
 ghost use Rattle.alm_lines.specs.Values.{evaluated};
 ghost use Rattle.alm_asm.specs.Links.{operand_args, link_in, links_after, links_from};
-ghost use Rattle.alm_asm.specs.Seen.{place_in, with_seen, seen_from};
+ghost use Rattle.alm_asm.specs.LineValues.{place_in, with_seen, seen_from};
 
-use crate::links::note_link;
+use crate::links::add_link_of_line;
 use alm_lines::arguments::first_terms;
-use alm_lines::spot::{Spot, below};
+use alm_lines::spot::{LocationCounter, below};
 use alm_lines::symbols::Symbols;
 use alm_lines::value::{Value, evaluate, no_value};
 use alm_parse::{Arg, Line36};
@@ -21,46 +21,46 @@ use std::marker::Model;
 /// The values of a line that has arguments: that of its first argument, and the index of the link
 /// of its operand, if it has one.
 #[derive(Clone, Copy)]
-pub struct Seen {
+pub struct LineValues {
     pub value: Value,
     pub place: Option<u64>,
 }
 
 /// A list of values that grows at its end.
 #[derive(Drop)]
-pub struct SeenLines {
-    items: Vec<Seen>,
+pub struct AllLineValues {
+    items: Vec<LineValues>,
 }
 
-impl Model for SeenLines {
+impl Model for AllLineValues {
     ghost use Rattle.std.specs.Prelude.{List};
-    ghost use Rattle.alm_asm.specs.declared.seen.Seen.{Seen};
+    ghost use Rattle.alm_asm.specs.declared.seen.LineValues.{LineValues};
 
-    ghost Value = { List Seen };
+    ghost Value = { List LineValues };
 
     ghost view = { λ s. s.items.items };
 }
 
-impl SeenLines {
+impl AllLineValues {
     /// An empty list.
-    pub fn new(alloc: Global) -> SeenLines
+    pub fn new(alloc: Global) -> AllLineValues
         ensures { result ≡ [] }
     {
-        SeenLines {
+        AllLineValues {
             items: Vec::new(alloc),
         }
     }
 
     // An empty list with room for exactly `count` values.
-    fn with_room(alloc: Global, count: usize) -> Result<SeenLines, NoMemory>
+    fn with_room(alloc: Global, count: usize) -> Result<AllLineValues, NoMemory>
         ensures { IfOk result (λ seen. seen ≡ []) }
     {
-        Ok(SeenLines {
+        Ok(AllLineValues {
             items: Vec::with_capacity(alloc, count)?,
         })
     }
 
-    fn push(&mut self, x: Seen) -> Result<(), NoMemory>
+    fn push(&mut self, x: LineValues) -> Result<(), NoMemory>
         ensures ok { OnOk result (self.new ≡ self.old ++ x ∷ []) }
         ensures err { OnErr result (self.new ≡ self.old) }
     {
@@ -69,7 +69,7 @@ impl SeenLines {
     }
 
     /// The values in order.
-    pub fn items(&self) -> &[Seen]
+    pub fn items(&self) -> &[LineValues]
         ensures { result.now ≡ self.now }
     {
         self.items.as_slice()
@@ -82,9 +82,9 @@ fn see_line(
     text: &[u8],
     symbols: &Symbols,
     links: &mut Links,
-    spot: Spot,
+    spot: LocationCounter,
     line: &Line36,
-) -> Result<Seen, NoMemory>
+) -> Result<LineValues, NoMemory>
     ensures links { OnOk result
         (links.new ≡ links_after text.now symbols.now links.old spot line.now) }
     ensures value { IfOk result (λ seen.
@@ -96,13 +96,13 @@ fn see_line(
         (first_arg (operand_args line.now.deed line.now.args)))) }
 {
     let value = evaluate(text, symbols, spot, first_terms(line.args.items()));
-    let place = note_link(text, symbols, links, spot, line, value)?;
-    Ok(Seen { value, place })
+    let place = add_link_of_line(text, symbols, links, spot, line, value)?;
+    Ok(LineValues { value, place })
 }
 
 // Adds the values of a line with these arguments to the list, if there are any.
-#[tactic(auto, unfolding(crate::specs::Seen::with_seen))]
-fn keep(all: &mut SeenLines, args: &[Arg], seen: Seen) -> Result<(), NoMemory>
+#[tactic(auto, unfolding(crate::specs::LineValues::with_seen))]
+fn keep(all: &mut AllLineValues, args: &[Arg], seen: LineValues) -> Result<(), NoMemory>
     ensures { OnOk result (all.new ≡ with_seen all.old args.now seen) }
 {
     match args {
@@ -113,13 +113,13 @@ fn keep(all: &mut SeenLines, args: &[Arg], seen: Seen) -> Result<(), NoMemory>
 
 /// Computes the values of lines, and adds their links. Fails only with `NoMemory`.
 #[tactic(auto, using(alm_lines::proofs::Rooms::rooms), unfolding(crate::specs::Links::links_from))]
-pub fn see_lines(
+pub fn compute_values(
     alloc: Global,
     text: &[u8],
     symbols: &Symbols,
     links: &mut Links,
     lines: &[Line36],
-) -> Result<SeenLines, NoMemory>
+) -> Result<AllLineValues, NoMemory>
     requires { length lines.now < 2 ^ 32 }
     ensures links { OnOk result
         (links.new ≡ links_from text.now symbols.now links.old start lines.now) }
@@ -128,8 +128,8 @@ pub fn see_lines(
         ≡ seen_from text.now symbols.now
         (links_from text.now symbols.now links.old start lines.now) start lines.now) }
 {
-    let mut all = SeenLines::with_room(alloc, lines.len())?;
-    let mut spot = Spot::start();
+    let mut all = AllLineValues::with_room(alloc, lines.len())?;
+    let mut spot = LocationCounter::start();
     let mut rest = lines;
     while let [line, more @ ..] = rest {
         let seen = see_line(text, symbols, links, spot, line)?;
@@ -141,16 +141,16 @@ pub fn see_lines(
 }
 
 // The values of a line without arguments, which are not in the list, and the rest of the list.
-#[tactic(auto, using(crate::proofs::SeenLaws::none_next), unfolding(crate::specs::Seen::seen_from))]
+#[tactic(auto, using(crate::proofs::SeenLaws::none_next), unfolding(crate::specs::LineValues::seen_from))]
 fn next_of_none<'a>(
     _text: &[u8],
     _symbols: &Symbols,
     _links: &Links,
-    _spot: Spot,
+    _spot: LocationCounter,
     _line: &Line36,
     _more: &[Line36],
-    left: &'a [Seen],
-) -> (Seen, &'a [Seen])
+    left: &'a [LineValues],
+) -> (LineValues, &'a [LineValues])
     requires none { _line.now.args ≡ [] }
     requires left { left.now
         ≡ seen_from _text.now _symbols.now _links.now _spot (_line.now ∷ _more.now) }
@@ -163,7 +163,7 @@ fn next_of_none<'a>(
     ensures later { result.1.now
         ≡ seen_from _text.now _symbols.now _links.now (below _text.now _spot _line.now) _more.now }
 {
-    let nothing = Seen {
+    let nothing = LineValues {
         value: no_value(),
         place: None,
     };
@@ -171,16 +171,16 @@ fn next_of_none<'a>(
 }
 
 // The values of a line with arguments, which are the first of the list, and the rest of the list.
-#[tactic(auto, using(crate::proofs::SeenLaws::some_with), unfolding(crate::specs::Seen::seen_from, crate::specs::Seen::seen_of))]
+#[tactic(auto, using(crate::proofs::SeenLaws::some_with), unfolding(crate::specs::LineValues::seen_from, crate::specs::LineValues::seen_of))]
 fn next_of_some<'a>(
     _text: &[u8],
     _symbols: &Symbols,
     _links: &Links,
-    _spot: Spot,
+    _spot: LocationCounter,
     _line: &Line36,
     _more: &[Line36],
-    left: &'a [Seen],
-) -> (Seen, &'a [Seen])
+    left: &'a [LineValues],
+) -> (LineValues, &'a [LineValues])
     requires some { 0 < length _line.now.args }
     requires left { left.now
         ≡ seen_from _text.now _symbols.now _links.now _spot (_line.now ∷ _more.now) }
@@ -200,15 +200,15 @@ fn next_of_some<'a>(
 }
 
 /// The values of a line, and the rest of the list, which has those of the lines below.
-pub fn next_seen<'a>(
+pub fn next_values<'a>(
     text: &[u8],
     symbols: &Symbols,
     links: &Links,
-    spot: Spot,
+    spot: LocationCounter,
     line: &Line36,
     more: &[Line36],
-    left: &'a [Seen],
-) -> (Seen, &'a [Seen])
+    left: &'a [LineValues],
+) -> (LineValues, &'a [LineValues])
     requires { left.now
         ≡ seen_from text.now symbols.now links.now spot (line.now ∷ more.now) }
     ensures value { result.0.value

@@ -4,7 +4,7 @@ ghost use Rattle.std.specs.Prelude.{ℕ, [], ◌++◌, ◌≡◌, ◌+◌, ◌*�
 ghost use Rattle.std.specs.Prelude.{◌≤◌, length, Option, Some, None, OnOk, IfOk};
 ghost use Rattle.alm_lines.specs.Arguments.{first_arg, terms_in};
 ghost use Rattle.alm_lines.specs.Values.{evaluated};
-ghost use Rattle.alm_asm.specs.Seen.{place_in, seen_from};
+ghost use Rattle.alm_asm.specs.LineValues.{place_in, seen_from};
 ghost use Rattle.alm_lines.specs.Spots.{start};
 ghost use Rattle.alm_asm.specs.Links.{link_of, link_by, link_in, link_place, operand_args};
 ghost use Rattle.alm_asm.specs.Words.{plain_inst, pointed_inst, own_inst, inst_in};
@@ -12,13 +12,13 @@ ghost use Rattle.alm_asm.specs.Words.{instruction_word, halves_word, words_by, w
 ghost use Rattle.alm_asm.specs.Words.{words_from, inst_by};
 
 use crate::links::{link_of, link_place, offset_of_link, same_section};
-use crate::seen::{Seen, next_seen};
+use crate::seen::{LineValues, next_values};
 use crate::tables::Tables;
 use alm_lines::arguments::{second_number, second_terms, words_of_args};
-use alm_lines::refusal::Room;
-use alm_lines::spot::{Spot, below};
+use alm_lines::refusal::ValueField;
+use alm_lines::spot::{LocationCounter, below};
 use alm_lines::value::{Value, evaluate, is_valued};
-use alm_parse::{Arg, Deed, Line36, Span, Term};
+use alm_parse::{Arg, Line36, LineEffect, Span, Term};
 use m36_inst::Inst;
 use m36_word::{NoMemory, Word, Words};
 use obj36::Section;
@@ -27,12 +27,12 @@ use std::alloc::Global;
 
 /// An operation code and its bit 27.
 #[derive(Clone, Copy)]
-struct Operation {
+struct OperationCode {
     code: u16,
     bit27: bool,
 }
 
-fn plain_inst(operation: Operation, y: u64, tag: u8) -> Inst
+fn plain_inst(operation: OperationCode, y: u64, tag: u8) -> Inst
     requires { y < 2 ^ 18 }
     ensures { result ≡ plain_inst operation.code operation.bit27 y tag }
 {
@@ -46,7 +46,7 @@ fn plain_inst(operation: Operation, y: u64, tag: u8) -> Inst
     }
 }
 
-fn pointed_inst(operation: Operation, pr: u8, offset: u64, tag: u8) -> Inst
+fn pointed_inst(operation: OperationCode, pr: u8, offset: u64, tag: u8) -> Inst
     requires { offset < 2 ^ 15 }
     ensures { result ≡ pointed_inst operation.code operation.bit27 pr offset tag }
 {
@@ -61,7 +61,7 @@ fn pointed_inst(operation: Operation, pr: u8, offset: u64, tag: u8) -> Inst
     }
 }
 
-fn own_inst(operation: Operation, pr: Option<u8>, value: Value, tag: u8) -> Inst
+fn own_inst(operation: OperationCode, pr: Option<u8>, value: Value, tag: u8) -> Inst
     ensures { result
         ≡ own_inst operation.code operation.bit27 pr value.half value.offset tag }
 {
@@ -76,7 +76,7 @@ fn own_inst(operation: Operation, pr: Option<u8>, value: Value, tag: u8) -> Inst
 fn external_offset(
     text: &[u8],
     tables: &Tables,
-    spot: Spot,
+    spot: LocationCounter,
     segment: Span,
     entry: Option<Span>,
     terms: &[Term],
@@ -93,7 +93,7 @@ fn external_offset(
         (link_of text.now tables.now.symbols spot segment entry terms.now tag) }
 {
     let symbols = &tables.symbols;
-    if is_valued(text, symbols, spot, terms, Room::Half, false, value) {
+    if is_valued(text, symbols, spot, terms, ValueField::Half, false, value) {
         return offset_of_link(tables.first_link, place);
     }
     let link = link_of(text, symbols, spot, segment, entry, terms, tag, value);
@@ -104,8 +104,8 @@ fn external_offset(
 fn external_inst(
     text: &[u8],
     tables: &Tables,
-    spot: Spot,
-    operation: Operation,
+    spot: LocationCounter,
+    operation: OperationCode,
     segment: Span,
     entry: Option<Span>,
     terms: &[Term],
@@ -130,8 +130,8 @@ fn external_inst(
 fn own_operand(
     _text: &[u8],
     _tables: &Tables,
-    _spot: Spot,
-    operation: Operation,
+    _spot: LocationCounter,
+    operation: OperationCode,
     pr: Option<u8>,
     _terms: &[Term],
     tag: u8,
@@ -148,8 +148,8 @@ fn own_operand(
 fn inst_in(
     text: &[u8],
     tables: &Tables,
-    spot: Spot,
-    operation: Operation,
+    spot: LocationCounter,
+    operation: OperationCode,
     args: &[Arg],
     value: Value,
     place: Option<u64>,
@@ -189,8 +189,8 @@ fn inst_in(
 fn instruction_word(
     text: &[u8],
     tables: &Tables,
-    spot: Spot,
-    operation: Operation,
+    spot: LocationCounter,
+    operation: OperationCode,
     args: &[Arg],
     value: Value,
     place: Option<u64>,
@@ -214,7 +214,13 @@ fn word_of(left: Value, right: Value) -> Word
 }
 
 #[tactic(auto, unfolding(crate::specs::Words::halves_word, alm_lines::specs::Values::evaluated))]
-fn halves_word(text: &[u8], tables: &Tables, spot: Spot, args: &[Arg], value: Value) -> Word
+fn halves_word(
+    text: &[u8],
+    tables: &Tables,
+    spot: LocationCounter,
+    args: &[Arg],
+    value: Value,
+) -> Word
     requires { value
         ≡ evaluated text.now tables.now.symbols spot (terms_in (first_arg args.now)) }
     ensures { result ≡ halves_word text.now tables.now spot args.now }
@@ -230,11 +236,11 @@ fn push_words(
     alloc: Global,
     text: &[u8],
     tables: &Tables,
-    spot: Spot,
+    spot: LocationCounter,
     args: &[Arg],
     value: Value,
     place: Option<u64>,
-    deed: Deed,
+    deed: LineEffect,
     words: &mut Words,
 ) -> Result<(), NoMemory>
     requires value { value
@@ -246,16 +252,21 @@ fn push_words(
         (words.new ≡ words.old ++ words_by text.now tables.now spot args.now deed) }
 {
     match deed {
-        Deed::Instruction(code, bit27) => {
-            let operation = Operation { code, bit27 };
+        LineEffect::Instruction(code, bit27) => {
+            let operation = OperationCode { code, bit27 };
             let word = instruction_word(text, tables, spot, operation, args, value, place);
             words.push(word)
         }
-        Deed::Words => push_all(words, words_of_args(alloc, args)?.slice()),
-        Deed::Zero => words.push(halves_word(text, tables, spot, args, value)),
-        Deed::Block => push_zeros(words, second_number(args)),
-        Deed::Even => push_zeros(words, (spot.place() % 2) as u64),
-        Deed::Nothing | Deed::Entry | Deed::Segdef | Deed::Equ | Deed::Use | Deed::Bound => Ok(()),
+        LineEffect::Words => push_all(words, words_of_args(alloc, args)?.slice()),
+        LineEffect::Zero => words.push(halves_word(text, tables, spot, args, value)),
+        LineEffect::Block => push_zeros(words, second_number(args)),
+        LineEffect::Even => push_zeros(words, (spot.place() % 2) as u64),
+        LineEffect::Nothing
+        | LineEffect::Entry
+        | LineEffect::Segdef
+        | LineEffect::Equ
+        | LineEffect::Use
+        | LineEffect::Bound => Ok(()),
     }
 }
 
@@ -265,9 +276,9 @@ fn take_line(
     text: &[u8],
     tables: &Tables,
     section: Section,
-    spot: Spot,
+    spot: LocationCounter,
     line: &Line36,
-    seen: &Seen,
+    seen: &LineValues,
     words: &mut Words,
 ) -> Result<(), NoMemory>
     requires value { seen.now.value
@@ -297,7 +308,7 @@ pub fn words_in(
     tables: &Tables,
     section: Section,
     lines: &[Line36],
-    seen: &[Seen],
+    seen: &[LineValues],
 ) -> Result<Words, NoMemory>
     requires count { length lines.now < 2 ^ 32 }
     requires seen { seen.now
@@ -306,11 +317,19 @@ pub fn words_in(
         words ≡ words_from text.now tables.now section [] start lines.now) }
 {
     let mut words = Words::new(alloc);
-    let mut spot = Spot::start();
+    let mut spot = LocationCounter::start();
     let mut rest = lines;
     let mut left = seen;
     while let [line, more @ ..] = rest {
-        let (seen, later) = next_seen(text, &tables.symbols, &tables.links, spot, line, more, left);
+        let (seen, later) = next_values(
+            text,
+            &tables.symbols,
+            &tables.links,
+            spot,
+            line,
+            more,
+            left,
+        );
         take_line(alloc, text, tables, section, spot, line, &seen, &mut words)?;
         spot = below(alloc, text, spot, line)?;
         rest = more;

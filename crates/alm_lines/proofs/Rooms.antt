@@ -1,7 +1,7 @@
 -- There is room for the words of all lines.
 use Rattle.std.proofs.Common.{◌≡◌, ℕ, ◌+◌, ◌-◌, ◌*◌, ◌^◌, ◌<◌, ◌≤◌, arith}
 use Rattle.alm_lines.specs.Spots.{start, HasRoom, IsNear}
-use Rattle.alm_lines.specs.SpotFields.{Spot}
+use Rattle.alm_lines.specs.SpotFields.{LocationCounter}
 
 -- before the first line
 begins : (lines : ℕ) → lines < 2 ^ 32 → 0 + lines * 2 ^ 64 ≤ 2 ^ 96 - 2 ^ 64
@@ -14,7 +14,7 @@ room_start lines few = let room = begins lines few in record { text = room; inne
 next : (lines at : ℕ) → 0 < lines → at + lines * 2 ^ 64 ≤ 2 ^ 96 - 2 ^ 64 → at + 1 * 2 ^ 64 ≤ 2 ^ 96 - 2 ^ 64
 next lines at some room = omega (arith, some, room)
 
-pub room_next : (lines : ℕ) (spot : Spot) → 0 < lines → HasRoom lines spot → HasRoom 1 spot
+pub room_next : (lines : ℕ) (spot : LocationCounter) → 0 < lines → HasRoom lines spot → HasRoom 1 spot
 room_next lines spot some room =
     record {
       text = next lines spot.text some room.text;
@@ -26,7 +26,7 @@ room_next lines spot some room =
 below : (lines more at after : ℕ) → lines ≡ more + 1 → at + lines * 2 ^ 64 ≤ 2 ^ 96 - 2 ^ 64 → after ≤ at + 2 ^ 64 → after + more * 2 ^ 64 ≤ 2 ^ 96 - 2 ^ 64
 below lines more at after e room near = omega (arith, e, room, near)
 
-pub room_below : (lines more : ℕ) (spot after : Spot) → lines ≡ more + 1 → HasRoom lines spot → IsNear spot after → HasRoom more after
+pub room_below : (lines more : ℕ) (spot after : LocationCounter) → lines ≡ more + 1 → HasRoom lines spot → IsNear spot after → HasRoom more after
 room_below lines more spot after e room near =
     record {
       text = below lines more spot.text after.text e room.text near.text;

@@ -5,10 +5,10 @@ use Rattle.alm_tokens.specs.declared.expression.Term.{Term}
 use Rattle.alm_lines.specs.Sums.{no_sum, sum_plus, kind_of, IsAtMost, IsTerm}
 use Rattle.alm_lines.specs.Expressions.{sum_of, place_undefined}
 use Rattle.alm_lines.specs.Layout.{number_of}
-use Rattle.alm_lines.specs.Refusals.{has_room, may_stand, is_said, has_value}
+use Rattle.alm_lines.specs.Refusals.{has_room, is_kind_allowed, is_expressible, has_value}
 use Rattle.alm_lines.specs.declared.sum.Sum.{Sum}
-use Rattle.alm_lines.specs.SpotFields.{Spot}
-use Rattle.alm_lines.specs.declared.refusal.Room.TheVariants.{Half}
+use Rattle.alm_lines.specs.SpotFields.{LocationCounter}
+use Rattle.alm_lines.specs.declared.refusal.ValueField.TheVariants.{Half}
 
 -- of no terms
 pub sum_begun : (terms left : ℕ) → IsAtMost ((terms - left) * (2 ^ 96 - 1)) no_sum
@@ -57,13 +57,13 @@ sum_more terms left more a b c e within so small is =
 pub ruleset sums = (sum_begun, sum_room, sum_more)
 
 -- the number of an expression with a value fits its field
-pub valued_fits : (text : List ℕ) (symbols : List (List ℕ × Sum)) (spot : Spot) (terms : List Term) → has_value text symbols spot terms Half false ≡ true
+pub valued_fits : (text : List ℕ) (symbols : List (List ℕ × Sum)) (spot : LocationCounter) (terms : List Term) → has_value text symbols spot terms Half false ≡ true
     → has_room Half (sum_of text symbols spot terms).value ≡ true
-unfolding has_value is_said
+unfolding has_value is_expressible
 valued_fits text symbols spot terms e =
     let sum = sum_of text symbols spot terms in
-    let said = and_parts (not (is_some (place_undefined text symbols terms)) && not sum.unknown) (is_said Half false sum) e in
-    (and_parts (has_room Half sum.value) (may_stand false (kind_of sum)) said.1).0
+    let said = and_parts (not (is_some (place_undefined text symbols terms)) && not sum.unknown) (is_expressible Half false sum) e in
+    (and_parts (has_room Half sum.value) (is_kind_allowed false (kind_of sum)) said.1).0
 
 -- and is small
 pub number_small : (s : Sum) → has_room Half s.value ≡ true → IsTerm (number_of s)

@@ -5,13 +5,13 @@ use Rattle.alm_tokens.specs.declared.expression.Term.{Term}
 use Rattle.alm_parse.specs.declared.line.Line36.{Line36}
 use Rattle.alm_lines.specs.Sums.{no_sum, sum_plus, half_of, offset_of, kind_of}
 use Rattle.alm_lines.specs.Expressions.{added, sum_of, term_sum, is_defined, is_symbol_atom, is_undefined, place_undefined}
-use Rattle.alm_lines.specs.Refusals.{has_value, is_said, expression_refusal}
+use Rattle.alm_lines.specs.Refusals.{has_value, is_expressible, expression_refusal}
 use Rattle.alm_lines.specs.Values.{value_by, evaluated, is_value, value_refused}
 use Rattle.alm_lines.specs.declared.sum.Sum.{Sum}
 use Rattle.alm_lines.specs.declared.sum.Kind.TheVariants.{Absolute}
-use Rattle.alm_lines.specs.declared.refusal.Room.{Room}
-use Rattle.alm_lines.specs.declared.refusal.Room.TheVariants.{Half, Offset}
-use Rattle.alm_lines.specs.SpotFields.{Spot}
+use Rattle.alm_lines.specs.declared.refusal.ValueField.{ValueField}
+use Rattle.alm_lines.specs.declared.refusal.ValueField.TheVariants.{Half, Offset}
+use Rattle.alm_lines.specs.SpotFields.{LocationCounter}
 use Rattle.alm_lines.specs.ValueFields.{ValueFields}
 
 -- ---- an expression of one term
@@ -27,7 +27,7 @@ begun s =
       unknown = s.unknown;
     }
 
-pub sum_alone : (text : List ℕ) (symbols : List (List ℕ × Sum)) (spot : Spot) (term : Term) → sum_of text symbols spot (term ∷ []) ≡ term_sum text symbols spot term
+pub sum_alone : (text : List ℕ) (symbols : List (List ℕ × Sum)) (spot : LocationCounter) (term : Term) → sum_of text symbols spot (term ∷ []) ≡ term_sum text symbols spot term
 unfolding added
 sum_alone text symbols spot term = begun (term_sum text symbols spot term)
 
@@ -44,31 +44,31 @@ undefined_alone text symbols term = alone_by (is_symbol_atom term.what) (is_defi
 
 -- ---- properties of a value
 
-same_value : (text : List ℕ) (symbols : List (List ℕ × Sum)) (spot : Spot) (terms : List Term) (room : Room) (may_move : Bool)
+same_value : (text : List ℕ) (symbols : List (List ℕ × Sum)) (spot : LocationCounter) (terms : List Term) (room : ValueField) (may_move : Bool)
     → is_value room may_move (evaluated text symbols spot terms) ≡ has_value text symbols spot terms room may_move
-unfolding evaluated has_value is_said
+unfolding evaluated has_value is_expressible
 same_value text symbols spot terms Half may_move = refl
 same_value text symbols spot terms Offset may_move = refl
 
-pub value_given : (text : List ℕ) (symbols : List (List ℕ × Sum)) (spot : Spot) (terms : List Term) (room : Room) (may_move : Bool) (value : ValueFields)
+pub value_given : (text : List ℕ) (symbols : List (List ℕ × Sum)) (spot : LocationCounter) (terms : List Term) (room : ValueField) (may_move : Bool) (value : ValueFields)
     → value ≡ evaluated text symbols spot terms → is_value room may_move value ≡ has_value text symbols spot terms room may_move
 value_given text symbols spot terms room may_move value e =
     ap (is_value room may_move) e ∙ same_value text symbols spot terms room may_move
 
-same_refused : (text : List ℕ) (symbols : List (List ℕ × Sum)) (spot : Spot) (line : Line36) (terms : List Term) (place : ℕ) (room : Room) (may_move : Bool)
+same_refused : (text : List ℕ) (symbols : List (List ℕ × Sum)) (spot : LocationCounter) (line : Line36) (terms : List Term) (place : ℕ) (room : ValueField) (may_move : Bool)
     → value_refused line (evaluated text symbols spot terms) place room may_move ≡ expression_refusal text symbols spot line terms place room may_move
-unfolding evaluated expression_refusal is_said
+unfolding evaluated expression_refusal is_expressible
 same_refused text symbols spot line terms place Half may_move = refl
 same_refused text symbols spot line terms place Offset may_move = refl
 
-pub refused_given : (text : List ℕ) (symbols : List (List ℕ × Sum)) (spot : Spot) (line : Line36) (terms : List Term) (place : ℕ) (room : Room) (may_move : Bool) (value : ValueFields)
+pub refused_given : (text : List ℕ) (symbols : List (List ℕ × Sum)) (spot : LocationCounter) (line : Line36) (terms : List Term) (place : ℕ) (room : ValueField) (may_move : Bool) (value : ValueFields)
     → value ≡ evaluated text symbols spot terms → value_refused line value place room may_move ≡ expression_refusal text symbols spot line terms place room may_move
 refused_given text symbols spot line terms place room may_move value e =
     ap (λ v. value_refused line v place room may_move) e ∙ same_refused text symbols spot line terms place room may_move
 
 pub ruleset given_values = (value_given, refused_given)
 
-pub kind_given : (text : List ℕ) (symbols : List (List ℕ × Sum)) (spot : Spot) (terms : List Term) (value : ValueFields)
+pub kind_given : (text : List ℕ) (symbols : List (List ℕ × Sum)) (spot : LocationCounter) (terms : List Term) (value : ValueFields)
     → value ≡ evaluated text symbols spot terms → value.kind ≡ kind_of (sum_of text symbols spot terms)
 unfolding evaluated
 kind_given text symbols spot terms value e = ap (λ (v : ValueFields). v.kind) e
@@ -81,6 +81,6 @@ pub no_value_is : (value : ValueFields)
 unfolding half_of offset_of kind_of
 no_value_is value e = e
 
-pub no_terms : (text : List ℕ) (symbols : List (List ℕ × Sum)) (spot : Spot) → evaluated text symbols spot [] ≡ value_by no_sum None
+pub no_terms : (text : List ℕ) (symbols : List (List ℕ × Sum)) (spot : LocationCounter) → evaluated text symbols spot [] ≡ value_by no_sum None
 unfolding evaluated added place_undefined
 no_terms text symbols spot = refl

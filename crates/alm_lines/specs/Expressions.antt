@@ -11,32 +11,32 @@ use Rattle.alm_lines.specs.Sums.{absolute, no_sum, sum_plus, sum_turned}
 use Rattle.alm_lines.specs.Symbols.{sum_named}
 use Rattle.alm_lines.specs.Spots.{here}
 use Rattle.alm_lines.specs.declared.sum.Sum.{Sum}
-use Rattle.alm_lines.specs.SpotFields.{Spot}
+use Rattle.alm_lines.specs.SpotFields.{LocationCounter}
 
 -- the sum of a symbol; 0 if it is not defined
 unfoldable pub symbol_sum : List ℕ → List (List ℕ × Sum) → Span → Sum
 symbol_sum text symbols span = unwrap_or (sum_named (name_at text span) symbols) no_sum
 
 -- the sum of a term without its sign
-abbrev pub atom_sum : List ℕ → List (List ℕ × Sum) → Spot → Span → Atom → Sum
+abbrev pub atom_sum : List ℕ → List (List ℕ × Sum) → LocationCounter → Span → Atom → Sum
 atom_sum text symbols spot span (Number n) = absolute n
 atom_sum text symbols spot span Symbol = symbol_sum text symbols span
 atom_sum text symbols spot span Here = here spot
 
 -- the sum of a term
-unfoldable pub term_sum : List ℕ → List (List ℕ × Sum) → Spot → Term → Sum
+unfoldable pub term_sum : List ℕ → List (List ℕ × Sum) → LocationCounter → Term → Sum
 term_sum text symbols spot term =
     let sum = atom_sum text symbols spot term.span term.what in
     if term.minus then sum_turned sum else sum
 
 -- a sum to which terms are added
-unfoldable pub added : List ℕ → List (List ℕ × Sum) → Spot → Sum → List Term → Sum
+unfoldable pub added : List ℕ → List (List ℕ × Sum) → LocationCounter → Sum → List Term → Sum
 added text symbols spot sum [] = sum
 added text symbols spot sum (term ∷ terms) =
     added text symbols spot (sum_plus sum (term_sum text symbols spot term)) terms
 
 -- the sum of an expression
-abbrev pub sum_of : List ℕ → List (List ℕ × Sum) → Spot → List Term → Sum
+abbrev pub sum_of : List ℕ → List (List ℕ × Sum) → LocationCounter → List Term → Sum
 sum_of text symbols spot terms = added text symbols spot no_sum terms
 
 -- whether a symbol is defined

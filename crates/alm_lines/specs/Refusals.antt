@@ -13,16 +13,16 @@ use Rattle.alm_lines.specs.Expressions.{sum_of, place_undefined}
 use Rattle.alm_lines.specs.declared.sum.Balance.{Balance}
 use Rattle.alm_lines.specs.declared.sum.Sum.{Sum}
 use Rattle.alm_lines.specs.declared.sum.Kind.{Kind}
-use Rattle.alm_lines.specs.declared.sum.Kind.TheVariants.{Absolute, Moved, Unsaid}
-use Rattle.alm_lines.specs.SpotFields.{Spot}
-use Rattle.alm_lines.specs.declared.refusal.Code.{Code}
-use Rattle.alm_lines.specs.declared.refusal.Code.TheVariants.{E5, E6, E7, E8}
-use Rattle.alm_lines.specs.declared.refusal.Refusal.{Refusal}
-use Rattle.alm_lines.specs.declared.refusal.Room.{Room}
-use Rattle.alm_lines.specs.declared.refusal.Room.TheVariants.{Half, Offset}
+use Rattle.alm_lines.specs.declared.sum.Kind.TheVariants.{Absolute, Moved, Inexpressible}
+use Rattle.alm_lines.specs.SpotFields.{LocationCounter}
+use Rattle.alm_lines.specs.declared.refusal.AlmCode.{AlmCode}
+use Rattle.alm_lines.specs.declared.refusal.AlmCode.TheVariants.{E5, E6, E7, E8}
+use Rattle.alm_lines.specs.declared.refusal.AlmRefusal.{AlmRefusal}
+use Rattle.alm_lines.specs.declared.refusal.ValueField.{ValueField}
+use Rattle.alm_lines.specs.declared.refusal.ValueField.TheVariants.{Half, Offset}
 
 -- the number of a code
-abbrev pub code_number : Code → ℕ
+abbrev pub code_number : AlmCode → ℕ
 code_number E5 = 5
 code_number E6 = 6
 code_number E7 = 7
@@ -30,55 +30,55 @@ code_number E8 = 8
 
 -- Whether a refusal precedes another: it is earlier in the text, or at the same place with a lesser
 -- code.
-unfoldable pub precedes : Refusal → Refusal → Bool
+unfoldable pub precedes : AlmRefusal → AlmRefusal → Bool
 precedes a b =
     nat_lt a.place b.place
     || (nat_eq a.place b.place && nat_lt (code_number a.code) (code_number b.code))
 
 -- the first of two refusals in the order of the text, if there are any
-abbrev pub sooner : Option Refusal → Option Refusal → Option Refusal
+abbrev pub sooner : Option AlmRefusal → Option AlmRefusal → Option AlmRefusal
 sooner None b = b
 sooner (Some a) None = Some a
 sooner (Some a) (Some b) = Some (if precedes b a then b else a)
 
 -- the refusal with this code at an index of a line
-abbrev pub refusal_at : Line36 → ℕ → Code → Refusal
+abbrev pub refusal_at : Line36 → ℕ → AlmCode → AlmRefusal
 refusal_at line at code = record { place = at; start = line.start; line = line.line; code = code }
 
 -- the column of a refusal, counted from 1
-abbrev pub column_of : Refusal → ℕ
+abbrev pub column_of : AlmRefusal → ℕ
 column_of refusal = column_at refusal.start refusal.place % 2 ^ 32
 
 -- the fault with this code at a line and a column
-abbrev pub fault_by : Code → ℕ → ℕ → AlmFault
+abbrev pub fault_by : AlmCode → ℕ → ℕ → AlmFault
 fault_by E5 line column = fault.E5 line column
 fault_by E6 line column = fault.E6 line column
 fault_by E7 line column = fault.E7 line column
 fault_by E8 line column = fault.E8 line column
 
 -- the fault of a refusal, with the number of its line and its column
-unfoldable pub fault_of : Refusal → AlmFault
+unfoldable pub fault_of : AlmRefusal → AlmFault
 fault_of refusal = fault_by refusal.code refusal.line (column_of refusal)
 
 -- ---- expressions
 
 -- Half a word holds -131072 to 262143, the offset after a pointer register -16384 to 16383.
-abbrev pub has_room : Room → Balance → Bool
+abbrev pub has_room : ValueField → Balance → Bool
 has_room Half value = is_within 131072 262143 value
 has_room Offset value = is_within offset_limit (offset_limit - 1) value
 
 -- whether an object can express a sum in this field; `may_move` says whether it may be a place
-abbrev pub may_stand : Bool → Kind → Bool
-may_stand may_move Absolute = true
-may_stand may_move (Moved section) = may_move
-may_stand may_move Unsaid = false
+abbrev pub is_kind_allowed : Bool → Kind → Bool
+is_kind_allowed may_move Absolute = true
+is_kind_allowed may_move (Moved section) = may_move
+is_kind_allowed may_move Inexpressible = false
 
 -- whether a sum fits a field and an object can express it there
-unfoldable pub is_said : Room → Bool → Sum → Bool
-is_said room may_move sum = has_room room sum.value && may_stand may_move (kind_of sum)
+unfoldable pub is_expressible : ValueField → Bool → Sum → Bool
+is_expressible room may_move sum = has_room room sum.value && is_kind_allowed may_move (kind_of sum)
 
 -- E6 at the first symbol that is not defined; else E7 at the expression, unless it can be expressed
-abbrev pub refusal_by : Line36 → Option ℕ → ℕ → Bool → Option Refusal
+abbrev pub refusal_by : Line36 → Option ℕ → ℕ → Bool → Option AlmRefusal
 refusal_by line (Some at) place said = Some (refusal_at line at E6)
 refusal_by line None place true = None
 refusal_by line None place false = Some (refusal_at line place E7)
@@ -86,29 +86,29 @@ refusal_by line None place false = Some (refusal_at line place E7)
 -- The refusal of an expression that begins at `place`: E6 at its first symbol that is not defined,
 -- or otherwise E7 if its value does not fit. A value that depends on a refused `equ` is not
 -- refused.
-unfoldable pub expression_refusal : List ℕ → List (List ℕ × Sum) → Spot → Line36 → List Term → ℕ
-    → Room → Bool → Option Refusal
+unfoldable pub expression_refusal : List ℕ → List (List ℕ × Sum) → LocationCounter → Line36 → List Term → ℕ
+    → ValueField → Bool → Option AlmRefusal
 expression_refusal text symbols spot line terms place room may_move =
     let sum = sum_of text symbols spot terms in
     refusal_by line (place_undefined text symbols terms) place
-    (sum.unknown || is_said room may_move sum)
+    (sum.unknown || is_expressible room may_move sum)
 
 -- Whether an expression has a value: it is not refused, and it does not depend on a refused `equ`.
-unfoldable pub has_value : List ℕ → List (List ℕ × Sum) → Spot → List Term → Room → Bool → Bool
+unfoldable pub has_value : List ℕ → List (List ℕ × Sum) → LocationCounter → List Term → ValueField → Bool → Bool
 has_value text symbols spot terms room may_move =
     let sum = sum_of text symbols spot terms in
     not (is_some (place_undefined text symbols terms)) && not sum.unknown
-    && is_said room may_move sum
+    && is_expressible room may_move sum
 
 -- The expression of an `equ`, and one after an external name, must be a number that fits half a
 -- word, and not a place of a section.
-abbrev pub number_refusal : List ℕ → List (List ℕ × Sum) → Spot → Line36 → List Term → ℕ
-    → Option Refusal
+abbrev pub number_refusal : List ℕ → List (List ℕ × Sum) → LocationCounter → Line36 → List Term → ℕ
+    → Option AlmRefusal
 number_refusal text symbols spot line terms place =
     expression_refusal text symbols spot line terms place Half false
 
 -- whether an expression has a value and is a number that fits half a word
-abbrev pub has_number : List ℕ → List (List ℕ × Sum) → Spot → List Term → Bool
+abbrev pub has_number : List ℕ → List (List ℕ × Sum) → LocationCounter → List Term → Bool
 has_number text symbols spot terms = has_value text symbols spot terms Half false
 
 -- ---- lengths

@@ -5,7 +5,7 @@ use Rattle.obj36_parts.specs.declared.section.Section.{Section}
 
 -- The place of a line. `inner` counts the static words of the linkage section, `outer` those of a
 -- static section.
-pub record Spot : Type 0 where
+pub record LocationCounter : Type 0 where
   pub text : ℕ
   pub inner : ℕ
   pub outer : ℕ

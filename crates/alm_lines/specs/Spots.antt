@@ -9,12 +9,12 @@ use Rattle.alm_lines.specs.Sums.{balance, nothing, no_sum}
 use Rattle.alm_lines.specs.Arguments.{first_arg, second_arg, symbol_in, number_in, words_of_args}
 use Rattle.alm_lines.specs.Arguments.{section_in}
 use Rattle.alm_lines.specs.declared.sum.Sum.{Sum}
-use Rattle.alm_parse.specs.declared.deed.Deed.{Deed}
-use Rattle.alm_parse.specs.declared.deed.Deed.TheVariants as deed
-use Rattle.alm_lines.specs.SpotFields.{Spot}
+use Rattle.alm_parse.specs.declared.deed.LineEffect.{LineEffect}
+use Rattle.alm_parse.specs.declared.deed.LineEffect.TheVariants as deed
+use Rattle.alm_lines.specs.SpotFields.{LocationCounter}
 
 -- the place of the first line
-abbrev pub start : Spot
+abbrev pub start : LocationCounter
 start =
     record {
       text = 0;
@@ -26,29 +26,29 @@ start =
     }
 
 -- the number of words that the lines above place in a section
-abbrev pub count_in : Section → Spot → ℕ
+abbrev pub count_in : Section → LocationCounter → ℕ
 count_in Text spot = spot.text
 count_in Linkage spot = spot.inner
 count_in Symbol spot = 0
 count_in Static spot = spot.outer
 
 -- the number of words that the lines above place in the section of a line
-abbrev pub count : Spot → ℕ
+abbrev pub count : LocationCounter → ℕ
 count spot = count_in spot.section spot
 
 -- the offset in a section; the static words of the linkage section begin after its head
-abbrev pub place_in : Section → Spot → ℕ
+abbrev pub place_in : Section → LocationCounter → ℕ
 place_in Text spot = spot.text
 place_in Linkage spot = spot.inner + head_words
 place_in Symbol spot = 0
 place_in Static spot = spot.outer
 
 -- the offset of a line in its section
-abbrev pub place : Spot → ℕ
+abbrev pub place : LocationCounter → ℕ
 place spot = place_in spot.section spot
 
 -- the sum of a label at this place
-abbrev pub here_in : Section → Spot → Sum
+abbrev pub here_in : Section → LocationCounter → Sum
 here_in Text spot =
     record {
       value = balance (place_in Text spot) 0;
@@ -76,29 +76,29 @@ here_in Static spot =
     }
 
 -- the sum of the place of a line
-abbrev pub here : Spot → Sum
+abbrev pub here : LocationCounter → Sum
 here spot = here_in spot.section spot
 
 -- the place after n more words
-abbrev pub grown_in : Section → Spot → ℕ → Spot
+abbrev pub grown_in : Section → LocationCounter → ℕ → LocationCounter
 grown_in Text spot n = record spot { text = spot.text + n }
 grown_in Linkage spot n = record spot { inner = spot.inner + n }
 grown_in Symbol spot n = spot
 grown_in Static spot n = record spot { outer = spot.outer + n }
 
 -- the place after n more words of the section of a line
-abbrev pub grown : Spot → ℕ → Spot
+abbrev pub grown : LocationCounter → ℕ → LocationCounter
 grown spot n = grown_in spot.section spot n
 
 -- the place after a `use` line that selects a section
-abbrev pub entered : Spot → Section → Spot
-entered spot Text = record spot { section = Text }
-entered spot Linkage = record spot { section = Linkage; uses_inner = true }
-entered spot Symbol = spot
-entered spot Static = record spot { section = Static; uses_outer = true }
+abbrev pub selected : LocationCounter → Section → LocationCounter
+selected spot Text = record spot { section = Text }
+selected spot Linkage = record spot { section = Linkage; uses_inner = true }
+selected spot Symbol = spot
+selected spot Static = record spot { section = Static; uses_outer = true }
 
 -- the number of words that a line places; `at` is its offset in its section
-abbrev pub size_of : Deed → List Arg → ℕ → ℕ
+abbrev pub size_of : LineEffect → List Arg → ℕ → ℕ
 size_of deed.Nothing arguments at = 0
 size_of (deed.Instruction code bit27) arguments at = 1
 size_of deed.Entry arguments at = 0
@@ -112,9 +112,9 @@ size_of deed.Even arguments at = at % 2
 size_of deed.Bound arguments at = 0
 
 -- the place of the next line
-abbrev pub moved_by : List ℕ → Deed → List Arg → Spot → Spot
+abbrev pub moved_by : List ℕ → LineEffect → List Arg → LocationCounter → LocationCounter
 moved_by text deed.Use arguments spot =
-    entered spot (section_in text (symbol_in (first_arg arguments)))
+    selected spot (section_in text (symbol_in (first_arg arguments)))
 moved_by text deed.Nothing arguments spot = spot
 moved_by text (deed.Instruction code bit27) arguments spot =
     grown spot (size_of (deed.Instruction code bit27) arguments (place spot))
@@ -128,11 +128,11 @@ moved_by text deed.Even arguments spot = grown spot (size_of deed.Even arguments
 moved_by text deed.Bound arguments spot = spot
 
 -- the place of the line after this one
-unfoldable pub below : List ℕ → Spot → Line36 → Spot
+unfoldable pub below : List ℕ → LocationCounter → Line36 → LocationCounter
 below text spot line = moved_by text line.deed line.args spot
 
 -- the place after the last line
-unfoldable pub end_of : List ℕ → Spot → List Line36 → Spot
+unfoldable pub end_of : List ℕ → LocationCounter → List Line36 → LocationCounter
 end_of text spot [] = spot
 end_of text spot (line ∷ lines) = end_of text (below text spot line) lines
 
@@ -140,13 +140,13 @@ end_of text spot (line ∷ lines) = end_of text (below text spot line) lines
 
 -- There is room for this many more lines, each of fewer than 2^64 words. There are fewer than 2^32
 -- lines.
-pub record HasRoom (lines : ℕ) (spot : Spot) : Type 0 where
+pub record HasRoom (lines : ℕ) (spot : LocationCounter) : Type 0 where
   pub text : spot.text + lines * 2 ^ 64 ≤ 2 ^ 96 - 2 ^ 64
   pub inner : spot.inner + lines * 2 ^ 64 ≤ 2 ^ 96 - 2 ^ 64
   pub outer : spot.outer + lines * 2 ^ 64 ≤ 2 ^ 96 - 2 ^ 64
 
 -- The place of the next line is at most 2^64 words further in each section.
-pub record IsNear (spot after : Spot) : Type 0 where
+pub record IsNear (spot after : LocationCounter) : Type 0 where
   pub text : after.text ≤ spot.text + 2 ^ 64
   pub inner : after.inner ≤ spot.inner + 2 ^ 64
   pub outer : after.outer ≤ spot.outer + 2 ^ 64

@@ -5,7 +5,7 @@ use Rattle.obj36_parts.specs.declared.section.Section.TheVariants.{Text, Linkage
 use Rattle.alm_lines.specs.declared.sum.Balance.{Balance}
 use Rattle.alm_lines.specs.declared.sum.Sum.{Sum}
 use Rattle.alm_lines.specs.declared.sum.Kind.{Kind}
-use Rattle.alm_lines.specs.declared.sum.Kind.TheVariants.{Absolute, Moved, Unsaid}
+use Rattle.alm_lines.specs.declared.sum.Kind.TheVariants.{Absolute, Moved, Inexpressible}
 
 -- ---- integers, as differences of natural numbers
 
@@ -26,8 +26,8 @@ abbrev pub turned : Balance → Balance
 turned b = record { up = b.down; down = b.up }
 
 -- the integer is 0
-abbrev pub is_even : Balance → Bool
-is_even b = nat_eq b.up b.down
+abbrev pub is_zero : Balance → Bool
+is_zero b = nat_eq b.up b.down
 
 -- the integer is 1
 abbrev pub is_one : Balance → Bool
@@ -50,8 +50,8 @@ unfoldable pub offset_of : Balance → ℕ
 offset_of b = balance_modulo (2 ^ 15) b
 
 -- the same number, with the lesser of `up` and `down` reduced to 0
-abbrev pub settled : Balance → Balance
-settled b = record { up = b.up - b.down; down = b.down - b.up }
+abbrev pub normalized : Balance → Balance
+normalized b = record { up = b.up - b.down; down = b.down - b.up }
 
 -- ---- sums
 
@@ -99,13 +99,13 @@ sum_turned a =
 -- A sum is a number, a place of a section, or something that an object cannot express.
 unfoldable pub kind_of : Sum → Kind
 kind_of s =
-    if is_even s.text && is_even s.inner && is_even s.outer
+    if is_zero s.text && is_zero s.inner && is_zero s.outer
     then Absolute
-    else (if is_one s.text && is_even s.inner && is_even s.outer
+    else (if is_one s.text && is_zero s.inner && is_zero s.outer
     then Moved Text
-    else (if is_even s.text && is_one s.inner && is_even s.outer
+    else (if is_zero s.text && is_one s.inner && is_zero s.outer
     then Moved Linkage
-    else (if is_even s.text && is_even s.inner && is_one s.outer then Moved Static else Unsaid)))
+    else (if is_zero s.text && is_zero s.inner && is_one s.outer then Moved Static else Inexpressible)))
 
 -- ---- bounds of sums
 

@@ -4,12 +4,12 @@ use Rattle.alm_tokens.specs.declared.expression.Term.{Term}
 use Rattle.alm_parse.specs.declared.line.Line36.{Line36}
 use Rattle.alm_lines.specs.Sums.{half_of, offset_of, kind_of}
 use Rattle.alm_lines.specs.Expressions.{sum_of, place_undefined}
-use Rattle.alm_lines.specs.Refusals.{has_room, may_stand, refusal_by}
+use Rattle.alm_lines.specs.Refusals.{has_room, is_kind_allowed, refusal_by}
 use Rattle.alm_lines.specs.declared.sum.Sum.{Sum}
-use Rattle.alm_lines.specs.declared.refusal.Room.{Room}
-use Rattle.alm_lines.specs.declared.refusal.Room.TheVariants.{Half, Offset}
-use Rattle.alm_lines.specs.declared.refusal.Refusal.{Refusal}
-use Rattle.alm_lines.specs.SpotFields.{Spot}
+use Rattle.alm_lines.specs.declared.refusal.ValueField.{ValueField}
+use Rattle.alm_lines.specs.declared.refusal.ValueField.TheVariants.{Half, Offset}
+use Rattle.alm_lines.specs.declared.refusal.AlmRefusal.{AlmRefusal}
+use Rattle.alm_lines.specs.SpotFields.{LocationCounter}
 use Rattle.alm_lines.specs.ValueFields.{ValueFields}
 
 -- the value of a sum; `undefined` is the index of the first symbol that is not defined
@@ -26,25 +26,25 @@ value_by sum undefined =
     }
 
 -- the value of an expression
-unfoldable pub evaluated : List ℕ → List (List ℕ × Sum) → Spot → List Term → ValueFields
+unfoldable pub evaluated : List ℕ → List (List ℕ × Sum) → LocationCounter → List Term → ValueFields
 evaluated text symbols spot terms =
     value_by (sum_of text symbols spot terms) (place_undefined text symbols terms)
 
 -- whether a value fits a field
-abbrev pub fits : Room → ValueFields → Bool
+abbrev pub fits : ValueField → ValueFields → Bool
 fits Half value = value.fits_half
 fits Offset value = value.fits_offset
 
 -- whether a value fits a field and an object can express it there
-abbrev pub value_is_said : Room → Bool → ValueFields → Bool
-value_is_said room may_move value = fits room value && may_stand may_move value.kind
+abbrev pub value_is_expressible : ValueField → Bool → ValueFields → Bool
+value_is_expressible room may_move value = fits room value && is_kind_allowed may_move value.kind
 
 -- whether an expression with this value is not refused, and does not depend on a refused `equ`
-abbrev pub is_value : Room → Bool → ValueFields → Bool
+abbrev pub is_value : ValueField → Bool → ValueFields → Bool
 is_value room may_move value =
-    not (is_some value.undefined) && not value.unknown && value_is_said room may_move value
+    not (is_some value.undefined) && not value.unknown && value_is_expressible room may_move value
 
 -- the refusal of an expression with this value
-abbrev pub value_refused : Line36 → ValueFields → ℕ → Room → Bool → Option Refusal
+abbrev pub value_refused : Line36 → ValueFields → ℕ → ValueField → Bool → Option AlmRefusal
 value_refused line value place room may_move =
-    refusal_by line value.undefined place (value.unknown || value_is_said room may_move value)
+    refusal_by line value.undefined place (value.unknown || value_is_expressible room may_move value)

@@ -7,7 +7,7 @@ ghost use Rattle.alm_lines.specs.Expressions.{is_defined, is_symbol_atom, is_und
 ghost use Rattle.alm_lines.specs.Expressions.{place_undefined, expression_place};
 
 use crate::arguments::name_at;
-use crate::spot::Spot;
+use crate::spot::LocationCounter;
 use crate::sum::{Sum, absolute};
 use crate::symbols::Symbols;
 use alm_parse::{Atom, Span, Term};
@@ -24,7 +24,7 @@ pub fn symbol_sum(text: &[u8], symbols: &Symbols, span: Span) -> Sum
     }
 }
 
-fn atom_sum(text: &[u8], symbols: &Symbols, spot: Spot, span: Span, atom: Atom) -> Sum
+fn atom_sum(text: &[u8], symbols: &Symbols, spot: LocationCounter, span: Span, atom: Atom) -> Sum
     ensures value { result ≡ atom_sum text.now symbols.now spot span atom }
     ensures small { IsTerm result }
 {
@@ -36,7 +36,7 @@ fn atom_sum(text: &[u8], symbols: &Symbols, spot: Spot, span: Span, atom: Atom) 
 }
 
 #[tactic(auto, unfolding(crate::specs::Expressions::term_sum))]
-fn term_sum(text: &[u8], symbols: &Symbols, spot: Spot, term: Term) -> Sum
+fn term_sum(text: &[u8], symbols: &Symbols, spot: LocationCounter, term: Term) -> Sum
     ensures value { result ≡ term_sum text.now symbols.now spot term }
     ensures small { IsTerm result }
 {
@@ -46,7 +46,7 @@ fn term_sum(text: &[u8], symbols: &Symbols, spot: Spot, term: Term) -> Sum
 
 /// The sum of an expression. A symbol that is not defined counts as 0.
 #[tactic(auto, using(crate::proofs::SumLaws::sums), unfolding(crate::specs::Expressions::added))]
-pub fn sum_of(text: &[u8], symbols: &Symbols, spot: Spot, terms: &[Term]) -> Sum
+pub fn sum_of(text: &[u8], symbols: &Symbols, spot: LocationCounter, terms: &[Term]) -> Sum
     requires { length terms.now ≤ 2 ^ 32 }
     ensures { result ≡ sum_of text.now symbols.now spot terms.now }
 {

@@ -7,32 +7,33 @@ ghost use Rattle.alm_lines.specs.Symbols.{with_symbol};
 ghost use Rattle.alm_lines.specs.Arguments.{name_at};
 ghost use Rattle.alm_lines.specs.Spots.{start, below, end_of, HasRoom};
 ghost use Rattle.alm_lines.specs.Refusals.{sooner, has_room};
-ghost use Rattle.alm_lines.specs.declared.refusal.Room.TheVariants.{Half};
-ghost use Rattle.alm_lines.specs.Layout.{again, with_labels, labels_refused, own_symbol};
+ghost use Rattle.alm_lines.specs.declared.refusal.ValueField.TheVariants.{Half};
+ghost use Rattle.alm_lines.specs.Layout.{redefinition, with_labels, labels_refused, own_symbol};
 ghost use Rattle.alm_lines.specs.Layout.{own_refusal, value_refusal, number_of, value_by, value_of};
-ghost use Rattle.alm_lines.specs.Layout.{own_sum, with_own, own_again, symbols_with, refused_with};
+ghost use Rattle.alm_lines.specs.Layout.{own_sum, with_own, own_redefinition, symbols_with, refused_with};
 ghost use Rattle.alm_lines.specs.Layout.{over, symbols_after, refused_after, symbols_from};
 ghost use Rattle.alm_lines.specs.Layout.{layout_refusal};
 
 use crate::arguments::{first_symbol, name_at, second_terms};
 use crate::expression::{expression_place, is_defined, sum_of};
 use crate::refusal::{
-    Code, Refusal, Room, Wanted, expression_refusal, has_value, is_over_limit, refusal_at, sooner,
+    AlmCode, AlmRefusal, Requirement, ValueField, expression_refusal, has_value, is_over_limit,
+    refusal_at, sooner,
 };
-use crate::spot::{Spot, below};
+use crate::spot::{LocationCounter, below};
 use crate::sum::{NOTHING, Sum, unknown};
 use crate::symbols::Symbols;
-use alm_parse::{Arg, Deed, Line36, Span};
+use alm_parse::{Arg, Line36, LineEffect, Span};
 use m36_text::HashSeed;
 use m36_word::NoMemory;
 use std::alloc::Global;
 
-#[tactic(auto, unfolding(crate::specs::Layout::again))]
-fn again(text: &[u8], line: &Line36, symbols: &Symbols, span: Span) -> Option<Refusal>
-    ensures { result ≡ again text.now line.now symbols.now span }
+#[tactic(auto, unfolding(crate::specs::Layout::redefinition))]
+fn redefinition(text: &[u8], line: &Line36, symbols: &Symbols, span: Span) -> Option<AlmRefusal>
+    ensures { result ≡ redefinition text.now line.now symbols.now span }
 {
     if is_defined(text, symbols, span) {
-        Some(refusal_at(line, span.from as u64, Code::E5))
+        Some(refusal_at(line, span.from as u64, AlmCode::E5))
     } else {
         None
     }
@@ -54,8 +55,8 @@ fn define_labels(
     line: &Line36,
     symbols: &mut Symbols,
     sum: Sum,
-    refused: Option<Refusal>,
-) -> Result<Option<Refusal>, NoMemory>
+    refused: Option<AlmRefusal>,
+) -> Result<Option<AlmRefusal>, NoMemory>
     requires { IsTerm sum }
     ensures symbols { OnOk result
         (symbols.new ≡ with_labels text.now sum symbols.old line.now.labels) }
@@ -65,37 +66,42 @@ fn define_labels(
     let mut first = refused;
     let mut rest = line.labels.items();
     while let [span, more @ ..] = rest {
-        first = sooner(first, again(text, line, symbols, *span));
+        first = sooner(first, redefinition(text, line, symbols, *span));
         define(text, symbols, *span, sum)?;
         rest = more;
     }
     Ok(first)
 }
 
-fn own_symbol(deed: Deed, args: &[Arg]) -> Option<Span>
+fn own_symbol(deed: LineEffect, args: &[Arg]) -> Option<Span>
     ensures { result ≡ own_symbol deed args.now }
 {
     match deed {
-        Deed::Equ | Deed::Block => first_symbol(args),
-        Deed::Nothing
-        | Deed::Instruction(_, _)
-        | Deed::Entry
-        | Deed::Segdef
-        | Deed::Use
-        | Deed::Words
-        | Deed::Zero
-        | Deed::Even
-        | Deed::Bound => None,
+        LineEffect::Equ | LineEffect::Block => first_symbol(args),
+        LineEffect::Nothing
+        | LineEffect::Instruction(_, _)
+        | LineEffect::Entry
+        | LineEffect::Segdef
+        | LineEffect::Use
+        | LineEffect::Words
+        | LineEffect::Zero
+        | LineEffect::Even
+        | LineEffect::Bound => None,
     }
 }
 
-fn value_refusal(text: &[u8], symbols: &Symbols, spot: Spot, line: &Line36) -> Option<Refusal>
+fn value_refusal(
+    text: &[u8],
+    symbols: &Symbols,
+    spot: LocationCounter,
+    line: &Line36,
+) -> Option<AlmRefusal>
     ensures { result ≡ value_refusal text.now symbols.now spot line.now }
 {
     let terms = second_terms(line.args.items());
-    let wanted = Wanted {
+    let wanted = Requirement {
         place: expression_place(terms) as u64,
-        room: Room::Half,
+        room: ValueField::Half,
         may_move: false,
     };
     expression_refusal(text, symbols, spot, line, terms, wanted)
@@ -108,7 +114,7 @@ fn number_of(sum: Sum) -> Sum
     ensures small { IsTerm result }
 {
     Sum {
-        value: sum.value.settled(),
+        value: sum.value.normalized(),
         text: NOTHING,
         inner: NOTHING,
         outer: NOTHING,
@@ -117,12 +123,12 @@ fn number_of(sum: Sum) -> Sum
 }
 
 #[tactic(auto, using(crate::proofs::SumLaws::valued_fits), unfolding(crate::specs::Layout::value_of))]
-fn value_of(text: &[u8], symbols: &Symbols, spot: Spot, line: &Line36) -> Sum
+fn value_of(text: &[u8], symbols: &Symbols, spot: LocationCounter, line: &Line36) -> Sum
     ensures value { result ≡ value_of text.now symbols.now spot line.now }
     ensures small { IsTerm result }
 {
     let terms = second_terms(line.args.items());
-    if !has_value(text, symbols, spot, terms, Room::Half, false) {
+    if !has_value(text, symbols, spot, terms, ValueField::Half, false) {
         return unknown();
     }
     number_of(sum_of(text, symbols, spot, terms))
@@ -131,51 +137,62 @@ fn value_of(text: &[u8], symbols: &Symbols, spot: Spot, line: &Line36) -> Sum
 fn own_refusal(
     text: &[u8],
     symbols: &Symbols,
-    spot: Spot,
+    spot: LocationCounter,
     line: &Line36,
-    deed: Deed,
-) -> Option<Refusal>
+    deed: LineEffect,
+) -> Option<AlmRefusal>
     ensures { result ≡ own_refusal text.now symbols.now spot line.now deed }
 {
     match deed {
-        Deed::Equ => value_refusal(text, symbols, spot, line),
-        Deed::Nothing
-        | Deed::Instruction(_, _)
-        | Deed::Entry
-        | Deed::Segdef
-        | Deed::Use
-        | Deed::Words
-        | Deed::Zero
-        | Deed::Block
-        | Deed::Even
-        | Deed::Bound => None,
+        LineEffect::Equ => value_refusal(text, symbols, spot, line),
+        LineEffect::Nothing
+        | LineEffect::Instruction(_, _)
+        | LineEffect::Entry
+        | LineEffect::Segdef
+        | LineEffect::Use
+        | LineEffect::Words
+        | LineEffect::Zero
+        | LineEffect::Block
+        | LineEffect::Even
+        | LineEffect::Bound => None,
     }
 }
 
-fn own_sum(text: &[u8], symbols: &Symbols, spot: Spot, line: &Line36, deed: Deed) -> Sum
+fn own_sum(
+    text: &[u8],
+    symbols: &Symbols,
+    spot: LocationCounter,
+    line: &Line36,
+    deed: LineEffect,
+) -> Sum
     ensures value { result ≡ own_sum text.now symbols.now spot line.now deed }
     ensures small { IsTerm result }
 {
     match deed {
-        Deed::Equ => value_of(text, symbols, spot, line),
-        Deed::Nothing
-        | Deed::Instruction(_, _)
-        | Deed::Entry
-        | Deed::Segdef
-        | Deed::Use
-        | Deed::Words
-        | Deed::Zero
-        | Deed::Block
-        | Deed::Even
-        | Deed::Bound => spot.here(),
+        LineEffect::Equ => value_of(text, symbols, spot, line),
+        LineEffect::Nothing
+        | LineEffect::Instruction(_, _)
+        | LineEffect::Entry
+        | LineEffect::Segdef
+        | LineEffect::Use
+        | LineEffect::Words
+        | LineEffect::Zero
+        | LineEffect::Block
+        | LineEffect::Even
+        | LineEffect::Bound => spot.here(),
     }
 }
 
-fn own_again(text: &[u8], line: &Line36, symbols: &Symbols, own: Option<Span>) -> Option<Refusal>
-    ensures { result ≡ own_again text.now line.now symbols.now own }
+fn own_redefinition(
+    text: &[u8],
+    line: &Line36,
+    symbols: &Symbols,
+    own: Option<Span>,
+) -> Option<AlmRefusal>
+    ensures { result ≡ own_redefinition text.now line.now symbols.now own }
 {
     match own {
-        Some(span) => again(text, line, symbols, span),
+        Some(span) => redefinition(text, line, symbols, span),
         None => None,
     }
 }
@@ -200,15 +217,15 @@ fn define_own(
 fn refused_with(
     text: &[u8],
     symbols: &Symbols,
-    spot: Spot,
+    spot: LocationCounter,
     line: &Line36,
-    deed: Deed,
-) -> Option<Refusal>
+    deed: LineEffect,
+) -> Option<AlmRefusal>
     ensures { result ≡ refused_with text.now symbols.now spot line.now deed }
 {
     let own = own_symbol(deed, line.args.items());
     let refused = own_refusal(text, symbols, spot, line, deed);
-    sooner(own_again(text, line, symbols, own), refused)
+    sooner(own_redefinition(text, line, symbols, own), refused)
 }
 
 // Defines the symbol that a line with this operation defines, if any.
@@ -216,9 +233,9 @@ fn refused_with(
 fn define_with(
     text: &[u8],
     symbols: &mut Symbols,
-    spot: Spot,
+    spot: LocationCounter,
     line: &Line36,
-    deed: Deed,
+    deed: LineEffect,
 ) -> Result<(), NoMemory>
     ensures { OnOk result (symbols.new ≡ symbols_with text.now symbols.old spot line.now deed) }
 {
@@ -227,11 +244,11 @@ fn define_with(
 }
 
 #[tactic(auto, unfolding(crate::specs::Layout::over))]
-fn over(line: &Line36, spot: Spot) -> Option<Refusal>
+fn over(line: &Line36, spot: LocationCounter) -> Option<AlmRefusal>
     ensures { result ≡ over line.now spot }
 {
     if is_over_limit(spot.count()) {
-        Some(refusal_at(line, line.start as u64, Code::E8))
+        Some(refusal_at(line, line.start as u64, AlmCode::E8))
     } else {
         None
     }
@@ -242,10 +259,10 @@ fn take_line(
     alloc: Global,
     text: &[u8],
     symbols: &mut Symbols,
-    spot: Spot,
+    spot: LocationCounter,
     line: &Line36,
-    refused: Option<Refusal>,
-) -> Result<Option<Refusal>, NoMemory>
+    refused: Option<AlmRefusal>,
+) -> Result<Option<AlmRefusal>, NoMemory>
     requires { HasRoom 1 spot }
     ensures symbols { OnOk result (symbols.new ≡ symbols_after text.now symbols.old spot line.now) }
     ensures refused { IfOk result (λ r.
@@ -267,7 +284,7 @@ fn take_lines(
     text: &[u8],
     symbols: &mut Symbols,
     lines: &[Line36],
-) -> Result<Option<Refusal>, NoMemory>
+) -> Result<Option<AlmRefusal>, NoMemory>
     requires { length lines.now < 2 ^ 32 }
     ensures symbols { OnOk result
         (symbols.new ≡ symbols_from text.now symbols.old start lines.now) }
@@ -275,7 +292,7 @@ fn take_lines(
         r ≡ layout_refusal text.now None symbols.old start lines.now) }
 {
     let mut refused = None;
-    let mut spot = Spot::start();
+    let mut spot = LocationCounter::start();
     let mut rest = lines;
     while let [line, more @ ..] = rest {
         refused = take_line(alloc, text, symbols, spot, line, refused)?;
@@ -289,7 +306,7 @@ fn take_lines(
 #[derive(Drop)]
 pub struct Layout {
     pub symbols: Symbols,
-    pub refused: Option<Refusal>,
+    pub refused: Option<AlmRefusal>,
 }
 
 /// Lays out lines: defines their symbols, and finds the first refusal. There are fewer than 2^32

@@ -2,12 +2,12 @@
 
 ghost use Rattle.std.specs.Prelude.{ℕ, Bool, ◌≡◌, ◌-◌, ◌+◌, ◌%◌, ◌^◌, ◌≤◌, List, length, Option};
 ghost use Rattle.alm_lines.specs.Refusals.{code_number, precedes, sooner, refusal_at, column_of};
-ghost use Rattle.alm_lines.specs.Refusals.{fault_by, fault_of, has_room, may_stand, is_said};
+ghost use Rattle.alm_lines.specs.Refusals.{fault_by, fault_of, has_room, is_kind_allowed, is_expressible};
 ghost use Rattle.alm_lines.specs.Refusals.{refusal_by, expression_refusal, has_value};
 ghost use Rattle.alm_lines.specs.Refusals.{is_over_limit};
 
 use crate::expression::{place_undefined, sum_of};
-use crate::spot::Spot;
+use crate::spot::LocationCounter;
 use crate::sum::{Balance, Kind, Sum};
 use crate::symbols::Symbols;
 use alm_parse::{AlmFault, Line36, Term};
@@ -16,7 +16,7 @@ use obj36_parts::sections::SECTION_LIMIT;
 
 /// Why there is no object of some lines.
 #[derive(Clone, Copy, PartialEq, Eq)]
-pub enum Code {
+pub enum AlmCode {
     /// A symbol, or the name of a definition, is defined a second time.
     E5,
     /// A symbol is not defined.
@@ -31,42 +31,42 @@ pub enum Code {
 
 /// A code at an index of the text, with the number of its line and the index where that begins.
 #[derive(Clone, Copy, PartialEq, Eq)]
-pub struct Refusal {
+pub struct AlmRefusal {
     pub place: u64,
     pub start: u32,
     pub line: u32,
-    pub code: Code,
+    pub code: AlmCode,
 }
 
 /// The field that the value of an expression must fit.
 #[derive(Clone, Copy, PartialEq, Eq)]
-pub enum Room {
+pub enum ValueField {
     /// Half a word: -131072 to 262143.
     Half,
     /// The signed offset after the number of a pointer register: -16384 to 16383.
     Offset,
 }
 
-fn code_number(code: Code) -> u8
+fn code_number(code: AlmCode) -> u8
     ensures { result ≡ code_number code }
 {
     match code {
-        Code::E5 => 5,
-        Code::E6 => 6,
-        Code::E7 => 7,
-        Code::E8 => 8,
+        AlmCode::E5 => 5,
+        AlmCode::E6 => 6,
+        AlmCode::E7 => 7,
+        AlmCode::E8 => 8,
     }
 }
 
 #[tactic(auto, unfolding(crate::specs::Refusals::precedes))]
-fn precedes(a: Refusal, b: Refusal) -> bool
+fn precedes(a: AlmRefusal, b: AlmRefusal) -> bool
     ensures { result ≡ precedes a b }
 {
     a.place < b.place || (a.place == b.place && code_number(a.code) < code_number(b.code))
 }
 
 /// The first of two refusals in the order of the text, if there are any.
-pub fn sooner(a: Option<Refusal>, b: Option<Refusal>) -> Option<Refusal>
+pub fn sooner(a: Option<AlmRefusal>, b: Option<AlmRefusal>) -> Option<AlmRefusal>
     ensures { result ≡ sooner a b }
 {
     match (a, b) {
@@ -77,10 +77,10 @@ pub fn sooner(a: Option<Refusal>, b: Option<Refusal>) -> Option<Refusal>
 }
 
 /// A refusal at an index of the text, in this line.
-pub fn refusal_at(line: &Line36, place: u64, code: Code) -> Refusal
+pub fn refusal_at(line: &Line36, place: u64, code: AlmCode) -> AlmRefusal
     ensures { result ≡ refusal_at line.now place code }
 {
-    Refusal {
+    AlmRefusal {
         place,
         start: line.start,
         line: line.line,
@@ -88,59 +88,59 @@ pub fn refusal_at(line: &Line36, place: u64, code: Code) -> Refusal
     }
 }
 
-fn column_of(refusal: Refusal) -> u32
+fn column_of(refusal: AlmRefusal) -> u32
     ensures { result ≡ column_of refusal }
 {
     let column = refusal.place.saturating_sub(refusal.start as u64) % (1 << 32);
     ((column + 1) % (1 << 32)) as u32
 }
 
-fn fault_by(code: Code, line: u32, column: u32) -> AlmFault
+fn fault_by(code: AlmCode, line: u32, column: u32) -> AlmFault
     ensures { result ≡ fault_by code line column }
 {
     match code {
-        Code::E5 => AlmFault::E5(line, column),
-        Code::E6 => AlmFault::E6(line, column),
-        Code::E7 => AlmFault::E7(line, column),
-        Code::E8 => AlmFault::E8(line, column),
+        AlmCode::E5 => AlmFault::E5(line, column),
+        AlmCode::E6 => AlmFault::E6(line, column),
+        AlmCode::E7 => AlmFault::E7(line, column),
+        AlmCode::E8 => AlmFault::E8(line, column),
     }
 }
 
 /// The fault of a refusal, with the number of its line and its column.
 #[tactic(auto, unfolding(crate::specs::Refusals::fault_of))]
-pub fn fault_of(refusal: Refusal) -> AlmFault
+pub fn fault_of(refusal: AlmRefusal) -> AlmFault
     ensures { result ≡ fault_of refusal }
 {
     fault_by(refusal.code, refusal.line, column_of(refusal))
 }
 
 /// Whether a number fits a field.
-pub fn has_room(room: Room, value: Balance) -> bool
+pub fn has_room(room: ValueField, value: Balance) -> bool
     ensures { result ≡ has_room room value }
 {
     match room {
-        Room::Half => value.is_within(131072, 262143),
-        Room::Offset => value.is_within(OFFSET_LIMIT, OFFSET_LIMIT - 1),
+        ValueField::Half => value.is_within(131072, 262143),
+        ValueField::Offset => value.is_within(OFFSET_LIMIT, OFFSET_LIMIT - 1),
     }
 }
 
-pub(crate) fn may_stand(may_move: bool, kind: Kind) -> bool
-    ensures { result ≡ may_stand may_move kind }
+pub(crate) fn is_kind_allowed(may_move: bool, kind: Kind) -> bool
+    ensures { result ≡ is_kind_allowed may_move kind }
 {
     match kind {
         Kind::Absolute => true,
         Kind::Moved(_) => may_move,
-        Kind::Unsaid => false,
+        Kind::Inexpressible => false,
     }
 }
 
 /// Whether an object can express a sum in this field: the number fits, and the sum is a number or,
 /// if `may_move` allows it, a place of a section.
-#[tactic(auto, unfolding(crate::specs::Refusals::is_said))]
-pub fn is_said(room: Room, may_move: bool, sum: Sum) -> bool
-    ensures { result ≡ is_said room may_move sum }
+#[tactic(auto, unfolding(crate::specs::Refusals::is_expressible))]
+pub fn is_expressible(room: ValueField, may_move: bool, sum: Sum) -> bool
+    ensures { result ≡ is_expressible room may_move sum }
 {
-    has_room(room, sum.value) && may_stand(may_move, sum.kind())
+    has_room(room, sum.value) && is_kind_allowed(may_move, sum.kind())
 }
 
 pub(crate) fn refusal_by(
@@ -148,16 +148,16 @@ pub(crate) fn refusal_by(
     undefined: Option<u32>,
     place: u64,
     said: bool,
-) -> Option<Refusal>
+) -> Option<AlmRefusal>
     ensures { result ≡ refusal_by line.now undefined place said }
 {
     match undefined {
-        Some(at) => Some(refusal_at(line, at as u64, Code::E6)),
+        Some(at) => Some(refusal_at(line, at as u64, AlmCode::E6)),
         None => {
             if said {
                 None
             } else {
-                Some(refusal_at(line, place, Code::E7))
+                Some(refusal_at(line, place, AlmCode::E7))
             }
         }
     }
@@ -165,10 +165,10 @@ pub(crate) fn refusal_by(
 
 /// The requirements on an expression.
 #[derive(Clone, Copy)]
-pub struct Wanted {
+pub struct Requirement {
     /// The index in the text where the expression begins.
     pub place: u64,
-    pub room: Room,
+    pub room: ValueField,
     /// Whether it may be a place of a section.
     pub may_move: bool,
 }
@@ -179,18 +179,18 @@ pub struct Wanted {
 pub fn expression_refusal(
     text: &[u8],
     symbols: &Symbols,
-    spot: Spot,
+    spot: LocationCounter,
     line: &Line36,
     terms: &[Term],
-    wanted: Wanted,
-) -> Option<Refusal>
+    wanted: Requirement,
+) -> Option<AlmRefusal>
     requires { length terms.now ≤ 2 ^ 32 }
     ensures { result
         ≡ expression_refusal text.now symbols.now spot line.now terms.now wanted.place wanted.room
         wanted.may_move }
 {
     let sum = sum_of(text, symbols, spot, terms);
-    let said = sum.unknown || is_said(wanted.room, wanted.may_move, sum);
+    let said = sum.unknown || is_expressible(wanted.room, wanted.may_move, sum);
     refusal_by(
         line,
         place_undefined(text, symbols, terms),
@@ -204,16 +204,18 @@ pub fn expression_refusal(
 pub fn has_value(
     text: &[u8],
     symbols: &Symbols,
-    spot: Spot,
+    spot: LocationCounter,
     terms: &[Term],
-    room: Room,
+    room: ValueField,
     may_move: bool,
 ) -> bool
     requires { length terms.now ≤ 2 ^ 32 }
     ensures { result ≡ has_value text.now symbols.now spot terms.now room may_move }
 {
     let sum = sum_of(text, symbols, spot, terms);
-    place_undefined(text, symbols, terms).is_none() && !sum.unknown && is_said(room, may_move, sum)
+    place_undefined(text, symbols, terms).is_none()
+        && !sum.unknown
+        && is_expressible(room, may_move, sum)
 }
 
 /// Whether this many words are too many for a section of an object.

@@ -3,12 +3,12 @@
 ghost use Rattle.std.specs.Prelude.{ℕ, List, [], ◌∷◌, ◌++◌, ◌≡◌, ◌^◌, ◌<◌, length, IfOk};
 ghost use Rattle.alm_lines.specs.Sums.{balance, IsTerm};
 ghost use Rattle.alm_lines.specs.Spots.{start, count, count_in, place, place_in, here, here_in};
-ghost use Rattle.alm_lines.specs.Spots.{grown, grown_in, entered, size_of, moved_by, below, end_of};
+ghost use Rattle.alm_lines.specs.Spots.{grown, grown_in, selected, size_of, moved_by, below, end_of};
 ghost use Rattle.alm_lines.specs.Spots.{HasRoom, IsNear};
 
 use crate::arguments::{first_symbol, second_number, section_in, words_of_args};
 use crate::sum::{Balance, NOTHING, Sum, absolute};
-use alm_parse::{Arg, Deed, Line36};
+use alm_parse::{Arg, Line36, LineEffect};
 use m36_word::NoMemory;
 use obj36_parts::Section;
 use obj36_parts::sections::HEAD_WORDS;
@@ -20,7 +20,7 @@ use std::marker::Model;
 /// `inner` counts the static words of the linkage section, `outer` those of a static section.
 /// `uses_inner` and `uses_outer` say whether a `use` line above selects these sections.
 #[derive(Clone, Copy, PartialEq, Eq)]
-pub struct Spot {
+pub struct LocationCounter {
     pub text: u128,
     pub inner: u128,
     pub outer: u128,
@@ -29,11 +29,11 @@ pub struct Spot {
     pub uses_outer: bool,
 }
 
-impl Model for Spot {
+impl Model for LocationCounter {
     ghost use Rattle.std.specs.Prelude.{◌<◌, ◌-◌, ◌^◌};
-    ghost use Rattle.alm_lines.specs.SpotFields.{Spot};
+    ghost use Rattle.alm_lines.specs.SpotFields.{LocationCounter};
 
-    ghost Value = { Spot };
+    ghost Value = { LocationCounter };
 
     ghost view = { λ s. record {
       text = s.text;
@@ -67,12 +67,12 @@ fn up(place: u128) -> Balance
     Balance { up: place, down: 0 }
 }
 
-impl Spot {
+impl LocationCounter {
     /// The place of the first line.
-    pub fn start() -> Spot
+    pub fn start() -> LocationCounter
         ensures { result ≡ start }
     {
-        Spot {
+        LocationCounter {
             text: 0,
             inner: 0,
             outer: 0,
@@ -143,23 +143,23 @@ impl Spot {
 
     /// The place after `n` more words in the section.
     #[inline(always)]
-    pub fn grown(self, n: u64) -> Spot
+    pub fn grown(self, n: u64) -> LocationCounter
         requires { HasRoom 1 self }
         ensures value { result ≡ grown self n }
         ensures near { IsNear self result }
     {
         let section = self.section;
         match section {
-            Section::Text => Spot {
+            Section::Text => LocationCounter {
                 text: self.text + n as u128,
                 ..self
             },
-            Section::Linkage => Spot {
+            Section::Linkage => LocationCounter {
                 inner: self.inner + n as u128,
                 ..self
             },
             Section::Symbol => self,
-            Section::Static => Spot {
+            Section::Static => LocationCounter {
                 outer: self.outer + n as u128,
                 ..self
             },
@@ -167,22 +167,22 @@ impl Spot {
     }
 
     /// The place after a `use` line that selects this section.
-    pub fn entered(self, section: Section) -> Spot
-        ensures value { result ≡ entered self section }
+    pub fn selected(self, section: Section) -> LocationCounter
+        ensures value { result ≡ selected self section }
         ensures near { IsNear self result }
     {
         match section {
-            Section::Text => Spot {
+            Section::Text => LocationCounter {
                 section: Section::Text,
                 ..self
             },
-            Section::Linkage => Spot {
+            Section::Linkage => LocationCounter {
                 section: Section::Linkage,
                 uses_inner: true,
                 ..self
             },
             Section::Symbol => self,
-            Section::Static => Spot {
+            Section::Static => LocationCounter {
                 section: Section::Static,
                 uses_outer: true,
                 ..self
@@ -193,20 +193,30 @@ impl Spot {
 
 /// The number of words that a line places. `at` is its offset in its section. Fails only with
 /// `NoMemory`.
-pub fn size_of(alloc: Global, deed: Deed, args: &[Arg], at: u128) -> Result<u64, NoMemory>
+pub fn size_of(alloc: Global, deed: LineEffect, args: &[Arg], at: u128) -> Result<u64, NoMemory>
     ensures { IfOk result (λ n. n ≡ size_of deed args.now at) }
 {
     match deed {
-        Deed::Instruction(_, _) | Deed::Zero => Ok(1),
-        Deed::Words => Ok(words_of_args(alloc, args)?.slice().len() as u64),
-        Deed::Block => Ok(second_number(args)),
-        Deed::Even => Ok((at % 2) as u64),
-        Deed::Nothing | Deed::Entry | Deed::Segdef | Deed::Equ | Deed::Use | Deed::Bound => Ok(0),
+        LineEffect::Instruction(_, _) | LineEffect::Zero => Ok(1),
+        LineEffect::Words => Ok(words_of_args(alloc, args)?.slice().len() as u64),
+        LineEffect::Block => Ok(second_number(args)),
+        LineEffect::Even => Ok((at % 2) as u64),
+        LineEffect::Nothing
+        | LineEffect::Entry
+        | LineEffect::Segdef
+        | LineEffect::Equ
+        | LineEffect::Use
+        | LineEffect::Bound => Ok(0),
     }
 }
 
 // The place after the words of a line with this operation.
-fn grown_by(alloc: Global, spot: Spot, deed: Deed, args: &[Arg]) -> Result<Spot, NoMemory>
+fn grown_by(
+    alloc: Global,
+    spot: LocationCounter,
+    deed: LineEffect,
+    args: &[Arg],
+) -> Result<LocationCounter, NoMemory>
     requires { HasRoom 1 spot }
     ensures value { IfOk result (λ after.
         after ≡ grown spot (size_of deed args.now (place spot))) }
@@ -218,7 +228,12 @@ fn grown_by(alloc: Global, spot: Spot, deed: Deed, args: &[Arg]) -> Result<Spot,
 
 // The place of the next line, if a line selects a section, or if its words must be counted.
 #[inline(never)]
-fn below_other(alloc: Global, text: &[u8], spot: Spot, line: &Line36) -> Result<Spot, NoMemory>
+fn next_line_other(
+    alloc: Global,
+    text: &[u8],
+    spot: LocationCounter,
+    line: &Line36,
+) -> Result<LocationCounter, NoMemory>
     requires { HasRoom 1 spot }
     ensures value { IfOk result (λ after.
         after ≡ moved_by text.now line.now.deed line.now.args spot) }
@@ -227,44 +242,55 @@ fn below_other(alloc: Global, text: &[u8], spot: Spot, line: &Line36) -> Result<
     let deed = line.deed;
     let args = line.args.items();
     match deed {
-        Deed::Use => Ok(spot.entered(section_in(text, first_symbol(args)))),
-        Deed::Nothing | Deed::Entry | Deed::Segdef | Deed::Equ | Deed::Bound => Ok(spot),
-        Deed::Instruction(_, _) | Deed::Zero => Ok(spot.grown(1)),
-        Deed::Words | Deed::Block | Deed::Even => grown_by(alloc, spot, deed, args),
+        LineEffect::Use => Ok(spot.selected(section_in(text, first_symbol(args)))),
+        LineEffect::Nothing
+        | LineEffect::Entry
+        | LineEffect::Segdef
+        | LineEffect::Equ
+        | LineEffect::Bound => Ok(spot),
+        LineEffect::Instruction(_, _) | LineEffect::Zero => Ok(spot.grown(1)),
+        LineEffect::Words | LineEffect::Block | LineEffect::Even => grown_by(
+            alloc, spot, deed, args,
+        ),
     }
 }
 
 /// The place of the next line. Fails only with `NoMemory`.
 #[inline(always)]
 #[tactic(auto, unfolding(crate::specs::Spots::below))]
-pub fn below(alloc: Global, text: &[u8], spot: Spot, line: &Line36) -> Result<Spot, NoMemory>
+pub fn below(
+    alloc: Global,
+    text: &[u8],
+    spot: LocationCounter,
+    line: &Line36,
+) -> Result<LocationCounter, NoMemory>
     requires { HasRoom 1 spot }
     ensures value { IfOk result (λ after. after ≡ below text.now spot line.now) }
     ensures near { IfOk result (IsNear spot) }
 {
     match line.deed {
-        Deed::Instruction(_, _) => Ok(spot.grown(1)),
-        Deed::Nothing
-        | Deed::Entry
-        | Deed::Segdef
-        | Deed::Equ
-        | Deed::Use
-        | Deed::Words
-        | Deed::Zero
-        | Deed::Block
-        | Deed::Even
-        | Deed::Bound => below_other(alloc, text, spot, line),
+        LineEffect::Instruction(_, _) => Ok(spot.grown(1)),
+        LineEffect::Nothing
+        | LineEffect::Entry
+        | LineEffect::Segdef
+        | LineEffect::Equ
+        | LineEffect::Use
+        | LineEffect::Words
+        | LineEffect::Zero
+        | LineEffect::Block
+        | LineEffect::Even
+        | LineEffect::Bound => next_line_other(alloc, text, spot, line),
     }
 }
 
 /// The place after the last line. Fails only with `NoMemory`.
 #[tactic(auto, using(crate::proofs::Rooms::rooms), unfolding(crate::specs::Spots::end_of))]
-pub fn end_of(alloc: Global, text: &[u8], lines: &[Line36]) -> Result<Spot, NoMemory>
+pub fn end_of(alloc: Global, text: &[u8], lines: &[Line36]) -> Result<LocationCounter, NoMemory>
     requires { length lines.now < 2 ^ 32 }
     ensures value { IfOk result (λ spot. spot ≡ end_of text.now start lines.now) }
     ensures room { IfOk result (HasRoom 0) }
 {
-    let mut spot = Spot::start();
+    let mut spot = LocationCounter::start();
     let mut rest = lines;
     while let [line, more @ ..] = rest {
         spot = below(alloc, text, spot, line)?;

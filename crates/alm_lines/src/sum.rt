@@ -1,8 +1,8 @@
 //! Sums of terms: numbers, and how often each section counts in them.
 
 ghost use Rattle.std.specs.Prelude.{ℕ, ◌≡◌, ◌+◌, ◌-◌, ◌%◌, ◌≤◌, ◌<◌, ◌^◌, ◌&&◌};
-ghost use Rattle.alm_lines.specs.Sums.{balance_plus, turned, is_even, is_one, is_within, half_of};
-ghost use Rattle.alm_lines.specs.Sums.{offset_of, settled, absolute, unknown_sum, sum_plus};
+ghost use Rattle.alm_lines.specs.Sums.{balance_plus, turned, is_zero, is_one, is_within, half_of};
+ghost use Rattle.alm_lines.specs.Sums.{offset_of, normalized, absolute, unknown_sum, sum_plus};
 ghost use Rattle.alm_lines.specs.Sums.{sum_turned, kind_of, IsAtMost, IsTerm};
 
 use obj36_parts::Section;
@@ -32,7 +32,7 @@ pub struct Sum {
 pub enum Kind {
     Absolute,
     Moved(Section),
-    Unsaid,
+    Inexpressible,
 }
 
 /// The number 0.
@@ -62,8 +62,8 @@ impl Balance {
     }
 
     /// Whether the number is 0.
-    pub fn is_even(self) -> bool
-        ensures { result ≡ is_even self }
+    pub fn is_zero(self) -> bool
+        ensures { result ≡ is_zero self }
     {
         self.up == self.down
     }
@@ -106,8 +106,8 @@ impl Balance {
     }
 
     /// The same number, with the lesser of `up` and `down` reduced to 0.
-    pub fn settled(self) -> Balance
-        ensures { result ≡ settled self }
+    pub fn normalized(self) -> Balance
+        ensures { result ≡ normalized self }
     {
         Balance {
             up: self.up.saturating_sub(self.down),
@@ -197,18 +197,18 @@ impl Sum {
             outer,
             unknown: _,
         } = self;
-        if all_three(text.is_even(), inner.is_even(), outer.is_even()) {
+        if all_three(text.is_zero(), inner.is_zero(), outer.is_zero()) {
             return Kind::Absolute;
         }
-        if all_three(text.is_one(), inner.is_even(), outer.is_even()) {
+        if all_three(text.is_one(), inner.is_zero(), outer.is_zero()) {
             return Kind::Moved(Section::Text);
         }
-        if all_three(text.is_even(), inner.is_one(), outer.is_even()) {
+        if all_three(text.is_zero(), inner.is_one(), outer.is_zero()) {
             return Kind::Moved(Section::Linkage);
         }
-        if all_three(text.is_even(), inner.is_even(), outer.is_one()) {
+        if all_three(text.is_zero(), inner.is_zero(), outer.is_one()) {
             return Kind::Moved(Section::Static);
         }
-        Kind::Unsaid
+        Kind::Inexpressible
     }
 }

@@ -6,13 +6,13 @@ ghost use Rattle.alm_lines.specs.Sums.{kind_of, no_sum, IsTerm};
 ghost use Rattle.alm_lines.specs.Refusals.{has_value, expression_refusal};
 ghost use Rattle.alm_lines.specs.Expressions.{symbol_sum, atom_sum, sum_of};
 ghost use Rattle.alm_lines.specs.Expressions.{is_defined, place_undefined};
-ghost use Rattle.alm_lines.specs.Values.{value_by, evaluated, fits, value_is_said, is_value};
+ghost use Rattle.alm_lines.specs.Values.{value_by, evaluated, fits, value_is_expressible, is_value};
 ghost use Rattle.alm_lines.specs.Values.{value_refused};
 
 use crate::arguments::name_at;
 use crate::expression::{place_undefined, sum_of};
-use crate::refusal::{Refusal, Room, Wanted, has_room, may_stand, refusal_by};
-use crate::spot::Spot;
+use crate::refusal::{AlmRefusal, Requirement, ValueField, has_room, is_kind_allowed, refusal_by};
+use crate::spot::LocationCounter;
 use crate::sum::{Kind, Sum, absolute};
 use crate::symbols::Symbols;
 use alm_parse::{Atom, Line36, Span, Term};
@@ -71,8 +71,8 @@ fn value_by(sum: Sum, undefined: Option<u32>) -> Value
         undefined,
         offset: sum.value.offset() as u16,
         kind: sum.kind(),
-        fits_half: has_room(Room::Half, sum.value),
-        fits_offset: has_room(Room::Offset, sum.value),
+        fits_half: has_room(ValueField::Half, sum.value),
+        fits_offset: has_room(ValueField::Offset, sum.value),
         unknown: sum.unknown,
     }
 }
@@ -106,7 +106,7 @@ fn seek_symbol(text: &[u8], symbols: &Symbols, span: Span) -> Sought
 
 // The sum of a term without its sign, and where it is a symbol that is not defined.
 #[tactic(auto, using(crate::proofs::ValueLaws::undefined_alone))]
-fn seek_atom(text: &[u8], symbols: &Symbols, spot: Spot, term: Term) -> Sought
+fn seek_atom(text: &[u8], symbols: &Symbols, spot: LocationCounter, term: Term) -> Sought
     ensures sum { result.sum ≡ atom_sum text.now symbols.now spot term.span term.what }
     ensures small { IsTerm result.sum }
     ensures undefined { result.undefined ≡ place_undefined text.now symbols.now (term ∷ []) }
@@ -126,7 +126,7 @@ fn seek_atom(text: &[u8], symbols: &Symbols, spot: Spot, term: Term) -> Sought
 
 // The sum of a term, and where it is a symbol that is not defined.
 #[tactic(auto, using(crate::proofs::ValueLaws::sum_alone), unfolding(crate::specs::Expressions::term_sum))]
-fn seek_term(text: &[u8], symbols: &Symbols, spot: Spot, term: Term) -> Sought
+fn seek_term(text: &[u8], symbols: &Symbols, spot: LocationCounter, term: Term) -> Sought
     ensures sum { result.sum ≡ sum_of text.now symbols.now spot (term ∷ []) }
     ensures undefined { result.undefined ≡ place_undefined text.now symbols.now (term ∷ []) }
 {
@@ -142,7 +142,7 @@ fn seek_term(text: &[u8], symbols: &Symbols, spot: Spot, term: Term) -> Sought
 }
 
 // Most expressions have one term. A symbol in it is looked up once.
-fn seek(text: &[u8], symbols: &Symbols, spot: Spot, terms: &[Term]) -> Sought
+fn seek(text: &[u8], symbols: &Symbols, spot: LocationCounter, terms: &[Term]) -> Sought
     requires { length terms.now ≤ 2 ^ 32 }
     ensures sum { result.sum ≡ sum_of text.now symbols.now spot terms.now }
     ensures undefined { result.undefined ≡ place_undefined text.now symbols.now terms.now }
@@ -158,7 +158,7 @@ fn seek(text: &[u8], symbols: &Symbols, spot: Spot, terms: &[Term]) -> Sought
 
 /// The value of an expression.
 #[tactic(auto, unfolding(crate::specs::Values::evaluated))]
-pub fn evaluate(text: &[u8], symbols: &Symbols, spot: Spot, terms: &[Term]) -> Value
+pub fn evaluate(text: &[u8], symbols: &Symbols, spot: LocationCounter, terms: &[Term]) -> Value
     requires { length terms.now ≤ 2 ^ 32 }
     ensures { result ≡ evaluated text.now symbols.now spot terms.now }
 {
@@ -182,25 +182,25 @@ pub fn no_value() -> Value
     }
 }
 
-fn fits(room: Room, value: Value) -> bool
+fn fits(room: ValueField, value: Value) -> bool
     ensures { result ≡ fits room value }
 {
     match room {
-        Room::Half => value.fits_half,
-        Room::Offset => value.fits_offset,
+        ValueField::Half => value.fits_half,
+        ValueField::Offset => value.fits_offset,
     }
 }
 
-fn value_is_said(room: Room, may_move: bool, value: Value) -> bool
-    ensures { result ≡ value_is_said room may_move value }
+fn value_is_expressible(room: ValueField, may_move: bool, value: Value) -> bool
+    ensures { result ≡ value_is_expressible room may_move value }
 {
-    fits(room, value) && may_stand(may_move, value.kind)
+    fits(room, value) && is_kind_allowed(may_move, value.kind)
 }
 
-fn is_value(room: Room, may_move: bool, value: Value) -> bool
+fn is_value(room: ValueField, may_move: bool, value: Value) -> bool
     ensures { result ≡ is_value room may_move value }
 {
-    value.undefined.is_none() && !value.unknown && value_is_said(room, may_move, value)
+    value.undefined.is_none() && !value.unknown && value_is_expressible(room, may_move, value)
 }
 
 /// Whether an expression has a value: it is not refused, and it does not depend on a refused `equ`.
@@ -209,9 +209,9 @@ fn is_value(room: Room, may_move: bool, value: Value) -> bool
 pub fn is_valued(
     _text: &[u8],
     _symbols: &Symbols,
-    _spot: Spot,
+    _spot: LocationCounter,
     _terms: &[Term],
-    room: Room,
+    room: ValueField,
     may_move: bool,
     value: Value,
 ) -> bool
@@ -222,10 +222,10 @@ pub fn is_valued(
 }
 
 // The refusal of an expression with this value, if the field may not have it.
-fn refused_by(line: &Line36, value: Value, wanted: Wanted) -> Option<Refusal>
+fn refused_by(line: &Line36, value: Value, wanted: Requirement) -> Option<AlmRefusal>
     ensures { result ≡ value_refused line.now value wanted.place wanted.room wanted.may_move }
 {
-    let said = value.unknown || value_is_said(wanted.room, wanted.may_move, value);
+    let said = value.unknown || value_is_expressible(wanted.room, wanted.may_move, value);
     refusal_by(line, value.undefined, wanted.place, said)
 }
 
@@ -234,12 +234,12 @@ fn refused_by(line: &Line36, value: Value, wanted: Wanted) -> Option<Refusal>
 pub fn value_refused(
     _text: &[u8],
     _symbols: &Symbols,
-    _spot: Spot,
+    _spot: LocationCounter,
     line: &Line36,
     _terms: &[Term],
-    wanted: Wanted,
+    wanted: Requirement,
     value: Value,
-) -> Option<Refusal>
+) -> Option<AlmRefusal>
     requires { value ≡ evaluated _text.now _symbols.now _spot _terms.now }
     ensures { result
         ≡ expression_refusal _text.now _symbols.now _spot line.now _terms.now wanted.place
@@ -253,7 +253,7 @@ pub fn value_refused(
 pub fn kind_valued(
     _text: &[u8],
     _symbols: &Symbols,
-    _spot: Spot,
+    _spot: LocationCounter,
     _terms: &[Term],
     value: Value,
 ) -> Kind

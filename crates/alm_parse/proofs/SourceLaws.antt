@@ -2,32 +2,32 @@
 use Rattle.std.proofs.Common.{◌≡◌, ℕ, ◌+◌, ◌<◌, ◌≤◌, true, false, cond, List, [], ◌∷◌, ◌++◌, length, drop, get_or, Result, Ok, Err, refl, sym, ap, ◌∙◌, drop-cons, add-one, subst}
 use Rattle.std.proofs.lemmas.List.{length-append}
 use Rattle.std.proofs.Math.ListN.{drop_of_length-le}
-use Rattle.alm_parse.specs.declared.refusal.Code.{Code}
-use Rattle.alm_parse.specs.declared.refusal.Code.TheVariants as code
-use Rattle.alm_parse.specs.declared.refusal.Refusal.{Refusal}
+use Rattle.alm_parse.specs.declared.refusal.ParseCode.{ParseCode}
+use Rattle.alm_parse.specs.declared.refusal.ParseCode.TheVariants as code
+use Rattle.alm_parse.specs.declared.refusal.ParseRefusal.{ParseRefusal}
 use Rattle.alm_tokens.specs.declared.rows.Row.{Row}
 use Rattle.alm_parse.specs.declared.line.Line36.{Line36}
 use Rattle.alm_parse.specs.declared.fault.AlmFault.{AlmFault}
 use Rattle.alm_parse.specs.declared.fault.AlmFault.TheVariants.{E1, E2, E3, E4, E5, E6, E7, E8, NoMemory}
-use Rattle.alm_parse.specs.Lines.{line_given}
+use Rattle.alm_parse.specs.Lines.{parse_line}
 use Rattle.alm_tokens.specs.Rows.{rows_of}
 use Rattle.alm_parse.specs.Sources.{fault_by, fault_of, names_end, continued, read_lines, with_text, parsed, Refuses}
 
 read_row :
     (text : List ℕ) (before : List Line36) (rows : List Row) (i : ℕ) (d : Row) → i < length rows
     → read_lines text before (drop i rows)
-    ≡ continued text (get_or rows i d) before (λ more. read_lines text more (drop (i + 1) rows)) (line_given text (get_or rows i d))
+    ≡ continued text (get_or rows i d) before (λ more. read_lines text more (drop (i + 1) rows)) (parse_line text (get_or rows i d))
 unfolding read_lines
 read_row text before rows i d within = rw (add-one i, drop-cons rows i d) refl
 
-refuses_by : {A : Type 0} (c : Code) (line column : ℕ) (definition : Result A AlmFault) → definition ≡ Err (fault_by c line column) → Refuses (fault_by c line column) definition
+refuses_by : {A : Type 0} (c : ParseCode) (line column : ℕ) (definition : Result A AlmFault) → definition ≡ Err (fault_by c line column) → Refuses (fault_by c line column) definition
 refuses_by code.E1 line column definition e = e
 refuses_by code.E2 line column definition e = e
 refuses_by code.E3 line column definition e = e
 refuses_by code.E4 line column definition e = e
 
 -- a refusal is the fault of the source
-pub refuses_told : {A : Type 0} (row : Row) (refusal : Refusal) (definition : Result A AlmFault) → definition ≡ Err (fault_of row refusal) → Refuses (fault_of row refusal) definition
+pub refuses_told : {A : Type 0} (row : Row) (refusal : ParseRefusal) (definition : Result A AlmFault) → definition ≡ Err (fault_of row refusal) → Refuses (fault_of row refusal) definition
 refuses_told row refusal definition e = refuses_by refusal.code row.number _ definition e
 
 abbrev pub ok_lines : List Line36 → Result (List Line36) AlmFault
@@ -39,17 +39,17 @@ line_more lines new line e = ap length e ∙ length-append lines (line ∷ [])
 
 -- a line is refused
 pub told_here :
-    (text : List ℕ) (rows : List Row) (before : List Line36) (i : ℕ) (d : Row) (refusal : Refusal) (fault : AlmFault) → i < length rows
-    → line_given text (get_or rows i d) ≡ Err refusal → read_lines text before (drop i rows) ≡ read_lines text [] rows
+    (text : List ℕ) (rows : List Row) (before : List Line36) (i : ℕ) (d : Row) (refusal : ParseRefusal) (fault : AlmFault) → i < length rows
+    → parse_line text (get_or rows i d) ≡ Err refusal → read_lines text before (drop i rows) ≡ read_lines text [] rows
     → fault ≡ fault_of (get_or rows i d) refusal → Refuses fault (read_lines text [] rows)
-told_here text rows before i d refusal fault within e whole told =
+told_here text rows before i d refusal fault within e whole refusal_at_token =
     let all : read_lines text [] rows ≡ Err (fault_of (get_or rows i d) refusal) = sym whole ∙ read_row text before rows i d within ∙ ap (continued text (get_or rows i d) before (λ more. read_lines text more (drop (i + 1) rows))) e in
-    subst (λ f. Refuses f (read_lines text [] rows)) (sym told) (refuses_told (get_or rows i d) refusal (read_lines text [] rows) all)
+    subst (λ f. Refuses f (read_lines text [] rows)) (sym refusal_at_token) (refuses_told (get_or rows i d) refusal (read_lines text [] rows) all)
 
 -- a line is the last that is parsed
 pub last_here :
     (text : List ℕ) (rows : List Row) (before new : List Line36) (i : ℕ) (d : Row) (line : Line36) → i < length rows
-    → line_given text (get_or rows i d) ≡ Ok line → names_end text line.op ≡ true
+    → parse_line text (get_or rows i d) ≡ Ok line → names_end text line.op ≡ true
     → read_lines text before (drop i rows) ≡ read_lines text [] rows → new ≡ before ++ line ∷ []
     → read_lines text [] rows ≡ Ok new
 last_here text rows before new i d line within e last whole grown =
@@ -58,7 +58,7 @@ last_here text rows before new i d line within e last whole grown =
 -- others follow it
 pub next_here :
     (text : List ℕ) (rows : List Row) (before new : List Line36) (i : ℕ) (d : Row) (line : Line36) → i < length rows
-    → line_given text (get_or rows i d) ≡ Ok line → names_end text line.op ≡ false
+    → parse_line text (get_or rows i d) ≡ Ok line → names_end text line.op ≡ false
     → read_lines text before (drop i rows) ≡ read_lines text [] rows → new ≡ before ++ line ∷ []
     → read_lines text new (drop (i + 1) rows) ≡ read_lines text [] rows
 next_here text rows before new i d line within e last whole grown =

@@ -3,7 +3,7 @@ use Rattle.std.proofs.Common.{◌≡◌, ℕ, ◌+◌, ◌<◌, ◌≤◌, Bool,
 use Rattle.std.specs.Prelude.{All, IfSome, IfOk, ⊤, slice_index}
 use Rattle.std.proofs.lemmas.List.Elements.{All-append, All-cons, All-nil}
 use Rattle.alm_tokens.specs.declared.span.Span.{Span}
-use Rattle.alm_tokens.specs.declared.pieces.Piece.{Piece}
+use Rattle.alm_tokens.specs.declared.pieces.TextPiece.{TextPiece}
 use Rattle.alm_tokens.specs.declared.expression.Term.{Term}
 use Rattle.alm_parse.specs.declared.body.Body.{Body}
 use Rattle.alm_parse.specs.declared.body.Body.TheVariants.{Through, External, Plain}
@@ -13,26 +13,26 @@ use Rattle.alm_tokens.specs.declared.numerals.Numeral.{Numeral}
 use Rattle.alm_tokens.specs.declared.numerals.Numeral.TheVariants as numeral
 use Rattle.alm_parse.specs.declared.operation.Operation.{Operation}
 use Rattle.alm_parse.specs.declared.operation.Operation.TheVariants.{Instruction, Names, Value, Section, Decimal, Octal, Characters, Halves, Block, Bare, End}
-use Rattle.alm_parse.specs.declared.refusal.Refusal.{Refusal}
+use Rattle.alm_parse.specs.declared.refusal.ParseRefusal.{ParseRefusal}
 use Rattle.alm_tokens.specs.declared.head.Head.{Head}
 use Rattle.alm_tokens.specs.declared.rows.Row.{Row}
 use Rattle.alm_parse.specs.declared.line.Line36.{Line36}
 use Rattle.alm_parse.specs.declared.fault.AlmFault.{AlmFault}
-use Rattle.alm_tokens.specs.declared.pieces.Parter.TheVariants.{Comma}
+use Rattle.alm_tokens.specs.declared.pieces.Separator.TheVariants.{Comma}
 use Rattle.alm_parse.specs.SourceFields.{Source}
 use Rattle.alm_tokens.specs.Bytes.{is_character}
 use Rattle.alm_tokens.specs.Tokens.{slice_of, span_at}
 use Rattle.m36_text.specs.Results.{unless}
 use Rattle.alm_tokens.specs.Expressions.{expression_pieces, term_of}
 use Rattle.alm_parse.specs.Bodies.{place_of, body_of, body_pieces}
-use Rattle.alm_parse.specs.Operands.{body_span, tag_given, operand_of, operand_given}
-use Rattle.alm_parse.specs.Members.{symbol_arg, number_arg, symbols_given, numbers_given}
+use Rattle.alm_parse.specs.Operands.{body_span, tag_given, operand_of, parse_operand}
+use Rattle.alm_parse.specs.Members.{symbol_arg, number_arg, parse_symbols, parse_numbers}
 use Rattle.alm_tokens.specs.Lists.{members}
-use Rattle.alm_parse.specs.Pairs.{value_of_members, value_given, halves_of_members, halves_given, block_of_members, block_given, section_given}
-use Rattle.alm_parse.specs.Characters.{packed, is_ended, place_bad, characters_by, characters_ended, characters_closed, characters_given}
+use Rattle.alm_parse.specs.Pairs.{value_of_members, parse_value, halves_of_members, parse_halves, block_of_members, parse_block, parse_section}
+use Rattle.alm_parse.specs.Characters.{packed, is_ended, place_bad, characters_by, characters_ended, characters_closed, parse_characters}
 use Rattle.alm_tokens.specs.Heads.{head_of, delimited_in}
 use Rattle.alm_parse.specs.Operations.{operation_of}
-use Rattle.alm_parse.specs.Lines.{missing, args_with, operand_for, args_by, args_of, label_refusal, line_of, line_with, line_by, line_from, line_unless, line_given}
+use Rattle.alm_parse.specs.Lines.{missing, args_with, operand_for, args_by, args_of, label_refusal, line_of, line_with, line_by, line_from, line_unless, parse_line}
 use Rattle.alm_tokens.specs.Rows.{rows_of}
 use Rattle.alm_parse.specs.Sources.{names_end, continued, read_lines, with_text, parsed, ParseSays}
 use Rattle.alm_parse.specs.Spans.{IsSpan, TermIn, ArgIn, LineIn}
@@ -40,11 +40,11 @@ use Rattle.alm_tokens.proofs.Widths.{pr_below, tag_below}
 use Rattle.alm_parse.proofs.SpanParts.{all_head, all_rest, all_map, PieceIn, pieces_in, expression_in, terms_in, BodyIn, body_in, body_pieces_in, HeadIn, head_in, operand_span_in, RowIn, rows_in}
 
 -- the result if nothing is refused
-unless_ok : {A : Type 0} (r : Option Refusal) (v a : A) → unless r v ≡ Ok a → v ≡ a
+unless_ok : {A : Type 0} (r : Option ParseRefusal) (v a : A) → unless r v ≡ Ok a → v ≡ a
 unless_ok None v a e = cc
 unless_ok (Some refusal) v a e = absurd (cc)
 
-args_ok : (count : ℕ) (r : Option Refusal) (v arguments : List Arg) → All (ArgIn count) v → unless r v ≡ Ok arguments → All (ArgIn count) arguments
+args_ok : (count : ℕ) (r : Option ParseRefusal) (v arguments : List Arg) → All (ArgIn count) v → unless r v ≡ Ok arguments → All (ArgIn count) arguments
 args_ok count r v arguments all e = subst (λ more. All (ArgIn count) more) (unless_ok r v arguments e) all
 
 one_in : (count : ℕ) (a : Arg) → ArgIn count a → All (ArgIn count) (a ∷ [])
@@ -81,9 +81,9 @@ body_begins count operand (Some comma) h = h
 body_begins count operand None h = h
 
 operand_given_in :
-    (text : List ℕ) (operand : Span) (arguments : List Arg) → operand.from ≤ length text → operand_given text operand ≡ Ok arguments
+    (text : List ℕ) (operand : Span) (arguments : List Arg) → operand.from ≤ length text → parse_operand text operand ≡ Ok arguments
     → All (ArgIn (length text)) arguments
-unfolding operand_given
+unfolding parse_operand
 operand_given_in text operand arguments begun e =
     let body = body_of text (body_span operand (place_of text operand 44)) in
     let is : BodyIn (length text) body = body_in text (body_span operand (place_of text operand 44)) (body_begins (length text) operand (place_of text operand 44) begun) in
@@ -97,30 +97,30 @@ unfolding members
 members_in text operand begun = pieces_in text Comma (record { span = operand; minus = false }) begun
 
 symbols_given_in :
-    (text : List ℕ) (operand : Span) (arguments : List Arg) → operand.from ≤ length text → symbols_given text operand ≡ Ok arguments
+    (text : List ℕ) (operand : Span) (arguments : List Arg) → operand.from ≤ length text → parse_symbols text operand ≡ Ok arguments
     → All (ArgIn (length text)) arguments
-unfolding symbols_given
+unfolding parse_symbols
 symbols_given_in text operand arguments begun e =
     args_ok (length text) _ _ arguments (all_map (PieceIn (length text)) (ArgIn (length text)) symbol_arg (members text operand) (λ piece is. is) (members_in text operand begun)) e
 
 numbers_given_in :
     (numeral : Numeral) (text : List ℕ) (operand : Span) (arguments : List Arg) → operand.from ≤ length text
-    → numbers_given numeral text operand ≡ Ok arguments → All (ArgIn (length text)) arguments
-unfolding numbers_given
+    → parse_numbers numeral text operand ≡ Ok arguments → All (ArgIn (length text)) arguments
+unfolding parse_numbers
 numbers_given_in numeral text operand arguments begun e =
     args_ok (length text) _ _ arguments (all_map (PieceIn (length text)) (ArgIn (length text)) (number_arg numeral text) (members text operand) (λ piece is. tt) (members_in text operand begun)) e
 
 -- operands of two members
-member_terms : (text : List ℕ) (piece : Piece) → PieceIn (length text) piece → All (TermIn (length text)) (map (term_of text) (expression_pieces text piece))
+member_terms : (text : List ℕ) (piece : TextPiece) → PieceIn (length text) piece → All (TermIn (length text)) (map (term_of text) (expression_pieces text piece))
 member_terms text piece is =
     let begun : piece.span.from ≤ length text = omega (arith, is.ordered, is.inside) in
     terms_in text (length text) (expression_pieces text piece) (expression_in text piece begun)
 
-second_in : (P : Piece → Type 0) (a b : Piece) (rest : List Piece) → All P (a ∷ b ∷ rest) → P b
+second_in : (P : TextPiece → Type 0) (a b : TextPiece) (rest : List TextPiece) → All P (a ∷ b ∷ rest) → P b
 second_in P a b rest all = all_head P b rest (all_rest P a (b ∷ rest) all)
 
 value_in :
-    (text : List ℕ) (at : ℕ) (pieces : List Piece) (arguments : List Arg) → All (PieceIn (length text)) pieces
+    (text : List ℕ) (at : ℕ) (pieces : List TextPiece) (arguments : List Arg) → All (PieceIn (length text)) pieces
     → value_of_members text at pieces ≡ Ok arguments → All (ArgIn (length text)) arguments
 value_in text at [] arguments all e = absurd (cc)
 value_in text at (a ∷ []) arguments all e = absurd (cc)
@@ -129,7 +129,7 @@ value_in text at (a ∷ b ∷ []) arguments all e =
 value_in text at (a ∷ b ∷ c ∷ rest) arguments all e = absurd (cc)
 
 halves_in :
-    (text : List ℕ) (at : ℕ) (pieces : List Piece) (arguments : List Arg) → All (PieceIn (length text)) pieces
+    (text : List ℕ) (at : ℕ) (pieces : List TextPiece) (arguments : List Arg) → All (PieceIn (length text)) pieces
     → halves_of_members text at pieces ≡ Ok arguments → All (ArgIn (length text)) arguments
 halves_in text at [] arguments all e = absurd (cc)
 halves_in text at (a ∷ []) arguments all e = absurd (cc)
@@ -138,7 +138,7 @@ halves_in text at (a ∷ b ∷ []) arguments all e =
 halves_in text at (a ∷ b ∷ c ∷ rest) arguments all e = absurd (cc)
 
 block_in :
-    (text : List ℕ) (at : ℕ) (pieces : List Piece) (arguments : List Arg) → All (PieceIn (length text)) pieces
+    (text : List ℕ) (at : ℕ) (pieces : List TextPiece) (arguments : List Arg) → All (PieceIn (length text)) pieces
     → block_of_members text at pieces ≡ Ok arguments → All (ArgIn (length text)) arguments
 block_in text at [] arguments all e = absurd (cc)
 block_in text at (a ∷ []) arguments all e = absurd (cc)
@@ -147,31 +147,31 @@ block_in text at (a ∷ b ∷ []) arguments all e =
 block_in text at (a ∷ b ∷ c ∷ rest) arguments all e = absurd (cc)
 
 value_given_in :
-    (text : List ℕ) (operand : Span) (arguments : List Arg) → operand.from ≤ length text → value_given text operand ≡ Ok arguments
+    (text : List ℕ) (operand : Span) (arguments : List Arg) → operand.from ≤ length text → parse_value text operand ≡ Ok arguments
     → All (ArgIn (length text)) arguments
-unfolding value_given
+unfolding parse_value
 value_given_in text operand arguments begun e = value_in text operand.from (members text operand) arguments (members_in text operand begun) e
 
 halves_given_in :
-    (text : List ℕ) (operand : Span) (arguments : List Arg) → operand.from ≤ length text → halves_given text operand ≡ Ok arguments
+    (text : List ℕ) (operand : Span) (arguments : List Arg) → operand.from ≤ length text → parse_halves text operand ≡ Ok arguments
     → All (ArgIn (length text)) arguments
-unfolding halves_given
+unfolding parse_halves
 halves_given_in text operand arguments begun e = halves_in text operand.from (members text operand) arguments (members_in text operand begun) e
 
 block_given_in :
-    (text : List ℕ) (operand : Span) (arguments : List Arg) → operand.from ≤ length text → block_given text operand ≡ Ok arguments
+    (text : List ℕ) (operand : Span) (arguments : List Arg) → operand.from ≤ length text → parse_block text operand ≡ Ok arguments
     → All (ArgIn (length text)) arguments
-unfolding block_given
+unfolding parse_block
 block_given_in text operand arguments begun e = block_in text operand.from (members text operand) arguments (members_in text operand begun) e
 
 section_given_in :
-    (text : List ℕ) (operand : Span) (arguments : List Arg) → IsSpan (length text) operand → section_given text operand ≡ Ok arguments
+    (text : List ℕ) (operand : Span) (arguments : List Arg) → IsSpan (length text) operand → parse_section text operand ≡ Ok arguments
     → All (ArgIn (length text)) arguments
-unfolding section_given
+unfolding parse_section
 section_given_in text operand arguments is e = args_ok (length text) _ _ arguments (one_in (length text) _ is) e
 
 -- characters
-chars_in : (count : ℕ) (words : List ℕ) (arguments : List Arg) → let given : Result (List Arg) Refusal = Ok (arg.Chars words ∷ []) in given ≡ Ok arguments → All (ArgIn count) arguments
+chars_in : (count : ℕ) (words : List ℕ) (arguments : List Arg) → let given : Result (List Arg) ParseRefusal = Ok (arg.Chars words ∷ []) in given ≡ Ok arguments → All (ArgIn count) arguments
 chars_in count words arguments e =
     let same : arg.Chars words ∷ [] ≡ arguments = cc in
     subst (λ more. All (ArgIn count) more) same (one_in count (arg.Chars words) tt)
@@ -189,12 +189,12 @@ characters_closed_in text rest (Some close) arguments e =
     characters_ended_in text rest (span_at (rest.from + 1) close) (is_ended (slice_of text (span_at (close + 1) rest.to))) arguments e
 characters_closed_in text rest None arguments e = absurd (cc)
 
-chosen_ok : (b : Bool) (given : Result (List Arg) Refusal) (refusal : Refusal) (arguments : List Arg) → cond b given (Err refusal) ≡ Ok arguments → given ≡ Ok arguments
+chosen_ok : (b : Bool) (given : Result (List Arg) ParseRefusal) (refusal : ParseRefusal) (arguments : List Arg) → cond b given (Err refusal) ≡ Ok arguments → given ≡ Ok arguments
 chosen_ok true given refusal arguments e = e
 chosen_ok false given refusal arguments e = absurd (cc)
 
-characters_given_in : (text : List ℕ) (rest : Span) (arguments : List Arg) → characters_given text rest ≡ Ok arguments → All (ArgIn (length text)) arguments
-unfolding characters_given
+characters_given_in : (text : List ℕ) (rest : Span) (arguments : List Arg) → parse_characters text rest ≡ Ok arguments → All (ArgIn (length text)) arguments
+unfolding parse_characters
 characters_given_in text rest arguments e =
     characters_closed_in text rest (place_of text (span_at (rest.from + 1) rest.to) (slice_index text rest.from)) arguments (chosen_ok (is_character (slice_index text rest.from)) _ _ arguments e)
 
@@ -268,11 +268,11 @@ line_of_in :
 line_of_in count text row head arguments line is all e =
     subst (LineIn count) e (record { labels = is.labels; op = is.op; args = all })
 
-ok_line : (a b : Line36) → let given : Result Line36 Refusal = Ok a in given ≡ Ok b → a ≡ b
+ok_line : (a b : Line36) → let given : Result Line36 ParseRefusal = Ok a in given ≡ Ok b → a ≡ b
 ok_line a b e = cc
 
 line_with_in :
-    (count : ℕ) (text : List ℕ) (row : Row) (head : Head) (r : Result (List Arg) Refusal) (line : Line36) → HeadIn count head
+    (count : ℕ) (text : List ℕ) (row : Row) (head : Head) (r : Result (List Arg) ParseRefusal) (line : Line36) → HeadIn count head
     → ((arguments : List Arg) → r ≡ Ok arguments → All (ArgIn count) arguments) → line_with text row head r ≡ Ok line → LineIn count line
 line_with_in count text row head (Ok arguments) line is all e =
     line_of_in count text row head arguments line is (all arguments refl) (ok_line (line_of text row head arguments) line e)
@@ -293,13 +293,13 @@ line_from_in text row head None line is e =
     line_of_in (length text) text row head [] line is (All-nil (ArgIn (length text))) (ok_line (line_of text row head []) line e)
 
 line_unless_in :
-    (text : List ℕ) (row : Row) (head : Head) (o : Option Refusal) (line : Line36) → HeadIn (length text) head
+    (text : List ℕ) (row : Row) (head : Head) (o : Option ParseRefusal) (line : Line36) → HeadIn (length text) head
     → line_unless o text row head ≡ Ok line → LineIn (length text) line
 line_unless_in text row head (Some refusal) line is e = absurd (cc)
 line_unless_in text row head None line is e = line_from_in text row head head.op line is e
 
-line_given_in : (text : List ℕ) (row : Row) (line : Line36) → RowIn (length text) row → line_given text row ≡ Ok line → LineIn (length text) line
-unfolding line_given
+line_given_in : (text : List ℕ) (row : Row) (line : Line36) → RowIn (length text) row → parse_line text row ≡ Ok line → LineIn (length text) line
+unfolding parse_line
 line_given_in text row line begun e =
     line_unless_in text row (head_of text row.span) (label_refusal text (head_of text row.span).labels) line (head_in text row.span begun) e
 
@@ -314,7 +314,7 @@ ends_in count true v next lines all later e = subst (λ more. All (LineIn count)
 ends_in count false v next lines all later e = later e
 
 continued_in :
-    (text : List ℕ) (row : Row) (before : List Line36) (further : List Line36 → Result (List Line36) AlmFault) (r : Result Line36 Refusal) (lines : List Line36)
+    (text : List ℕ) (row : Row) (before : List Line36) (further : List Line36 → Result (List Line36) AlmFault) (r : Result Line36 ParseRefusal) (lines : List Line36)
     → All (LineIn (length text)) before → ((line : Line36) → r ≡ Ok line → LineIn (length text) line)
     → ((more : List Line36) → All (LineIn (length text)) more → further more ≡ Ok lines → All (LineIn (length text)) lines)
     → continued text row before further r ≡ Ok lines → All (LineIn (length text)) lines
@@ -329,7 +329,7 @@ read_lines_in :
 unfolding read_lines
 read_lines_in text before [] lines all begun e = subst (λ more. All (LineIn (length text)) more) (ok_lines before lines e) all
 read_lines_in text before (row ∷ rows) lines all begun e =
-    continued_in text row before (λ more. read_lines text more rows) (line_given text row) lines all (λ line f. line_given_in text row line (all_head (RowIn (length text)) row rows begun) f) (λ more is f. read_lines_in text more rows lines is (all_rest (RowIn (length text)) row rows begun) f) e
+    continued_in text row before (λ more. read_lines text more rows) (parse_line text row) lines all (λ line f. line_given_in text row line (all_head (RowIn (length text)) row rows begun) f) (λ more is f. read_lines_in text more rows lines is (all_rest (RowIn (length text)) row rows begun) f) e
 
 with_text_in :
     (text : List ℕ) (r : Result (List Line36) AlmFault) (source : Source) → ((lines : List Line36) → r ≡ Ok lines → All (LineIn (length text)) lines)

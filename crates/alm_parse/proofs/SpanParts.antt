@@ -6,19 +6,19 @@ use Rattle.std.proofs.lemmas.List.{length-take}
 use Rattle.std.proofs.lemmas.List.Elements.{All-append, All-cons, All-nil}
 use Rattle.std.proofs.lemmas.Bool.{cases_lt, lt-ltb, le-ltb}
 use Rattle.alm_tokens.specs.declared.span.Span.{Span}
-use Rattle.alm_tokens.specs.declared.pieces.Parter.{Parter}
-use Rattle.alm_tokens.specs.declared.pieces.Piece.{Piece}
+use Rattle.alm_tokens.specs.declared.pieces.Separator.{Separator}
+use Rattle.alm_tokens.specs.declared.pieces.TextPiece.{TextPiece}
 use Rattle.alm_parse.specs.declared.body.Body.{Body}
 use Rattle.alm_parse.specs.declared.body.Body.TheVariants.{Through, External, Plain}
 use Rattle.alm_tokens.specs.declared.head.Head.{Head}
-use Rattle.alm_tokens.specs.declared.head.Turn.{Turn}
-use Rattle.alm_tokens.specs.declared.head.Turn.TheVariants.{Label, Skip, Stop, Go}
+use Rattle.alm_tokens.specs.declared.head.TokenStep.{TokenStep}
+use Rattle.alm_tokens.specs.declared.head.TokenStep.TheVariants.{Label, Skip, Stop, Go}
 use Rattle.alm_tokens.specs.declared.rows.Row.{Row}
 use Rattle.m36_text.specs.Texts.{is_name_character}
 use Rattle.alm_tokens.specs.Bytes.{is_blank}
 use Rattle.alm_tokens.specs.Tokens.{slice_of, span_at}
-use Rattle.alm_tokens.specs.Pieces.{parts, piece_at, cut, pieces_of}
-use Rattle.alm_tokens.specs.declared.pieces.Parter.TheVariants.{Sign}
+use Rattle.alm_tokens.specs.Pieces.{parts, piece_at, split_at, pieces_of}
+use Rattle.alm_tokens.specs.declared.pieces.Separator.TheVariants.{Sign}
 use Rattle.alm_tokens.specs.Expressions.{signed_start, expression_pieces, term_of}
 use Rattle.alm_parse.specs.Bodies.{place_of, end_by, symbol_end, external, body_without_bar, body_by, body_of, tail_pieces, body_pieces}
 use Rattle.alm_tokens.specs.Heads.{turn_of, token, head_at, head_by, head_from, head_of, operand_start, end_from, operand_end, operand_by, operand_in}
@@ -61,45 +61,45 @@ slice_some text span some =
     omega (arith, some, count)
 
 -- pieces
-abbrev pub PieceIn : ℕ → Piece → Type 0
+abbrev pub PieceIn : ℕ → TextPiece → Type 0
 PieceIn count piece = IsSpan count piece.span
 
 pub cut_in :
-    (count : ℕ) (parter : Parter) (minus : Bool) (from at : ℕ) (bytes : List ℕ) → from ≤ at → at + length bytes ≤ count
-    → All (PieceIn count) (cut parter minus from at bytes)
-unfolding cut
+    (count : ℕ) (parter : Separator) (minus : Bool) (from at : ℕ) (bytes : List ℕ) → from ≤ at → at + length bytes ≤ count
+    → All (PieceIn count) (split_at parter minus from at bytes)
+unfolding split_at
 cut_in count parter minus from at [] order fits =
     All-cons (PieceIn count) (piece_at minus from at) [] (span_in count from at order (omega (arith, fits))) (All-nil (PieceIn count))
 cut_in count parter minus from at (b ∷ rest) order fits =
-    all_cond (PieceIn count) (parts parter b) (piece_at minus from at ∷ cut parter (b == 45) (at + 1) (at + 1) rest) (cut parter minus from (at + 1) rest) (All-cons (PieceIn count) (piece_at minus from at) (cut parter (b == 45) (at + 1) (at + 1) rest) (span_in count from at order (omega (arith, fits))) (cut_in count parter (b == 45) (at + 1) (at + 1) rest (omega arith) (omega (arith, fits)))) (cut_in count parter minus from (at + 1) rest (omega (arith, order)) (omega (arith, fits)))
+    all_cond (PieceIn count) (parts parter b) (piece_at minus from at ∷ split_at parter (b == 45) (at + 1) (at + 1) rest) (split_at parter minus from (at + 1) rest) (All-cons (PieceIn count) (piece_at minus from at) (split_at parter (b == 45) (at + 1) (at + 1) rest) (span_in count from at order (omega (arith, fits))) (cut_in count parter (b == 45) (at + 1) (at + 1) rest (omega arith) (omega (arith, fits)))) (cut_in count parter minus from (at + 1) rest (omega (arith, order)) (omega (arith, fits)))
 
 pub pieces_in :
-    (text : List ℕ) (parter : Parter) (whole : Piece) → whole.span.from ≤ length text
+    (text : List ℕ) (parter : Separator) (whole : TextPiece) → whole.span.from ≤ length text
     → All (PieceIn (length text)) (pieces_of parter text whole)
 unfolding pieces_of
 pieces_in text parter whole begun =
     cut_in (length text) parter whole.minus whole.span.from whole.span.from (slice_of text whole.span) (omega arith) (slice_ends text whole.span begun)
 
-cond_begins : (count : ℕ) (b : Bool) (p q : Piece) → p.span.from ≤ count → q.span.from ≤ count → (cond b p q).span.from ≤ count
+cond_begins : (count : ℕ) (b : Bool) (p q : TextPiece) → p.span.from ≤ count → q.span.from ≤ count → (cond b p q).span.from ≤ count
 cond_begins count true p q h k = h
 cond_begins count false p q h k = k
 
 signed_by :
-    (count : ℕ) (bytes : List ℕ) (whole : Piece) → whole.span.from + length bytes ≤ count
+    (count : ℕ) (bytes : List ℕ) (whole : TextPiece) → whole.span.from + length bytes ≤ count
     → (cond (slice_index bytes 0 == 45) (piece_at (not whole.minus) (whole.span.from + 1) whole.span.to) whole).span.from ≤ count
 signed_by count [] whole fits = omega (arith, fits)
 signed_by count (b ∷ bytes) whole fits =
     cond_begins count (b == 45) (piece_at (not whole.minus) (whole.span.from + 1) whole.span.to) whole (omega (arith, fits)) (omega (arith, fits))
 
 pub expression_in :
-    (text : List ℕ) (whole : Piece) → whole.span.from ≤ length text
+    (text : List ℕ) (whole : TextPiece) → whole.span.from ≤ length text
     → All (PieceIn (length text)) (expression_pieces text whole)
 unfolding expression_pieces signed_start
 expression_in text whole begun =
     pieces_in text Sign (signed_start text whole) (signed_by (length text) (slice_of text whole.span) whole (slice_ends text whole.span begun))
 
 pub terms_in :
-    (text : List ℕ) (count : ℕ) (pieces : List Piece) → All (PieceIn count) pieces → All (TermIn count) (map (term_of text) pieces)
+    (text : List ℕ) (count : ℕ) (pieces : List TextPiece) → All (PieceIn count) pieces → All (TermIn count) (map (term_of text) pieces)
 terms_in text count pieces all = all_map (PieceIn count) (TermIn count) (term_of text) pieces (λ piece is. record { place = is; number = atom_small (slice_of text piece.span) }) all
 
 -- indexes
@@ -192,7 +192,7 @@ token_in count from to order fits = token_by count from to (from == to) order fi
 head_at_in : (count : ℕ) (marks : List Span) (from at : ℕ) → All (IsSpan count) marks → from ≤ at → at ≤ count → HeadIn count (head_at marks from at)
 head_at_in count marks from at all order fits = record { labels = all; op = token_in count from at order fits }
 
-head_by_in : (count : ℕ) (turn : Turn) (label skip stop go : Head) → HeadIn count label → HeadIn count skip → HeadIn count stop → HeadIn count go → HeadIn count (head_by turn label skip stop go)
+head_by_in : (count : ℕ) (turn : TokenStep) (label skip stop go : Head) → HeadIn count label → HeadIn count skip → HeadIn count stop → HeadIn count go → HeadIn count (head_by turn label skip stop go)
 head_by_in count Label label skip stop go a b c d = a
 head_by_in count Skip label skip stop go a b c d = b
 head_by_in count Stop label skip stop go a b c d = c

@@ -6,7 +6,7 @@ use Rattle.std.specs.Prelude.{slice_index, Option, Some, None, is_some}
 use Rattle.std.specs.Prelude.{if◌then◌else◌}
 use Rattle.std.specs.List.{position}
 use Rattle.alm_tokens.specs.declared.span.Span.{Span}
-use Rattle.alm_tokens.specs.declared.pieces.Piece.{Piece}
+use Rattle.alm_tokens.specs.declared.pieces.TextPiece.{TextPiece}
 use Rattle.alm_parse.specs.declared.body.Body.{Body}
 use Rattle.alm_parse.specs.declared.body.Body.TheVariants.{Through, External, Plain}
 use Rattle.obj36_parts.specs.declared.section.Section.{Section}
@@ -93,7 +93,7 @@ is_body text (External segment entry tail) =
 is_body text (Plain whole) = true
 
 -- the terms after an external name, whose sign belongs to the first of them
-unfoldable pub tail_pieces : List ℕ → Span → List Piece
+unfoldable pub tail_pieces : List ℕ → Span → List TextPiece
 tail_pieces text tail =
     if length (slice_of text tail) == 0
     then []
@@ -101,7 +101,7 @@ tail_pieces text tail =
     (piece_at (is_negative (slice_of text tail)) (tail.from + 1) tail.to)
 
 -- the terms of the expression of an operand
-abbrev pub body_pieces : List ℕ → Body → List Piece
+abbrev pub body_pieces : List ℕ → Body → List TextPiece
 body_pieces text (Through pr offset) =
     expression_pieces text (record { span = offset; minus = false })
 body_pieces text (External segment entry tail) = tail_pieces text tail

@@ -7,8 +7,8 @@ use Rattle.obj36_parts.specs.Halves.{of_quarters, quarters_of, quarter_words}
 use Rattle.alm_tokens.specs.declared.span.Span.{Span}
 use Rattle.alm_parse.specs.declared.args.Arg.{Arg}
 use Rattle.alm_parse.specs.declared.args.Arg.TheVariants.{Chars}
-use Rattle.alm_parse.specs.declared.refusal.Code.TheVariants.{E1, E2}
-use Rattle.alm_parse.specs.declared.refusal.Refusal.{Refusal}
+use Rattle.alm_parse.specs.declared.refusal.ParseCode.TheVariants.{E1, E2}
+use Rattle.alm_parse.specs.declared.refusal.ParseRefusal.{ParseRefusal}
 use Rattle.alm_tokens.specs.Bytes.{is_blank, begins_comment, is_character}
 use Rattle.alm_tokens.specs.Tokens.{slice_of, span_at, first_in}
 use Rattle.alm_parse.specs.Bodies.{place_of}
@@ -47,29 +47,29 @@ unfoldable pub place_bad : List ℕ → Span → Option ℕ
 place_bad text span = first_in (λ b. not (is_character b)) text span
 
 -- the characters of a span, or E1 at the first byte that cannot be placed
-abbrev pub characters_by : List ℕ → Span → Option ℕ → Result (List Arg) Refusal
+abbrev pub characters_by : List ℕ → Span → Option ℕ → Result (List Arg) ParseRefusal
 characters_by text span (Some place) = Err (record { place = place; code = E1 })
 characters_by text span None = Ok (Chars (packed (slice_of text span)) ∷ [])
 
 -- the characters, or the refusal of the operand if more text is after the closing delimiter
-abbrev pub characters_ended : List ℕ → Span → Span → Bool → Result (List Arg) Refusal
+abbrev pub characters_ended : List ℕ → Span → Span → Bool → Result (List Arg) ParseRefusal
 characters_ended text rest span true = characters_by text span (place_bad text span)
 characters_ended text rest span false = Err (record { place = rest.from; code = E2 })
 
 -- the characters, or E2 at the operand if there is no closing delimiter
-abbrev pub characters_closed : List ℕ → Span → Option ℕ → Result (List Arg) Refusal
+abbrev pub characters_closed : List ℕ → Span → Option ℕ → Result (List Arg) ParseRefusal
 characters_closed text rest (Some close) =
     characters_ended text rest (span_at (rest.from + 1) close)
     (is_ended (slice_of text (span_at (close + 1) rest.to)))
 characters_closed text rest None = Err (record { place = rest.from; code = E2 })
 
 -- The delimiter is the first byte of the operand.
-abbrev pub characters_from : List ℕ → Span → ℕ → Result (List Arg) Refusal
+abbrev pub characters_from : List ℕ → Span → ℕ → Result (List Arg) ParseRefusal
 characters_from text rest delimiter =
     if is_character delimiter
     then characters_closed text rest (place_of text (span_at (rest.from + 1) rest.to) delimiter)
     else Err (record { place = rest.from; code = E1 })
 
 -- the argument of an `aci` line
-unfoldable pub characters_given : List ℕ → Span → Result (List Arg) Refusal
-characters_given text rest = characters_from text rest (slice_index text rest.from)
+unfoldable pub parse_characters : List ℕ → Span → Result (List Arg) ParseRefusal
+parse_characters text rest = characters_from text rest (slice_index text rest.from)

@@ -11,25 +11,25 @@ use Rattle.alm_parse.specs.declared.operation.Operation.TheVariants.{Instruction
 use Rattle.alm_parse.specs.declared.operation.Operation.TheVariants.{Section, Decimal, Octal}
 use Rattle.alm_parse.specs.declared.operation.Operation.TheVariants.{Characters, Halves, Block}
 use Rattle.alm_parse.specs.declared.operation.Operation.TheVariants.{Bare, End}
-use Rattle.alm_parse.specs.declared.refusal.Code.TheVariants.{E2, E3}
-use Rattle.alm_parse.specs.declared.refusal.Refusal.{Refusal}
+use Rattle.alm_parse.specs.declared.refusal.ParseCode.TheVariants.{E2, E3}
+use Rattle.alm_parse.specs.declared.refusal.ParseRefusal.{ParseRefusal}
 use Rattle.alm_tokens.specs.declared.head.Head.{Head}
 use Rattle.alm_tokens.specs.declared.rows.Row.{Row}
 use Rattle.alm_parse.specs.declared.line.Line36.{Line36}
 use Rattle.alm_tokens.specs.Tokens.{slice_of, is_symbol, span_at}
 use Rattle.m36_text.specs.Results.{unless}
-use Rattle.alm_parse.specs.Refusals.{told}
-use Rattle.alm_parse.specs.Operands.{operand_given}
-use Rattle.alm_parse.specs.Members.{symbols_given, numbers_given}
-use Rattle.alm_parse.specs.Pairs.{value_given, halves_given, block_given, section_given}
-use Rattle.alm_parse.specs.Characters.{characters_given}
+use Rattle.alm_parse.specs.Refusals.{refusal_at_token}
+use Rattle.alm_parse.specs.Operands.{parse_operand}
+use Rattle.alm_parse.specs.Members.{parse_symbols, parse_numbers}
+use Rattle.alm_parse.specs.Pairs.{parse_value, parse_halves, parse_block, parse_section}
+use Rattle.alm_parse.specs.Characters.{parse_characters}
 use Rattle.alm_tokens.specs.Heads.{head_of, operand_in, delimited_in}
 use Rattle.alm_parse.specs.Operations.{operation_of}
 use Rattle.alm_parse.specs.Deeds.{deed_of}
 
 -- The refusal of a missing operand, which is reported at the operation. The operand of an
 -- instruction may be missing and is then 0. Some operations have no operand.
-abbrev pub missing : Operation → ℕ → Option Refusal
+abbrev pub missing : Operation → ℕ → Option ParseRefusal
 missing Instruction at = None
 missing Bare at = None
 missing End at = None
@@ -43,17 +43,17 @@ missing Halves at = Some (record { place = at; code = E2 })
 missing Block at = Some (record { place = at; code = E2 })
 
 -- the arguments in an operand, which depend on the operation
-abbrev pub args_with : Operation → List ℕ → Span → Result (List Arg) Refusal
-args_with Instruction text operand = operand_given text operand
-args_with Names text operand = symbols_given text operand
-args_with Value text operand = value_given text operand
-args_with Section text operand = section_given text operand
-args_with Decimal text operand = numbers_given numeral.Decimal text operand
-args_with Octal text operand = numbers_given numeral.Octal text operand
-args_with Characters text operand = characters_given text operand
-args_with Halves text operand = halves_given text operand
-args_with Block text operand = block_given text operand
-args_with Bare text operand = Err (told text operand.from E2)
+abbrev pub args_with : Operation → List ℕ → Span → Result (List Arg) ParseRefusal
+args_with Instruction text operand = parse_operand text operand
+args_with Names text operand = parse_symbols text operand
+args_with Value text operand = parse_value text operand
+args_with Section text operand = parse_section text operand
+args_with Decimal text operand = parse_numbers numeral.Decimal text operand
+args_with Octal text operand = parse_numbers numeral.Octal text operand
+args_with Characters text operand = parse_characters text operand
+args_with Halves text operand = parse_halves text operand
+args_with Block text operand = parse_block text operand
+args_with Bare text operand = Err (refusal_at_token text operand.from E2)
 args_with End text operand = Ok []
 
 -- the operand of an operation in the text after it; for characters, a quotation mark can be a part
@@ -72,12 +72,12 @@ operand_for Bare text rest = operand_in text rest
 operand_for End text rest = operand_in text rest
 
 -- the arguments in an operand, or the refusal of one that is missing
-abbrev pub args_by : Operation → List ℕ → ℕ → Option Span → Result (List Arg) Refusal
+abbrev pub args_by : Operation → List ℕ → ℕ → Option Span → Result (List Arg) ParseRefusal
 args_by operation text op (Some operand) = args_with operation text operand
 args_by operation text op None = unless (missing operation op) []
 
 -- the arguments of an operation, given the text after it
-unfoldable pub args_of : Operation → List ℕ → ℕ → Span → Result (List Arg) Refusal
+unfoldable pub args_of : Operation → List ℕ → ℕ → Span → Result (List Arg) ParseRefusal
 args_of operation text op rest = args_by operation text op (operand_for operation text rest)
 
 -- whether a label is not a symbol
@@ -86,9 +86,9 @@ is_no_symbol text span = not (is_symbol (slice_of text span))
 
 -- the refusal of the first label that is not a symbol: E2, or E1 if it begins with a byte that no
 -- source can have
-unfoldable pub label_refusal : List ℕ → List Span → Option Refusal
+unfoldable pub label_refusal : List ℕ → List Span → Option ParseRefusal
 label_refusal text marks =
-    option_map (λ mark. told text mark.from E2) (find (is_no_symbol text) marks)
+    option_map (λ mark. refusal_at_token text mark.from E2) (find (is_no_symbol text) marks)
 
 -- the line with these parts
 abbrev pub line_of : List ℕ → Row → Head → List Arg → Line36
@@ -103,30 +103,30 @@ line_of text row head arguments =
     }
 
 -- the line with these arguments, or their refusal
-abbrev pub line_with : List ℕ → Row → Head → Result (List Arg) Refusal → Result Line36 Refusal
+abbrev pub line_with : List ℕ → Row → Head → Result (List Arg) ParseRefusal → Result Line36 ParseRefusal
 line_with text row head given = and_then given (λ arguments. Ok (line_of text row head arguments))
 
 -- the line with this operation, or its refusal if there is none of this name: E3, or E1 if it
 -- begins with a byte that no source can have
-abbrev pub line_by : List ℕ → Row → Head → Span → Option Operation → Result Line36 Refusal
+abbrev pub line_by : List ℕ → Row → Head → Span → Option Operation → Result Line36 ParseRefusal
 line_by text row head op (Some operation) =
     line_with text row head (args_of operation text op.from (span_at op.to row.span.to))
-line_by text row head op None = Err (told text op.from E3)
+line_by text row head op None = Err (refusal_at_token text op.from E3)
 
 -- the line with this operation, if it has one, given its labels
-abbrev pub line_from : List ℕ → Row → Head → Option Span → Result Line36 Refusal
+abbrev pub line_from : List ℕ → Row → Head → Option Span → Result Line36 ParseRefusal
 line_from text row head (Some op) = line_by text row head op (operation_of (slice_of text op))
 line_from text row head None = Ok (line_of text row head [])
 
 -- the line, unless a label is refused
-abbrev pub line_unless : Option Refusal → List ℕ → Row → Head → Result Line36 Refusal
+abbrev pub line_unless : Option ParseRefusal → List ℕ → Row → Head → Result Line36 ParseRefusal
 line_unless (Some refusal) text row head = Err refusal
 line_unless None text row head = line_from text row head head.op
 
 -- the line with this head, or its refusal
-abbrev pub line_headed : List ℕ → Row → Head → Result Line36 Refusal
+abbrev pub line_headed : List ℕ → Row → Head → Result Line36 ParseRefusal
 line_headed text row head = line_unless (label_refusal text head.labels) text row head
 
 -- a line parsed by itself, or its refusal
-unfoldable pub line_given : List ℕ → Row → Result Line36 Refusal
-line_given text row = line_headed text row (head_of text row.span)
+unfoldable pub parse_line : List ℕ → Row → Result Line36 ParseRefusal
+parse_line text row = line_headed text row (head_of text row.span)

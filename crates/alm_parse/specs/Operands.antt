@@ -4,13 +4,13 @@ use Rattle.std.specs.Prelude.{None, Result, is_some, unwrap_or, if◌then◌else
 use Rattle.std.specs.List.{list_all}
 use Rattle.alm_tokens.specs.declared.span.Span.{Span}
 use Rattle.alm_tokens.specs.declared.numerals.Numeral.TheVariants.{Small}
-use Rattle.alm_tokens.specs.declared.pieces.Piece.{Piece}
+use Rattle.alm_tokens.specs.declared.pieces.TextPiece.{TextPiece}
 use Rattle.alm_tokens.specs.declared.expression.Term.{Term}
 use Rattle.alm_parse.specs.declared.body.Body.{Body}
 use Rattle.alm_parse.specs.declared.body.Body.TheVariants.{Through, External, Plain}
 use Rattle.alm_parse.specs.declared.args.Arg.{Arg}
 use Rattle.alm_parse.specs.declared.args.Arg.TheVariants.{Operand}
-use Rattle.alm_parse.specs.declared.refusal.Refusal.{Refusal}
+use Rattle.alm_parse.specs.declared.refusal.ParseRefusal.{ParseRefusal}
 use Rattle.alm_tokens.specs.Tokens.{slice_of, span_at}
 use Rattle.alm_tokens.specs.Expressions.{is_term_at, term_of}
 use Rattle.alm_tokens.specs.Lists.{place_out}
@@ -42,23 +42,23 @@ operand_of text (External segment entry tail) expr tag =
 operand_of text (Plain whole) expr tag = Operand None None None expr tag
 
 -- whether the parts, the terms and the modifier of an operand have their forms
-abbrev pub is_operand : List ℕ → Body → List Piece → Option ℕ → Bool
+abbrev pub is_operand : List ℕ → Body → List TextPiece → Option ℕ → Bool
 is_operand text body pieces tag =
     is_body text body && list_all (is_term_at text) pieces && is_some tag
 
 -- the argument of an operand, or its refusal
-abbrev pub operand_by : List ℕ → ℕ → Body → List Piece → Option ℕ → Result (List Arg) Refusal
+abbrev pub operand_by : List ℕ → ℕ → Body → List TextPiece → Option ℕ → Result (List Arg) ParseRefusal
 operand_by text at body pieces tag =
     unless (refused text at (is_operand text body pieces tag) (place_out Small text pieces))
     (operand_of text body (map (term_of text) pieces) (unwrap_or tag 0) ∷ [])
 
 -- the argument of an operand, or its refusal, given the index of the comma
-abbrev pub operand_with : List ℕ → Span → Body → Option ℕ → Result (List Arg) Refusal
+abbrev pub operand_with : List ℕ → Span → Body → Option ℕ → Result (List Arg) ParseRefusal
 operand_with text operand body comma =
     operand_by text operand.from body (body_pieces text body) (tag_given text operand comma)
 
 -- the argument of the operand of an instruction, or its refusal
-unfoldable pub operand_given : List ℕ → Span → Result (List Arg) Refusal
-operand_given text operand =
+unfoldable pub parse_operand : List ℕ → Span → Result (List Arg) ParseRefusal
+parse_operand text operand =
     let comma = place_of text operand 44 in
     operand_with text operand (body_of text (body_span operand comma)) comma

@@ -6,8 +6,8 @@ use Rattle.alm_parse.specs.declared.operation.Operation.TheVariants.{Instruction
 use Rattle.alm_parse.specs.declared.operation.Operation.TheVariants.{Section, Decimal, Octal}
 use Rattle.alm_parse.specs.declared.operation.Operation.TheVariants.{Characters, Halves, Block}
 use Rattle.alm_parse.specs.declared.operation.Operation.TheVariants.{Bare, End}
-use Rattle.alm_parse.specs.declared.deed.Deed.{Deed}
-use Rattle.alm_parse.specs.declared.deed.Deed.TheVariants as deed
+use Rattle.alm_parse.specs.declared.deed.LineEffect.{LineEffect}
+use Rattle.alm_parse.specs.declared.deed.LineEffect.TheVariants as deed
 use Rattle.alm_tokens.specs.Tokens.{is_text}
 
 -- the operation after which the text is ignored
@@ -15,7 +15,7 @@ abbrev pub end_name : List ℕ
 end_name = codes "end"
 
 -- Each directive of the assembler: how its operand is parsed, and what it does.
-unfoldable pub directive : List ℕ → Option (Operation × Deed)
+unfoldable pub directive : List ℕ → Option (Operation × LineEffect)
 directive name =
     if is_text (codes "entry") name
     then Some (Names, deed.Entry)
@@ -47,7 +47,7 @@ instruction_by (Some code) = Some Instruction
 instruction_by None = None
 
 -- the kind of operand of a directive, or of the instruction with this name
-abbrev pub operation_by : Option (Operation × Deed) → List ℕ → Option Operation
+abbrev pub operation_by : Option (Operation × LineEffect) → List ℕ → Option Operation
 operation_by (Some directed) name = Some directed.0
 operation_by None name = instruction_by (code_named name)
 

@@ -6,45 +6,45 @@ use Rattle.std.specs.Option.{option_or}
 use Rattle.obj36_parts.specs.declared.section.Section.{Section}
 use Rattle.obj36_parts.specs.Sections.{section_name}
 use Rattle.alm_tokens.specs.declared.span.Span.{Span}
-use Rattle.alm_tokens.specs.declared.pieces.Piece.{Piece}
+use Rattle.alm_tokens.specs.declared.pieces.TextPiece.{TextPiece}
 use Rattle.alm_parse.specs.declared.args.Arg.{Arg}
 use Rattle.alm_parse.specs.declared.args.Arg.TheVariants.{Symbol, Plain}
 use Rattle.alm_tokens.specs.declared.numerals.Numeral.TheVariants.{Small}
-use Rattle.alm_parse.specs.declared.refusal.Code.TheVariants.{E2}
-use Rattle.alm_parse.specs.declared.refusal.Refusal.{Refusal}
+use Rattle.alm_parse.specs.declared.refusal.ParseCode.TheVariants.{E2}
+use Rattle.alm_parse.specs.declared.refusal.ParseRefusal.{ParseRefusal}
 use Rattle.alm_tokens.specs.Tokens.{slice_of}
 use Rattle.alm_tokens.specs.Expressions.{is_term_at, expression_pieces, term_of}
 use Rattle.alm_parse.specs.Members.{number_arg}
 use Rattle.alm_tokens.specs.Lists.{members, is_symbol_at, is_written_at, place_out}
 use Rattle.m36_text.specs.Results.{unless}
-use Rattle.alm_parse.specs.Refusals.{told, refused}
+use Rattle.alm_parse.specs.Refusals.{refusal_at_token, refused}
 use Rattle.alm_parse.specs.Bodies.{section_by}
 
 -- An operand of two members, parsed by `read`. An operand with fewer or more members is refused.
 abbrev pub by_two :
-    (Piece → Piece → Result (List Arg) Refusal) → List ℕ → ℕ → List Piece
-    → Result (List Arg) Refusal
+    (TextPiece → TextPiece → Result (List Arg) ParseRefusal) → List ℕ → ℕ → List TextPiece
+    → Result (List Arg) ParseRefusal
 by_two read text at (first ∷ second ∷ []) = read first second
-by_two read text at _ = Err (told text at E2)
+by_two read text at _ = Err (refusal_at_token text at E2)
 
 -- the arguments of an `equ` line, from its two members
-abbrev pub value_by : List ℕ → ℕ → Piece → List Piece → Result (List Arg) Refusal
+abbrev pub value_by : List ℕ → ℕ → TextPiece → List TextPiece → Result (List Arg) ParseRefusal
 value_by text at name pieces =
     unless
     (refused text at (is_symbol_at text name && list_all (is_term_at text) pieces)
     (place_out Small text pieces)) (Symbol name.span ∷ Plain (map (term_of text) pieces) ∷ [])
 
 -- the arguments of an `equ` line, from the members of its operand
-abbrev pub value_of_members : List ℕ → ℕ → List Piece → Result (List Arg) Refusal
+abbrev pub value_of_members : List ℕ → ℕ → List TextPiece → Result (List Arg) ParseRefusal
 value_of_members text at pieces =
     by_two (λ name value. value_by text at name (expression_pieces text value)) text at pieces
 
 -- the arguments of an `equ` line, or its refusal
-unfoldable pub value_given : List ℕ → Span → Result (List Arg) Refusal
-value_given text operand = value_of_members text operand.from (members text operand)
+unfoldable pub parse_value : List ℕ → Span → Result (List Arg) ParseRefusal
+parse_value text operand = value_of_members text operand.from (members text operand)
 
 -- the arguments of a `zero` line, from the terms of its two expressions
-abbrev pub halves_by : List ℕ → ℕ → List Piece → List Piece → Result (List Arg) Refusal
+abbrev pub halves_by : List ℕ → ℕ → List TextPiece → List TextPiece → Result (List Arg) ParseRefusal
 halves_by text at left right =
     unless
     (refused text at (list_all (is_term_at text) left && list_all (is_term_at text) right)
@@ -52,30 +52,30 @@ halves_by text at left right =
     (Plain (map (term_of text) left) ∷ Plain (map (term_of text) right) ∷ [])
 
 -- the arguments of a `zero` line, from the members of its operand
-abbrev pub halves_of_members : List ℕ → ℕ → List Piece → Result (List Arg) Refusal
+abbrev pub halves_of_members : List ℕ → ℕ → List TextPiece → Result (List Arg) ParseRefusal
 halves_of_members text at pieces =
     by_two
     (λ left right. halves_by text at (expression_pieces text left) (expression_pieces text right))
     text at pieces
 
 -- the arguments of a `zero` line, or its refusal
-unfoldable pub halves_given : List ℕ → Span → Result (List Arg) Refusal
-halves_given text operand = halves_of_members text operand.from (members text operand)
+unfoldable pub parse_halves : List ℕ → Span → Result (List Arg) ParseRefusal
+parse_halves text operand = halves_of_members text operand.from (members text operand)
 
 -- the arguments of a `bss` line, from its two members
-abbrev pub block_by : List ℕ → ℕ → Piece → Piece → Result (List Arg) Refusal
+abbrev pub block_by : List ℕ → ℕ → TextPiece → TextPiece → Result (List Arg) ParseRefusal
 block_by text at name count =
     unless
     (refused text at (is_symbol_at text name && is_written_at Small text count)
     (place_out Small text (count ∷ []))) (Symbol name.span ∷ number_arg Small text count ∷ [])
 
 -- the arguments of a `bss` line, from the members of its operand
-abbrev pub block_of_members : List ℕ → ℕ → List Piece → Result (List Arg) Refusal
+abbrev pub block_of_members : List ℕ → ℕ → List TextPiece → Result (List Arg) ParseRefusal
 block_of_members text at pieces = by_two (block_by text at) text at pieces
 
 -- the arguments of a `bss` line, or its refusal
-unfoldable pub block_given : List ℕ → Span → Result (List Arg) Refusal
-block_given text operand = block_of_members text operand.from (members text operand)
+unfoldable pub parse_block : List ℕ → Span → Result (List Arg) ParseRefusal
+parse_block text operand = block_of_members text operand.from (members text operand)
 
 -- the section that is selected by a name after `use`
 unfoldable pub used_section : List ℕ → Option Section
@@ -86,7 +86,7 @@ abbrev pub is_section : List ℕ → Bool
 is_section name = is_some (used_section name)
 
 -- the argument of a `use` line, or its refusal
-unfoldable pub section_given : List ℕ → Span → Result (List Arg) Refusal
-section_given text operand =
+unfoldable pub parse_section : List ℕ → Span → Result (List Arg) ParseRefusal
+parse_section text operand =
     unless (refused text operand.from (is_section (slice_of text operand)) None)
     (Symbol operand ∷ [])

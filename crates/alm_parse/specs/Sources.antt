@@ -3,9 +3,9 @@ use Rattle.std.specs.Prelude.{ℕ, ◌+◌, ◌-◌, ◌≡◌, ⊤, Bool, false
 use Rattle.std.specs.Prelude.{Some, None, Result, Ok, Err, if◌then◌else◌}
 use Rattle.m36_text.specs.Results.{and_then}
 use Rattle.alm_tokens.specs.declared.span.Span.{Span}
-use Rattle.alm_parse.specs.declared.refusal.Code.{Code}
-use Rattle.alm_parse.specs.declared.refusal.Code.TheVariants as code
-use Rattle.alm_parse.specs.declared.refusal.Refusal.{Refusal}
+use Rattle.alm_parse.specs.declared.refusal.ParseCode.{ParseCode}
+use Rattle.alm_parse.specs.declared.refusal.ParseCode.TheVariants as code
+use Rattle.alm_parse.specs.declared.refusal.ParseRefusal.{ParseRefusal}
 use Rattle.alm_tokens.specs.declared.rows.Row.{Row}
 use Rattle.alm_parse.specs.declared.line.Line36.{Line36}
 use Rattle.alm_parse.specs.declared.fault.AlmFault.{AlmFault}
@@ -15,21 +15,21 @@ use Rattle.alm_parse.specs.SourceFields.{Source}
 use Rattle.alm_tokens.specs.Tokens.{slice_of, is_text}
 use Rattle.alm_tokens.specs.Rows.{rows_of}
 use Rattle.alm_parse.specs.Operations.{end_name}
-use Rattle.alm_parse.specs.Lines.{line_given}
+use Rattle.alm_parse.specs.Lines.{parse_line}
 
 -- the column of an index in a line that begins at `start`; it counts bytes from 1
 abbrev pub column_at : ℕ → ℕ → ℕ
 column_at start place = place - start + 1
 
 -- The fault with the code of a refusal, at a line and a column.
-abbrev pub fault_by : Code → ℕ → ℕ → AlmFault
+abbrev pub fault_by : ParseCode → ℕ → ℕ → AlmFault
 fault_by code.E1 line column = E1 line column
 fault_by code.E2 line column = E2 line column
 fault_by code.E3 line column = E3 line column
 fault_by code.E4 line column = E4 line column
 
 -- the fault of a refusal in a line
-abbrev pub fault_of : Row → Refusal → AlmFault
+abbrev pub fault_of : Row → ParseRefusal → AlmFault
 fault_of row refusal = fault_by refusal.code row.number (column_at row.span.from refusal.place)
 
 -- Text after the operation `end` is ignored.
@@ -40,7 +40,7 @@ names_end text None = false
 -- A line is parsed, or refuses the source. The lines after it, unless it is the last, are parsed by
 -- `further`.
 abbrev pub continued : List ℕ → Row → List Line36 → (List Line36 → Result (List Line36) AlmFault)
-    → Result Line36 Refusal → Result (List Line36) AlmFault
+    → Result Line36 ParseRefusal → Result (List Line36) AlmFault
 continued text row before further (Ok line) =
     if names_end text line.op then Ok (before ++ line ∷ []) else further (before ++ line ∷ [])
 continued text row before further (Err refusal) = Err (fault_of row refusal)
@@ -49,7 +49,7 @@ continued text row before further (Err refusal) = Err (fault_of row refusal)
 unfoldable pub read_lines : List ℕ → List Line36 → List Row → Result (List Line36) AlmFault
 read_lines text before [] = Ok before
 read_lines text before (row ∷ rows) =
-    continued text row before (λ more. read_lines text more rows) (line_given text row)
+    continued text row before (λ more. read_lines text more rows) (parse_line text row)
 
 -- the source with these lines
 abbrev pub with_text : List ℕ → Result (List Line36) AlmFault → Result Source AlmFault

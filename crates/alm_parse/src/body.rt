@@ -9,7 +9,7 @@ ghost use Rattle.alm_parse.specs.Bodies.{place_of, symbol_end, external, body_of
 use alm_tokens::bytes::is_sign;
 use alm_tokens::expression::expression_pieces;
 use alm_tokens::modifiers::pr_number;
-use alm_tokens::pieces::{Piece, Pieces};
+use alm_tokens::pieces::{Pieces, TextPiece};
 use alm_tokens::span::{Span, bytes_of, first_byte};
 use alm_tokens::tokens::is_symbol;
 use m36_text::{is_name_character, is_text, lines};
@@ -30,7 +30,7 @@ pub enum Body {
 }
 
 // The index of the first byte that no symbol can have.
-fn first_other(bytes: &[u8]) -> Option<usize>
+fn first_non_name_character(bytes: &[u8]) -> Option<usize>
     ensures value { result ≡ position (λ b. not (is_name_character b)) bytes.now }
     ensures within { IfSome result (λ i. i < length bytes.now) }
 {
@@ -55,7 +55,7 @@ fn symbol_end(text: &[u8], span: Span) -> u32
     ensures { result ≡ symbol_end text.now span }
 {
     let bytes = bytes_of(text, span);
-    match first_other(bytes) {
+    match first_non_name_character(bytes) {
         Some(place) => span.from + place as u32,
         None => span.from + bytes.len() as u32,
     }
@@ -181,7 +181,7 @@ fn tail_pieces(alloc: Global, text: &[u8], tail: Span) -> Result<Pieces, NoMemor
     if bytes.is_empty() {
         return Ok(Pieces::new(alloc));
     }
-    let whole = Piece {
+    let whole = TextPiece {
         span: Span {
             from: tail.from + 1,
             to: tail.to,
@@ -199,7 +199,7 @@ pub fn body_pieces(alloc: Global, text: &[u8], body: Body) -> Result<Pieces, NoM
 {
     match body {
         Body::Through(_, span) | Body::Plain(span) => {
-            expression_pieces(alloc, text, Piece { span, minus: false })
+            expression_pieces(alloc, text, TextPiece { span, minus: false })
         }
         Body::External(_, _, tail) => tail_pieces(alloc, text, tail),
     }

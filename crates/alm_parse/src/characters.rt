@@ -4,12 +4,12 @@ ghost use Rattle.std.specs.Prelude.{ℕ, ◌∷◌, ◌≡◌, ◌^◌, ◌<◌,
 ghost use Rattle.std.specs.List.{find, position};
 ghost use Rattle.std.specs.Option.{option_copied};
 ghost use Rattle.alm_tokens.specs.Bytes.{is_blank, is_character};
-ghost use Rattle.alm_parse.specs.Characters.{first_word, packed, is_ended, place_bad, characters_given};
+ghost use Rattle.alm_parse.specs.Characters.{first_word, packed, is_ended, place_bad, parse_characters};
 ghost use Rattle.alm_parse.specs.Refusals.{Reads, HaltsInside};
 
 use crate::args::{Arg, Args, one};
 use crate::body::place_of;
-use crate::refusal::{Code, Halt, Refusal, byte_at};
+use crate::refusal::{ParseCode, ParseError, ParseRefusal, byte_at};
 use alm_tokens::bytes::{is_blank, is_character};
 use alm_tokens::span::{Span, bytes_of};
 use m36_word::{NoMemory, Word, Words};
@@ -46,7 +46,7 @@ fn first_word(bytes: &[u8]) -> Word
 }
 
 // The characters after the first four.
-fn behind_four(bytes: &[u8]) -> &[u8]
+fn after_four(bytes: &[u8]) -> &[u8]
     ensures value { result.now ≡ drop 4 bytes.now }
     ensures shorter { 0 < length bytes.now → length result.now < length bytes.now }
 {
@@ -64,7 +64,7 @@ fn packed(alloc: Global, bytes: &[u8]) -> Result<Words, NoMemory>
     let mut rest = bytes;
     while !rest.is_empty() {
         words.push(first_word(rest))?;
-        rest = behind_four(rest);
+        rest = after_four(rest);
     }
     Ok(words)
 }
@@ -105,25 +105,25 @@ fn place_bad(text: &[u8], span: Span) -> Option<u32>
 
 /// Parses characters between delimiters. `rest` begins with the first delimiter and extends to the
 /// end of the line.
-#[tactic(auto, unfolding(crate::specs::Characters::characters_given))]
-pub fn characters_args(alloc: Global, text: &[u8], rest: Span) -> Result<Args, Halt>
+#[tactic(auto, unfolding(crate::specs::Characters::parse_characters))]
+pub fn characters_args(alloc: Global, text: &[u8], rest: Span) -> Result<Args, ParseError>
     requires text { length text.now < 2 ^ 32 }
     requires inside { rest.from < length text.now }
-    ensures value { Reads result (characters_given text.now rest) }
+    ensures value { Reads result (parse_characters text.now rest) }
     ensures inside { IfErr result (HaltsInside (length text.now)) }
 {
     let delimiter = byte_at(text, rest.from);
     if !is_character(delimiter) {
-        return Err(Halt::Refused(Refusal {
+        return Err(ParseError::Refused(ParseRefusal {
             place: rest.from,
-            code: Code::E1,
+            code: ParseCode::E1,
         }));
     }
     let from = rest.from + 1;
     let Some(close) = place_of(text, Span { from, to: rest.to }, delimiter) else {
-        return Err(Halt::Refused(Refusal {
+        return Err(ParseError::Refused(ParseRefusal {
             place: rest.from,
-            code: Code::E2,
+            code: ParseCode::E2,
         }));
     };
     let behind = Span {
@@ -131,16 +131,16 @@ pub fn characters_args(alloc: Global, text: &[u8], rest: Span) -> Result<Args, H
         to: rest.to,
     };
     if !is_ended(bytes_of(text, behind)) {
-        return Err(Halt::Refused(Refusal {
+        return Err(ParseError::Refused(ParseRefusal {
             place: rest.from,
-            code: Code::E2,
+            code: ParseCode::E2,
         }));
     }
     let span = Span { from, to: close };
     if let Some(place) = place_bad(text, span) {
-        return Err(Halt::Refused(Refusal {
+        return Err(ParseError::Refused(ParseRefusal {
             place,
-            code: Code::E1,
+            code: ParseCode::E1,
         }));
     }
     let words = packed(alloc, bytes_of(text, span))?;

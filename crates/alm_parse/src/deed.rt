@@ -2,7 +2,7 @@
 
 /// The effect of an operation.
 #[derive(Clone, Copy, PartialEq, Eq)]
-pub enum Deed {
+pub enum LineEffect {
     /// None: the line has no operation, or it is `end`.
     Nothing,
     /// Places an instruction with this operation code and this bit 27.

@@ -5,7 +5,7 @@ ghost use Rattle.alm_tokens.specs.Tokens.{is_text};
 ghost use Rattle.alm_parse.specs.Operations.{directive, operation_of};
 ghost use Rattle.alm_parse.specs.Deeds.{deed_named};
 
-use crate::deed::Deed;
+use crate::deed::LineEffect;
 use crate::operation::Operation;
 use m36_inst::by_name;
 
@@ -19,44 +19,44 @@ fn is_named(bytes: &[u8], name: &[u8]) -> bool
 // The kind of operand and the effect of a directive of the assembler. None if this is not the name
 // of one.
 #[tactic(auto, unfolding(crate::specs::Operations::directive))]
-fn directive(bytes: &[u8]) -> Option<(Operation, Deed)>
+fn directive(bytes: &[u8]) -> Option<(Operation, LineEffect)>
     ensures { result ≡ directive bytes.now }
 {
     if is_named(bytes, b"entry") {
-        return Some((Operation::Names, Deed::Entry));
+        return Some((Operation::Names, LineEffect::Entry));
     }
     if is_named(bytes, b"segdef") {
-        return Some((Operation::Names, Deed::Segdef));
+        return Some((Operation::Names, LineEffect::Segdef));
     }
     if is_named(bytes, b"equ") {
-        return Some((Operation::Value, Deed::Equ));
+        return Some((Operation::Value, LineEffect::Equ));
     }
     if is_named(bytes, b"use") {
-        return Some((Operation::Section, Deed::Use));
+        return Some((Operation::Section, LineEffect::Use));
     }
     if is_named(bytes, b"dec") {
-        return Some((Operation::Decimal, Deed::Words));
+        return Some((Operation::Decimal, LineEffect::Words));
     }
     if is_named(bytes, b"oct") {
-        return Some((Operation::Octal, Deed::Words));
+        return Some((Operation::Octal, LineEffect::Words));
     }
     if is_named(bytes, b"aci") {
-        return Some((Operation::Characters, Deed::Words));
+        return Some((Operation::Characters, LineEffect::Words));
     }
     if is_named(bytes, b"zero") {
-        return Some((Operation::Halves, Deed::Zero));
+        return Some((Operation::Halves, LineEffect::Zero));
     }
     if is_named(bytes, b"bss") {
-        return Some((Operation::Block, Deed::Block));
+        return Some((Operation::Block, LineEffect::Block));
     }
     if is_named(bytes, b"even") {
-        return Some((Operation::Bare, Deed::Even));
+        return Some((Operation::Bare, LineEffect::Even));
     }
     if is_named(bytes, b"entrybound") {
-        return Some((Operation::Bare, Deed::Bound));
+        return Some((Operation::Bare, LineEffect::Bound));
     }
     if is_named(bytes, b"end") {
-        return Some((Operation::End, Deed::Nothing));
+        return Some((Operation::End, LineEffect::Nothing));
     }
     None
 }
@@ -65,7 +65,7 @@ fn directive(bytes: &[u8]) -> Option<(Operation, Deed)>
 #[derive(Clone, Copy)]
 pub struct Meaning {
     pub operation: Operation,
-    pub deed: Deed,
+    pub deed: LineEffect,
 }
 
 /// The meaning of the name of an operation. None if there is no operation of this name.
@@ -80,7 +80,7 @@ pub fn meaning_of(bytes: &[u8]) -> Option<Meaning>
     match by_name(bytes) {
         Some((code, bit27)) => Some(Meaning {
             operation: Operation::Instruction,
-            deed: Deed::Instruction(code, bit27),
+            deed: LineEffect::Instruction(code, bit27),
         }),
         None => None,
     }

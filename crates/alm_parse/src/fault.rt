@@ -4,7 +4,7 @@ ghost use Rattle.std.specs.Prelude.{ℕ, ◌≡◌, ◌-◌, ◌^◌, ◌<◌, �
 ghost use Rattle.alm_parse.specs.Sources.{fault_by, fault_of};
 ghost use Rattle.alm_parse.specs.declared.fault.AlmFault.TheVariants as fault;
 
-use crate::refusal::{Code, Refusal};
+use crate::refusal::{ParseCode, ParseRefusal};
 use alm_tokens::rows::Row;
 use m36_word::NoMemory;
 use thiserror::Error;
@@ -53,19 +53,19 @@ impl From<NoMemory> for AlmFault {
     }
 }
 
-fn fault_by(code: Code, line: u32, column: u32) -> AlmFault
+fn fault_by(code: ParseCode, line: u32, column: u32) -> AlmFault
     ensures { result ≡ fault_by code line column }
 {
     match code {
-        Code::E1 => AlmFault::E1(line, column),
-        Code::E2 => AlmFault::E2(line, column),
-        Code::E3 => AlmFault::E3(line, column),
-        Code::E4 => AlmFault::E4(line, column),
+        ParseCode::E1 => AlmFault::E1(line, column),
+        ParseCode::E2 => AlmFault::E2(line, column),
+        ParseCode::E3 => AlmFault::E3(line, column),
+        ParseCode::E4 => AlmFault::E4(line, column),
     }
 }
 
 /// The fault with the code of a refusal, at the number of its line and its column.
-pub fn fault_of(row: Row, refusal: Refusal) -> AlmFault
+pub fn fault_of(row: Row, refusal: ParseRefusal) -> AlmFault
     requires { refusal.place < 2 ^ 32 - 1 }
     ensures { result ≡ fault_of row refusal }
 {

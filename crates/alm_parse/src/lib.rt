@@ -54,7 +54,7 @@ pub mod source;
 pub use alm_tokens::{Atom, Expr, Span, Spans, Term, bytes_of, expression, span};
 pub use args::{Arg, Args};
 pub use body::own_section;
-pub use deed::Deed;
+pub use deed::LineEffect;
 pub use directives::operation_of;
 pub use fault::AlmFault;
 pub use laws::packing_law;

@@ -1,7 +1,7 @@
 //! The parsed lines of a source.
 
 use crate::args::Args;
-use crate::deed::Deed;
+use crate::deed::LineEffect;
 use alm_tokens::span::{Span, Spans};
 
 /// A line of a source: its labels in order, its operation with its arguments and its effect, the
@@ -14,5 +14,5 @@ pub struct Line36 {
     pub op: Option<Span>,
     pub start: u32,
     pub line: u32,
-    pub deed: Deed,
+    pub deed: LineEffect,
 }

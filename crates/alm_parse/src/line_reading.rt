@@ -4,20 +4,20 @@ ghost use Rattle.std.specs.Prelude.{ℕ, ◌≡◌, ◌^◌, ◌<◌, Option, Re
 ghost use Rattle.m36_text.specs.Results.{and_then};
 ghost use Rattle.std.specs.List.{All};
 ghost use Rattle.alm_tokens.specs.Heads.{IsMark, IsToken};
-ghost use Rattle.alm_parse.specs.Lines.{missing, args_with, operand_for, args_of, is_no_symbol, label_refusal, line_of, line_headed, line_given};
+ghost use Rattle.alm_parse.specs.Lines.{missing, args_with, operand_for, args_of, is_no_symbol, label_refusal, line_of, line_headed, parse_line};
 ghost use Rattle.alm_parse.specs.Deeds.{deed_of};
 ghost use Rattle.alm_parse.specs.Refusals.{Reads, IsInside, HaltsInside};
 
 use crate::args::Args;
 use crate::characters::characters_args;
-use crate::deed::Deed;
+use crate::deed::LineEffect;
 use crate::directives::{Meaning, meaning_of};
 use crate::line::Line36;
 use crate::members::{numbers_args, symbols_args};
 use crate::operand::operand_args;
 use crate::operation::Operation;
 use crate::pairs::{block_args, halves_args, section_args, value_args};
-use crate::refusal::{Code, Halt, Refusal, told};
+use crate::refusal::{ParseCode, ParseError, ParseRefusal, refusal_at_token};
 use alm_tokens::head::{Head, delimited_in, head_of, operand_in};
 use alm_tokens::numerals::Numeral;
 use alm_tokens::rows::Row;
@@ -26,7 +26,7 @@ use alm_tokens::tokens::is_symbol;
 use std::alloc::Global;
 
 // The refusal of an operation that lacks its operand, if it must have one.
-fn missing(operation: Operation, at: u32) -> Option<Refusal>
+fn missing(operation: Operation, at: u32) -> Option<ParseRefusal>
     ensures value { result ≡ missing operation at }
     ensures place { IfSome result (λ refusal. refusal.place ≡ at) }
 {
@@ -39,14 +39,19 @@ fn missing(operation: Operation, at: u32) -> Option<Refusal>
         | Operation::Octal
         | Operation::Characters
         | Operation::Halves
-        | Operation::Block => Some(Refusal {
+        | Operation::Block => Some(ParseRefusal {
             place: at,
-            code: Code::E2,
+            code: ParseCode::E2,
         }),
     }
 }
 
-fn args_with(alloc: Global, operation: Operation, text: &[u8], operand: Span) -> Result<Args, Halt>
+fn args_with(
+    alloc: Global,
+    operation: Operation,
+    text: &[u8],
+    operand: Span,
+) -> Result<Args, ParseError>
     requires text { length text.now < 2 ^ 32 }
     requires inside { operand.from < length text.now }
     ensures value { Reads result (args_with operation text.now operand) }
@@ -62,7 +67,11 @@ fn args_with(alloc: Global, operation: Operation, text: &[u8], operand: Span) ->
         Operation::Characters => characters_args(alloc, text, operand),
         Operation::Halves => halves_args(alloc, text, operand),
         Operation::Block => block_args(alloc, text, operand),
-        Operation::Bare => Err(Halt::Refused(told(text, operand.from, Code::E2))),
+        Operation::Bare => Err(ParseError::Refused(refusal_at_token(
+            text,
+            operand.from,
+            ParseCode::E2,
+        ))),
         Operation::End => Ok(Args::new(alloc)),
     }
 }
@@ -87,7 +96,7 @@ fn args_of(
     text: &[u8],
     op: u32,
     rest: Span,
-) -> Result<Args, Halt>
+) -> Result<Args, ParseError>
     requires text { length text.now < 2 ^ 32 }
     requires inside { op < length text.now }
     ensures value { Reads result (args_of operation text.now op rest) }
@@ -96,7 +105,7 @@ fn args_of(
     match operand_for(operation, text, rest) {
         Some(operand) => args_with(alloc, operation, text, operand),
         None => match missing(operation, op) {
-            Some(refusal) => Err(Halt::Refused(refusal)),
+            Some(refusal) => Err(ParseError::Refused(refusal)),
             None => Ok(Args::new(alloc)),
         },
     }
@@ -110,13 +119,13 @@ fn is_no_symbol(text: &[u8], span: Span) -> bool
 
 /// The refusal of the first label that is not a symbol.
 #[tactic(auto, using(crate::proofs::Inside::mark_inside), unfolding(crate::specs::Lines::label_refusal))]
-fn label_refusal(text: &[u8], labels: &[Span]) -> Option<Refusal>
+fn label_refusal(text: &[u8], labels: &[Span]) -> Option<ParseRefusal>
     requires { All (IsMark (length text.now)) labels.now }
     ensures value { result ≡ label_refusal text.now labels.now }
     ensures inside { IfSome result (IsInside (length text.now)) }
 {
     match labels.iter().find(|label| is_no_symbol(text, **label)) {
-        Some(label) => Some(told(text, label.from, Code::E2)),
+        Some(label) => Some(refusal_at_token(text, label.from, ParseCode::E2)),
         None => None,
     }
 }
@@ -141,11 +150,11 @@ fn line_of(text: &[u8], row: Row, head: Head, given: Given) -> Line36
 #[derive(Drop)]
 struct Given {
     args: Args,
-    deed: Deed,
+    deed: LineEffect,
 }
 
 // The arguments and the effect of the operation of a line, or the refusal of the line.
-fn given_by(alloc: Global, text: &[u8], row: Row, head: &Head) -> Result<Given, Halt>
+fn line_parts(alloc: Global, text: &[u8], row: Row, head: &Head) -> Result<Given, ParseError>
     requires text { length text.now < 2 ^ 32 }
     requires marks { All (IsMark (length text.now)) head.now.labels }
     requires op { IfSome head.now.op (IsToken (length text.now)) }
@@ -155,16 +164,16 @@ fn given_by(alloc: Global, text: &[u8], row: Row, head: &Head) -> Result<Given, 
     ensures inside { IfErr result (HaltsInside (length text.now)) }
 {
     if let Some(refusal) = label_refusal(text, head.labels.items()) {
-        return Err(Halt::Refused(refusal));
+        return Err(ParseError::Refused(refusal));
     }
     let Some(op) = head.op else {
         return Ok(Given {
             args: Args::new(alloc),
-            deed: Deed::Nothing,
+            deed: LineEffect::Nothing,
         });
     };
     let Some(Meaning { operation, deed }) = meaning_of(bytes_of(text, op)) else {
-        return Err(Halt::Refused(told(text, op.from, Code::E3)));
+        return Err(ParseError::Refused(refusal_at_token(text, op.from, ParseCode::E3)));
     };
     let rest = Span {
         from: op.to,
@@ -172,29 +181,29 @@ fn given_by(alloc: Global, text: &[u8], row: Row, head: &Head) -> Result<Given, 
     };
     match args_of(alloc, operation, text, op.from, rest) {
         Ok(args) => Ok(Given { args, deed }),
-        Err(Halt::Refused(refusal)) => Err(Halt::Refused(refusal)),
-        Err(Halt::NoMemory) => Err(Halt::NoMemory),
+        Err(ParseError::Refused(refusal)) => Err(ParseError::Refused(refusal)),
+        Err(ParseError::NoMemory) => Err(ParseError::NoMemory),
     }
 }
 
 /// Parses a line, or refuses it.
-#[tactic(auto, unfolding(crate::specs::Lines::line_given))]
-pub fn read_line(alloc: Global, text: &[u8], row: Row) -> Result<Line36, Halt>
+#[tactic(auto, unfolding(crate::specs::Lines::parse_line))]
+pub fn read_line(alloc: Global, text: &[u8], row: Row) -> Result<Line36, ParseError>
     requires { length text.now < 2 ^ 32 }
-    ensures value { Reads result (line_given text.now row) }
+    ensures value { Reads result (parse_line text.now row) }
     ensures inside { IfErr result (HaltsInside (length text.now)) }
 {
     let head = head_of(alloc, text, row.span)?;
-    match given_by(alloc, text, row, &head) {
+    match line_parts(alloc, text, row, &head) {
         Ok(given) => Ok(line_of(text, row, head, given)),
-        Err(Halt::Refused(refusal)) => {
+        Err(ParseError::Refused(refusal)) => {
             // Dropped explicitly, so that the drop is proved once for its type. Likewise below.
             drop(head);
-            Err(Halt::Refused(refusal))
+            Err(ParseError::Refused(refusal))
         }
-        Err(Halt::NoMemory) => {
+        Err(ParseError::NoMemory) => {
             drop(head);
-            Err(Halt::NoMemory)
+            Err(ParseError::NoMemory)
         }
     }
 }

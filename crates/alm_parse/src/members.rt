@@ -4,20 +4,20 @@ ghost use Rattle.std.specs.Prelude.{ℕ, ◌≡◌, ◌^◌, ◌<◌, None, IfOk
 ghost use Rattle.std.specs.List.{list_all};
 ghost use Rattle.m36_text.specs.Results.{unless};
 ghost use Rattle.alm_tokens.specs.Lists.{is_symbol_at};
-ghost use Rattle.alm_parse.specs.Members.{symbol_arg, number_arg, symbols_given, numbers_by, numbers_given};
+ghost use Rattle.alm_parse.specs.Members.{symbol_arg, number_arg, parse_symbols, numbers_by, parse_numbers};
 ghost use Rattle.alm_parse.specs.Refusals.{refused, Reads, HaltsInside};
 
 use crate::args::{Arg, Args};
-use crate::refusal::{Halt, refused};
+use crate::refusal::{ParseError, refused};
 use alm_tokens::lists::{are_symbols, are_written, members, place_out};
 use alm_tokens::numerals::{Numeral, word_as};
-use alm_tokens::pieces::Piece;
+use alm_tokens::pieces::TextPiece;
 use alm_tokens::span::{Span, bytes_of};
 use m36_word::NoMemory;
 use std::alloc::Global;
 
 // The arguments that are the symbols of these members.
-fn symbol_args(alloc: Global, members: &[Piece]) -> Result<Args, NoMemory>
+fn symbol_args(alloc: Global, members: &[TextPiece]) -> Result<Args, NoMemory>
     ensures { IfOk result (λ args. args ≡ map symbol_arg members.now) }
 {
     let mut args = Args::new(alloc);
@@ -28,7 +28,12 @@ fn symbol_args(alloc: Global, members: &[Piece]) -> Result<Args, NoMemory>
 }
 
 // The arguments of these members, which must be symbols. `at` is the index of the operand.
-fn symbols_of(alloc: Global, text: &[u8], at: u32, members: &[Piece]) -> Result<Args, Halt>
+fn symbols_of(
+    alloc: Global,
+    text: &[u8],
+    at: u32,
+    members: &[TextPiece],
+) -> Result<Args, ParseError>
     requires { at < length text.now }
     ensures value { Reads result
         (unless (refused text.now at (list_all (is_symbol_at text.now) members.now) None)
@@ -37,17 +42,17 @@ fn symbols_of(alloc: Global, text: &[u8], at: u32, members: &[Piece]) -> Result<
 {
     let form = are_symbols(text, members);
     if let Some(refusal) = refused(text, at, form, None) {
-        return Err(Halt::Refused(refusal));
+        return Err(ParseError::Refused(refusal));
     }
     Ok(symbol_args(alloc, members)?)
 }
 
 /// Parses symbols separated by commas.
-#[tactic(auto, unfolding(crate::specs::Members::symbols_given))]
-pub fn symbols_args(alloc: Global, text: &[u8], operand: Span) -> Result<Args, Halt>
+#[tactic(auto, unfolding(crate::specs::Members::parse_symbols))]
+pub fn symbols_args(alloc: Global, text: &[u8], operand: Span) -> Result<Args, ParseError>
     requires text { length text.now < 2 ^ 32 }
     requires inside { operand.from < length text.now }
-    ensures value { Reads result (symbols_given text.now operand) }
+    ensures value { Reads result (parse_symbols text.now operand) }
     ensures inside { IfErr result (HaltsInside (length text.now)) }
 {
     let members = members(alloc, text, operand)?;
@@ -58,7 +63,7 @@ pub fn symbols_args(alloc: Global, text: &[u8], operand: Span) -> Result<Args, H
 }
 
 /// A number as an argument.
-pub fn number_arg(numeral: Numeral, text: &[u8], member: &Piece) -> Arg
+pub fn number_arg(numeral: Numeral, text: &[u8], member: &TextPiece) -> Arg
     ensures { result ≡ number_arg numeral text.now member.now }
 {
     Arg::Number(word_as(numeral, bytes_of(text, member.span)))
@@ -69,7 +74,7 @@ fn number_args(
     alloc: Global,
     numeral: Numeral,
     text: &[u8],
-    members: &[Piece],
+    members: &[TextPiece],
 ) -> Result<Args, NoMemory>
     ensures { IfOk result (λ args. args ≡ map (number_arg numeral text.now) members.now) }
 {
@@ -86,8 +91,8 @@ fn numbers_by(
     numeral: Numeral,
     text: &[u8],
     at: u32,
-    members: &[Piece],
-) -> Result<Args, Halt>
+    members: &[TextPiece],
+) -> Result<Args, ParseError>
     requires { at < length text.now }
     ensures value { Reads result (numbers_by numeral text.now at members.now) }
     ensures inside { IfErr result (HaltsInside (length text.now)) }
@@ -95,22 +100,22 @@ fn numbers_by(
     let form = are_written(numeral, text, members);
     let over = place_out(numeral, text, members);
     if let Some(refusal) = refused(text, at, form, over) {
-        return Err(Halt::Refused(refusal));
+        return Err(ParseError::Refused(refusal));
     }
     Ok(number_args(alloc, numeral, text, members)?)
 }
 
 /// Parses numbers separated by commas.
-#[tactic(auto, unfolding(crate::specs::Members::numbers_given))]
+#[tactic(auto, unfolding(crate::specs::Members::parse_numbers))]
 pub fn numbers_args(
     alloc: Global,
     numeral: Numeral,
     text: &[u8],
     operand: Span,
-) -> Result<Args, Halt>
+) -> Result<Args, ParseError>
     requires text { length text.now < 2 ^ 32 }
     requires inside { operand.from < length text.now }
-    ensures value { Reads result (numbers_given numeral text.now operand) }
+    ensures value { Reads result (parse_numbers numeral text.now operand) }
     ensures inside { IfErr result (HaltsInside (length text.now)) }
 {
     let members = members(alloc, text, operand)?;

@@ -2,12 +2,12 @@
 
 ghost use Rattle.std.specs.Prelude.{ℕ, ◌≡◌, ◌^◌, ◌<◌, Option, IfSome, IfOk, IfErr, length, map};
 ghost use Rattle.alm_tokens.specs.Expressions.{term_of};
-ghost use Rattle.alm_parse.specs.Operands.{body_span, tag_given, entry_given, operand_of, operand_given};
+ghost use Rattle.alm_parse.specs.Operands.{body_span, tag_given, entry_given, operand_of, parse_operand};
 ghost use Rattle.alm_parse.specs.Refusals.{Reads, HaltsInside};
 
 use crate::args::{Arg, Args, one};
 use crate::body::{Body, body_of, body_pieces, is_body, place_of};
-use crate::refusal::{Halt, refused};
+use crate::refusal::{ParseError, refused};
 use alm_tokens::expression::{Expr, are_terms, expr_of};
 use alm_tokens::lists::place_out;
 use alm_tokens::modifiers::{pr_number, tag_of};
@@ -86,11 +86,11 @@ fn operand_of(text: &[u8], body: Body, expr: Expr, tag: u8) -> Arg
 }
 
 /// Parses the operand of an instruction, which has at least one byte.
-#[tactic(auto, unfolding(crate::specs::Operands::operand_given))]
-pub fn operand_args(alloc: Global, text: &[u8], operand: Span) -> Result<Args, Halt>
+#[tactic(auto, unfolding(crate::specs::Operands::parse_operand))]
+pub fn operand_args(alloc: Global, text: &[u8], operand: Span) -> Result<Args, ParseError>
     requires text { length text.now < 2 ^ 32 }
     requires inside { operand.from < length text.now }
-    ensures value { Reads result (operand_given text.now operand) }
+    ensures value { Reads result (parse_operand text.now operand) }
     ensures inside { IfErr result (HaltsInside (length text.now)) }
 {
     let comma = place_of(text, operand, b',');
@@ -100,7 +100,7 @@ pub fn operand_args(alloc: Global, text: &[u8], operand: Span) -> Result<Args, H
     let form = is_body(text, body) && are_terms(text, pieces.items()) && tag.is_some();
     let over = place_out(Numeral::Small, text, pieces.items());
     if let Some(refusal) = refused(text, operand.from, form, over) {
-        return Err(Halt::Refused(refusal));
+        return Err(ParseError::Refused(refusal));
     }
     let expr = expr_of(alloc, text, pieces.items())?;
     let arg = operand_of(text, body, expr, tag.unwrap_or(0));

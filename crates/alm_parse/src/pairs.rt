@@ -3,17 +3,17 @@
 ghost use Rattle.std.specs.Prelude.{ℕ, [], ◌∷◌, ◌≡◌, ◌≤◌, ◌^◌, ◌<◌, Option, IfSome, IfOk, IfErr, length, map};
 ghost use Rattle.alm_tokens.specs.Expressions.{expression_pieces, term_of};
 ghost use Rattle.alm_parse.specs.declared.args.Arg.TheVariants as arg;
-ghost use Rattle.alm_parse.specs.Pairs.{value_by, value_of_members, value_given, halves_by, halves_of_members, halves_given};
-ghost use Rattle.alm_parse.specs.Pairs.{block_of_members, block_given, used_section, section_given};
+ghost use Rattle.alm_parse.specs.Pairs.{value_by, value_of_members, parse_value, halves_by, halves_of_members, parse_halves};
+ghost use Rattle.alm_parse.specs.Pairs.{block_of_members, parse_block, used_section, parse_section};
 ghost use Rattle.alm_parse.specs.Refusals.{Reads, HaltsInside};
 
 use crate::args::{Arg, Args, one, two};
 use crate::members::number_arg;
-use crate::refusal::{Code, Halt, refused, told};
+use crate::refusal::{ParseCode, ParseError, refusal_at_token, refused};
 use alm_tokens::expression::{are_terms, expr_of, expression_pieces};
 use alm_tokens::lists::{is_symbol_at, is_written_at, members, place_out};
 use alm_tokens::numerals::Numeral;
-use alm_tokens::pieces::Piece;
+use alm_tokens::pieces::TextPiece;
 use alm_tokens::span::{Span, bytes_of};
 use m36_text::is_text;
 use m36_word::NoMemory;
@@ -21,7 +21,7 @@ use obj36_parts::Section;
 use std::alloc::Global;
 
 // The expression with these terms, as an argument.
-fn plain_arg(alloc: Global, text: &[u8], pieces: &[Piece]) -> Result<Arg, NoMemory>
+fn plain_arg(alloc: Global, text: &[u8], pieces: &[TextPiece]) -> Result<Arg, NoMemory>
     requires { length pieces.now ≤ 2 ^ 32 }
     ensures { IfOk result (λ plain. plain ≡ arg.Plain (map (term_of text.now) pieces.now)) }
 {
@@ -33,9 +33,9 @@ fn value_by(
     alloc: Global,
     text: &[u8],
     at: u32,
-    name: &Piece,
-    pieces: &[Piece],
-) -> Result<Args, Halt>
+    name: &TextPiece,
+    pieces: &[TextPiece],
+) -> Result<Args, ParseError>
     requires inside { at < length text.now }
     requires count { length pieces.now ≤ 2 ^ 32 }
     ensures value { Reads result (value_by text.now at name.now pieces.now) }
@@ -44,14 +44,20 @@ fn value_by(
     let form = is_symbol_at(text, name) && are_terms(text, pieces);
     let over = place_out(Numeral::Small, text, pieces);
     if let Some(refusal) = refused(text, at, form, over) {
-        return Err(Halt::Refused(refusal));
+        return Err(ParseError::Refused(refusal));
     }
     let value = plain_arg(alloc, text, pieces)?;
     Ok(two(alloc, Arg::Symbol(name.span), value)?)
 }
 
 // A symbol and the expression in a piece. `at` is the index of the operand.
-fn value_with(alloc: Global, text: &[u8], at: u32, name: &Piece, value: Piece) -> Result<Args, Halt>
+fn value_with(
+    alloc: Global,
+    text: &[u8],
+    at: u32,
+    name: &TextPiece,
+    value: TextPiece,
+) -> Result<Args, ParseError>
     requires text { length text.now < 2 ^ 32 }
     requires inside { at < length text.now }
     ensures value { Reads result
@@ -66,24 +72,29 @@ fn value_with(alloc: Global, text: &[u8], at: u32, name: &Piece, value: Piece) -
 }
 
 // A symbol and an expression, if an operand has these two members.
-fn value_of_members(alloc: Global, text: &[u8], at: u32, members: &[Piece]) -> Result<Args, Halt>
+fn value_of_members(
+    alloc: Global,
+    text: &[u8],
+    at: u32,
+    members: &[TextPiece],
+) -> Result<Args, ParseError>
     requires text { length text.now < 2 ^ 32 }
     requires inside { at < length text.now }
     ensures value { Reads result (value_of_members text.now at members.now) }
     ensures inside { IfErr result (HaltsInside (length text.now)) }
 {
     let [name, value] = members else {
-        return Err(Halt::Refused(told(text, at, Code::E2)));
+        return Err(ParseError::Refused(refusal_at_token(text, at, ParseCode::E2)));
     };
     value_with(alloc, text, at, name, *value)
 }
 
 /// Parses a symbol and an expression.
-#[tactic(auto, unfolding(crate::specs::Pairs::value_given))]
-pub fn value_args(alloc: Global, text: &[u8], operand: Span) -> Result<Args, Halt>
+#[tactic(auto, unfolding(crate::specs::Pairs::parse_value))]
+pub fn value_args(alloc: Global, text: &[u8], operand: Span) -> Result<Args, ParseError>
     requires text { length text.now < 2 ^ 32 }
     requires inside { operand.from < length text.now }
-    ensures value { Reads result (value_given text.now operand) }
+    ensures value { Reads result (parse_value text.now operand) }
     ensures inside { IfErr result (HaltsInside (length text.now)) }
 {
     let members = members(alloc, text, operand)?;
@@ -93,7 +104,12 @@ pub fn value_args(alloc: Global, text: &[u8], operand: Span) -> Result<Args, Hal
 }
 
 // The two expressions with these terms, as arguments.
-fn plain_args(alloc: Global, text: &[u8], left: &[Piece], right: &[Piece]) -> Result<Args, NoMemory>
+fn plain_args(
+    alloc: Global,
+    text: &[u8],
+    left: &[TextPiece],
+    right: &[TextPiece],
+) -> Result<Args, NoMemory>
     requires left { length left.now ≤ 2 ^ 32 }
     requires right { length right.now ≤ 2 ^ 32 }
     ensures { IfOk result (λ args.
@@ -117,9 +133,9 @@ fn halves_by(
     alloc: Global,
     text: &[u8],
     at: u32,
-    left: &[Piece],
-    right: &[Piece],
-) -> Result<Args, Halt>
+    left: &[TextPiece],
+    right: &[TextPiece],
+) -> Result<Args, ParseError>
     requires inside { at < length text.now }
     requires left { length left.now ≤ 2 ^ 32 }
     requires right { length right.now ≤ 2 ^ 32 }
@@ -131,19 +147,19 @@ fn halves_by(
     let second = place_out(Numeral::Small, text, right);
     let over = first.or(second);
     if let Some(refusal) = refused(text, at, form, over) {
-        return Err(Halt::Refused(refusal));
+        return Err(ParseError::Refused(refusal));
     }
     Ok(plain_args(alloc, text, left, right)?)
 }
 
 // Two expressions: the first has these terms, and the second is in a piece.
-fn halves_behind(
+fn halves_after(
     alloc: Global,
     text: &[u8],
     at: u32,
-    left: &[Piece],
-    right: Piece,
-) -> Result<Args, Halt>
+    left: &[TextPiece],
+    right: TextPiece,
+) -> Result<Args, ParseError>
     requires text { length text.now < 2 ^ 32 }
     requires inside { at < length text.now }
     requires left { length left.now ≤ 2 ^ 32 }
@@ -158,7 +174,13 @@ fn halves_behind(
 }
 
 // Two expressions in pieces.
-fn halves_with(alloc: Global, text: &[u8], at: u32, left: Piece, right: Piece) -> Result<Args, Halt>
+fn halves_with(
+    alloc: Global,
+    text: &[u8],
+    at: u32,
+    left: TextPiece,
+    right: TextPiece,
+) -> Result<Args, ParseError>
     requires text { length text.now < 2 ^ 32 }
     requires inside { at < length text.now }
     ensures value { Reads result
@@ -167,30 +189,35 @@ fn halves_with(alloc: Global, text: &[u8], at: u32, left: Piece, right: Piece) -
     ensures inside { IfErr result (HaltsInside (length text.now)) }
 {
     let left = expression_pieces(alloc, text, left)?;
-    let given = halves_behind(alloc, text, at, left.items(), right);
+    let given = halves_after(alloc, text, at, left.items(), right);
     drop(left);
     given
 }
 
 // Two expressions, if an operand has these two members.
-fn halves_of_members(alloc: Global, text: &[u8], at: u32, members: &[Piece]) -> Result<Args, Halt>
+fn halves_of_members(
+    alloc: Global,
+    text: &[u8],
+    at: u32,
+    members: &[TextPiece],
+) -> Result<Args, ParseError>
     requires text { length text.now < 2 ^ 32 }
     requires inside { at < length text.now }
     ensures value { Reads result (halves_of_members text.now at members.now) }
     ensures inside { IfErr result (HaltsInside (length text.now)) }
 {
     let [left, right] = members else {
-        return Err(Halt::Refused(told(text, at, Code::E2)));
+        return Err(ParseError::Refused(refusal_at_token(text, at, ParseCode::E2)));
     };
     halves_with(alloc, text, at, *left, *right)
 }
 
 /// Parses two expressions.
-#[tactic(auto, unfolding(crate::specs::Pairs::halves_given))]
-pub fn halves_args(alloc: Global, text: &[u8], operand: Span) -> Result<Args, Halt>
+#[tactic(auto, unfolding(crate::specs::Pairs::parse_halves))]
+pub fn halves_args(alloc: Global, text: &[u8], operand: Span) -> Result<Args, ParseError>
     requires text { length text.now < 2 ^ 32 }
     requires inside { operand.from < length text.now }
-    ensures value { Reads result (halves_given text.now operand) }
+    ensures value { Reads result (parse_halves text.now operand) }
     ensures inside { IfErr result (HaltsInside (length text.now)) }
 {
     let members = members(alloc, text, operand)?;
@@ -200,29 +227,34 @@ pub fn halves_args(alloc: Global, text: &[u8], operand: Span) -> Result<Args, Ha
 }
 
 // A symbol and a number, if an operand has these two members.
-fn block_of_members(alloc: Global, text: &[u8], at: u32, members: &[Piece]) -> Result<Args, Halt>
+fn block_of_members(
+    alloc: Global,
+    text: &[u8],
+    at: u32,
+    members: &[TextPiece],
+) -> Result<Args, ParseError>
     requires { at < length text.now }
     ensures value { Reads result (block_of_members text.now at members.now) }
     ensures inside { IfErr result (HaltsInside (length text.now)) }
 {
     let [name, count] = members else {
-        return Err(Halt::Refused(told(text, at, Code::E2)));
+        return Err(ParseError::Refused(refusal_at_token(text, at, ParseCode::E2)));
     };
     let form = is_symbol_at(text, name) && is_written_at(Numeral::Small, text, count);
     let over = place_out(Numeral::Small, text, &[*count]);
     if let Some(refusal) = refused(text, at, form, over) {
-        return Err(Halt::Refused(refusal));
+        return Err(ParseError::Refused(refusal));
     }
     let count = number_arg(Numeral::Small, text, count);
     Ok(two(alloc, Arg::Symbol(name.span), count)?)
 }
 
 /// Parses a symbol and a number.
-#[tactic(auto, unfolding(crate::specs::Pairs::block_given))]
-pub fn block_args(alloc: Global, text: &[u8], operand: Span) -> Result<Args, Halt>
+#[tactic(auto, unfolding(crate::specs::Pairs::parse_block))]
+pub fn block_args(alloc: Global, text: &[u8], operand: Span) -> Result<Args, ParseError>
     requires text { length text.now < 2 ^ 32 }
     requires inside { operand.from < length text.now }
-    ensures value { Reads result (block_given text.now operand) }
+    ensures value { Reads result (parse_block text.now operand) }
     ensures inside { IfErr result (HaltsInside (length text.now)) }
 {
     let members = members(alloc, text, operand)?;
@@ -249,15 +281,15 @@ pub fn used_section(bytes: &[u8]) -> Option<Section>
 }
 
 /// Parses the name of a section.
-#[tactic(auto, unfolding(crate::specs::Pairs::section_given))]
-pub fn section_args(alloc: Global, text: &[u8], operand: Span) -> Result<Args, Halt>
+#[tactic(auto, unfolding(crate::specs::Pairs::parse_section))]
+pub fn section_args(alloc: Global, text: &[u8], operand: Span) -> Result<Args, ParseError>
     requires { operand.from < length text.now }
-    ensures value { Reads result (section_given text.now operand) }
+    ensures value { Reads result (parse_section text.now operand) }
     ensures inside { IfErr result (HaltsInside (length text.now)) }
 {
     let form = used_section(bytes_of(text, operand)).is_some();
     if let Some(refusal) = refused(text, operand.from, form, None) {
-        return Err(Halt::Refused(refusal));
+        return Err(ParseError::Refused(refusal));
     }
     Ok(one(alloc, Arg::Symbol(operand))?)
 }

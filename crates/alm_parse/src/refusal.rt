@@ -1,15 +1,15 @@
 //! Why a source is refused, and where.
 
 ghost use Rattle.std.specs.Prelude.{ℕ, ◌≡◌, ◌^◌, ◌<◌, length, slice_index, IfSome};
-ghost use Rattle.alm_parse.specs.Refusals.{told, refused, IsInside};
-ghost use Rattle.alm_parse.specs.declared.refusal.Halt.TheVariants as halt;
+ghost use Rattle.alm_parse.specs.Refusals.{refusal_at_token, refused, IsInside};
+ghost use Rattle.alm_parse.specs.declared.refusal.ParseError.TheVariants as halt;
 
 use alm_tokens::bytes::is_legal;
 use m36_word::NoMemory;
 
 /// What is wrong with a source that is not in the language.
 #[derive(Clone, Copy)]
-pub enum Code {
+pub enum ParseCode {
     /// A byte that no source can have there.
     E1,
     /// A label or an operand that does not have its form, or an operation that lacks its operand or
@@ -23,31 +23,31 @@ pub enum Code {
 
 /// A code, and the index in the text, counted from 0, of what it is about.
 #[derive(Clone, Copy)]
-pub struct Refusal {
+pub struct ParseRefusal {
     pub place: u32,
-    pub code: Code,
+    pub code: ParseCode,
 }
 
 /// Why a part of a source could not be parsed.
 #[derive(Clone, Copy)]
-pub enum Halt {
-    Refused(Refusal),
+pub enum ParseError {
+    Refused(ParseRefusal),
     NoMemory,
 }
 
-impl From<Refusal> for Halt {
+impl From<ParseRefusal> for ParseError {
     ghost from_gives = { λ refusal made. made ≡ halt.Refused refusal };
 
-    fn from(refusal: Refusal) -> Halt {
-        Halt::Refused(refusal)
+    fn from(refusal: ParseRefusal) -> ParseError {
+        ParseError::Refused(refusal)
     }
 }
 
-impl From<NoMemory> for Halt {
+impl From<NoMemory> for ParseError {
     ghost from_gives = { λ _ made. made ≡ halt.NoMemory };
 
-    fn from(_cause: NoMemory) -> Halt {
-        Halt::NoMemory
+    fn from(_cause: NoMemory) -> ParseError {
+        ParseError::NoMemory
     }
 }
 
@@ -61,36 +61,36 @@ pub fn byte_at(text: &[u8], place: u32) -> u8
 
 /// The refusal of a token that begins at an index. If the byte there is one that no source can
 /// have, the code is E1.
-#[tactic(auto, unfolding(crate::specs::Refusals::told))]
-pub fn told(text: &[u8], place: u32, code: Code) -> Refusal
-    ensures value { result ≡ told text.now place code }
+#[tactic(auto, unfolding(crate::specs::Refusals::refusal_at_token))]
+pub fn refusal_at_token(text: &[u8], place: u32, code: ParseCode) -> ParseRefusal
+    ensures value { result ≡ refusal_at_token text.now place code }
     ensures place { result.place ≡ place }
 {
     if is_legal(byte_at(text, place)) {
-        Refusal { place, code }
+        ParseRefusal { place, code }
     } else {
-        Refusal {
+        ParseRefusal {
             place,
-            code: Code::E1,
+            code: ParseCode::E1,
         }
     }
 }
 
 /// The refusal of an operand: E2 if it does not have its form, and otherwise E4 at its first number
 /// out of range, if it has one.
-pub fn refused(text: &[u8], operand: u32, form: bool, over: Option<u32>) -> Option<Refusal>
+pub fn refused(text: &[u8], operand: u32, form: bool, over: Option<u32>) -> Option<ParseRefusal>
     requires inside { operand < length text.now }
     requires over { IfSome over (λ place. place < length text.now) }
     ensures value { result ≡ refused text.now operand form over }
     ensures inside { IfSome result (IsInside (length text.now)) }
 {
     if !form {
-        return Some(told(text, operand, Code::E2));
+        return Some(refusal_at_token(text, operand, ParseCode::E2));
     }
     match over {
-        Some(place) => Some(Refusal {
+        Some(place) => Some(ParseRefusal {
             place,
-            code: Code::E4,
+            code: ParseCode::E4,
         }),
         None => None,
     }

@@ -7,7 +7,7 @@ ghost use Rattle.alm_parse.specs.Sources.{names_end, read_lines, parsed, ParseSa
 use crate::fault::{AlmFault, fault_of};
 use crate::line::Line36;
 use crate::line_reading::read_line;
-use crate::refusal::Halt;
+use crate::refusal::ParseError;
 use alm_tokens::rows::{Row, rows_of};
 use alm_tokens::span::{Span, bytes_of};
 use m36_outside::Text;
@@ -116,8 +116,8 @@ fn read_lines(alloc: Global, text: &[u8], rows: &[Row]) -> Result<Lines, AlmFaul
                     return Ok(lines);
                 }
             }
-            Err(Halt::Refused(refusal)) => return Err(fault_of(*row, refusal)),
-            Err(Halt::NoMemory) => return Err(AlmFault::NoMemory),
+            Err(ParseError::Refused(refusal)) => return Err(fault_of(*row, refusal)),
+            Err(ParseError::NoMemory) => return Err(AlmFault::NoMemory),
         }
     }
     Ok(lines)

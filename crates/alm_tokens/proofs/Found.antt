@@ -5,12 +5,12 @@ use Rattle.std.proofs.lemmas.Bool.{false≢true}
 use Rattle.std.proofs.lemmas.List.{length-take}
 use Rattle.m36_text.specs.Reading.{number_read}
 use Rattle.alm_tokens.specs.declared.span.Span.{Span}
-use Rattle.alm_tokens.specs.declared.pieces.Piece.{Piece}
+use Rattle.alm_tokens.specs.declared.pieces.TextPiece.{TextPiece}
 use Rattle.alm_tokens.specs.declared.numerals.Numeral.{Numeral}
 use Rattle.alm_tokens.specs.declared.numerals.Numeral.TheVariants.{Decimal, Octal, Small}
 use Rattle.alm_tokens.specs.Tokens.{slice_of, is_over}
 use Rattle.alm_tokens.specs.Numerals.{read_as}
-use Rattle.alm_tokens.specs.Lists.{is_out_at}
+use Rattle.alm_tokens.specs.Lists.{is_out_of_range}
 
 -- an item that is found passes the test
 found_by : {X : Type 0} (p : X → Bool) (b : Bool) (x y : X) (rest : Option X) → p x ≡ b → (rest ≡ Some y → p y ≡ true) → cond b (Some x) rest ≡ Some y → p y ≡ true
@@ -37,7 +37,7 @@ out_some Small [] e = absurd (false≢true e)
 out_some numeral (b ∷ bytes) e = omega arith
 
 pub out_inside :
-    (numeral : Numeral) (text : List ℕ) (pieces : List Piece) (piece : Piece)
-    → find (is_out_at numeral text) pieces ≡ Some piece → piece.span.from < length text
+    (numeral : Numeral) (text : List ℕ) (pieces : List TextPiece) (piece : TextPiece)
+    → find (is_out_of_range numeral text) pieces ≡ Some piece → piece.span.from < length text
 out_inside numeral text pieces piece e =
-    slice_inside text piece.span (out_some numeral (slice_of text piece.span) (found_passes (is_out_at numeral text) pieces piece e))
+    slice_inside text piece.span (out_some numeral (slice_of text piece.span) (found_passes (is_out_of_range numeral text) pieces piece e))

@@ -4,7 +4,7 @@ use Rattle.std.specs.List.{All}
 use Rattle.std.proofs.lemmas.List.Elements.{All-append, All-cons, All-nil}
 use Rattle.std.proofs.Math.ListN.{drop_of_length-le}
 use Rattle.alm_tokens.specs.declared.span.Span.{Span}
-use Rattle.alm_tokens.specs.declared.head.Turn.TheVariants.{Label, Skip, Stop, Go}
+use Rattle.alm_tokens.specs.declared.head.TokenStep.TheVariants.{Label, Skip, Stop, Go}
 use Rattle.alm_tokens.specs.Bytes.{is_blank}
 use Rattle.alm_tokens.specs.Tokens.{span_at}
 use Rattle.alm_tokens.specs.Heads.{IsMark, turn_of, head_at, head_by, head_from, end_from}

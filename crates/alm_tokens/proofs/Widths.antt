@@ -4,7 +4,7 @@ use Rattle.std.specs.Prelude.{IfSome, option_map, slice_index, nat_lt}
 use Rattle.std.proofs.lemmas.Bool.{and_parts, leb-true, ltb-true}
 use Rattle.std.specs.List.{list_all}
 use Rattle.std.specs.Result.{result_ok}
-use Rattle.m36_text.specs.Reading.{number_read, judged, first_other, number_of}
+use Rattle.m36_text.specs.Reading.{number_read, parsed_number, first_non_digit, number_of}
 use Rattle.m36_text.specs.Numbers.{octal_in}
 use Rattle.m36_text.specs.declared.reading.NumberFault.TheVariants.{T2}
 use Rattle.alm_tokens.specs.declared.expression.Atom.TheVariants.{Number, Symbol, Here}
@@ -39,7 +39,7 @@ fits_below true v e =
     omega (arith, high)
 fits_below false v e = tt
 
-judged_below : (o : Option ℕ) (v : ℕ) → Below 8 (result_ok (judged o v 7))
+judged_below : (o : Option ℕ) (v : ℕ) → Below 8 (result_ok (parsed_number o v 7))
 judged_below (Some place) v = tt
 judged_below None v = fits_below (leb v 7) v refl
 
@@ -47,7 +47,7 @@ digit_below : (bytes : List ℕ) → Below 8 (octal_in 1 bytes)
 unfolding octal_in number_read
 digit_below [] = tt
 digit_below (d ∷ rest) =
-    cond_below 8 (length (d ∷ rest) == 1) (result_ok (judged (first_other 8 (d ∷ rest)) (number_of 8 (d ∷ rest)) 7)) (judged_below (first_other 8 (d ∷ rest)) (number_of 8 (d ∷ rest)))
+    cond_below 8 (length (d ∷ rest) == 1) (result_ok (parsed_number (first_non_digit 8 (d ∷ rest)) (number_of 8 (d ∷ rest)) 7)) (judged_below (first_non_digit 8 (d ∷ rest)) (number_of 8 (d ∷ rest)))
 
 -- a table whose numbers are all below a bound
 beside_below :
@@ -104,14 +104,14 @@ over_by : (b : Bool) (v max : ℕ) → leb v max ≡ b → value_of (cond b (Ok 
 over_by true v max e = leb-true v max e
 over_by false v max e = omega arith
 
-judged_by : (o : Option ℕ) (v max : ℕ) → value_of (judged o v max) ≤ max
+judged_by : (o : Option ℕ) (v max : ℕ) → value_of (parsed_number o v max) ≤ max
 judged_by (Some place) v max = omega arith
 judged_by None v max = over_by (leb v max) v max refl
 
 small_below : (bytes : List ℕ) → value_of (small_read bytes) ≤ most_number
 unfolding number_read
 small_below [] = omega arith
-small_below (b ∷ bytes) = judged_by (first_other 10 (b ∷ bytes)) (number_of 10 (b ∷ bytes)) most_number
+small_below (b ∷ bytes) = judged_by (first_non_digit 10 (b ∷ bytes)) (number_of 10 (b ∷ bytes)) most_number
 
 atom_by : (b c : Bool) (n : ℕ) → n ≤ most_number → IsSmall (cond b Here (cond c (Number n) Symbol))
 atom_by true c n h = tt

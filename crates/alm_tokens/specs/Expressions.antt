@@ -1,8 +1,8 @@
 -- Expressions: terms joined by + and -. The first term may follow a minus.
 use Rattle.std.specs.Prelude.{ℕ, ◌+◌, ◌≤◌, ⊤, Bool, not, ◌||◌, List, codes}
 use Rattle.std.specs.Prelude.{if◌then◌else◌}
-use Rattle.alm_tokens.specs.declared.pieces.Parter.TheVariants.{Sign}
-use Rattle.alm_tokens.specs.declared.pieces.Piece.{Piece}
+use Rattle.alm_tokens.specs.declared.pieces.Separator.TheVariants.{Sign}
+use Rattle.alm_tokens.specs.declared.pieces.TextPiece.{TextPiece}
 use Rattle.alm_tokens.specs.declared.expression.Atom.{Atom}
 use Rattle.alm_tokens.specs.declared.expression.Atom.TheVariants.{Number, Symbol, Here}
 use Rattle.alm_tokens.specs.declared.expression.Term.{Term}
@@ -20,18 +20,18 @@ unfoldable pub is_term : List ℕ → Bool
 is_term bytes = is_here bytes || is_number bytes || is_symbol bytes
 
 -- whether a piece is a term
-abbrev pub is_term_at : List ℕ → Piece → Bool
+abbrev pub is_term_at : List ℕ → TextPiece → Bool
 is_term_at text piece = is_term (slice_of text piece.span)
 
 -- the piece of a whole expression without the minus at its beginning, which negates the first term
-unfoldable pub signed_start : List ℕ → Piece → Piece
+unfoldable pub signed_start : List ℕ → TextPiece → TextPiece
 signed_start text whole =
     if is_negative (slice_of text whole.span)
     then piece_at (not whole.minus) (whole.span.from + 1) whole.span.to
     else whole
 
 -- the terms of an expression, as pieces
-unfoldable pub expression_pieces : List ℕ → Piece → List Piece
+unfoldable pub expression_pieces : List ℕ → TextPiece → List TextPiece
 expression_pieces text whole = pieces_of Sign text (signed_start text whole)
 
 -- the kind of a term, with its number if it is one
@@ -42,7 +42,7 @@ atom_of bytes =
     else (if is_number bytes then Number (value_of (small_read bytes)) else Symbol)
 
 -- the term in a piece, with its sign
-abbrev pub term_of : List ℕ → Piece → Term
+abbrev pub term_of : List ℕ → TextPiece → Term
 term_of text piece =
     record { what = atom_of (slice_of text piece.span); span = piece.span; minus = piece.minus }
 

@@ -3,15 +3,15 @@
 use Rattle.std.specs.Prelude.{ℕ, ◌+◌, ◌<◌, ◌≤◌, Bool, not, ◌==◌, List, [], ◌∷◌, ◌++◌, slice_index}
 use Rattle.std.specs.Prelude.{Option, Some, None, if◌then◌else◌}
 use Rattle.alm_tokens.specs.declared.span.Span.{Span}
-use Rattle.alm_tokens.specs.declared.head.Turn.{Turn}
-use Rattle.alm_tokens.specs.declared.head.Turn.TheVariants.{Label, Skip, Stop, Go}
+use Rattle.alm_tokens.specs.declared.head.TokenStep.{TokenStep}
+use Rattle.alm_tokens.specs.declared.head.TokenStep.TheVariants.{Label, Skip, Stop, Go}
 use Rattle.alm_tokens.specs.declared.head.Head.{Head}
 use Rattle.alm_tokens.specs.Bytes.{is_blank, begins_comment}
 use Rattle.alm_tokens.specs.Tokens.{slice_of, span_at, first_in}
 
 -- The effect of a byte on the tokens before the operand. `fresh` is true if the token has no byte
 -- yet.
-abbrev pub turn_of : ℕ → Bool → Turn
+abbrev pub turn_of : ℕ → Bool → TokenStep
 turn_of b fresh =
     if b == 58
     then Label
@@ -28,7 +28,7 @@ abbrev pub head_at : List Span → ℕ → ℕ → Head
 head_at marks from at = record { labels = marks; op = token from at }
 
 -- the head after a label, after a blank, at the end of the tokens, and after a byte of a token
-abbrev pub head_by : Turn → Head → Head → Head → Head → Head
+abbrev pub head_by : TokenStep → Head → Head → Head → Head → Head
 head_by Label label skip stop go = label
 head_by Skip label skip stop go = skip
 head_by Stop label skip stop go = stop

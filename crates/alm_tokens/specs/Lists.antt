@@ -2,30 +2,30 @@
 use Rattle.std.specs.Prelude.{ℕ, Bool, false, List, Option, option_map}
 use Rattle.std.specs.List.{find}
 use Rattle.alm_tokens.specs.declared.span.Span.{Span}
-use Rattle.alm_tokens.specs.declared.pieces.Parter.TheVariants.{Comma}
-use Rattle.alm_tokens.specs.declared.pieces.Piece.{Piece}
+use Rattle.alm_tokens.specs.declared.pieces.Separator.TheVariants.{Comma}
+use Rattle.alm_tokens.specs.declared.pieces.TextPiece.{TextPiece}
 use Rattle.alm_tokens.specs.declared.numerals.Numeral.{Numeral}
 use Rattle.alm_tokens.specs.Tokens.{slice_of, is_symbol, is_over}
 use Rattle.alm_tokens.specs.Pieces.{pieces_of}
 use Rattle.alm_tokens.specs.Numerals.{read_as, is_written}
 
 -- the members of an operand, which commas separate
-unfoldable pub members : List ℕ → Span → List Piece
+unfoldable pub members : List ℕ → Span → List TextPiece
 members text operand = pieces_of Comma text (record { span = operand; minus = false })
 
 -- whether a member is a symbol
-abbrev pub is_symbol_at : List ℕ → Piece → Bool
+abbrev pub is_symbol_at : List ℕ → TextPiece → Bool
 is_symbol_at text member = is_symbol (slice_of text member.span)
 
 -- whether a member is a number of this notation
-abbrev pub is_written_at : Numeral → List ℕ → Piece → Bool
+abbrev pub is_written_at : Numeral → List ℕ → TextPiece → Bool
 is_written_at numeral text member = is_written numeral (slice_of text member.span)
 
 -- whether a member is a number out of its range
-abbrev pub is_out_at : Numeral → List ℕ → Piece → Bool
-is_out_at numeral text member = is_over (read_as numeral (slice_of text member.span))
+abbrev pub is_out_of_range : Numeral → List ℕ → TextPiece → Bool
+is_out_of_range numeral text member = is_over (read_as numeral (slice_of text member.span))
 
 -- the index of the first number that is out of its range
-unfoldable pub place_out : Numeral → List ℕ → List Piece → Option ℕ
+unfoldable pub place_out : Numeral → List ℕ → List TextPiece → Option ℕ
 place_out numeral text pieces =
-    option_map (λ member. member.span.from) (find (is_out_at numeral text) pieces)
+    option_map (λ member. member.span.from) (find (is_out_of_range numeral text) pieces)

@@ -5,7 +5,7 @@ ghost use Rattle.std.specs.List.{list_all};
 ghost use Rattle.alm_tokens.specs.Expressions.{is_here, is_term, is_term_at, signed_start, expression_pieces, atom_of, term_of, IsSmall};
 
 use crate::numerals::is_number;
-use crate::pieces::{Parter, Piece, Pieces, pieces_of};
+use crate::pieces::{Pieces, Separator, TextPiece, pieces_of};
 use crate::span::{Span, bytes_of, first_byte};
 use crate::tokens::{is_symbol, read_small};
 use m36_word::NoMemory;
@@ -99,14 +99,14 @@ fn is_term(bytes: &[u8]) -> bool
     is_here(bytes) || is_number(bytes) || is_symbol(bytes)
 }
 
-fn is_term_at(text: &[u8], piece: &Piece) -> bool
+fn is_term_at(text: &[u8], piece: &TextPiece) -> bool
     ensures { result ≡ is_term_at text.now piece.now }
 {
     is_term(bytes_of(text, piece.span))
 }
 
 /// Whether each piece is a term.
-pub fn are_terms(text: &[u8], pieces: &[Piece]) -> bool
+pub fn are_terms(text: &[u8], pieces: &[TextPiece]) -> bool
     ensures { result ≡ list_all (is_term_at text.now) pieces.now }
 {
     pieces.iter().all(|piece| is_term_at(text, piece))
@@ -114,7 +114,7 @@ pub fn are_terms(text: &[u8], pieces: &[Piece]) -> bool
 
 // A minus at the beginning of an expression is not part of the first term, and negates it.
 #[tactic(auto, unfolding(crate::specs::Expressions::signed_start))]
-fn signed_start(text: &[u8], whole: Piece) -> Piece
+fn signed_start(text: &[u8], whole: TextPiece) -> TextPiece
     requires { length text.now < 2 ^ 32 }
     ensures { result ≡ signed_start text.now whole }
 {
@@ -122,7 +122,7 @@ fn signed_start(text: &[u8], whole: Piece) -> Piece
     if first_byte(bytes_of(text, span)) != b'-' {
         return whole;
     }
-    Piece {
+    TextPiece {
         span: Span {
             from: span.from + 1,
             to: span.to,
@@ -133,12 +133,12 @@ fn signed_start(text: &[u8], whole: Piece) -> Piece
 
 /// The terms of an expression, as pieces. The expression may begin with a minus.
 #[tactic(auto, unfolding(crate::specs::Expressions::expression_pieces))]
-pub fn expression_pieces(alloc: Global, text: &[u8], whole: Piece) -> Result<Pieces, NoMemory>
+pub fn expression_pieces(alloc: Global, text: &[u8], whole: TextPiece) -> Result<Pieces, NoMemory>
     requires { length text.now < 2 ^ 32 }
     ensures value { IfOk result (λ p. p ≡ expression_pieces text.now whole) }
     ensures count { IfOk result (λ p. length p ≤ 2 ^ 32) }
 {
-    pieces_of(alloc, Parter::Sign, text, signed_start(text, whole))
+    pieces_of(alloc, Separator::Sign, text, signed_start(text, whole))
 }
 
 #[tactic(auto, unfolding(crate::specs::Expressions::atom_of))]
@@ -158,7 +158,7 @@ fn atom_of(bytes: &[u8]) -> Atom
     }
 }
 
-fn term_of(text: &[u8], piece: &Piece) -> Term
+fn term_of(text: &[u8], piece: &TextPiece) -> Term
     ensures { result ≡ term_of text.now piece.now }
 {
     Term {
@@ -169,7 +169,7 @@ fn term_of(text: &[u8], piece: &Piece) -> Term
 }
 
 /// The expression with these terms, of which there are at most 2^32. Fails only with `NoMemory`.
-pub fn expr_of(alloc: Global, text: &[u8], pieces: &[Piece]) -> Result<Expr, NoMemory>
+pub fn expr_of(alloc: Global, text: &[u8], pieces: &[TextPiece]) -> Result<Expr, NoMemory>
     requires { length pieces.now ≤ 2 ^ 32 }
     ensures { IfOk result (λ e. e ≡ map (term_of text.now) pieces.now) }
 {

@@ -12,7 +12,7 @@ use std::alloc::Global;
 
 /// The effect of a byte on the tokens before the operand.
 #[derive(Clone, Copy)]
-pub enum Turn {
+pub enum TokenStep {
     /// The byte is the colon after a label.
     Label,
     /// The byte is a blank before a token.
@@ -31,19 +31,23 @@ pub struct Head {
 }
 
 // The effect of a byte. `fresh` is true if the token has no byte yet.
-fn turn_of(byte: u8, fresh: bool) -> Turn
+fn turn_of(byte: u8, fresh: bool) -> TokenStep
     ensures { result ≡ turn_of byte fresh }
 {
     if byte == b':' {
-        return Turn::Label;
+        return TokenStep::Label;
     }
     if is_blank(byte) {
-        return if fresh { Turn::Skip } else { Turn::Stop };
+        return if fresh {
+            TokenStep::Skip
+        } else {
+            TokenStep::Stop
+        };
     }
     if byte == b'"' {
-        return Turn::Stop;
+        return TokenStep::Stop;
     }
-    Turn::Go
+    TokenStep::Go
 }
 
 fn token(from: u32, to: u32) -> Option<Span>
@@ -70,16 +74,16 @@ pub fn head_of(alloc: Global, text: &[u8], line: Span) -> Result<Head, NoMemory>
     let mut at = line.from;
     for byte in bytes_of(text, line) {
         match turn_of(*byte, from == at) {
-            Turn::Label => {
+            TokenStep::Label => {
                 labels.push(Span { from, to: at })?;
                 from = at + 1;
             }
-            Turn::Skip => from = at + 1,
-            Turn::Stop => {
+            TokenStep::Skip => from = at + 1,
+            TokenStep::Stop => {
                 let op = token(from, at);
                 return Ok(Head { labels, op });
             }
-            Turn::Go => {}
+            TokenStep::Go => {}
         }
         at += 1;
     }

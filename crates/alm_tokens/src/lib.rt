@@ -34,6 +34,6 @@ pub use expression::{Atom, Expr, Term};
 pub use head::Head;
 pub use laws::numeral_law;
 pub use numerals::Numeral;
-pub use pieces::{Parter, Piece, Pieces};
+pub use pieces::{Pieces, Separator, TextPiece};
 pub use rows::{Row, Rows};
 pub use span::{Span, Spans, bytes_of};

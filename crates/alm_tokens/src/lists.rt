@@ -3,10 +3,10 @@
 ghost use Rattle.std.specs.Prelude.{ℕ, ◌≡◌, ◌^◌, ◌<◌, IfSome, IfOk, length};
 ghost use Rattle.std.specs.List.{list_all, find};
 ghost use Rattle.std.specs.Option.{option_copied};
-ghost use Rattle.alm_tokens.specs.Lists.{members, is_symbol_at, is_written_at, is_out_at, place_out};
+ghost use Rattle.alm_tokens.specs.Lists.{members, is_symbol_at, is_written_at, is_out_of_range, place_out};
 
 use crate::numerals::{Numeral, is_out, is_written};
-use crate::pieces::{Parter, Piece, Pieces, pieces_of};
+use crate::pieces::{Pieces, Separator, TextPiece, pieces_of};
 use crate::span::{Span, bytes_of};
 use crate::tokens::is_symbol;
 use m36_word::NoMemory;
@@ -18,36 +18,36 @@ pub fn members(alloc: Global, text: &[u8], operand: Span) -> Result<Pieces, NoMe
     requires { length text.now < 2 ^ 32 }
     ensures { IfOk result (λ p. p ≡ members text.now operand) }
 {
-    let whole = Piece {
+    let whole = TextPiece {
         span: operand,
         minus: false,
     };
-    pieces_of(alloc, Parter::Comma, text, whole)
+    pieces_of(alloc, Separator::Comma, text, whole)
 }
 
 /// Whether a member is a symbol.
-pub fn is_symbol_at(text: &[u8], member: &Piece) -> bool
+pub fn is_symbol_at(text: &[u8], member: &TextPiece) -> bool
     ensures { result ≡ is_symbol_at text.now member.now }
 {
     is_symbol(bytes_of(text, member.span))
 }
 
 /// Whether each member is a symbol.
-pub fn are_symbols(text: &[u8], members: &[Piece]) -> bool
+pub fn are_symbols(text: &[u8], members: &[TextPiece]) -> bool
     ensures { result ≡ list_all (is_symbol_at text.now) members.now }
 {
     members.iter().all(|member| is_symbol_at(text, member))
 }
 
 /// Whether a member has the form of this kind of number.
-pub fn is_written_at(numeral: Numeral, text: &[u8], member: &Piece) -> bool
+pub fn is_written_at(numeral: Numeral, text: &[u8], member: &TextPiece) -> bool
     ensures { result ≡ is_written_at numeral text.now member.now }
 {
     is_written(numeral, bytes_of(text, member.span))
 }
 
 /// Whether each member has the form of this kind of number.
-pub fn are_written(numeral: Numeral, text: &[u8], members: &[Piece]) -> bool
+pub fn are_written(numeral: Numeral, text: &[u8], members: &[TextPiece]) -> bool
     ensures { result ≡ list_all (is_written_at numeral text.now) members.now }
 {
     members
@@ -55,24 +55,24 @@ pub fn are_written(numeral: Numeral, text: &[u8], members: &[Piece]) -> bool
         .all(|member| is_written_at(numeral, text, member))
 }
 
-fn is_out_at(numeral: Numeral, text: &[u8], member: &Piece) -> bool
-    ensures { result ≡ is_out_at numeral text.now member.now }
+fn is_out_of_range(numeral: Numeral, text: &[u8], member: &TextPiece) -> bool
+    ensures { result ≡ is_out_of_range numeral text.now member.now }
 {
     is_out(numeral, bytes_of(text, member.span))
 }
 
 // The first member that is a number out of its range.
-fn first_out<'a>(numeral: Numeral, text: &[u8], members: &'a [Piece]) -> Option<&'a Piece>
-    ensures { option_copied result ≡ find (is_out_at numeral text.now) members.now }
+fn first_out<'a>(numeral: Numeral, text: &[u8], members: &'a [TextPiece]) -> Option<&'a TextPiece>
+    ensures { option_copied result ≡ find (is_out_of_range numeral text.now) members.now }
 {
     members
         .iter()
-        .find(|member| is_out_at(numeral, text, *member))
+        .find(|member| is_out_of_range(numeral, text, *member))
 }
 
 /// The place of the first member that is a number out of its range.
 #[tactic(auto, unfolding(crate::specs::Lists::place_out))]
-pub fn place_out(numeral: Numeral, text: &[u8], members: &[Piece]) -> Option<u32>
+pub fn place_out(numeral: Numeral, text: &[u8], members: &[TextPiece]) -> Option<u32>
     ensures value { result ≡ place_out numeral text.now members.now }
     ensures within { IfSome result (λ place. place < length text.now) }
 {

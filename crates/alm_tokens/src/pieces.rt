@@ -12,14 +12,14 @@ use std::marker::Model;
 
 /// The bytes that separate pieces.
 #[derive(Clone, Copy)]
-pub enum Parter {
+pub enum Separator {
     Comma,
     Sign,
 }
 
 /// A piece of a text, and whether the byte before it is a minus.
 #[derive(Clone, Copy)]
-pub struct Piece {
+pub struct TextPiece {
     pub span: Span,
     pub minus: bool,
 }
@@ -27,14 +27,14 @@ pub struct Piece {
 /// A list of pieces that grows at its end.
 #[derive(Drop)]
 pub struct Pieces {
-    items: Vec<Piece>,
+    items: Vec<TextPiece>,
 }
 
 impl Model for Pieces {
     ghost use Rattle.std.specs.Prelude.{List};
-    ghost use Rattle.alm_tokens.specs.declared.pieces.Piece.{Piece};
+    ghost use Rattle.alm_tokens.specs.declared.pieces.TextPiece.{TextPiece};
 
-    ghost Value = { List Piece };
+    ghost Value = { List TextPiece };
 
     ghost view = { λ s. s.items.items };
 }
@@ -50,7 +50,7 @@ impl Pieces {
     }
 
     /// Adds a piece at the end. If memory runs out, nothing changes.
-    pub fn push(&mut self, x: Piece) -> Result<(), NoMemory>
+    pub fn push(&mut self, x: TextPiece) -> Result<(), NoMemory>
         ensures ok { OnOk result (self.new ≡ self.old ++ x ∷ []) }
         ensures err { OnErr result (self.new ≡ self.old) }
     {
@@ -59,19 +59,19 @@ impl Pieces {
     }
 
     /// The pieces in order.
-    pub fn items(&self) -> &[Piece]
+    pub fn items(&self) -> &[TextPiece]
         ensures { result.now ≡ self.now }
     {
         self.items.as_slice()
     }
 }
 
-fn parts(parter: Parter, byte: u8) -> bool
+fn parts(parter: Separator, byte: u8) -> bool
     ensures { result ≡ parts parter byte }
 {
     match parter {
-        Parter::Comma => byte == b',',
-        Parter::Sign => is_sign(byte),
+        Separator::Comma => byte == b',',
+        Separator::Sign => is_sign(byte),
     }
 }
 
@@ -79,9 +79,9 @@ fn parts(parter: Parter, byte: u8) -> bool
 #[tactic(auto, using(crate::proofs::Cuts::cuts), unfolding(crate::specs::Pieces::pieces_of))]
 fn push_pieces(
     pieces: &mut Pieces,
-    parter: Parter,
+    parter: Separator,
     text: &[u8],
-    whole: Piece,
+    whole: TextPiece,
 ) -> Result<(), NoMemory>
     requires text { length text.now < 2 ^ 32 }
     requires none { pieces.old ≡ [] }
@@ -93,7 +93,7 @@ fn push_pieces(
     let mut at = from;
     for byte in bytes_of(text, whole.span) {
         if parts(parter, *byte) {
-            pieces.push(Piece {
+            pieces.push(TextPiece {
                 span: Span { from, to: at },
                 minus,
             })?;
@@ -102,7 +102,7 @@ fn push_pieces(
         }
         at += 1;
     }
-    pieces.push(Piece {
+    pieces.push(TextPiece {
         span: Span { from, to: at },
         minus,
     })
@@ -112,9 +112,9 @@ fn push_pieces(
 /// first has the minus of `whole`. Fails only with `NoMemory`.
 pub fn pieces_of(
     alloc: Global,
-    parter: Parter,
+    parter: Separator,
     text: &[u8],
-    whole: Piece,
+    whole: TextPiece,
 ) -> Result<Pieces, NoMemory>
     requires { length text.now < 2 ^ 32 }
     ensures value { IfOk result (λ p. p ≡ pieces_of parter text.now whole) }

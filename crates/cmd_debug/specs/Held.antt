@@ -5,7 +5,7 @@ use Rattle.m36_model.specs.Sight.{content}
 use Rattle.m36_model.specs.Store.{State}
 use Rattle.m36_step.specs.MachineFields.{MachineFields}
 use Rattle.m36_step.specs.MachineTurn.{machine_turn, machine_after}
-use Rattle.m36_back.specs.History.{History, standing_at, PastTurns, PastWent}
+use Rattle.m36_back.specs.History.{History, current_state, PastTurns, MayGoBack}
 use Rattle.m36_super.specs.Library.{Library}
 use Rattle.m36_super.specs.SuperFields.{SuperFields}
 use Rattle.m36_super.specs.SuperTurn.{SuperTurns, SuperWent, super_content}
@@ -45,10 +45,10 @@ new_history state = record { first = record { state = state; ended = None }; tak
 -- its registers and words, its turns, and how it goes back
 abbrev pub past_turning : Turning (History MachineFields)
 past_turning =
-    turning (λ h. (standing_at machine_after h).state.regs)
-    (λ h seg word. content core_store (standing_at machine_after h).state seg word)
+    turning (λ h. (current_state machine_after h).state.regs)
+    (λ h seg word. content core_store (current_state machine_after h).state seg word)
     (λ before turn later. PastTurns machine_turn machine_after before turn later)
-    (λ before n answer later. PastWent before n answer later)
+    (λ before n answer later. MayGoBack before n answer later)
 
 abbrev pub HoldsImage :
     Talk → State (List ℕ) → Result (Unit {0}) SessionFault → List (List ℕ) → Type 0

@@ -36,7 +36,7 @@ use Rattle.m36_booted.proofs.FolderReads.{fresh_next}
 use Rattle.m36_booted.proofs.YesAnswers.{passes_booted}
 use Rattle.cmd_image.proofs.AuditPuts.{all_put, all_then, all_stop}
 use Rattle.cmd_folder.specs.FolderProgram.{segment_words, files_booted, folder_given, folder_program}
-use Rattle.cmd_folder.specs.OnFolder.{IsFound, audit_and_run, by_command, on_system, on_folder}
+use Rattle.cmd_folder.specs.OnFolder.{AreFolderFindings, audit_and_run, by_command, on_system, on_folder}
 use Rattle.cmd_folder.specs.RunProgram.{Running, run_from}
 use Rattle.cmd_folder.specs.Systems.{given_in}
 
@@ -150,7 +150,7 @@ found_in command system denied findings result old new fresh found performs =
     let so = subst (λ (d : DbrFields). AreFindings system.core d findings) fresh.stands.dbr found in
     performs_some (IsBooted system.lib) (on_system command given) system result old new fresh
     (performs_wants _ result old new
-    (performs_some (IsFound system.lib system) (by_command command given (booted_of system)) findings result old new
+    (performs_some (AreFolderFindings system.lib system) (by_command command given (booted_of system)) findings result old new
     (record { found = so; passes = found_passes system.lib system findings fresh so }) performs))
 
 -- the audit ran out of memory

@@ -13,9 +13,9 @@ use Rattle.m36_link.specs.Snap.{RefusedFields, snap_of}
 use Rattle.m36_step.specs.declared.turns.Turn.{Turn}
 use Rattle.m36_step.specs.declared.turns.Turn.TheVariants as turn
 use Rattle.m36_super.specs.Library.{Library}
-use Rattle.m36_super.specs.declared.coming.Coming.{Coming}
-use Rattle.m36_super.specs.declared.coming.Coming.TheVariants.{Step, Link, Print}
-use Rattle.m36_super.specs.declared.coming.Coming.TheVariants as coming
+use Rattle.m36_super.specs.declared.coming.NextEvent.{NextEvent}
+use Rattle.m36_super.specs.declared.coming.NextEvent.TheVariants.{Step, Link, Print}
+use Rattle.m36_super.specs.declared.coming.NextEvent.TheVariants as coming
 use Rattle.m36_super.specs.BootedRun.{Booted, IsStepTurn, IsLinkTurn, IsConsoleTurn, IsTurnBy, IsTurn, AreTurns}
 use Rattle.m36_super.specs.SuperTurn.{IsQuiet, link_quiet}
 use Rattle.m36_reading.specs.declared.status.Status.{Status}
@@ -220,7 +220,7 @@ step_counts turn.Full is = absurd is
 step_counts turn.NoMemory is = absurd is
 
 -- A link service was performed without running out of memory, and the run continues or ends.
-pub record IsServiceMade (told : Turn) (next : Coming) : Type 0 where
+pub record IsServiceMade (told : Turn) (next : NextEvent) : Type 0 where
   pub event : IsEvent told
   pub counts : steps_of told ≡ 0
   pub quiet : IsQuiet next
@@ -244,15 +244,15 @@ linked_made (Err why) frames at before (turn.Ended e) after is found = absurd (s
 linked_made (Err why) frames at before turn.Full after is found = absurd (subst IsLink (sym is.0) tt)
 
 -- A console service was made and a step follows, or the run has ended.
-pub record Printed (text : List ℕ) (told : Turn) (next : Coming) : Type 0 where
+pub record Printed (text : List ℕ) (told : Turn) (next : NextEvent) : Type 0 where
   pub told_is : told ≡ turn.Console text
   pub next_is : next ≡ Step
 
-pub record PrintEnded (e : End) (told : Turn) (next : Coming) : Type 0 where
+pub record PrintEnded (e : End) (told : Turn) (next : NextEvent) : Type 0 where
   pub told_is : told ≡ turn.Ended e
   pub next_is : next ≡ coming.Over e
 
-abbrev PrintMade : Turn → Coming → Type 0
+abbrev PrintMade : Turn → NextEvent → Type 0
 PrintMade told next = ((text : List ℕ) × Printed text told next) ⊎ ((e : End) × PrintEnded e told next)
 
 print_made :
@@ -268,8 +268,8 @@ print_made false (Ok text) before told after is =
 -- ---- services
 
 -- The program that follows a step or a service goes as a run.
-abbrev GoesOn : Running → ℕ → ℕ → Type 0
-GoesOn run taken left =
+abbrev StepFollows : Running → ℕ → ℕ → Type 0
+StepFollows run taken left =
     (b : Booted) (events : List Event) (result : Result (Unit {0}) Status)
     → b.coming ≡ Step → Goes (run_from run taken left b) events result → RunGoes run taken left b events result
 
@@ -279,8 +279,8 @@ over_turn lib b e is = subst (λ c. IsTurnBy c lib b (turn.Ended e) b) (sym is) 
 
 -- what follows a service
 after_goes :
-    (next : Coming) (run : Running) (taken left : ℕ) (b : Booted) (events : List Event) (result : Result (Unit {0}) Status)
-    → GoesOn run taken left → IsQuiet next → b.coming ≡ next
+    (next : NextEvent) (run : Running) (taken left : ℕ) (b : Booted) (events : List Event) (result : Result (Unit {0}) Status)
+    → StepFollows run taken left → IsQuiet next → b.coming ≡ next
     → Goes (after_service next run taken (λ b. run_from run taken left b) b) events result → RunGoes run taken left b events result
 after_goes Step run taken left b events result on silent is goes = on b events result is goes
 after_goes (Link at) run taken left b events result on silent is goes = absurd silent
@@ -291,7 +291,7 @@ after_goes (coming.Over e) run taken left b events result on silent is goes =
 -- a service was made
 service_goes :
     (run : Running) (taken left : ℕ) (b after : Booted) (told : Turn) (events : List Event) (result : Result (Unit {0}) Status)
-    → GoesOn run taken left → IsTurn run.lib b told after → IsServiceMade told after.coming
+    → StepFollows run taken left → IsTurn run.lib b told after → IsServiceMade told after.coming
     → Goes (puts_all (pieces_of run.output taken told) (then_on run taken (λ b. run_from run taken left b) after)) events result
     → RunGoes run taken left b events result
 service_goes run taken left b after told events result on is made goes =
@@ -303,7 +303,7 @@ service_goes run taken left b after told events result on is made goes =
 
 print_goes :
     (run : Running) (taken left : ℕ) (b after : Booted) (told : Turn) (events : List Event) (result : Result (Unit {0}) Status)
-    → GoesOn run taken left → IsTurn run.lib b told after → PrintMade told after.coming
+    → StepFollows run taken left → IsTurn run.lib b told after → PrintMade told after.coming
     → Goes (puts_all (pieces_of run.output taken told) (then_on run taken (λ b. run_from run taken left b) after)) events result
     → RunGoes run taken left b events result
 print_goes run taken left b after told events result on is (inl printed) goes =
@@ -337,7 +337,7 @@ starved_here run taken left b events result waits ends = record {
 
 link_goes :
     (run : Running) (taken left : ℕ) (b : Booted) (at : AtFields) (events : List Event) (result : Result (Unit {0}) Status)
-    → GoesOn run taken left → b.coming ≡ Link at
+    → StepFollows run taken left → b.coming ≡ Link at
     → Goes (serve_by (Link at) run taken (λ b. run_from run taken left b) b) events result → RunGoes run taken left b events result
 unfolding Goes IsTurn
 link_goes run taken left b at events result on is (inl goes) =
@@ -351,7 +351,7 @@ link_goes run taken left b at events result on is (inr ends) =
 
 print_serves :
     (run : Running) (taken left : ℕ) (b : Booted) (events : List Event) (result : Result (Unit {0}) Status)
-    → GoesOn run taken left → b.coming ≡ Print
+    → StepFollows run taken left → b.coming ≡ Print
     → Goes (serve_by Print run taken (λ b. run_from run taken left b) b) events result → RunGoes run taken left b events result
 unfolding Goes IsTurn
 print_serves run taken left b events result on is goes =
@@ -361,8 +361,8 @@ print_serves run taken left b events result on is goes =
     (print_made _ _ b goes.value.turn goes.value.after turns) goes.rest
 
 serves_by :
-    (next : Coming) (run : Running) (taken left : ℕ) (b : Booted) (events : List Event) (result : Result (Unit {0}) Status)
-    → GoesOn run taken left → b.coming ≡ next
+    (next : NextEvent) (run : Running) (taken left : ℕ) (b : Booted) (events : List Event) (result : Result (Unit {0}) Status)
+    → StepFollows run taken left → b.coming ≡ next
     → Goes (serve_by next run taken (λ b. run_from run taken left b) b) events result → RunGoes run taken left b events result
 serves_by Step run taken left b events result on is goes = on b events result is goes
 serves_by (Link at) run taken left b events result on is goes = link_goes run taken left b at events result on is goes
@@ -372,7 +372,7 @@ serves_by (coming.Over e) run taken left b events result on is goes =
 
 serve_goes :
     (run : Running) (taken left : ℕ) (b : Booted) (events : List Event) (result : Result (Unit {0}) Status)
-    → GoesOn run taken left → Goes (serve run taken (λ b. run_from run taken left b) b) events result → RunGoes run taken left b events result
+    → StepFollows run taken left → Goes (serve run taken (λ b. run_from run taken left b) b) events result → RunGoes run taken left b events result
 unfolding serve
 serve_goes run taken left b events result on goes = serves_by b.coming run taken left b events result on refl goes
 
@@ -380,7 +380,7 @@ serve_goes run taken left b events result on goes = serves_by b.coming run taken
 
 step_goes :
     (run : Running) (taken left : ℕ) (b after : Booted) (told : Turn) (events : List Event) (result : Result (Unit {0}) Status)
-    → GoesOn run (taken + 1) left → b.coming ≡ Step → IsTurn run.lib b told after
+    → StepFollows run (taken + 1) left → b.coming ≡ Step → IsTurn run.lib b told after
     → Goes (puts_all (pieces_of run.output taken told) (serve run (taken + 1) (λ b. run_from run (taken + 1) left b) after)) events result
     → RunGoes run taken (suc left) b events result
 step_goes run taken left b after told events result on next is goes =
@@ -392,7 +392,7 @@ step_goes run taken left b after told events result on next is goes =
     (λ more goes. serve_goes run (taken + 1) left after more result on goes)
     (puts_split (pieces_of run.output taken told) rest events result goes)
 
-pub run_goes : (run : Running) (left taken : ℕ) → GoesOn run taken left
+pub run_goes : (run : Running) (left taken : ℕ) → StepFollows run taken left
 unfolding Goes run_from steps_in
 run_goes run zero taken b events result next goes = ends_here run taken 0 b Limit events result (refl, next) goes
 run_goes run (suc left) taken b events result next goes =

@@ -20,7 +20,7 @@ use Rattle.m36_booted.specs.declared.running.Finish.{Finish}
 use Rattle.m36_booted.specs.declared.running.Finish.TheVariants.{Over, Limit}
 use Rattle.m36_booted.specs.RunText.{end_pieces, finish_status}
 use Rattle.cmd_folder.specs.RunProgram.{Running, finish_may_end, run_ends, run_from}
-use Rattle.cmd_folder.specs.RunSays.{run_of, from_step, GoesOn, IsOver, Fails}
+use Rattle.cmd_folder.specs.RunSays.{run_of, from_step, StepFollows, IsOver, Fails}
 use Rattle.cmd_folder.proofs.BlockLaws.{leads_on}
 
 -- ---- the end
@@ -83,10 +83,10 @@ pub run_next :
     (lib : Library) (output : RunOutput) (denied : List (List ℕ)) (taken left : ℕ) (now later : SuperFields) (block block' : List (List ℕ))
     (first : Program quiet (Unit {0})) (old between new : Seen)
     → Left (run_of lib output denied) taken left now block first old between → 0 < left → now.lib ≡ lib
-    → GoesOn now.lib output (from_step block taken (booted_of now)) (taken + 1) later block' between new
+    → StepFollows now.lib output (from_step block taken (booted_of now)) (taken + 1) later block' between new
     → Left (run_of lib output denied) (taken + 1) (left - 1) later block' first old new
 run_next lib output denied taken left now later block block' first old between new so_far more same goes =
-    let on = subst (λ l. GoesOn l output (from_step block taken (booted_of now)) (taken + 1) later block' between new) same goes in
+    let on = subst (λ l. StepFollows l output (from_step block taken (booted_of now)) (taken + 1) later block' between new) same goes in
     leads_on _ _ first old between new (one_left (run_of lib output denied) taken left now block first old between so_far more) (on.leads denied (left - 1))
 
 pub run_over :

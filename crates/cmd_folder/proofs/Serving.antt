@@ -1,7 +1,7 @@
 -- A step with its service, and a service alone: what is left of the run's program.
 use Rattle.std.proofs.Common.{◌≡◌, ℕ, suc, ◌+◌, Bool, true, false, List, [], ◌++◌, Result, Ok, Err, refl, sym, ap, subst, ◌∙◌}
 use Rattle.m36_world.specs.Seen.{Seen}
-use Rattle.m36_world.specs.Did.{IsOutputFailed}
+use Rattle.m36_world.specs.Happened.{IsOutputFailed}
 use Rattle.m36_world.specs.Follow.{Follow, outputs}
 use Rattle.m36_model.specs.Fields.{AtFields}
 use Rattle.m36_model.specs.declared.endings.End.{End}
@@ -11,8 +11,8 @@ use Rattle.m36_step.specs.LinkNoteFields.{LinkNoteFields}
 use Rattle.m36_step.specs.declared.turns.Turn.{Turn}
 use Rattle.m36_step.specs.declared.turns.Turn.TheVariants as turn
 use Rattle.m36_super.specs.Library.{Library}
-use Rattle.m36_super.specs.declared.coming.Coming.{Coming}
-use Rattle.m36_super.specs.declared.coming.Coming.TheVariants.{Step, Link, Print, Over}
+use Rattle.m36_super.specs.declared.coming.NextEvent.{NextEvent}
+use Rattle.m36_super.specs.declared.coming.NextEvent.TheVariants.{Step, Link, Print, Over}
 use Rattle.m36_super.specs.BootedRun.{Booted, IsConsoleTurn, IsTurnBy, IsTurn}
 use Rattle.m36_super.specs.SuperFields.{SuperFields, booted_of}
 use Rattle.m36_super.specs.SuperTurn.{SuperTurns}
@@ -31,7 +31,7 @@ use Rattle.m36_booted.specs.RunText.{pieces_of}
 use Rattle.m36_booted.proofs.Serving.{turn_prints, link_behind, print_behind}
 use Rattle.cmd_folder.specs.declared.running.AfterTurn.{AfterTurn}
 use Rattle.cmd_folder.specs.declared.running.AfterTurn.TheVariants as after
-use Rattle.cmd_folder.specs.RunProgram.{Running, Made, IsMade, IsServed, run_ends, puts_turn, after_service, then_on, serve_by, serve, run_from}
+use Rattle.cmd_folder.specs.RunProgram.{Running, Made, IsMade, FindsMemory, run_ends, puts_turn, after_service, then_on, serve_by, serve, run_from}
 use Rattle.cmd_folder.specs.RunSays.{IsShown, run_of, from_step, from_service, TurnSays, LinkBefore}
 use Rattle.cmd_folder.proofs.BlockLaws.{GoesAs, leads_under, leads_on, performs_starved, performs_unput}
 
@@ -50,13 +50,13 @@ made_of : Turn → SuperFields → Made
 made_of turn after = record { turn = turn; after = booted_of after }
 
 serve_is :
-    (coming : Coming) (run : Running) (taken left : ℕ) (b : Booted)
+    (coming : NextEvent) (run : Running) (taken left : ℕ) (b : Booted)
     → b.coming ≡ coming → served run taken left b ≡ serve_by coming run taken (λ b. run_from run taken left b) b
 unfolding serve
 serve_is coming run taken left b is = ap (λ c. serve_by c run taken (λ b. run_from run taken left b) b) is
 
 then_is :
-    (coming : Coming) (run : Running) (taken left : ℕ) (b : Booted)
+    (coming : NextEvent) (run : Running) (taken left : ℕ) (b : Booted)
     → b.coming ≡ coming → then_from run taken left b ≡ after_service coming run taken (λ b. run_from run taken left b) b
 then_is coming run taken left b is = ap (λ c. after_service c run taken (λ b. run_from run taken left b) b) is
 
@@ -73,10 +73,10 @@ link_as :
 link_as run taken left b after note at is turns =
     let made : Made = record { turn = turn.Linked note; after = after } in
     let go = puts_turn run taken (λ b. then_from run taken left b) in
-    goes_by (served run taken left b) (wants (some (IsServed run.lib b) go)) (go made) (serve_is (Link at) run taken left b is)
+    goes_by (served run taken left b) (wants (some (FindsMemory run.lib b) go)) (go made) (serve_is (Link at) run taken left b is)
     (λ events result goes.
-    goes_wants (some (IsServed run.lib b) go) events result
-    (goes_some (IsServed run.lib b) go made events result (record { is = turns; found = λ e. cc }) goes))
+    goes_wants (some (FindsMemory run.lib b) go) events result
+    (goes_some (FindsMemory run.lib b) go made events result (record { is = turns; found = λ e. cc }) goes))
 
 print_as :
     (run : Running) (taken left : ℕ) (b after : Booted) (told : Turn)

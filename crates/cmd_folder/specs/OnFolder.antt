@@ -24,7 +24,7 @@ use Rattle.cmd_folder.specs.RunProgram.{Running, run_from}
 
 -- The findings of the audit of a booted core, each the number of its condition and its place. If
 -- there are none, the tables of core isolate each ring in each state of a run up to an LDBR.
-pub record IsFound (lib : Library) (system : SuperFields) (findings : List (ℕ × ℕ))
+pub record AreFolderFindings (lib : Library) (system : SuperFields) (findings : List (ℕ × ℕ))
     : Type 0 where
   pub found : AreFindings system.core booted_dbr findings
   pub passes : findings ≡ [] → PassesBooted lib
@@ -63,7 +63,7 @@ by_command (Trace run) given first findings = on_run run output.Trace given firs
 unfoldable pub on_system :
     FolderCommand → FolderFields → SuperFields → Program quiet (Unit {0})
 on_system command given system =
-    wants (some (IsFound given.lib system) (by_command command given (booted_of system)))
+    wants (some (AreFolderFindings given.lib system) (by_command command given (booted_of system)))
 
 -- What a command does with the system that the folder's library boots to. There is at most one, by
 -- `system` of `FolderDueLaw` of `m36_booted`.

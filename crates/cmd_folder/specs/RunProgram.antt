@@ -4,9 +4,9 @@ use Rattle.std.specs.Prelude.{ℕ, zero, suc, ◌≢◌, ◌+◌, List, Some}
 use Rattle.m36_step.specs.declared.turns.Turn.{Turn}
 use Rattle.m36_step.specs.declared.turns.Turn.TheVariants.{NoMemory}
 use Rattle.m36_super.specs.Library.{Library}
-use Rattle.m36_super.specs.declared.coming.Coming.{Coming}
-use Rattle.m36_super.specs.declared.coming.Coming.TheVariants.{Step, Link, Print}
-use Rattle.m36_super.specs.declared.coming.Coming.TheVariants as coming
+use Rattle.m36_super.specs.declared.coming.NextEvent.{NextEvent}
+use Rattle.m36_super.specs.declared.coming.NextEvent.TheVariants.{Step, Link, Print}
+use Rattle.m36_super.specs.declared.coming.NextEvent.TheVariants as coming
 use Rattle.m36_super.specs.BootedRun.{Booted, IsTurn}
 use Rattle.m36_program.specs.Early.{MayEnd, ends}
 use Rattle.m36_program.specs.Program.{quiet, Program, puts_all, some, wants}
@@ -36,7 +36,7 @@ abbrev pub IsMade : Library → Booted → Made → Type 0
 IsMade lib before made = IsTurn lib before made.turn made.after
 
 -- The system may make this turn, and it did not run out of memory.
-pub record IsServed (lib : Library) (before : Booted) (made : Made) : Type 0 where
+pub record FindsMemory (lib : Library) (before : Booted) (made : Made) : Type 0 where
   pub is : IsMade lib before made
   pub found : made.turn ≢ NoMemory
 
@@ -63,7 +63,7 @@ puts_turn run taken on made = puts_all (pieces_of run.output taken made.turn) (o
 -- What follows a service: a step, or the end of the run. No service follows another, so the cases
 -- of services only continue.
 abbrev pub after_service :
-    Coming → Running → ℕ → (Booted → Program quiet (Unit {0})) → Booted
+    NextEvent → Running → ℕ → (Booted → Program quiet (Unit {0})) → Booted
     → Program quiet (Unit {0})
 after_service Step run taken on b = on b
 after_service (Link at) run taken on b = on b
@@ -77,11 +77,11 @@ then_on run taken on b = after_service b.coming run taken on b
 -- What follows a step: another one; a link service, for which memory may run out; a console
 -- service; or the end of the run.
 abbrev pub serve_by :
-    Coming → Running → ℕ → (Booted → Program quiet (Unit {0})) → Booted
+    NextEvent → Running → ℕ → (Booted → Program quiet (Unit {0})) → Booted
     → Program quiet (Unit {0})
 serve_by Step run taken on b = on b
 serve_by (Link at) run taken on b =
-    wants (some (IsServed run.lib b) (puts_turn run taken (then_on run taken on)))
+    wants (some (FindsMemory run.lib b) (puts_turn run taken (then_on run taken on)))
 serve_by Print run taken on b =
     some (IsMade run.lib b) (puts_turn run taken (then_on run taken on))
 serve_by (coming.Over e) run taken on b = run_ends run taken (Over e)

@@ -5,9 +5,9 @@ use Rattle.m36_model.specs.declared.endings.End.{End}
 use Rattle.m36_reading.specs.declared.status.Status.{Status}
 use Rattle.m36_reading.specs.declared.status.Status.TheVariants.{WriteFault, NoMemory}
 use Rattle.m36_super.specs.Library.{Library}
-use Rattle.m36_super.specs.declared.coming.Coming.{Coming}
-use Rattle.m36_super.specs.declared.coming.Coming.TheVariants.{Step}
-use Rattle.m36_super.specs.declared.coming.Coming.TheVariants as coming
+use Rattle.m36_super.specs.declared.coming.NextEvent.{NextEvent}
+use Rattle.m36_super.specs.declared.coming.NextEvent.TheVariants.{Step}
+use Rattle.m36_super.specs.declared.coming.NextEvent.TheVariants as coming
 use Rattle.m36_super.specs.BootedRun.{Booted}
 use Rattle.m36_super.specs.SuperFields.{SuperFields, booted_of}
 use Rattle.m36_program.specs.Performs.{Performs, Leads}
@@ -44,7 +44,7 @@ from_service block taken b run left =
     puts_all block (serve run taken (λ b. run_from run taken left b) b)
 
 -- A step follows, over the same library, and no text of the console waits in the block.
-pub record GoesOn (lib : Library) (output : RunOutput) (first : Rest) (taken : ℕ)
+pub record StepFollows (lib : Library) (output : RunOutput) (first : Rest) (taken : ℕ)
     (after : SuperFields) (block : List (List ℕ)) (old new : Seen) : Type 0 where
   pub leads :
       (denied : List (List ℕ)) (left : ℕ)
@@ -74,7 +74,7 @@ abbrev pub TurnSays :
     AfterTurn → Library → RunOutput → Rest → ℕ → SuperFields → List (List ℕ) → Seen → Seen
     → Type 0
 TurnSays turn.Next lib output first taken after block old new =
-    GoesOn lib output first taken after block old new
+    StepFollows lib output first taken after block old new
 TurnSays (turn.Ended e) lib output first taken after block old new =
     IsOver e lib output first taken block old new
 TurnSays turn.WriteFailed lib output first taken after block old new =
@@ -83,7 +83,7 @@ TurnSays turn.NoMemory lib output first taken after block old new =
     Fails NoMemory lib output first old new
 
 -- An answer after a link service agrees with what is next: a step, or the end of the run.
-abbrev pub LinkBefore : AfterTurn → Coming → Type 0
+abbrev pub LinkBefore : AfterTurn → NextEvent → Type 0
 LinkBefore turn.Next next = next ≡ Step
 LinkBefore (turn.Ended e) next = next ≡ coming.Over e
 LinkBefore turn.WriteFailed next = ⊥

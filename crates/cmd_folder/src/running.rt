@@ -3,7 +3,7 @@
 //! before the code makes the next turn.
 
 ghost use Rattle.std.specs.Prelude.{◌≡◌, ◌<◌, ◌+◌, ◌^◌, ◌++◌, Some, [], ◌∷◌};
-ghost use Rattle.m36_super.specs.declared.coming.Coming.TheVariants.{Step, Link, Print};
+ghost use Rattle.m36_super.specs.declared.coming.NextEvent.TheVariants.{Step, Link, Print};
 ghost use Rattle.m36_super.specs.SuperFields.{booted_of};
 ghost use Rattle.m36_super.specs.SuperTurn.{IsQuiet};
 ghost use Rattle.m36_program.specs.Performs.{Performs};
@@ -20,7 +20,7 @@ use m36_outside::{Block, Put};
 use m36_program::{early, hand_over};
 use m36_reading::Status;
 use m36_step::{Stepper, Turn};
-use m36_super::{Coming, Super};
+use m36_super::{NextEvent, Super};
 use m36_trace::TraceText;
 use m36_word::NoMemory;
 use m36_world::World;
@@ -44,9 +44,9 @@ fn after_link(system: &Super) -> AfterTurn
     ensures { LinkBefore result system.now.coming }
 {
     match system.coming() {
-        Coming::Step => AfterTurn::Next,
-        Coming::Over(end) => AfterTurn::Ended(end),
-        Coming::Link(_) | Coming::Print => unreachable!(),
+        NextEvent::Step => AfterTurn::Next,
+        NextEvent::Over(end) => AfterTurn::Ended(end),
+        NextEvent::Link(_) | NextEvent::Print => unreachable!(),
     }
 }
 
@@ -118,10 +118,10 @@ fn serve<W: World>(
         (W.seen world.old) (W.seen world.new) }
 {
     match system.coming() {
-        Coming::Step => AfterTurn::Next,
-        Coming::Link(at) => link(system, at, taken, output, block, world),
-        Coming::Print => print(system, taken, output, block, world),
-        Coming::Over(end) => AfterTurn::Ended(end),
+        NextEvent::Step => AfterTurn::Next,
+        NextEvent::Link(at) => link(system, at, taken, output, block, world),
+        NextEvent::Print => print(system, taken, output, block, world),
+        NextEvent::Over(end) => AfterTurn::Ended(end),
     }
 }
 

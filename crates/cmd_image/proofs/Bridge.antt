@@ -19,7 +19,7 @@ use Rattle.m36_program.proofs.Answering.{NoneLeft, IsPut, idle_does}
 use Rattle.m36_program.proofs.Matching.{Matches, matches_then, matches_bytes, matches_wants, matches_done, matches_refused}
 use Rattle.m36_ran.specs.Ran.{code_of, state_by, state_reads, state_answer, IsStateDue, state_kind}
 use Rattle.m36_ran.specs.declared.command.ImageCommand.{ImageCommand}
-use Rattle.cmd_image.specs.ImageProgram.{decoded, decode, image_state, IsFound, by_command, on_image, image_program}
+use Rattle.cmd_image.specs.ImageProgram.{decoded, decode, image_state, AreAuditFindings, by_command, on_image, image_program}
 use Rattle.cmd_image.proofs.ImageGoes.{found_puts}
 
 -- ---- what is read
@@ -48,7 +48,7 @@ reader_matches name =
 on_goes :
     (command : ImageCommand) (state : State (List ℕ)) (events : List Event) (result : Result (Unit {0}) Status)
     → Goes (on_image command state) events result
-    → Chosen (IsFound state) (λ f. Goes (by_command command state f) events result) ⊎ NoneLeft events result
+    → Chosen (AreAuditFindings state) (λ f. Goes (by_command command state f) events result) ⊎ NoneLeft events result
 unfolding Goes on_image
 on_goes command state events result goes = goes
 

@@ -20,7 +20,7 @@ use Rattle.m36_program.proofs.ReadLaws.{goes_refused}
 use Rattle.m36_ran.specs.AuditText.{audit_pieces}
 use Rattle.m36_ran.specs.Ran.{code_of, passes, audit_status, IsIsolated}
 use Rattle.m36_ran.specs.declared.command.ImageCommand.{ImageCommand}
-use Rattle.cmd_image.specs.ImageProgram.{decoded, decode, image_state, run_from, IsFound, audit_may_end, audit_only, audit_and_run, by_command, on_image}
+use Rattle.cmd_image.specs.ImageProgram.{decoded, decode, image_state, run_from, AreAuditFindings, audit_may_end, audit_only, audit_and_run, by_command, on_image}
 use Rattle.cmd_image.proofs.AuditPuts.{all_put, all_then, all_stop}
 
 -- ---- the machine of a file
@@ -145,7 +145,7 @@ pub found_in :
 unfolding on_image
 found_in command state findings result old new found isolated performs =
     performs_wants _ result old new
-    (performs_some (IsFound state) (by_command command state) findings result old new
+    (performs_some (AreAuditFindings state) (by_command command state) findings result old new
     (record { found = found; isolated = isolated }) performs)
 
 pub image_starved :

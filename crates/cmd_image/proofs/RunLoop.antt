@@ -23,7 +23,7 @@ use Rattle.m36_program.proofs.PutLaws.{puts_one}
 use Rattle.m36_ran.specs.Machine.{told, after}
 use Rattle.m36_ran.specs.Output.{status_after}
 use Rattle.cmd_image.specs.ImageProgram.{may_end_by, run_status, run_ends, after_step, run_from}
-use Rattle.cmd_image.specs.Running.{Stepped, Ending}
+use Rattle.cmd_image.specs.Running.{StepAdded, LastStepAdded}
 
 -- ---- the end
 
@@ -99,7 +99,7 @@ run_starts steps state block seen none =
 pub run_next :
     (first : Program quiet (Unit {0})) (block block' : List (List ℕ)) (taken left : ℕ) (state state' : State (List ℕ)) (old between new : Seen)
     → Leads (puts_all block (run_from taken left state)) first old between → 0 < left
-    → Stepped (taken + 1) Next state block block' between new → state' ≡ after state
+    → StepAdded (taken + 1) Next state block block' between new → state' ≡ after state
     → Leads (puts_all block' (run_from (taken + 1) (left - 1) state')) first old new
 run_next first block block' taken left state state' old between new so_far more stepped moved =
     let line = as_line (line_of (taken + 1) (told state)) in
@@ -115,7 +115,7 @@ pub run_last :
     (first : Program quiet (Unit {0})) (block block' : List (List ℕ)) (taken left : ℕ) (state : State (List ℕ)) (last : Outcome)
     (result : Result (Unit {0}) Status) (old between now new : Seen)
     → Leads (puts_all block (run_from taken left state)) first old between → 0 < left
-    → Ending (taken + 1) last state block block' between now
+    → LastStepAdded (taken + 1) last state block block' between now
     → Performs (puts_all block' (run_ends (taken + 1) last)) result now new
     → Performs first result old new
 run_last first block block' taken left state last result old between now new so_far more ending performs =

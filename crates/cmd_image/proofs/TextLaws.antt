@@ -21,7 +21,7 @@ use Rattle.m36_ran.specs.Ran.{passes, is_run, audit_status}
 use Rattle.m36_ran.specs.declared.command.ImageCommand.{ImageCommand}
 use Rattle.m36_ran.specs.declared.command.ImageCommand.TheVariants.{Bare, Audit}
 use Rattle.cmd_image.specs.ImageProgram.{decoded, decode, image_state, may_end_by, run_status, run_ends, after_step, run_from}
-use Rattle.cmd_image.specs.ImageProgram.{IsFound, audit_may_end, audit_only, audit_and_run, bare_by, by_command, on_image, image_program}
+use Rattle.cmd_image.specs.ImageProgram.{AreAuditFindings, audit_may_end, audit_only, audit_and_run, bare_by, by_command, on_image, image_program}
 use Rattle.cmd_image.specs.OneText.{ImageTextLaw}
 
 found_alike : (name : List ℕ) (found : Found) → Alike {may = quiet} (bytes_found name found) (bytes_found name found)
@@ -101,8 +101,8 @@ by_alike Audit state findings = audit_alike findings
 image_alike : (command : ImageCommand) (state : State (List ℕ)) → Alike (on_image command state) (on_image command state)
 unfolding Alike on_image
 image_alike command state =
-    let chosen : Program quiet (Unit {0}) = some (IsFound state) (by_command command state) in
-    alike_wants chosen chosen (alike_one (IsFound state) (by_command command state)
+    let chosen : Program quiet (Unit {0}) = some (AreAuditFindings state) (by_command command state) in
+    alike_wants chosen chosen (alike_one (AreAuditFindings state) (by_command command state)
     (λ f g is is'. findings_law.unique state.store state.regs.dbr f g is.found is'.found)
     (λ f is. by_alike command state f))
 

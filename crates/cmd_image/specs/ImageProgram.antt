@@ -88,7 +88,7 @@ run_from taken (suc left) state =
 
 -- The findings of the audit of a machine, each the number of its condition and its place. If there
 -- are none, the machine's tables isolate each ring from 1 to 7.
-pub record IsFound (state : State (List ℕ)) (findings : List (ℕ × ℕ)) : Type 0 where
+pub record AreAuditFindings (state : State (List ℕ)) (findings : List (ℕ × ℕ)) : Type 0 where
   pub found : AreFindings state.store state.regs.dbr findings
   pub isolated : findings ≡ [] → IsIsolated state.store state.regs.dbr
 
@@ -124,7 +124,7 @@ by_command Audit state findings = audit_only findings
 
 -- Audits a machine and performs a command for it. Memory may run out only before the audit.
 unfoldable pub on_image : ImageCommand → State (List ℕ) → Program quiet (Unit {0})
-on_image command state = wants (some (IsFound state) (by_command command state))
+on_image command state = wants (some (AreAuditFindings state) (by_command command state))
 
 -- `bare FILE` or `audit FILE`
 unfoldable pub image_program : ImageCommand → List ℕ → Program quiet (Unit {0})

@@ -13,23 +13,23 @@ use Rattle.cmd_image.specs.declared.running.AfterStep.{AfterStep}
 use Rattle.cmd_image.specs.declared.running.AfterStep.TheVariants as step
 
 -- Step n had this outcome, and its line was added to the block.
-pub record Stepped (n : ℕ) (outcome : Outcome) (state : State (List ℕ))
+pub record StepAdded (n : ℕ) (outcome : Outcome) (state : State (List ℕ))
     (block block' : List (List ℕ)) (old new : Seen) : Type 0 where
   pub outcome_is : (told state).outcome ≡ outcome
   pub added : Gathers block block' (as_line (line_of n (told state)) ∷ []) old new
 
--- As `Stepped`, for a step that ends the run.
-pub record Ending (n : ℕ) (outcome : Outcome) (state : State (List ℕ))
+-- As `StepAdded`, for a step that ends the run.
+pub record LastStepAdded (n : ℕ) (outcome : Outcome) (state : State (List ℕ))
     (block block' : List (List ℕ)) (old new : Seen) : Type 0 where
   pub last : is_next outcome ≡ false
-  pub stepped : Stepped n outcome state block block' old new
+  pub stepped : StepAdded n outcome state block block' old new
 
 -- What the result of step n implies. If the output failed, the lines of the block and of the step
 -- were put up to there.
-abbrev pub TurnSays : AfterStep → ℕ → State (List ℕ) → List (List ℕ) → List (List ℕ)
+abbrev pub StepResult : AfterStep → ℕ → State (List ℕ) → List (List ℕ) → List (List ℕ)
     → Seen → Seen → Type 0
-TurnSays step.Next n state block block' old new = Stepped n Next state block block' old new
-TurnSays (step.Ended outcome) n state block block' old new =
-    Ending n outcome state block block' old new
-TurnSays step.WriteFailed n state block block' old new =
+StepResult step.Next n state block block' old new = StepAdded n Next state block block' old new
+StepResult (step.Ended outcome) n state block block' old new =
+    LastStepAdded n outcome state block block' old new
+StepResult step.WriteFailed n state block block' old new =
     Loses (block ++ as_line (line_of n (told state)) ∷ []) old new

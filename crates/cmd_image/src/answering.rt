@@ -71,7 +71,7 @@ fn answer_bare<W: World>(
 }
 
 // Performs a command for an image, given the findings of its audit.
-fn answer_found<W: World>(
+fn perform_for_findings<W: World>(
     command: ImageCommand,
     findings: &[Finding],
     image: Image,
@@ -99,7 +99,7 @@ fn with_image<W: World>(
     match findings_in(alloc, &image) {
         Ok(verdict) => {
             let findings = verdict.findings.as_slice();
-            let answer = answer_found(command, findings, image, world);
+            let answer = perform_for_findings(command, findings, image, world);
             // Dropped by a call, so that the drop is proved once for its type.
             drop(verdict);
             answer

@@ -9,7 +9,7 @@ ghost use Rattle.m36_program.specs.Gathered.{Adds, Puts};
 ghost use Rattle.m36_program.specs.Performs.{Performs};
 ghost use Rattle.m36_program.specs.Program.{puts_all};
 ghost use Rattle.cmd_image.specs.ImageProgram.{run_ends, run_from};
-ghost use Rattle.cmd_image.specs.Running.{TurnSays};
+ghost use Rattle.cmd_image.specs.Running.{StepResult};
 
 use arrayvec::ArrayString;
 use m36_model::{Outcome, Regs, Shown};
@@ -82,7 +82,7 @@ pub fn take_turn<W: World>(
     block: &mut Block,
     world: &mut W,
 ) -> AfterStep
-    ensures says { TurnSays result n machine.old.state block.old block.new
+    ensures says { StepResult result n machine.old.state block.old block.new
         (W.seen world.old) (W.seen world.new) }
     ensures state { machine.new.state ≡ after machine.old.state }
     ensures ended { machine.new.ended ≡ machine.old.ended }
@@ -134,7 +134,7 @@ pub fn run<W: World>(machine: &mut Machine, steps: u32, world: &mut W) -> Result
         (W.seen world.old) (W.seen world.new) }
 {
     let mut block = Block::new();
-    let mut shown = machine.unshown();
+    let mut shown = machine.empty_shown();
     let mut text = TraceText::new();
     let mut taken: u32 = 0;
     let mut left = steps;

@@ -12,9 +12,9 @@ use Rattle.m36_link.specs.Snap.{RefusedFields, snap_of}
 use Rattle.m36_step.specs.declared.turns.Turn.{Turn}
 use Rattle.m36_step.specs.declared.turns.Turn.TheVariants as turn
 use Rattle.m36_super.specs.Library.{Library}
-use Rattle.m36_super.specs.declared.coming.Coming.{Coming}
-use Rattle.m36_super.specs.declared.coming.Coming.TheVariants.{Step, Link, Print}
-use Rattle.m36_super.specs.declared.coming.Coming.TheVariants as coming
+use Rattle.m36_super.specs.declared.coming.NextEvent.{NextEvent}
+use Rattle.m36_super.specs.declared.coming.NextEvent.TheVariants.{Step, Link, Print}
+use Rattle.m36_super.specs.declared.coming.NextEvent.TheVariants as coming
 use Rattle.m36_super.specs.BootedRun.{Booted, IsStepTurn, IsLinkTurn, IsConsoleTurn, IsTurnBy, IsTurn, AreTurns}
 use Rattle.m36_super.specs.SuperTurn.{IsQuiet, link_quiet}
 use Rattle.m36_reading.specs.declared.status.Status.{Status}
@@ -169,7 +169,7 @@ step_counts turn.Full is = absurd is
 step_counts turn.NoMemory is = absurd is
 
 -- A service was performed, and the run continues or ends.
-record IsServiceMade (told : Turn) (next : Coming) : Type 0 where
+record IsServiceMade (told : Turn) (next : NextEvent) : Type 0 where
   event : IsEvent told
   counts : steps_of told ≡ 0
   silent : IsQuiet next
@@ -193,15 +193,15 @@ linked_made (Err why) frames at before (turn.Ended e) after is found = absurd (s
 linked_made (Err why) frames at before turn.Full after is found = absurd (subst IsLink (sym is.0) tt)
 
 -- A console service was made and a step follows, or the run has ended.
-record PrintEnded (e : End) (told : Turn) (next : Coming) : Type 0 where
+record PrintEnded (e : End) (told : Turn) (next : NextEvent) : Type 0 where
   told_is : told ≡ turn.Ended e
   next_is : next ≡ coming.Over e
 
-abbrev PrintMade : Turn → Coming → Type 0
+abbrev PrintMade : Turn → NextEvent → Type 0
 PrintMade told next = IsServiceMade told next ⊎ ((e : End) × PrintEnded e told next)
 
 printed :
-    (text : List ℕ) (told : Turn) (next : Coming) → told ≡ turn.Console text → next ≡ Step → IsServiceMade told next
+    (text : List ℕ) (told : Turn) (next : NextEvent) → told ≡ turn.Console text → next ≡ Step → IsServiceMade told next
 printed text told next told_is next_is = record {
   event = subst IsEvent (sym told_is) tt;
   counts = ap steps_of told_is;
@@ -226,10 +226,10 @@ GoesOn lib taken left =
     (b : Booted) (events : List Event) (result : Result Ran Status)
     → b.coming ≡ Step → Goes (run_from lib taken left b) events result → RunGoes lib taken left b events result
 
-abbrev then_by : Coming → Library → ℕ → ℕ → Booted → Program quiet Ran
+abbrev then_by : NextEvent → Library → ℕ → ℕ → Booted → Program quiet Ran
 then_by next lib taken left b = after_service next taken (λ b. run_from lib taken left b) b
 
-abbrev served_by : Coming → Library → ℕ → ℕ → Booted → Program quiet Ran
+abbrev served_by : NextEvent → Library → ℕ → ℕ → Booted → Program quiet Ran
 served_by next lib taken left b = serve_by next lib taken (λ b. run_from lib taken left b) b
 
 over_turn : (lib : Library) (b : Booted) (e : End) → b.coming ≡ coming.Over e → IsTurn lib b (turn.Ended e) b
@@ -238,7 +238,7 @@ over_turn lib b e is = subst (λ c. IsTurnBy c lib b (turn.Ended e) b) (sym is) 
 
 -- what follows a service
 after_goes :
-    (next : Coming) (lib : Library) (taken left : ℕ) (b : Booted) (events : List Event) (result : Result Ran Status)
+    (next : NextEvent) (lib : Library) (taken left : ℕ) (b : Booted) (events : List Event) (result : Result Ran Status)
     → GoesOn lib taken left → IsQuiet next → b.coming ≡ next
     → Goes (then_by next lib taken left b) events result → RunGoes lib taken left b events result
 unfolding Goes
@@ -308,7 +308,7 @@ print_serves lib taken left b events result on is goes =
     (print_made _ _ b goes.value.turn goes.value.after turns) goes.rest
 
 serves_by :
-    (next : Coming) (lib : Library) (taken left : ℕ) (b : Booted) (events : List Event) (result : Result Ran Status)
+    (next : NextEvent) (lib : Library) (taken left : ℕ) (b : Booted) (events : List Event) (result : Result Ran Status)
     → GoesOn lib taken left → b.coming ≡ next
     → Goes (served_by next lib taken left b) events result → RunGoes lib taken left b events result
 unfolding Goes

@@ -7,8 +7,8 @@ use Rattle.m36_step.specs.LinkNoteFields.{LinkNoteFields}
 use Rattle.m36_step.specs.declared.turns.Turn.{Turn}
 use Rattle.m36_step.specs.declared.turns.Turn.TheVariants as turn
 use Rattle.m36_super.specs.Library.{Library}
-use Rattle.m36_super.specs.declared.coming.Coming.{Coming}
-use Rattle.m36_super.specs.declared.coming.Coming.TheVariants.{Step, Link, Print, Over}
+use Rattle.m36_super.specs.declared.coming.NextEvent.{NextEvent}
+use Rattle.m36_super.specs.declared.coming.NextEvent.TheVariants.{Step, Link, Print, Over}
 use Rattle.m36_super.specs.BootedRun.{Booted, IsTurn}
 use Rattle.m36_super.specs.SuperFields.{SuperFields, booted_of}
 use Rattle.m36_super.specs.SuperTurn.{SuperTurns}
@@ -19,7 +19,7 @@ use Rattle.m36_program.specs.Program.{quiet, Program, some}
 use Rattle.m36_program.proofs.Performing.{goes_done, goes_some, goes_wants, goes_no_memory}
 use Rattle.m36_booted.specs.declared.running.Finish.TheVariants as finish
 use Rattle.m36_booted.proofs.Serving.{turn_prints, link_behind, print_behind}
-use Rattle.cmd_folder.specs.RunProgram.{Made, IsMade, IsServed}
+use Rattle.cmd_folder.specs.RunProgram.{Made, IsMade, FindsMemory}
 use Rattle.cmd_folder.proofs.Serving.{print_over}
 use Rattle.cmd_make.specs.declared.running.AfterTurn.{AfterTurn}
 use Rattle.cmd_make.specs.declared.running.AfterTurn.TheVariants as after
@@ -35,15 +35,15 @@ abbrev served : Library → ℕ → ℕ → Booted → Program quiet Ran
 served lib taken left b = serve lib taken (λ b. run_from lib taken left b) b
 
 -- the program after a step, by what is next
-abbrev served_by : Coming → Library → ℕ → ℕ → Booted → Program quiet Ran
+abbrev served_by : NextEvent → Library → ℕ → ℕ → Booted → Program quiet Ran
 served_by coming lib taken left b = serve_by coming lib taken (λ b. run_from lib taken left b) b
 
 -- the program after a service, by what is next
-abbrev then_by : Coming → Library → ℕ → ℕ → Booted → Program quiet Ran
+abbrev then_by : NextEvent → Library → ℕ → ℕ → Booted → Program quiet Ran
 then_by coming lib taken left b = after_service coming taken (λ b. run_from lib taken left b) b
 
 serve_is :
-    (coming : Coming) (lib : Library) (taken left : ℕ) (b : Booted)
+    (coming : NextEvent) (lib : Library) (taken left : ℕ) (b : Booted)
     → b.coming ≡ coming → served lib taken left b ≡ served_by coming lib taken left b
 unfolding serve
 serve_is coming lib taken left b is = ap (λ c. served_by c lib taken left b) is
@@ -58,8 +58,8 @@ link_as lib taken left b later note at is turns result goes =
     let made : Made = record { turn = turn.Linked note; after = later } in
     let go = then_on taken (λ b. run_from lib taken left b) in
     subst (λ p. Goes p [] result) (sym (serve_is (Link at) lib taken left b is))
-    (goes_wants (some (IsServed lib b) go) [] result
-    (goes_some (IsServed lib b) go made [] result (record { is = turns; found = λ e. cc }) goes))
+    (goes_wants (some (FindsMemory lib b) go) [] result
+    (goes_some (FindsMemory lib b) go made [] result (record { is = turns; found = λ e. cc }) goes))
 
 print_as :
     (lib : Library) (taken left : ℕ) (b later : Booted) (told : Turn)
@@ -118,7 +118,7 @@ pub link_starves :
 link_starves before later at is = record {
   goes = λ taken left.
       subst (λ p. Goes p [] (Err NoMemory)) (sym (serve_is (Link at) before.lib taken left (booted_of before) is))
-      (goes_no_memory (some (IsServed before.lib (booted_of before)) (then_on taken (λ b. run_from before.lib taken left b))));
+      (goes_no_memory (some (FindsMemory before.lib (booted_of before)) (then_on taken (λ b. run_from before.lib taken left b))));
 }
 
 pub link_goes :

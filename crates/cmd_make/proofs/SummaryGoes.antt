@@ -7,7 +7,7 @@ use Rattle.m36_world.specs.declared.event.Event.TheVariants.{OutputFailed}
 use Rattle.m36_world.specs.Follow.{outputs}
 use Rattle.m36_step.specs.declared.turns.Turn.{Turn}
 use Rattle.m36_super.specs.Library.{Library}
-use Rattle.m36_super.specs.declared.coming.Coming.TheVariants.{Step}
+use Rattle.m36_super.specs.declared.coming.NextEvent.TheVariants.{Step}
 use Rattle.m36_super.specs.BootedRun.{Booted, AreTurns}
 use Rattle.m36_super.specs.SuperFields.{SuperFields, booted_of}
 use Rattle.m36_super.specs.BootSays.{IsBooted}

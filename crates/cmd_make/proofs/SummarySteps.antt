@@ -32,7 +32,7 @@ use Rattle.m36_booted.proofs.FolderReads.{fresh_next}
 use Rattle.m36_booted.proofs.YesAnswers.{passes_booted}
 use Rattle.cmd_image.specs.ImageProgram.{audit_may_end}
 use Rattle.cmd_image.proofs.AuditPuts.{all_put, put_more, all_then, all_stop}
-use Rattle.cmd_folder.specs.OnFolder.{IsFound}
+use Rattle.cmd_folder.specs.OnFolder.{AreFolderFindings}
 use Rattle.cmd_folder.specs.RunProgram.{finish_may_end}
 use Rattle.cmd_make.specs.MakeProgram.{summed_up, run_summed, runs_or_ends, found_told, on_system, on_booted}
 use Rattle.cmd_make.specs.QuietRun.{Ran, run_from}
@@ -208,7 +208,7 @@ found_in system denied findings result old new fresh found performs =
     let so = subst (λ (d : DbrFields). AreFindings system.core d findings) fresh.stands.dbr found in
     performs_some (IsBooted system.lib) (on_system system.lib) system result old new fresh
     (performs_wants _ result old new
-    (performs_some (IsFound system.lib system) (found_told system.lib (booted_of system)) findings result old new
+    (performs_some (AreFolderFindings system.lib system) (found_told system.lib (booted_of system)) findings result old new
     (record { found = so; passes = found_passes system.lib system findings fresh so }) performs))
 
 -- the audit ran out of memory

@@ -14,7 +14,7 @@ use Rattle.m36_booted.specs.RunText.{finish_status}
 use Rattle.m36_files.specs.Deciding.{decides}
 use Rattle.m36_files.specs.Writing.{writing}
 use Rattle.cmd_image.specs.ImageProgram.{audit_may_end}
-use Rattle.cmd_folder.specs.OnFolder.{IsFound}
+use Rattle.cmd_folder.specs.OnFolder.{AreFolderFindings}
 use Rattle.cmd_folder.specs.RunProgram.{finish_may_end}
 use Rattle.cmd_tools.specs.Reporting.{writes_all}
 use Rattle.cmd_make.specs.Making.{sets_of}
@@ -47,7 +47,7 @@ found_told lib first findings =
 
 -- Audits the system. Memory may run out here, and after that only in a link service.
 unfoldable pub on_system : Library → SuperFields → Program quiet (Unit {0})
-on_system lib system = wants (some (IsFound lib system) (found_told lib (booted_of system)))
+on_system lib system = wants (some (AreFolderFindings lib system) (found_told lib (booted_of system)))
 
 -- What is done with the system that the library boots to. There is at most one, by `system` of
 -- `FolderDueLaw` of `m36_booted`.

@@ -3,14 +3,14 @@
 use Rattle.std.specs.Prelude.{ℕ, zero, suc, ◌+◌}
 use Rattle.m36_model.specs.Registers.{RegsFields}
 use Rattle.m36_super.specs.Library.{Library}
-use Rattle.m36_super.specs.declared.coming.Coming.{Coming}
-use Rattle.m36_super.specs.declared.coming.Coming.TheVariants.{Step, Link, Print}
-use Rattle.m36_super.specs.declared.coming.Coming.TheVariants as coming
+use Rattle.m36_super.specs.declared.coming.NextEvent.{NextEvent}
+use Rattle.m36_super.specs.declared.coming.NextEvent.TheVariants.{Step, Link, Print}
+use Rattle.m36_super.specs.declared.coming.NextEvent.TheVariants as coming
 use Rattle.m36_super.specs.BootedRun.{Booted}
 use Rattle.m36_program.specs.Program.{quiet, Program, done, some, wants}
 use Rattle.m36_booted.specs.declared.running.Finish.{Finish}
 use Rattle.m36_booted.specs.declared.running.Finish.TheVariants.{Over, Limit}
-use Rattle.cmd_folder.specs.RunProgram.{Made, IsMade, IsServed}
+use Rattle.cmd_folder.specs.RunProgram.{Made, IsMade, FindsMemory}
 
 -- how a run ended, after how many steps, and the registers that it left
 pub record Ran : Type 0 where
@@ -25,7 +25,7 @@ ran how steps b = record { how = how; steps = steps; regs = b.state.regs }
 -- What follows a service: a step, or the end of the run. No service follows another, so the cases
 -- of services only continue.
 abbrev pub after_service :
-    Coming → ℕ → (Booted → Program quiet Ran) → Booted → Program quiet Ran
+    NextEvent → ℕ → (Booted → Program quiet Ran) → Booted → Program quiet Ran
 after_service Step taken on b = on b
 after_service (Link at) taken on b = on b
 after_service Print taken on b = on b
@@ -37,9 +37,9 @@ then_on taken on made = after_service made.after.coming taken on made.after
 -- What follows a step: another one; a link service, for which memory may run out; a console
 -- service; or the end of the run.
 abbrev pub serve_by :
-    Coming → Library → ℕ → (Booted → Program quiet Ran) → Booted → Program quiet Ran
+    NextEvent → Library → ℕ → (Booted → Program quiet Ran) → Booted → Program quiet Ran
 serve_by Step lib taken on b = on b
-serve_by (Link at) lib taken on b = wants (some (IsServed lib b) (then_on taken on))
+serve_by (Link at) lib taken on b = wants (some (FindsMemory lib b) (then_on taken on))
 serve_by Print lib taken on b = some (IsMade lib b) (then_on taken on)
 serve_by (coming.Over e) lib taken on b = done (ran (Over e) taken b)
 

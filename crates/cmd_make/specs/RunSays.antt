@@ -4,9 +4,9 @@ use Rattle.m36_model.specs.declared.endings.End.{End}
 use Rattle.m36_reading.specs.declared.status.Status.{Status}
 use Rattle.m36_reading.specs.declared.status.Status.TheVariants as status
 use Rattle.m36_super.specs.Library.{Library}
-use Rattle.m36_super.specs.declared.coming.Coming.{Coming}
-use Rattle.m36_super.specs.declared.coming.Coming.TheVariants.{Step}
-use Rattle.m36_super.specs.declared.coming.Coming.TheVariants as coming
+use Rattle.m36_super.specs.declared.coming.NextEvent.{NextEvent}
+use Rattle.m36_super.specs.declared.coming.NextEvent.TheVariants.{Step}
+use Rattle.m36_super.specs.declared.coming.NextEvent.TheVariants as coming
 use Rattle.m36_super.specs.BootedRun.{Booted}
 use Rattle.m36_super.specs.SuperFields.{SuperFields, booted_of}
 use Rattle.m36_program.specs.Goes.{Goes}
@@ -58,7 +58,7 @@ TurnSays (turn.Ended e) lib first after = IsOver e first after
 TurnSays turn.NoMemory lib first after = HasNoMemory first
 
 -- An answer after a link service agrees with what is next: a step, or the end of the run.
-abbrev pub LinkBefore : AfterTurn → Coming → Type 0
+abbrev pub LinkBefore : AfterTurn → NextEvent → Type 0
 LinkBefore turn.Next next = next ≡ Step
 LinkBefore (turn.Ended e) next = next ≡ coming.Over e
 LinkBefore turn.NoMemory next = ⊥

@@ -26,9 +26,9 @@ fn with_others(alloc: Global, sets: Sets) -> Result<Sets, NoMemory>
 pub fn made_from(alloc: Global, seed: u64) -> Result<Sets, Refusal>
     ensures { Gives result (sets_of seed) }
 {
-    let drawn = sources(alloc, seed)?;
-    let sets = with_copies(alloc, Sets::new(alloc), drawn.items())?;
-    let sets = with_objects(alloc, sets, drawn.items())?;
+    let draw_of = sources(alloc, seed)?;
+    let sets = with_copies(alloc, Sets::new(alloc), draw_of.items())?;
+    let sets = with_objects(alloc, sets, draw_of.items())?;
     let sets = with_others(alloc, sets)?;
     Ok(sets)
 }

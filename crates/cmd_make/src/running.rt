@@ -1,7 +1,7 @@
 //! Runs a booted system and writes nothing of its turns.
 
 ghost use Rattle.std.specs.Prelude.{◌≡◌, []};
-ghost use Rattle.m36_super.specs.declared.coming.Coming.TheVariants.{Step, Link, Print};
+ghost use Rattle.m36_super.specs.declared.coming.NextEvent.TheVariants.{Step, Link, Print};
 ghost use Rattle.m36_super.specs.SuperFields.{booted_of};
 ghost use Rattle.m36_super.specs.SuperTurn.{IsQuiet};
 ghost use Rattle.m36_program.specs.Goes.{Goes};
@@ -12,7 +12,7 @@ use m36_booted::running::Finish;
 use m36_model::{At, End, StepRecord};
 use m36_reading::Status;
 use m36_step::{Stepper, Turn};
-use m36_super::{Coming, Super};
+use m36_super::{NextEvent, Super};
 use m36_word::NoMemory;
 
 /// How a run ended, and after how many steps.
@@ -39,9 +39,9 @@ fn after_link(system: &Super) -> AfterTurn
     ensures { LinkBefore result system.now.coming }
 {
     match system.coming() {
-        Coming::Step => AfterTurn::Next,
-        Coming::Over(end) => AfterTurn::Ended(end),
-        Coming::Link(_) | Coming::Print => unreachable!(),
+        NextEvent::Step => AfterTurn::Next,
+        NextEvent::Over(end) => AfterTurn::Ended(end),
+        NextEvent::Link(_) | NextEvent::Print => unreachable!(),
     }
 }
 
@@ -79,10 +79,10 @@ fn serve(system: &mut Super) -> AfterTurn
         system.new }
 {
     match system.coming() {
-        Coming::Step => AfterTurn::Next,
-        Coming::Link(at) => link(system, at),
-        Coming::Print => print(system),
-        Coming::Over(end) => AfterTurn::Ended(end),
+        NextEvent::Step => AfterTurn::Next,
+        NextEvent::Link(at) => link(system, at),
+        NextEvent::Print => print(system),
+        NextEvent::Over(end) => AfterTurn::Ended(end),
     }
 }
 

@@ -2,7 +2,7 @@
 
 ghost use Rattle.std.specs.Prelude.{ℕ, ◌≡◌, ◌<◌, List, [], ◌∷◌, length, Some};
 ghost use Rattle.m36_text.specs.Lines.{as_line};
-ghost use Rattle.m36_super.specs.declared.coming.Coming.TheVariants.{Step};
+ghost use Rattle.m36_super.specs.declared.coming.NextEvent.TheVariants.{Step};
 ghost use Rattle.m36_super.specs.SuperFields.{booted_of};
 ghost use Rattle.m36_audit.specs.Findings.{pairs};
 ghost use Rattle.m36_program.specs.Early.{ends};

@@ -24,7 +24,7 @@ use Rattle.m36_program.proofs.PutLaws.{puts_both}
 use Rattle.m36_ran.specs.Ran.{is_run, audit_status}
 use Rattle.cmd_procs.specs.JointText.{joint_pieces}
 use Rattle.cmd_procs.specs.Scheduled.{code_of, procs_by, procs_reads, run_answer, refused_answer, answer_by, procs_answer, IsProcsDue, procs_kind}
-use Rattle.cmd_procs.specs.ProcsProgram.{decoded, decode, procs_of, IsFound, audit_only, run_all, audit_and_run, run_by, by_found}
+use Rattle.cmd_procs.specs.ProcsProgram.{decoded, decode, procs_of, AreScheduleFindings, audit_only, run_all, audit_and_run, run_by, by_found}
 use Rattle.cmd_procs.specs.ProcsProgram.{on_procs, procs_program}
 
 -- ---- what is read
@@ -74,7 +74,7 @@ by_puts false p findings events result goes = audit_puts findings events result 
 on_goes :
     (unaudited : Bool) (p : ProcsFields) (events : List Event) (result : Result (Unit {0}) Status)
     → Goes (on_procs unaudited p) events result
-    → Chosen (IsFound p.state) (λ f. Goes (by_found unaudited p f) events result) ⊎ NoneLeft events result
+    → Chosen (AreScheduleFindings p.state) (λ f. Goes (by_found unaudited p f) events result) ⊎ NoneLeft events result
 unfolding Goes on_procs
 on_goes unaudited p events result goes = goes
 

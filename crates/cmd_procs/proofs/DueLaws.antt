@@ -7,7 +7,7 @@ use Rattle.m36_isol.proofs.Schedules.{jointly_isolated}
 use Rattle.m36_procs.specs.ProcsFields.{ProcsFields}
 use Rattle.m36_reading.specs.Answers.{Answer}
 use Rattle.m36_ran.proofs.DueLaws.{some_find, some_findings}
-use Rattle.cmd_procs.specs.Scheduled.{procs_answer, dbrs_of, AreIsolated, IsProcsDue}
+use Rattle.cmd_procs.specs.Scheduled.{procs_answer, dbrs_of, SchedulesAreIsolated, IsProcsDue}
 use Rattle.cmd_procs.specs.DueLaw.{IsByFound, ProcsDueLaw}
 
 -- ---- some findings
@@ -36,7 +36,7 @@ some_joint core dbrs none =
 
 -- ---- answers
 
-isolated_by : (p : ProcsFields) (findings : List JointFound) → AreJointFindings p.state.store (dbrs_of p.state) findings → findings ≡ [] → AreIsolated p.state
+isolated_by : (p : ProcsFields) (findings : List JointFound) → AreJointFindings p.state.store (dbrs_of p.state) findings → findings ≡ [] → SchedulesAreIsolated p.state
 isolated_by p findings found none = record {
   isolates = jointly_isolated p.state.store (dbrs_of p.state) (joint_findings_law.sound p.state.store (dbrs_of p.state) (subst (AreJointFindings p.state.store (dbrs_of p.state)) none found));
 }

@@ -19,8 +19,8 @@ use Rattle.m36_program.proofs.ReadLaws.{goes_refused}
 use Rattle.m36_ran.specs.Ran.{passes, audit_status}
 use Rattle.cmd_image.proofs.AuditPuts.{all_put, all_then, all_stop}
 use Rattle.cmd_procs.specs.JointText.{joint_pieces}
-use Rattle.cmd_procs.specs.Scheduled.{code_of, dbrs_of, AreIsolated}
-use Rattle.cmd_procs.specs.ProcsProgram.{decoded, decode, procs_of, IsFound, audit_only, run_all, audit_and_run, by_found, on_procs}
+use Rattle.cmd_procs.specs.Scheduled.{code_of, dbrs_of, SchedulesAreIsolated}
+use Rattle.cmd_procs.specs.ProcsProgram.{decoded, decode, procs_of, AreScheduleFindings, audit_only, run_all, audit_and_run, by_found, on_procs}
 
 -- ---- the processes of a file
 
@@ -125,13 +125,13 @@ none_of (f ∷ findings) e = absurd (cc)
 pub found_in :
     (unaudited : Bool) (p : ProcsFields) (findings : List JointFound) (result : Result (Unit {0}) Status) (old new : Seen)
     → AreJointFindings p.state.store (dbrs_of p.state) findings
-    → (findings ≡ [] → AreIsolated p.state)
+    → (findings ≡ [] → SchedulesAreIsolated p.state)
     → Performs (by_found unaudited p findings) result old new
     → Performs (on_procs unaudited p) result old new
 unfolding on_procs
 found_in unaudited p findings result old new found isolated performs =
     performs_wants _ result old new
-    (performs_some (IsFound p.state) (by_found unaudited p) findings result old new
+    (performs_some (AreScheduleFindings p.state) (by_found unaudited p) findings result old new
     (record { found = found; isolated = isolated }) performs)
 
 pub found_no_memory :

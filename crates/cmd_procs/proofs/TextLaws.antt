@@ -16,7 +16,7 @@ use Rattle.m36_ran.specs.Ran.{is_run, audit_status}
 use Rattle.cmd_image.proofs.TextLaws.{bytes_alike, ends_alike}
 use Rattle.cmd_procs.specs.JointText.{joint_pieces}
 use Rattle.cmd_procs.specs.Scheduled.{dbrs_of}
-use Rattle.cmd_procs.specs.ProcsProgram.{decoded, decode, procs_of, IsFound, audit_only, run_all, audit_and_run, run_by, by_found}
+use Rattle.cmd_procs.specs.ProcsProgram.{decoded, decode, procs_of, AreScheduleFindings, audit_only, run_all, audit_and_run, run_by, by_found}
 use Rattle.cmd_procs.specs.ProcsProgram.{on_procs, procs_program}
 use Rattle.cmd_procs.specs.OneText.{ProcsTextLaw}
 
@@ -60,8 +60,8 @@ by_alike false p findings = audit_alike findings
 on_alike : (unaudited : Bool) (p : ProcsFields) → Alike (on_procs unaudited p) (on_procs unaudited p)
 unfolding Alike on_procs
 on_alike unaudited p =
-    let chosen : Program quiet (Unit {0}) = some (IsFound p.state) (by_found unaudited p) in
-    alike_wants chosen chosen (alike_one (IsFound p.state) (by_found unaudited p)
+    let chosen : Program quiet (Unit {0}) = some (AreScheduleFindings p.state) (by_found unaudited p) in
+    alike_wants chosen chosen (alike_one (AreScheduleFindings p.state) (by_found unaudited p)
     (λ f g is is'. joint_findings_law.unique p.state.store (dbrs_of p.state) f g is.found is'.found)
     (λ f is. by_alike (is_run f unaudited) p f))
 

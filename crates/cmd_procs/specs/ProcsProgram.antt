@@ -13,7 +13,7 @@ use Rattle.m36_program.specs.Program.{May, quiet, Program, done, puts_all, some,
 use Rattle.m36_program.specs.Readers.{refused, refuses, file_bytes}
 use Rattle.m36_ran.specs.Ran.{is_run, audit_status}
 use Rattle.cmd_procs.specs.JointText.{joint_pieces}
-use Rattle.cmd_procs.specs.Scheduled.{code_of, dbrs_of, AreIsolated}
+use Rattle.cmd_procs.specs.Scheduled.{code_of, dbrs_of, SchedulesAreIsolated}
 
 -- ---- reading
 
@@ -34,9 +34,9 @@ procs_of name = then_with (file_bytes name) (decode name)
 -- ---- the joint audit, and the run
 
 -- The findings of the joint audit. If there are none, every schedule of the processes is isolated.
-pub record IsFound (s : Processes (List ℕ)) (findings : List JointFound) : Type 0 where
+pub record AreScheduleFindings (s : Processes (List ℕ)) (findings : List JointFound) : Type 0 where
   pub found : AreJointFindings s.store (dbrs_of s) findings
-  pub isolated : findings ≡ [] → AreIsolated s
+  pub isolated : findings ≡ [] → SchedulesAreIsolated s
 
 -- puts the audit's text, and ends with AuditNo
 unfoldable pub audit_only : List JointFound → Program quiet (Unit {0})
@@ -63,7 +63,7 @@ by_found unaudited p findings = run_by (is_run findings unaudited) p findings
 
 -- Audits processes and continues. Memory may run out before anything is put, and not after that.
 unfoldable pub on_procs : Bool → ProcsFields → Program quiet (Unit {0})
-on_procs unaudited p = wants (some (IsFound p.state) (by_found unaudited p))
+on_procs unaudited p = wants (some (AreScheduleFindings p.state) (by_found unaudited p))
 
 -- `procs FILE`, with or without `--unaudited`
 unfoldable pub procs_program : Bool → List ℕ → Program quiet (Unit {0})

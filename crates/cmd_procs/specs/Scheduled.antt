@@ -65,7 +65,7 @@ abbrev pub dbrs_of : Processes (List ℕ) → List DbrFields
 dbrs_of s = map (λ g. g.dbr) s.regs
 
 -- every schedule of the processes is isolated in each ring from 1
-pub record AreIsolated (s : Processes (List ℕ)) : Type 0 where
+pub record SchedulesAreIsolated (s : Processes (List ℕ)) : Type 0 where
   pub isolates : JointlyIsolated core_store (map (core_tables s.store) (dbrs_of s))
 
 -- The answer follows from the findings of the joint audit, of which there is one list. If there are
@@ -73,7 +73,7 @@ pub record AreIsolated (s : Processes (List ℕ)) : Type 0 where
 pub record IsProcsDue (unaudited : Bool) (p : ProcsFields) (due : Answer) : Type 0 where
   pub findings : List JointFound
   pub found : AreJointFindings p.state.store (dbrs_of p.state) findings
-  pub isolated : findings ≡ [] → AreIsolated p.state
+  pub isolated : findings ≡ [] → SchedulesAreIsolated p.state
   pub answer : due ≡ procs_answer unaudited p findings
 
 abbrev pub procs_kind : Bool → Kind ProcsFields
@@ -85,4 +85,4 @@ procs_kind unaudited = idle_kind (IsProcsDue unaudited)
 -- ring from 1.
 pub record PassesJoint (s : Processes (List ℕ)) : Type 0 where
   pub conditions : IsJointlyAudited s.store (dbrs_of s)
-  pub isolates : AreIsolated s
+  pub isolates : SchedulesAreIsolated s

@@ -5,7 +5,7 @@ ghost use Rattle.m36_model.specs.JointAudit.{AreJointFindings, most_processes};
 ghost use Rattle.m36_audit.specs.Joints.{all_found};
 ghost use Rattle.m36_program.specs.Performs.{Performs};
 ghost use Rattle.m36_ran.specs.Ran.{is_run};
-ghost use Rattle.cmd_procs.specs.Scheduled.{dbrs_of, AreIsolated};
+ghost use Rattle.cmd_procs.specs.Scheduled.{dbrs_of, SchedulesAreIsolated};
 ghost use Rattle.cmd_procs.specs.ProcsProgram.{audit_only, audit_and_run, by_found, on_procs, procs_program};
 
 use crate::findings::put_joint;
@@ -99,7 +99,7 @@ fn audited(alloc: Global, procs: &Procs) -> Result<Joint, NoMemory>
     ensures found { IfOk result (λ j. AreJointFindings procs.now.state.store
         (dbrs_of procs.now.state) (all_found j.findings.items)) }
     ensures isolated { IfOk result (λ j. all_found j.findings.items ≡ []
-        → AreIsolated procs.now.state) }
+        → SchedulesAreIsolated procs.now.state) }
 {
     let dbrs = dbrs_of(alloc, procs)?;
     let verdict = joint(alloc, procs.core(), dbrs.as_slice())?;

@@ -2,11 +2,11 @@
 use Rattle.std.proofs.Common.{◌≡◌, ◌⊎◌, ℕ, List, [], ◌∷◌, ◌++◌, Some, Result, Ok, Err, refl, sym, ap, subst, ◌∙◌, inl, inr}
 use Rattle.std.proofs.lemmas.List.{append-nil, append_assoc}
 use Rattle.m36_outside.specs.Counts.{Rose}
-use Rattle.m36_outside.specs.Files.{with_told_file}
+use Rattle.m36_outside.specs.Files.{with_known_file}
 use Rattle.m36_outside.specs.Passing.{joined}
 use Rattle.m36_outside.specs.Putting.{PutsText, PutsPieces}
 use Rattle.m36_outside.specs.SinkState.{SinkState}
-use Rattle.m36_outside.specs.WriteAnswer.{WriteSays, WriteHasCause}
+use Rattle.m36_outside.specs.WriteAnswer.{WriteResult, WriteHasCause}
 use Rattle.m36_outside.specs.declared.folder.WriteAnswer.{WriteAnswer}
 use Rattle.m36_outside.specs.declared.folder.WriteAnswer.TheVariants as write
 use Rattle.m36_outside.specs.declared.sink.Put.{Put}
@@ -14,7 +14,7 @@ use Rattle.m36_outside.specs.declared.sink.Put.TheVariants.{Done, Failed}
 use Rattle.m36_dir.specs.Catalog.{CatalogFields}
 use Rattle.m36_bindfile.specs.BindFile.{bind_lines, names_by}
 use Rattle.m36_bind.specs.Bound.{bound_of}
-use Rattle.m36_world.specs.Did.{IsFileWrite}
+use Rattle.m36_world.specs.Happened.{IsFileWrite}
 use Rattle.m36_world.specs.Follow.{Follow, outputs}
 use Rattle.m36_world.specs.Seen.{Seen}
 use Rattle.m36_world.specs.declared.event.Event.{Event}
@@ -260,7 +260,7 @@ later_unwritten answer file files old between new did rest = record {
     last = rest.set.last;
     others = rest.set.others;
     are = ap (λ l. file ∷ l) rest.set.are;
-    files = subst (λ f. WriteSays answer (with_sets rest.set.before f) new.files rest.set.last.name rest.set.last.content) did.files rest.set.files;
+    files = subst (λ f. WriteResult answer (with_sets rest.set.before f) new.files rest.set.last.name rest.set.last.content) did.files rest.set.files;
     wrote = rest.set.wrote
         ∙ ap (λ l. (l ++ writes_of rest.set.before) ++ write_of answer rest.set.last ∷ []) (ap (λ s. s.writes) did.rest)
         ∙ ap (λ l. l ++ write_of answer rest.set.last ∷ []) (append_assoc old.writes (write_of write.Written file ∷ []) (writes_of rest.set.before));

@@ -2,7 +2,7 @@
 
 ghost use Rattle.std.specs.Prelude.{◌≡◌, ◌≤◌, ◌∷◌, ◌++◌, [], length, OnOk, IfOk, Ok};
 ghost use Rattle.m36_outside.specs.ReadAnswer.{file_limit};
-ghost use Rattle.m36_bindfile.specs.BindFile.{bind_lines, names_by, BindSays};
+ghost use Rattle.m36_bindfile.specs.BindFile.{bind_lines, names_by, BindResult};
 ghost use Rattle.m36_bind.specs.Bound.{bound_of};
 ghost use Rattle.m36_reading.specs.Asking.{Gives, Refuses};
 ghost use Rattle.m36_told.specs.Binding.{bind_refused, names_told, bound_told, bind_told};
@@ -149,7 +149,7 @@ fn bound_by(
     objects: &[Object],
 ) -> Result<Object, BindFault>
     requires { length text.now ≤ file_limit }
-    ensures { BindSays result (bound_of text.now names.now objects.now) }
+    ensures { BindResult result (bound_of text.now names.now objects.now) }
 {
     bind(alloc, text, names, objects)
 }

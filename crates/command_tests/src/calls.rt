@@ -1,7 +1,7 @@
 //! Commands over one file: images, processes, objects, sources and bind files, with their output,
 //! their refusals and failing calls.
 
-use crate::memory::{Due, File, Place, SURE, comes_with};
+use crate::memory::{Expected, File, Place, SURE, comes_with};
 use m36_reading::Code;
 use m36_word::NoMemory;
 use std::alloc::Global;
@@ -161,7 +161,7 @@ const IMAGES: &[(&[u8], &[u8], u8, &[u8])] = &[
 #[test]
 fn writes_outputs(rt: HostRuntime) -> Result<(), NoMemory> {
     for (command, image, number, output) in IMAGES {
-        let due = Due::Writes(*number, output);
+        let due = Expected::Writes(*number, output);
         assert!(rt;
             comes_with(rt.alloc(), command, (b"f", image), SURE, due)?,
             "{command:?}"
@@ -176,7 +176,7 @@ const PRINTS: &[(&[u8], File)] = &[(b"print e", (b"e", EMPTY)), (b"alm e", (b"e.
 #[test]
 fn writes_prints(rt: HostRuntime) -> Result<(), NoMemory> {
     for (command, file) in PRINTS {
-        let due = Due::Writes(0, EMPTY_PRINT);
+        let due = Expected::Writes(0, EMPTY_PRINT);
         assert!(rt;
             comes_with(rt.alloc(), command, *file, SURE, due)?,
             "{command:?}"
@@ -189,7 +189,7 @@ const LIMIT_BEGIN: &[u8] = b"audit yes\n1 0 00001|000000 000000710000 0:00001|00
 
 #[test]
 fn ends_at_the_limit(rt: HostRuntime) -> Result<(), NoMemory> {
-    let due = Due::Begins(7, LIMIT_BEGIN, b"\nend limit 100000\n");
+    let due = Expected::Begins(7, LIMIT_BEGIN, b"\nend limit 100000\n");
     assert!(rt; comes_with(rt.alloc(), b"bare f", (b"f", ENDLESS), SURE, due)?);
     Ok(())
 }
@@ -233,7 +233,7 @@ const BINDS_REFUSED: &[(File, &[u8], Place)] = &[
 #[test]
 fn refuses_images(rt: HostRuntime) -> Result<(), NoMemory> {
     for (command, file, place) in IMAGES_REFUSED {
-        let due = Due::Refuses(b"f", *place);
+        let due = Expected::Refuses(b"f", *place);
         assert!(rt;
             comes_with(rt.alloc(), command, *file, SURE, due)?,
             "{command:?}"
@@ -245,7 +245,7 @@ fn refuses_images(rt: HostRuntime) -> Result<(), NoMemory> {
 #[test]
 fn refuses_prints(rt: HostRuntime) -> Result<(), NoMemory> {
     for (content, place) in PRINTS_REFUSED {
-        let due = Due::Refuses(b"e", *place);
+        let due = Expected::Refuses(b"e", *place);
         assert!(rt;
             comes_with(rt.alloc(), b"print e", (b"e", content), SURE, due)?,
             "{content:?}"
@@ -257,7 +257,7 @@ fn refuses_prints(rt: HostRuntime) -> Result<(), NoMemory> {
 #[test]
 fn refuses_sources(rt: HostRuntime) -> Result<(), NoMemory> {
     for (file, place) in SOURCES_REFUSED {
-        let due = Due::Refuses(b"e.alm", *place);
+        let due = Expected::Refuses(b"e.alm", *place);
         assert!(rt;
             comes_with(rt.alloc(), b"alm e", *file, SURE, due)?,
             "{:?}",
@@ -270,7 +270,7 @@ fn refuses_sources(rt: HostRuntime) -> Result<(), NoMemory> {
 #[test]
 fn refuses_binds(rt: HostRuntime) -> Result<(), NoMemory> {
     for (file, name, place) in BINDS_REFUSED {
-        let due = Due::Refuses(name, *place);
+        let due = Expected::Refuses(name, *place);
         assert!(rt;
             comes_with(rt.alloc(), b"bind e", *file, SURE, due)?,
             "{:?}",
@@ -296,7 +296,7 @@ fn is_too_large(
     code: Code,
 ) -> Result<bool, NoMemory> {
     let large = vec![in alloc; byte; length]?;
-    let due = Due::Refuses(name, (code, 0, 0));
+    let due = Expected::Refuses(name, (code, 0, 0));
     comes_with(alloc, command, (name, large.as_slice()), SURE, due)
 }
 
@@ -334,7 +334,7 @@ const FAULTS: &[Faulty] = &[
 #[test]
 fn tells_faults(rt: HostRuntime) -> Result<(), NoMemory> {
     for (command, file, (read, write, put), number, length, is_there) in FAULTS {
-        let due = Due::Leaves(*number, *length, (b"e", EMPTY), *is_there);
+        let due = Expected::Leaves(*number, *length, (b"e", EMPTY), *is_there);
         assert!(rt;
             comes_with(rt.alloc(), command, *file, (*read, *write, *put, 0), due)?,
             "{command:?}"

@@ -1,6 +1,6 @@
 //! Booted folders: their runs and traces, and what commands print of their sources.
 
-use crate::memory::{Due, World, comes_to};
+use crate::memory::{Expected, World, gives};
 use m36_word::NoMemory;
 use std::alloc::Global;
 
@@ -244,7 +244,7 @@ fn command_comes_to(
     boot: &[u8],
     command: &[u8],
     (read, put): (u32, u32),
-    due: Due,
+    due: Expected,
 ) -> Result<bool, NoMemory> {
     let world = World {
         files: &[
@@ -261,7 +261,7 @@ fn command_comes_to(
         input: b"",
         failing: (read, 0, put, 0),
     };
-    comes_to(alloc, command, &world, due)
+    gives(alloc, command, &world, due)
 }
 
 /// The boot text, the command, the number of the status, and the output.
@@ -295,7 +295,7 @@ const BOOTS: &[Row] = &[
 #[test]
 fn boots_folders(rt: HostRuntime) -> Result<(), NoMemory> {
     for (boot, command, number, output) in BOOTS {
-        let due = Due::Writes(*number, output);
+        let due = Expected::Writes(*number, output);
         assert!(rt;
             command_comes_to(rt.alloc(), boot, command, (0, 0), due)?,
             "{command:?}"
@@ -317,7 +317,7 @@ const SOURCES: &[Row] = &[
 #[test]
 fn writes_of_sources(rt: HostRuntime) -> Result<(), NoMemory> {
     for (boot, command, number, output) in SOURCES {
-        let due = Due::Writes(*number, output);
+        let due = Expected::Writes(*number, output);
         assert!(rt;
             command_comes_to(rt.alloc(), boot, command, (0, 0), due)?,
             "{command:?}"
@@ -338,7 +338,7 @@ const FAULTS: &[(u32, u32, u8, usize)] = &[
 #[test]
 fn tells_faults_of_folders(rt: HostRuntime) -> Result<(), NoMemory> {
     for (read, put, number, length) in FAULTS {
-        let due = Due::Length(*number, *length);
+        let due = Expected::Length(*number, *length);
         assert!(rt;
             command_comes_to(rt.alloc(), HELLO, b"run", (*read, *put), due)?,
             "at {read} {put}"

@@ -1,6 +1,6 @@
 //! Folders with access lists.
 
-use crate::memory::{Due, SURE, World, comes_to};
+use crate::memory::{Expected, SURE, World, gives};
 use m36_word::NoMemory;
 use std::alloc::Global;
 
@@ -60,7 +60,7 @@ fn says<'a>(
     alloc: Global,
     (boot, lists): (&'a [u8], &'a [u8]),
     command: &[u8],
-    due: Due,
+    due: Expected,
 ) -> Result<bool, NoMemory> {
     let world = World {
         files: &[
@@ -74,7 +74,7 @@ fn says<'a>(
         input: b"",
         failing: SURE,
     };
-    comes_to(alloc, command, &world, due)
+    gives(alloc, command, &world, due)
 }
 
 /// The boot text and the access lists, the command, the number of the status, and the output.
@@ -111,7 +111,7 @@ const RIGHTS: &[((&[u8], &[u8]), &[u8], u8, &[u8])] = &[
 #[test]
 fn gives_rights_by_lists(rt: HostRuntime) -> Result<(), NoMemory> {
     for (texts, command, number, output) in RIGHTS {
-        let due = Due::Writes(*number, output);
+        let due = Expected::Writes(*number, output);
         assert!(rt; says(rt.alloc(), *texts, command, due)?, "{command:?}");
     }
     Ok(())

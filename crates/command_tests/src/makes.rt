@@ -139,7 +139,7 @@ fn name_with(alloc: Global, number: u32, end: &[u8]) -> Result<Text, NoMemory> {
 }
 
 // The name of the file that is written after `written` others.
-fn name_behind(alloc: Global, written: u32) -> Result<Text, NoMemory> {
+fn name_after(alloc: Global, written: u32) -> Result<Text, NoMemory> {
     if written < 65 {
         name_with(alloc, written, b".alm")
     } else if written < 130 {
@@ -175,7 +175,7 @@ fn is_due(
     place: u32,
     is_there: bool,
 ) -> Result<bool, NoMemory> {
-    let name = name_behind(alloc, place)?;
+    let name = name_after(alloc, place)?;
     let told = if is_there {
         is_whole(alloc, folder, whole, name.bytes())
     } else {
@@ -216,7 +216,7 @@ fn ends_in(
 
 // Whether `make 1` ends with WriteFault if the write or the put with this number fails (0 for
 // none), has put `written` by then, and has left the first `count` files and no others.
-fn ends_behind(
+fn ends_after(
     alloc: Global,
     whole: &mut MemFolder,
     (write, put): (u32, u32),
@@ -234,7 +234,7 @@ fn writes_fail_in_turn(rt: HostRuntime) -> Result<(), Fail> {
     let mut whole = whole(rt.alloc())?;
     for count in 0..FILES {
         assert!(rt;
-            ends_behind(rt.alloc(), &mut whole, (count + 1, 0), b"", count)?,
+            ends_after(rt.alloc(), &mut whole, (count + 1, 0), b"", count)?,
             "{count}"
         );
     }
@@ -254,7 +254,7 @@ fn puts_fail_in_turn(rt: HostRuntime) -> Result<(), Fail> {
     let mut whole = whole(rt.alloc())?;
     for (put, written) in PUTS {
         assert!(rt;
-            ends_behind(rt.alloc(), &mut whole, (0, *put), written, FILES)?,
+            ends_after(rt.alloc(), &mut whole, (0, *put), written, FILES)?,
             "{put}"
         );
     }

@@ -31,7 +31,7 @@ pub(crate) struct World<'a> {
 
 /// The expected result of a command.
 #[derive(Clone, Copy)]
-pub(crate) enum Due<'a> {
+pub(crate) enum Expected<'a> {
     /// The number of the status, and the output.
     Writes(u8, &'a [u8]),
     /// The number of the status, and the beginning and the end of the output.
@@ -95,24 +95,24 @@ fn is_refusal(status: &Status, name: &[u8], place: Place) -> bool {
 /// Whether the result of a command is the expected one.
 fn is_met(
     alloc: Global,
-    due: Due,
+    due: Expected,
     status: &Status,
     folder: &mut MemFolder,
     written: &[u8],
 ) -> bool {
     match due {
-        Due::Writes(number, text) => status.number() == number && written == text,
-        Due::Begins(number, begin, end) => {
+        Expected::Writes(number, text) => status.number() == number && written == text,
+        Expected::Begins(number, begin, end) => {
             status.number() == number && written.starts_with(begin) && written.ends_with(end)
         }
-        Due::Length(number, length) => status.number() == number && written.len() == length,
-        Due::Leaves(number, length, (name, content), is_there) => {
+        Expected::Length(number, length) => status.number() == number && written.len() == length,
+        Expected::Leaves(number, length, (name, content), is_there) => {
             status.number() == number
                 && written.len() == length
                 && has_file(alloc, folder, name, content) == is_there
         }
-        Due::Refuses(name, place) => written.is_empty() && is_refusal(status, name, place),
-        Due::Reports(line, text) => has_line(alloc, status, line) && written == text,
+        Expected::Refuses(name, place) => written.is_empty() && is_refusal(status, name, place),
+        Expected::Reports(line, text) => has_line(alloc, status, line) && written == text,
     }
 }
 
@@ -168,7 +168,7 @@ fn words_come_over(
     alloc: Global,
     words: &[Text],
     world: &World,
-    due: Due,
+    due: Expected,
     folder: &mut MemFolder,
     out: &mut MemSink,
 ) -> Result<bool, NoMemory> {
@@ -183,7 +183,7 @@ fn words_come_in(
     alloc: Global,
     words: &[Text],
     world: &World,
-    due: Due,
+    due: Expected,
     folder: &mut MemFolder,
 ) -> Result<bool, NoMemory> {
     let (_, _, put, _) = world.failing;
@@ -198,7 +198,7 @@ pub(crate) fn words_come_to(
     alloc: Global,
     words: &[Text],
     world: &World,
-    due: Due,
+    due: Expected,
 ) -> Result<bool, NoMemory> {
     let (read, write, _, _) = world.failing;
     let mut folder = MemFolder::new(alloc, &[read], &[write])?;
@@ -208,11 +208,11 @@ pub(crate) fn words_come_to(
 }
 
 /// As `words_come_to`, for a command in one text.
-pub(crate) fn comes_to(
+pub(crate) fn gives(
     alloc: Global,
     command: &[u8],
     world: &World,
-    due: Due,
+    due: Expected,
 ) -> Result<bool, NoMemory> {
     let words = words(alloc, command)?;
     let told = words_come_to(alloc, words.as_slice(), world, due);
@@ -226,7 +226,7 @@ pub(crate) fn comes_with(
     command: &[u8],
     file: File,
     failing: Failing,
-    due: Due,
+    due: Expected,
 ) -> Result<bool, NoMemory> {
     let world = World {
         files: &[file],
@@ -234,5 +234,5 @@ pub(crate) fn comes_with(
         input: b"",
         failing,
     };
-    comes_to(alloc, command, &world, due)
+    gives(alloc, command, &world, due)
 }

@@ -1,7 +1,7 @@
 //! Sessions, by the command `debug f`.
 
 use crate::calls::LEAST;
-use crate::memory::{Due, World, comes_to};
+use crate::memory::{Expected, World, gives};
 use m36_outside::Text;
 use m36_word::NoMemory;
 use std::alloc::Global;
@@ -19,7 +19,7 @@ fn holds(
     alloc: Global,
     input: &[u8],
     (piece, put): (u32, u32),
-    due: Due,
+    due: Expected,
 ) -> Result<bool, NoMemory> {
     let world = World {
         files: &[(b"f", LEAST)],
@@ -27,7 +27,7 @@ fn holds(
         input,
         failing: (0, 0, put, piece),
     };
-    comes_to(alloc, b"debug f", &world, due)
+    gives(alloc, b"debug f", &world, due)
 }
 
 /// The lines, the numbers of the piece and of the put that fail (0 for none), the number of the
@@ -44,7 +44,7 @@ const SESSIONS: &[(&[u8], u32, u32, u8, &[u8])] = &[
 #[test]
 fn holds_sessions(rt: HostRuntime) -> Result<(), NoMemory> {
     for (input, piece, put, number, written) in SESSIONS {
-        let due = Due::Writes(*number, written);
+        let due = Expected::Writes(*number, written);
         assert!(rt; holds(rt.alloc(), input, (*piece, *put), due)?);
     }
     Ok(())
@@ -62,7 +62,7 @@ fn long_input(alloc: Global) -> Result<Text, NoMemory> {
 #[test]
 fn refuses_long_input(rt: HostRuntime) -> Result<(), NoMemory> {
     let content = long_input(rt.alloc())?;
-    let due = Due::Reports(b"m36: BadFile stdin S1 0 0\n", b"0 00001|000000\n");
+    let due = Expected::Reports(b"m36: BadFile stdin S1 0 0\n", b"0 00001|000000\n");
     assert!(rt; holds(rt.alloc(), content.bytes(), (0, 0), due)?);
     Ok(())
 }

@@ -1,7 +1,7 @@
 //! Command lines that are accepted, and others that are not (status 1).
 
 use crate::calls::LEAST;
-use crate::memory::{Due, SURE, World, comes_with, words_come_to};
+use crate::memory::{Expected, SURE, World, comes_with, words_come_to};
 use m36_word::NoMemory;
 use std::alloc::Global;
 
@@ -119,7 +119,7 @@ const OTHERS: &[Asked] = &[
 
 // Whether a command has this result over a folder with the least image as the file `f`.
 fn answers(alloc: Global, (command, number, written): Asked) -> Result<bool, NoMemory> {
-    let due = Due::Length(number, written);
+    let due = Expected::Length(number, written);
     comes_with(alloc, command, (b"f", LEAST), SURE, due)
 }
 
@@ -155,6 +155,6 @@ fn no_words(rt: HostRuntime) -> Result<(), NoMemory> {
         input: b"",
         failing: SURE,
     };
-    assert!(rt; words_come_to(rt.alloc(), &[], &world, Due::Length(1, 0))?);
+    assert!(rt; words_come_to(rt.alloc(), &[], &world, Expected::Length(1, 0))?);
     Ok(())
 }

@@ -106,7 +106,7 @@ fn after(effect: Effect, reg: u8, before: &Regs, got: Held, ring: u8) -> Regs
     }
 }
 
-fn stands_at(regs: &Regs, seg: u16, ring: u8, word: u32) -> bool {
+fn is_at(regs: &Regs, seg: u16, ring: u8, word: u32) -> bool {
     let ppr = regs.ppr;
     ppr.psr == seg && ppr.prr == ring && ppr.ic == word
 }
@@ -131,7 +131,7 @@ const RETURNS: &[(u8, u64, u8)] = &[
 
 fn call_enters(from: u8, to: u8, stack: u16) -> bool {
     let called = after(Effect::Call6, 0, &registers(from % 8), Held::Empty, to % 8);
-    stands_at(&called, 3, to, 1) && points_to(called.pr[7], stack, to, 0)
+    is_at(&called, 3, to, 1) && points_to(called.pr[7], stack, to, 0)
 }
 
 #[test]
@@ -160,7 +160,7 @@ fn are_of_ring_4(pointers: &[Ptr; 8]) -> bool {
 fn returns_to_ring_4(rt: HostRuntime) {
     for (from, even, bracket) in RETURNS {
         let regs = returned(*from, *even, *bracket);
-        assert!(rt; stands_at(&regs, 1, 4, 2), "{from} {bracket}");
+        assert!(rt; is_at(&regs, 1, 4, 2), "{from} {bracket}");
         assert!(rt; are_of_ring_4(&regs.pr), "{from} {bracket}");
     }
 }
@@ -168,19 +168,19 @@ fn returns_to_ring_4(rt: HostRuntime) {
 #[test]
 fn transfers_that_set(rt: HostRuntime) {
     let gone = after(Effect::TsxN, 1, &registers(4), Held::Empty, 0);
-    assert!(rt; gone.x[1] == 4 && stands_at(&gone, 3, 4, 1));
+    assert!(rt; gone.x[1] == 4 && is_at(&gone, 3, 4, 1));
     let gone = after(Effect::TspN, 2, &registers(4), Held::Empty, 0);
-    assert!(rt; points_to(gone.pr[2], 1, 4, 4) && stands_at(&gone, 3, 4, 1));
+    assert!(rt; points_to(gone.pr[2], 1, 4, 4) && is_at(&gone, 3, 4, 1));
 }
 
 #[test]
 fn transfer_on_overflow(rt: HostRuntime) {
     let gone = after(Effect::Tov, 0, &registers(4), Held::Empty, 0);
-    assert!(rt; stands_at(&gone, 1, 4, 4));
+    assert!(rt; is_at(&gone, 1, 4, 4));
     let mut regs = registers(4);
     regs.ind.overflow = true;
     let gone = after(Effect::Tov, 0, &regs, Held::Empty, 0);
-    assert!(rt; stands_at(&gone, 3, 4, 1) && gone.ind == NOTHING_ON);
+    assert!(rt; is_at(&gone, 3, 4, 1) && gone.ind == NOTHING_ON);
 }
 
 #[test]
@@ -188,7 +188,7 @@ fn no_operation(rt: HostRuntime) {
     let mut regs = registers(4);
     regs.ind.overflow = true;
     let gone = after(Effect::Nop, 0, &regs, Held::Empty, 0);
-    assert!(rt; stands_at(&gone, 1, 4, 4) && gone.ind == regs.ind);
+    assert!(rt; is_at(&gone, 1, 4, 4) && gone.ind == regs.ind);
 }
 
 /// Registers of ring 0 with a descriptor base that was loaded.

@@ -59,7 +59,7 @@ fn is_refused(status: &Status, code: Code, line: u32) -> bool {
 }
 
 /// Whether a change is refused with its code and line, and nothing is put.
-fn is_told(
+fn is_reported(
     alloc: Global,
     folder: &mut SureFolder,
     (place, other, code, line): Change,
@@ -72,10 +72,14 @@ fn is_told(
 }
 
 #[test]
-fn changes_are_told(rt: HostRuntime) -> Result<(), NoMemory> {
+fn changes_are_reported(rt: HostRuntime) -> Result<(), NoMemory> {
     let mut folder = assembled(rt.alloc())?;
     for change in CHANGES {
-        assert!(rt; is_told(rt.alloc(), &mut folder, *change)?, "{}", change.3);
+        assert!(rt;
+            is_reported(rt.alloc(), &mut folder, *change)?,
+            "{}",
+            change.3
+        );
     }
     Ok(())
 }

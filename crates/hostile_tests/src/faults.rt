@@ -109,7 +109,7 @@ fn is_due(
 }
 
 /// Calls a command with a failing call. Returns whether it ends as it must.
-fn comes_to(
+fn ends_right(
     alloc: Global,
     row: &Row,
     objects: &mut SureFolder,
@@ -163,7 +163,7 @@ fn wrong_call(
     kind: Kind,
 ) -> Result<u32, NoMemory> {
     for number in 1..=count(row, kind) {
-        if !comes_to(alloc, row, objects, failing(kind, number))? {
+        if !ends_right(alloc, row, objects, failing(kind, number))? {
             return Ok(number);
         }
     }

@@ -34,7 +34,7 @@ fn hold(
 
 /// Whether a session ends with this number of the status and writes `want`. `piece` and `put` are
 /// the numbers of the piece and the put that fail (0 for none).
-fn comes_to(
+fn ends_right(
     alloc: Global,
     content: &[u8],
     (piece, put): (u32, u32),
@@ -61,7 +61,7 @@ fn pieces_fail_in_turn(rt: HostRuntime) -> Result<(), NoMemory> {
     for (piece, number, answers) in PIECES {
         let want = repeated(rt.alloc(), b"0 00001|000000\n", *answers)?;
         assert!(rt;
-            comes_to(
+            ends_right(
                 rt.alloc(),
                 content.bytes(),
                 (*piece, 0),
@@ -82,7 +82,7 @@ fn answers_fail_in_turn(rt: HostRuntime) -> Result<(), NoMemory> {
     for answer in ANSWERS {
         number = number.saturating_add(1);
         assert!(rt;
-            comes_to(rt.alloc(), content, (0, number), 3, want.bytes())?,
+            ends_right(rt.alloc(), content, (0, number), 3, want.bytes())?,
             "{number}"
         );
         want.append(answer)?;

@@ -138,7 +138,7 @@ fn refuses_lines(rt: HostRuntime) -> Result<(), NoMemory> {
 
 // Whether core and registers are right after the schedule. Takes one more step of the second
 // process.
-fn stand_right(procs: &mut Procs) -> bool {
+fn is_right_after(procs: &mut Procs) -> bool {
     if procs.core().len() != 1024 || procs.count() != 3 {
         return false;
     }
@@ -150,22 +150,22 @@ fn stand_right(procs: &mut Procs) -> bool {
 
 /// How the run of `LOCK` is expected to end.
 #[derive(Clone, Copy)]
-enum Due {
+enum Expected {
     /// At the end of its schedule, with all lines written.
     Lines,
     /// Because a line cannot be written.
     Failure,
 }
 
-fn runs(procs: &mut Procs, due: Due, out: &mut MemSink) -> bool {
+fn runs(procs: &mut Procs, due: Expected, out: &mut MemSink) -> bool {
     let ran = procs.run(out);
     match due {
-        Due::Lines => ran.is_ok() && out.bytes() == LOCK_OUTPUT && stand_right(procs),
-        Due::Failure => ran.is_err(),
+        Expected::Lines => ran.is_ok() && out.bytes() == LOCK_OUTPUT && is_right_after(procs),
+        Expected::Failure => ran.is_err(),
     }
 }
 
-fn is_due(alloc: Global, due: Due, out: &mut MemSink) -> bool {
+fn is_due(alloc: Global, due: Expected, out: &mut MemSink) -> bool {
     match Procs::read(alloc, LOCK) {
         Ok(mut procs) => runs(&mut procs, due, out),
         Err(_) => false,
@@ -175,7 +175,7 @@ fn is_due(alloc: Global, due: Due, out: &mut MemSink) -> bool {
 #[test]
 fn runs_a_schedule(rt: HostRuntime) -> Result<(), NoMemory> {
     let mut out = MemSink::new(rt.alloc(), 1000, &[])?;
-    assert!(rt; is_due(rt.alloc(), Due::Lines, &mut out));
+    assert!(rt; is_due(rt.alloc(), Expected::Lines, &mut out));
     Ok(())
 }
 
@@ -183,6 +183,6 @@ fn runs_a_schedule(rt: HostRuntime) -> Result<(), NoMemory> {
 #[test]
 fn stops_where_a_line_is_not_written(rt: HostRuntime) -> Result<(), NoMemory> {
     let mut out = MemSink::new(rt.alloc(), 1000, &[3])?;
-    assert!(rt; is_due(rt.alloc(), Due::Failure, &mut out));
+    assert!(rt; is_due(rt.alloc(), Expected::Failure, &mut out));
     Ok(())
 }

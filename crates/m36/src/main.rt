@@ -49,12 +49,12 @@ fn print_help(rt: &HostRuntime) {
 fn tell(rt: &HostRuntime, status: &Status) -> io::Result<()> {
     match report(rt.alloc(), status) {
         Ok(line) => rt.stderr().write_all(line.bytes()),
-        Err(_) => tell_in_pieces(rt, status),
+        Err(_) => print_status_in_pieces(rt, status),
     }
 }
 
 // Prints the line of a status in pieces, which need no memory.
-fn tell_in_pieces(rt: &HostRuntime, status: &Status) -> io::Result<()> {
+fn print_status_in_pieces(rt: &HostRuntime, status: &Status) -> io::Result<()> {
     let mut to = rt.stderr();
     to.write_all(b"m36: ")?;
     to.write_all(status.name().as_bytes())?;

@@ -14,7 +14,7 @@ use Rattle.m36_dir.proofs.Distinct.{distinct_more, entry_symm}
 use Rattle.m36_acl.specs.declared.fault.AclFault.TheVariants as fault
 use Rattle.m36_acl.specs.Fields.{TermFields, AclSegmentFields}
 use Rattle.m36_acl.specs.AccessLine.{Line, Segment, Term}
-use Rattle.m36_acl.specs.AccessLists.{Lists, Read, is_of, has_segment, places_of, begun, most_terms, has_term, with_term, term_behind, line_behind, lists_from, lines_given, lists_of, same_term, HasTermsOnce, AreListsOnce, ListsOnce}
+use Rattle.m36_acl.specs.AccessLists.{Lists, Read, is_of, has_segment, places_of, new_segment, most_terms, has_term, with_term, with_term_line, with_line, lists_from, parsed_lines, lists_of, same_term, HasTermsOnce, AreListsOnce, ListsOnce}
 use Rattle.m36_acl.proofs.PlaceLaws.{places_kept}
 
 -- ---- a `segment` line
@@ -23,27 +23,27 @@ any_place : (given : Entry) (lists : Lists) → list_any (is_entry given) (place
 any_place given [] = refl
 any_place given (s ∷ lists) = ap (λ (b : Bool). (is_of given s || b)) (any_place given lists)
 
-no_terms : (n : ℕ) (given : Entry) → HasTermsOnce (begun n given)
+no_terms : (n : ℕ) (given : Entry) → HasTermsOnce (new_segment n given)
 no_terms n given = record { once = refl; few = omega arith }
 
-segment_more : (n : ℕ) (above : Lists) (given : Entry) → has_segment above given ≡ false → AreListsOnce above → AreListsOnce (above ++ begun n given ∷ [])
+segment_more : (n : ℕ) (above : Lists) (given : Entry) → has_segment above given ≡ false → AreListsOnce above → AreListsOnce (above ++ new_segment n given ∷ [])
 segment_more n above given fresh are =
     let place : Entry = entry given.dir given.name in
     record {
       segments =
-          ap (λ (es : List Entry). are_distinct_by is_entry es) (map-append (λ (s : AclSegmentFields). entry s.dir s.name) above (begun n given ∷ []))
+          ap (λ (es : List Entry). are_distinct_by is_entry es) (map-append (λ (s : AclSegmentFields). entry s.dir s.name) above (new_segment n given ∷ []))
           ∙ distinct_more is_entry entry_symm (places_of above) place are.segments (any_place place above ∙ fresh);
-      terms = All-push HasTermsOnce above (begun n given) are.terms (no_terms n given);
+      terms = All-push HasTermsOnce above (new_segment n given) are.terms (no_terms n given);
     }
 
 abbrev segment_told : ℕ → Lists → Entry → Bool → Read
-segment_told n above given has = cond has (Err (fault.C2 n)) (Ok (above ++ begun n given ∷ []))
+segment_told n above given has = cond has (Err (fault.C2 n)) (Ok (above ++ new_segment n given ∷ []))
 
 segment_by : (n : ℕ) (above : Lists) (given : Entry) (has : Bool) (next : Lists) → has_segment above given ≡ has
     → segment_told n above given has ≡ Ok next → AreListsOnce above → AreListsOnce next
 segment_by n above given true next e told are = absurd (cc)
 segment_by n above given false next e told are =
-    let grown : above ++ begun n given ∷ [] ≡ next = cc in
+    let grown : above ++ new_segment n given ∷ [] ≡ next = cc in
     subst AreListsOnce grown (segment_more n above given e are)
 
 -- ---- a `term` line
@@ -86,14 +86,14 @@ term_by n above last term false false next at room fresh told are =
     subst AreListsOnce grown (lists_more above (length above - 1) last term at room fresh are)
 
 term_of_last : (n : ℕ) (above : Lists) (last : Option AclSegmentFields) (term : TermFields) (next : Lists) → last_of above ≡ last
-    → term_behind n above last term ≡ Ok next → AreListsOnce above → AreListsOnce next
+    → with_term_line n above last term ≡ Ok next → AreListsOnce above → AreListsOnce next
 term_of_last n above None term next at told are = absurd (cc)
 term_of_last n above (Some last) term next at told are =
     term_by n above last term (nat_le most_terms (length last.terms)) (has_term last.terms term.text) next at refl refl told are
 
 -- ---- the lines in turn
 
-line_once : (n : ℕ) (above : Lists) (given : Option Line) (next : Lists) → line_behind n above given ≡ Ok next → AreListsOnce above → AreListsOnce next
+line_once : (n : ℕ) (above : Lists) (given : Option Line) (next : Lists) → with_line n above given ≡ Ok next → AreListsOnce above → AreListsOnce next
 line_once n above None next told are = absurd (cc)
 line_once n above (Some (Segment given)) next told are = segment_by n above given (has_segment above given) next refl told are
 line_once n above (Some (Term term)) next told are = term_of_last n above (last_of above) term next refl told are
@@ -109,7 +109,7 @@ lines_once n above [] lists e are =
     let same : above ≡ lists = cc in
     subst AreListsOnce same are
 lines_once n above (line ∷ given) lists e are =
-    let step = went (line_behind n above line) (λ next. lists_from (n + 1) next given) lists e in
+    let step = went (with_line n above line) (λ next. lists_from (n + 1) next given) lists e in
     lines_once (n + 1) step.0 given lists step.2 (line_once n above line step.0 step.1 are)
 
 none_once : AreListsOnce []
@@ -117,4 +117,4 @@ none_once = record { segments = refl; terms = All-nil HasTermsOnce }
 
 pub lists_once : ListsOnce
 unfolding lists_of
-lists_once text lists e = lines_once 1 [] (lines_given text) lists e none_once
+lists_once text lists e = lines_once 1 [] (parsed_lines text) lists e none_once

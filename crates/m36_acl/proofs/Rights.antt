@@ -104,11 +104,11 @@ grant_more lists user old now new i lt e one =
     let xs = old.segments in
     let place = at_place xs i lt in
     let same : get_or xs i place.x ≡ place.x = get_or_from_slice_get xs i place.x place.x place.stands in
-    let begun : GrantsOne lists user (granted_up_to lists user i old) new i =
+    let new_segment : GrantsOne lists user (granted_up_to lists user i old) new i =
     subst (λ (n : CatalogFields). GrantsOne lists user n new i) e one in
     let done : new ≡ record old { segments = slice_set (partly g i xs) i (g place.x) } =
     subst (λ (o : Option SegmentFields). IfSome o (λ s. new ≡ record old { segments = slice_set (partly g i xs) i (g s) }))
-    (partly_at_place g i xs place.x lt same) begun in
+    (partly_at_place g i xs place.x lt same) new_segment in
     done ∙ ap (λ (ss : List SegmentFields). record old { segments = ss }) (partly_more g i xs place.x lt same)
 
 pub grant_done : (lists : Lists) (user : List ℕ) (old now : CatalogFields) (i : ℕ) → length old.segments ≤ i

@@ -76,5 +76,5 @@ abbrev pub line_of_words : List (List ℕ) → Option Line
 line_of_words words = by_first_word line_named words
 
 -- a line parsed by itself; None if it has no form or lacks its line feed
-unfoldable pub line_given : Option (List ℕ) → Option Line
-line_given line = by_words line_of_words None line
+unfoldable pub parsed_line : Option (List ℕ) → Option Line
+parsed_line line = by_words line_of_words None line

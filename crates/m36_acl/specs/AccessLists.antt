@@ -17,7 +17,7 @@ use Rattle.m36_dir.specs.BootOrder.{Entry, entry, is_entry}
 use Rattle.m36_acl.specs.declared.fault.AclFault.{AclFault}
 use Rattle.m36_acl.specs.declared.fault.AclFault.TheVariants as fault
 use Rattle.m36_acl.specs.Fields.{TermFields, AclSegmentFields}
-use Rattle.m36_acl.specs.AccessLine.{Line, Segment, Term, line_given}
+use Rattle.m36_acl.specs.AccessLine.{Line, Segment, Term, parsed_line}
 
 -- the lists of segments, in the order of their lines
 abbrev pub Lists : Type 0
@@ -42,13 +42,13 @@ abbrev pub places_of : Lists → List Entry
 places_of lists = map (λ s. entry s.dir s.name) lists
 
 -- the empty list of the segment of a line
-abbrev pub begun : ℕ → Entry → AclSegmentFields
-begun line given = record { line = line; dir = given.dir; name = given.name; terms = [] }
+abbrev pub new_segment : ℕ → Entry → AclSegmentFields
+new_segment line given = record { line = line; dir = given.dir; name = given.name; terms = [] }
 
 -- the lists after a `segment` line, or its fault
-abbrev pub segment_behind : ℕ → Lists → Entry → Read
-segment_behind line above given =
-    if has_segment above given then Err (fault.C2 line) else Ok (above ++ begun line given ∷ [])
+abbrev pub with_segment : ℕ → Lists → Entry → Read
+with_segment line above given =
+    if has_segment above given then Err (fault.C2 line) else Ok (above ++ new_segment line given ∷ [])
 
 -- ---- a `term` line, which belongs to the last segment
 
@@ -65,9 +65,9 @@ abbrev pub with_term : AclSegmentFields → TermFields → AclSegmentFields
 with_term segment term = record segment { terms = segment.terms ++ term ∷ [] }
 
 -- the lists after a `term` line, or its fault; `last` is the list of the segment above it
-abbrev pub term_behind : ℕ → Lists → Option AclSegmentFields → TermFields → Read
-term_behind line above None term = Err (fault.C1 line)
-term_behind line above (Some last) term =
+abbrev pub with_term_line : ℕ → Lists → Option AclSegmentFields → TermFields → Read
+with_term_line line above None term = Err (fault.C1 line)
+with_term_line line above (Some last) term =
     if nat_le most_terms (length last.terms) then Err (fault.C1 line)
     else if has_term last.terms term.text then Err (fault.C2 line)
     else Ok (slice_set above (length above - 1) (with_term last term))
@@ -75,41 +75,41 @@ term_behind line above (Some last) term =
 -- ---- the lines in turn
 
 -- the lists after a line, or its fault
-abbrev pub line_behind : ℕ → Lists → Option Line → Read
-line_behind line above None = Err (fault.C1 line)
-line_behind line above (Some (Segment given)) = segment_behind line above given
-line_behind line above (Some (Term term)) = term_behind line above (last_of above) term
+abbrev pub with_line : ℕ → Lists → Option Line → Read
+with_line line above None = Err (fault.C1 line)
+with_line line above (Some (Segment given)) = with_segment line above given
+with_line line above (Some (Term term)) = with_term_line line above (last_of above) term
 
 -- the result of lines, of which the first has the number `line`, after lines that gave `above`
 unfoldable pub lists_from : ℕ → Lists → List (Option Line) → Read
 lists_from line above [] = Ok above
 lists_from line above (given ∷ lines) =
-    and_then (line_behind line above given) (λ next. lists_from (line + 1) next lines)
+    and_then (with_line line above given) (λ next. lists_from (line + 1) next lines)
 
 -- each line parsed by itself
-unfoldable pub lines_given : List ℕ → List (Option Line)
-lines_given text = map line_given (lines_of text)
+unfoldable pub parsed_lines : List ℕ → List (Option Line)
+parsed_lines text = map parsed_line (lines_of text)
 
 -- the lists that a text describes, or the fault of its first line with a code
 unfoldable pub lists_of : List ℕ → Read
-lists_of text = lists_from 1 [] (lines_given text)
+lists_of text = lists_from 1 [] (parsed_lines text)
 
 -- ---- results
 
 -- The result of a call that parses. It may be NoMemory whatever the text is.
-abbrev pub Told : AclFault → Read → Type 0
-Told fault.NoMemory definition = Unit {0}
-Told told definition = definition ≡ Err told
+abbrev pub RefusesWith : AclFault → Read → Type 0
+RefusesWith fault.NoMemory definition = Unit {0}
+RefusesWith told definition = definition ≡ Err told
 
 -- The result of a call is that of the definition, or `NoMemory`.
-abbrev pub ReadSays : Read → Read → Type 0
-ReadSays (Ok lists) definition = definition ≡ Ok lists
-ReadSays (Err told) definition = Told told definition
+abbrev pub AccessListsResult : Read → Read → Type 0
+AccessListsResult (Ok lists) definition = definition ≡ Ok lists
+AccessListsResult (Err told) definition = RefusesWith told definition
 
 -- A line changes the lists to `new`, or its code is the result.
-abbrev pub Takes : {A : Type 0} → Lists → Result A AclFault → Read → Type 0
-Takes new (Ok done) definition = definition ≡ Ok new
-Takes new (Err told) definition = Told told definition
+abbrev pub ChangesTo : {A : Type 0} → Lists → Result A AclFault → Read → Type 0
+ChangesTo new (Ok done) definition = definition ≡ Ok new
+ChangesTo new (Err told) definition = RefusesWith told definition
 
 -- ---- a law
 

@@ -1,7 +1,7 @@
 //! Access lists.
 
 ghost use Rattle.std.specs.Prelude.{◌≡◌, ◌<◌, ◌^◌, length, slice_get, IfOk, IfSome};
-ghost use Rattle.m36_acl.specs.AccessLists.{lists_of, ReadSays};
+ghost use Rattle.m36_acl.specs.AccessLists.{lists_of, AccessListsResult};
 ghost use Rattle.m36_acl.specs.Policy.{terms_of, policy};
 ghost use Rattle.m36_acl.specs.Granted.{first_unknown, decision_on, granted};
 ghost use Rattle.m36_acl.specs.AccessText.{access_text, denied_lines};
@@ -42,7 +42,7 @@ impl Acl {
     #[tactic(auto, unfolding(crate::specs::AccessLists::lists_of))]
     pub fn read(alloc: Global, text: &[u8]) -> Result<Acl, AclFault>
         requires { length text.now < 2 ^ 32 }
-        ensures { ReadSays result (lists_of text.now) }
+        ensures { AccessListsResult result (lists_of text.now) }
     {
         let segments = segments_in(alloc, text)?;
         Ok(Acl { segments })

@@ -3,8 +3,8 @@
 ghost use Rattle.std.specs.Prelude.{◌≡◌, ◌<◌, ◌≤◌, ◌^◌, length, Some, Ok, IfOk, IfErr, option_map};
 ghost use Rattle.m36_text.specs.Lines.{words_of, last_of};
 ghost use Rattle.m36_dir.specs.BootOrder.{entry};
-ghost use Rattle.m36_acl.specs.AccessLine.{Segment, Term as TermLine, entry_of, term_of, line_given};
-ghost use Rattle.m36_acl.specs.AccessLists.{segment_behind, has_term, term_behind, line_behind, lists_of, Told, Takes};
+ghost use Rattle.m36_acl.specs.AccessLine.{Segment, Term as TermLine, entry_of, term_of, parsed_line};
+ghost use Rattle.m36_acl.specs.AccessLists.{with_segment, has_term, with_term_line, with_line, lists_of, RefusesWith, ChangesTo};
 ghost use Rattle.m36_dir.specs.BootLine.{directory_limit};
 
 use crate::above::{Above, Place};
@@ -26,7 +26,7 @@ fn add_segment(
     name: Name,
 ) -> Result<(), AclFault>
     requires { length dir.now ≤ directory_limit }
-    ensures { Takes above.new result (segment_behind number above.old (entry dir.now name)) }
+    ensures { ChangesTo above.new result (with_segment number above.old (entry dir.now name)) }
 {
     let place = Place::new(dir, name.copied());
     if above.has(&place) {
@@ -46,7 +46,7 @@ fn has_term(terms: &[Term], text: &[u8]) -> bool
 // Adds a term to the last segment. C1 if there is no segment or its list is full, C2 if the list
 // has the term.
 fn add_term(above: &mut Above, number: u32, term: Term) -> Result<(), AclFault>
-    ensures { Takes above.new result (term_behind number above.old (last_of above.old) term) }
+    ensures { ChangesTo above.new result (with_term_line number above.old (last_of above.old) term) }
 {
     let Some(terms) = above.last_terms() else {
         return Err(AclFault::C1(number));
@@ -63,8 +63,8 @@ fn add_term(above: &mut Above, number: u32, term: Term) -> Result<(), AclFault>
 
 // Parses a `segment` line from its second word on, and adds its segment.
 fn segment_line(alloc: Global, above: &mut Above, number: u32, given: &[u8]) -> Result<(), AclFault>
-    ensures { Takes above.new result
-        (line_behind number above.old (option_map Segment (entry_of (words_of given.now)))) }
+    ensures { ChangesTo above.new result
+        (with_line number above.old (option_map Segment (entry_of (words_of given.now)))) }
 {
     match entry_of(given) {
         Some((dir, name)) => add_segment(alloc, above, number, dir, name),
@@ -74,8 +74,8 @@ fn segment_line(alloc: Global, above: &mut Above, number: u32, given: &[u8]) -> 
 
 // Parses a `term` line from its second word on, and adds its term.
 fn term_line(above: &mut Above, number: u32, given: &[u8]) -> Result<(), AclFault>
-    ensures { Takes above.new result
-        (line_behind number above.old (option_map TermLine (term_of (words_of given.now)))) }
+    ensures { ChangesTo above.new result
+        (with_line number above.old (option_map TermLine (term_of (words_of given.now)))) }
 {
     match term_of(given) {
         Some(term) => add_term(above, number, term),
@@ -84,9 +84,9 @@ fn term_line(above: &mut Above, number: u32, given: &[u8]) -> Result<(), AclFaul
 }
 
 // Parses a line, and adds what it has to the segments of the lines above it.
-#[tactic(auto, unfolding(crate::specs::AccessLine::line_given), using(crate::proofs::AclLines::no_words))]
+#[tactic(auto, unfolding(crate::specs::AccessLine::parsed_line), using(crate::proofs::AclLines::no_words))]
 fn add_line(alloc: Global, above: &mut Above, number: u32, line: &[u8]) -> Result<(), AclFault>
-    ensures { Takes above.new result (line_behind number above.old (line_given (Some line.now))) }
+    ensures { ChangesTo above.new result (with_line number above.old (parsed_line (Some line.now))) }
 {
     let (word, rest) = first_word(line);
     let Some(given) = rest else {
@@ -107,7 +107,7 @@ fn add_line(alloc: Global, above: &mut Above, number: u32, line: &[u8]) -> Resul
 pub(crate) fn segments_in(alloc: Global, text: &[u8]) -> Result<Vec<AclSegment>, AclFault>
     requires { length text.now < 2 ^ 32 }
     ensures lists { IfOk result (λ segments. lists_of text.now ≡ Ok segments.items) }
-    ensures told { IfErr result (λ told. Told told (lists_of text.now)) }
+    ensures told { IfErr result (λ told. RefusesWith told (lists_of text.now)) }
 {
     let mut above = Above::new(alloc, HashSeed::of(text));
     let mut rest = text;

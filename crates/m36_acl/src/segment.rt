@@ -3,7 +3,7 @@
 ghost use Rattle.std.specs.Prelude.{◌≡◌, ◌≤◌, length, IfOk, OnOk};
 ghost use Rattle.m36_dir.specs.BootOrder.{entry};
 ghost use Rattle.m36_acl.specs.AccessLine.{term_with};
-ghost use Rattle.m36_acl.specs.AccessLists.{begun, with_term};
+ghost use Rattle.m36_acl.specs.AccessLists.{new_segment, with_term};
 ghost use Rattle.m36_acl.specs.Users.{user_limit};
 
 use crate::user::kept;
@@ -101,7 +101,7 @@ impl AclSegment {
         dir: &[u8],
         name: Name,
     ) -> Result<AclSegment, NoMemory>
-        ensures { IfOk result (λ segment. segment ≡ begun line (entry dir.now name)) }
+        ensures { IfOk result (λ segment. segment ≡ new_segment line (entry dir.now name)) }
     {
         Ok(AclSegment {
             dir: Text::from_bytes(alloc, dir)?,

@@ -6,7 +6,7 @@ use Rattle.m36_desc.specs.Fields.{SdwFields, PtwFields, DbrFields}
 use Rattle.m36_desc.specs.Descriptors.{ptw_of}
 use Rattle.m36_model.specs.Place.{wrapped, frame_at, in_frame, in_frame_by, ptw_at, directory_at, page_at, in_bounds, sdw_place_by, sdw_at, core_sdw, marked_word, with_mark, with_marks, marks_by}
 use Rattle.m36_tables.specs.Tables.{TableIn}
-use Rattle.m36_associative.specs.Right.{IsMarked, IsFace, IsPage, IsDescriptor, IsTableWord}
+use Rattle.m36_associative.specs.Right.{IsMarked, IsPageRights, IsPage, IsDescriptor, IsTableWord}
 use Rattle.m36_associative.specs.declared.front.Page.{Page}
 use Rattle.m36_associative.specs.declared.memories.Memories.{Memories}
 
@@ -43,7 +43,7 @@ marks_of core dbr words tables p seg word write h k = marks_stand core (director
     stands false h u = k.used u
 
 module _ (core : List ℕ) (dbr : DbrFields) (m : Memories) (p : Page) (seg word : ℕ) where
-  module _ (d : SdwFields) (face : IsFace (length core) d (word / 1024) p) where
+  module _ (d : SdwFields) (page_rights : IsPageRights (length core) d (word / 1024) p) where
     -- a page of a contiguous segment
     whole_place : (w : ℕ) → w / 1024 ≡ word / 1024 → p.base ≡ wrapped (d.addr + word / 1024 * 1024) → wrapped (d.addr + w) ≡ wrapped (p.base + w % 1024)
     whole_place w e b = omega arith
@@ -60,7 +60,7 @@ module _ (core : List ℕ) (dbr : DbrFields) (m : Memories) (p : Page) (seg word
           passed = q;
           used = λ v. let wrong : true ≡ false = sym u ∙ v in absurd (cc);
           modified = λ x v. let wrong : true ≡ false = sym u ∙ v in absurd (cc);
-          face = face;
+          page_rights = page_rights;
         }
 
     -- a page of a paged segment
@@ -83,7 +83,7 @@ module _ (core : List ℕ) (dbr : DbrFields) (m : Memories) (p : Page) (seg word
           passed = q;
           used = λ v. i;
           modified = λ y v. j y;
-          face = face;
+          page_rights = page_rights;
         }
 
 -- a mark that is set already

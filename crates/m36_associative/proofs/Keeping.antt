@@ -5,8 +5,8 @@ use Rattle.m36_associative.specs.Watched.{watched}
 use Rattle.m36_associative.specs.Right.{IsWatched, IsDescriptor, IsTableWord, IsPage, IsPageInFront, IsFetching, AreRight}
 use Rattle.m36_associative.specs.declared.front.Fetching.{Fetching}
 use Rattle.m36_associative.specs.declared.front.Page.{Page}
-use Rattle.m36_associative.specs.declared.kept.KeptSdw.{KeptSdw}
-use Rattle.m36_associative.specs.declared.kept.KeptPtw.{KeptPtw}
+use Rattle.m36_associative.specs.declared.kept.SdwEntry.{SdwEntry}
+use Rattle.m36_associative.specs.declared.kept.PtwEntry.{PtwEntry}
 use Rattle.m36_associative.specs.declared.memories.Memories.{Memories}
 
 -- more addresses are watched
@@ -25,7 +25,7 @@ module _ (core : List ℕ) (dbr : DbrFields) (words tables words' tables' : List
 
   page_on : (p : Page) (seg page : ℕ) → IsPage core dbr words tables p seg page → IsPage core dbr words' tables' p seg page
   page_on p seg page k =
-      record { sdw = k.sdw; found = k.found; watches = watches_on seg k.watches; table = λ u. t _ (k.table u); low = k.low; place = k.place; passed = k.passed; used = k.used; modified = k.modified; face = k.face }
+      record { sdw = k.sdw; found = k.found; watches = watches_on seg k.watches; table = λ u. t _ (k.table u); low = k.low; place = k.place; passed = k.passed; used = k.used; modified = k.modified; page_rights = k.page_rights }
 
   fetching_on : (f : Fetching) → IsFetching core dbr words tables f → IsFetching core dbr words' tables' f
   fetching_on f k =
@@ -33,8 +33,8 @@ module _ (core : List ℕ) (dbr : DbrFields) (words tables words' tables' : List
 
 -- each entry was kept before, or is right
 pub kept_on : (core : List ℕ) (dbr : DbrFields) (m m' : Memories) → AreRight core dbr m → WatchesMore m.words m'.words → WatchesMore m.tables m'.tables
-    → ((e : KeptSdw) → Contains m'.sdws e → Contains m.sdws e ⊎ ((seg : ℕ) → e.key ≡ seg + 1 → IsDescriptor core dbr m'.words m'.tables seg e.sdw))
-    → ((e : KeptPtw) → Contains m'.ptws e → Contains m.ptws e ⊎ ((a : ℕ) → e.key ≡ a + 1 → IsTableWord core dbr m'.words m'.tables a e.ptw))
+    → ((e : SdwEntry) → Contains m'.sdws e → Contains m.sdws e ⊎ ((seg : ℕ) → e.key ≡ seg + 1 → IsDescriptor core dbr m'.words m'.tables seg e.sdw))
+    → ((e : PtwEntry) → Contains m'.ptws e → Contains m.ptws e ⊎ ((a : ℕ) → e.key ≡ a + 1 → IsTableWord core dbr m'.words m'.tables a e.ptw))
     → ((p : Page) → Contains m'.pages p → Contains m.pages p ⊎ IsPageInFront core dbr m'.words m'.tables p)
     → (0 < m'.fetching.len → IsFetching core dbr m.words m.tables m'.fetching)
     → AreRight core dbr m'
@@ -61,8 +61,8 @@ pub with_pages : (core : List ℕ) (dbr : DbrFields) (m m' : Memories) → AreRi
     → AreRight core dbr m'
 with_pages core dbr m m' h e f g i k z =
     kept_on core dbr m m' h (λ b c. rw e c) (λ b c. rw f c)
-    (λ s c. inl (subst (λ (x : List KeptSdw). Contains x s) g c))
-    (λ a c. inl (subst (λ (x : List KeptPtw). Contains x a) i c))
+    (λ s c. inl (subst (λ (x : List SdwEntry). Contains x s) g c))
+    (λ a c. inl (subst (λ (x : List PtwEntry). Contains x a) i c))
     (λ p c. elim (k p c) [ inl j ↦ inl j | inr j ↦ inr (rw (e, f) j) ])
     z
 
@@ -78,7 +78,7 @@ no_key core dbr words tables p e seg page b k = absurd (omega arith)
 nothing_in : {X : Type 0} (x : X) → Contains [] x → ⊥
 nothing_in x c = let within = c.1 in omega arith
 
-pub nothing_kept : (core : List ℕ) (dbr : DbrFields) (m : Memories) → ((e : KeptSdw) → Contains m.sdws e → e.key ≡ 0) → ((e : KeptPtw) → Contains m.ptws e → e.key ≡ 0) → ((p : Page) → Contains m.pages p → p.key ≡ 0) → m.fetching.len ≡ 0 → AreRight core dbr m
+pub nothing_kept : (core : List ℕ) (dbr : DbrFields) (m : Memories) → ((e : SdwEntry) → Contains m.sdws e → e.key ≡ 0) → ((e : PtwEntry) → Contains m.ptws e → e.key ≡ 0) → ((p : Page) → Contains m.pages p → p.key ≡ 0) → m.fetching.len ≡ 0 → AreRight core dbr m
 nothing_kept core dbr m s t g z =
     record {
       descriptors = λ e seg c n. absurd (let none = s e c in omega arith);
@@ -107,7 +107,7 @@ before_or_here (suc k) (suc i) b = elim (before_or_here k i (omega arith)) [ inl
 
 -- everything that is kept is watched again, and no page is in front
 pub watched_anew : (core : List ℕ) (dbr : DbrFields) (m : Memories) (words tables : List ℕ) → AreRight core dbr m → ((p : Page) → Contains m.pages p → p.key ≡ 0) → m.fetching.len ≡ 0
-    → ((e : KeptSdw) (seg : ℕ) → Contains m.sdws e → e.key ≡ seg + 1 → IsWatched core dbr words tables seg) → ((e : KeptPtw) (a : ℕ) → Contains m.ptws e → e.key ≡ a + 1 → watched tables a ≡ true)
+    → ((e : SdwEntry) (seg : ℕ) → Contains m.sdws e → e.key ≡ seg + 1 → IsWatched core dbr words tables seg) → ((e : PtwEntry) (a : ℕ) → Contains m.ptws e → e.key ≡ a + 1 → watched tables a ≡ true)
     → AreRight core dbr (record m { words = words; tables = tables })
 watched_anew core dbr m words tables h none z s t =
     record {
@@ -121,8 +121,8 @@ watched_anew core dbr m words tables h none z s t =
 pub with_watches : (core : List ℕ) (dbr : DbrFields) (m m' : Memories) → AreRight core dbr m → WatchesMore m.words m'.words → WatchesMore m.tables m'.tables → m'.sdws ≡ m.sdws → m'.ptws ≡ m.ptws → m'.pages ≡ m.pages → m'.fetching ≡ m.fetching → AreRight core dbr m'
 with_watches core dbr m m' h w t g i j z =
     kept_on core dbr m m' h w t
-    (λ s c. inl (subst (λ (x : List KeptSdw). Contains x s) g c))
-    (λ a c. inl (subst (λ (x : List KeptPtw). Contains x a) i c))
+    (λ s c. inl (subst (λ (x : List SdwEntry). Contains x s) g c))
+    (λ a c. inl (subst (λ (x : List PtwEntry). Contains x a) i c))
     (λ p c. inl (subst (λ (x : List Page). Contains x p) j c))
     (same_fetching core dbr m m' h z)
 
@@ -146,27 +146,27 @@ with_page core dbr m m' i y h r j e f g k z =
     (no_fetching core dbr m.words m.tables m'.fetching z)
 
 -- a descriptor is kept
-pub with_descriptor : (core : List ℕ) (dbr : DbrFields) (m m' : Memories) (i seg : ℕ) (y : KeptSdw) → AreRight core dbr m → y.key ≡ seg + 1 → IsDescriptor core dbr m.words m.tables seg y.sdw → m'.sdws ≡ set m.sdws i y → m'.words ≡ m.words → m'.tables ≡ m.tables → m'.ptws ≡ m.ptws → m'.pages ≡ m.pages → m'.fetching ≡ m.fetching → AreRight core dbr m'
+pub with_descriptor : (core : List ℕ) (dbr : DbrFields) (m m' : Memories) (i seg : ℕ) (y : SdwEntry) → AreRight core dbr m → y.key ≡ seg + 1 → IsDescriptor core dbr m.words m.tables seg y.sdw → m'.sdws ≡ set m.sdws i y → m'.words ≡ m.words → m'.tables ≡ m.tables → m'.ptws ≡ m.ptws → m'.pages ≡ m.pages → m'.fetching ≡ m.fetching → AreRight core dbr m'
 with_descriptor core dbr m m' i seg y h n r g e f k j z =
     let r' : IsDescriptor core dbr m'.words m'.tables seg y.sdw = rw (e, f) r in
     kept_on core dbr m m' h (λ b c. rw e c) (λ b c. rw f c)
-    (λ s c. elim (contains_set m.sdws i y s (subst (λ (x : List KeptSdw). Contains x s) g c)) [
+    (λ s c. elim (contains_set m.sdws i y s (subst (λ (x : List SdwEntry). Contains x s) g c)) [
       | inl d ↦ inl d
-      | inr same ↦ inr (λ q l. subst (λ (v : KeptSdw). v.key ≡ q + 1 → IsDescriptor core dbr m'.words m'.tables q v.sdw) (sym same) (λ o. let there : seg ≡ q = omega arith in subst (λ (u : ℕ). IsDescriptor core dbr m'.words m'.tables u y.sdw) there r') l)
+      | inr same ↦ inr (λ q l. subst (λ (v : SdwEntry). v.key ≡ q + 1 → IsDescriptor core dbr m'.words m'.tables q v.sdw) (sym same) (λ o. let there : seg ≡ q = omega arith in subst (λ (u : ℕ). IsDescriptor core dbr m'.words m'.tables u y.sdw) there r') l)
     ])
-    (λ a c. inl (subst (λ (x : List KeptPtw). Contains x a) k c))
+    (λ a c. inl (subst (λ (x : List PtwEntry). Contains x a) k c))
     (λ p c. inl (subst (λ (x : List Page). Contains x p) j c))
     (same_fetching core dbr m m' h z)
 
 -- a PTW is kept
-pub with_table_word : (core : List ℕ) (dbr : DbrFields) (m m' : Memories) (i a : ℕ) (y : KeptPtw) → AreRight core dbr m → y.key ≡ a + 1 → IsTableWord core dbr m.words m.tables a y.ptw → m'.ptws ≡ set m.ptws i y → m'.words ≡ m.words → m'.tables ≡ m.tables → m'.sdws ≡ m.sdws → m'.pages ≡ m.pages → m'.fetching ≡ m.fetching → AreRight core dbr m'
+pub with_table_word : (core : List ℕ) (dbr : DbrFields) (m m' : Memories) (i a : ℕ) (y : PtwEntry) → AreRight core dbr m → y.key ≡ a + 1 → IsTableWord core dbr m.words m.tables a y.ptw → m'.ptws ≡ set m.ptws i y → m'.words ≡ m.words → m'.tables ≡ m.tables → m'.sdws ≡ m.sdws → m'.pages ≡ m.pages → m'.fetching ≡ m.fetching → AreRight core dbr m'
 with_table_word core dbr m m' i a y h n r g e f k j z =
     let r' : IsTableWord core dbr m'.words m'.tables a y.ptw = rw (e, f) r in
     kept_on core dbr m m' h (λ b c. rw e c) (λ b c. rw f c)
-    (λ s c. inl (subst (λ (x : List KeptSdw). Contains x s) k c))
-    (λ s c. elim (contains_set m.ptws i y s (subst (λ (x : List KeptPtw). Contains x s) g c)) [
+    (λ s c. inl (subst (λ (x : List SdwEntry). Contains x s) k c))
+    (λ s c. elim (contains_set m.ptws i y s (subst (λ (x : List PtwEntry). Contains x s) g c)) [
       | inl d ↦ inl d
-      | inr same ↦ inr (λ q l. subst (λ (v : KeptPtw). v.key ≡ q + 1 → IsTableWord core dbr m'.words m'.tables q v.ptw) (sym same) (λ o. let there : a ≡ q = omega arith in subst (λ (u : ℕ). IsTableWord core dbr m'.words m'.tables u y.ptw) there r') l)
+      | inr same ↦ inr (λ q l. subst (λ (v : PtwEntry). v.key ≡ q + 1 → IsTableWord core dbr m'.words m'.tables q v.ptw) (sym same) (λ o. let there : a ≡ q = omega arith in subst (λ (u : ℕ). IsTableWord core dbr m'.words m'.tables u y.ptw) there r') l)
     ])
     (λ p c. inl (subst (λ (x : List Page). Contains x p) j c))
     (same_fetching core dbr m m' h z)

@@ -68,7 +68,7 @@ module _ (core now words tables : List ℕ) (dbr : DbrFields) (alike : AreAlike 
           passed = λ u. mark_alike same _ false (k.watches.directory u) (k.passed u);
           used = λ u. mark_alike same _ false (k.table u) (k.used u);
           modified = λ v u. mark_alike same _ true (k.table u) (k.modified v u);
-          face = rw alike.size k.face;
+          page_rights = rw alike.size k.page_rights;
         }
 
     pub fetching_alike : (f : Fetching) → IsFetching core dbr words tables f → IsFetching now dbr words tables f

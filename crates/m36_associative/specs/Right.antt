@@ -10,8 +10,8 @@ use Rattle.m36_model.specs.Store.{within}
 use Rattle.m36_associative.specs.Watched.{watched}
 use Rattle.m36_associative.specs.declared.front.Fetching.{Fetching}
 use Rattle.m36_associative.specs.declared.front.Page.{Page}
-use Rattle.m36_associative.specs.declared.kept.KeptSdw.{KeptSdw}
-use Rattle.m36_associative.specs.declared.kept.KeptPtw.{KeptPtw}
+use Rattle.m36_associative.specs.declared.kept.SdwEntry.{SdwEntry}
+use Rattle.m36_associative.specs.declared.kept.PtwEntry.{PtwEntry}
 use Rattle.m36_associative.specs.declared.memories.Memories.{Memories}
 
 -- the key of a page of a segment in front
@@ -40,7 +40,7 @@ MayGo ring d = first_of (transfer_rows d ring ring) ≡ None
 
 -- What a page in front answers, in a core of this size: the words before its end are within the
 -- bound and in core, and the rings that it names have the rights.
-pub record IsFace (size : ℕ) (d : SdwFields) (page : ℕ) (p : Page) : Type 0 where
+pub record IsPageRights (size : ℕ) (d : SdwFields) (page : ℕ) (p : Page) : Type 0 where
   pub small : size ≤ 2 ^ 24
   pub most : p.end ≤ 1024
   pub inside : 0 < p.end → p.base + p.end ≤ size
@@ -87,7 +87,7 @@ module _ (core : List ℕ) (dbr : DbrFields) (words tables : List ℕ) where
     pub used : sdw.unpaged ≡ false → IsMarked core (page_at sdw page) false
     pub modified :
         0 < p.write_below → sdw.unpaged ≡ false → IsMarked core (page_at sdw page) true
-    pub face : IsFace (length core) sdw page p
+    pub page_rights : IsPageRights (length core) sdw page p
 
   -- a page in front by its key, which determines segment and page; key 0 is that of no page
   abbrev pub IsPageInFront : Page → Type 0
@@ -108,10 +108,10 @@ module _ (core : List ℕ) (dbr : DbrFields) (words tables : List ℕ) where
 -- everything that is kept is right
 pub record AreRight (core : List ℕ) (dbr : DbrFields) (m : Memories) : Type 0 where
   pub descriptors :
-      (e : KeptSdw) (seg : ℕ) → Contains m.sdws e → e.key ≡ seg + 1
+      (e : SdwEntry) (seg : ℕ) → Contains m.sdws e → e.key ≡ seg + 1
       → IsDescriptor core dbr m.words m.tables seg e.sdw
   pub table_words :
-      (e : KeptPtw) (a : ℕ) → Contains m.ptws e → e.key ≡ a + 1
+      (e : PtwEntry) (a : ℕ) → Contains m.ptws e → e.key ≡ a + 1
       → IsTableWord core dbr m.words m.tables a e.ptw
   pub pages : (p : Page) → Contains m.pages p → IsPageInFront core dbr m.words m.tables p
   pub fetching : 0 < m.fetching.len → IsFetching core dbr m.words m.tables m.fetching

@@ -1,8 +1,8 @@
 //! The entries of the two memories.
 
 ghost use Rattle.std.specs.Prelude.{◌≡◌, Contains};
-ghost use Rattle.m36_associative.specs.declared.kept.KeptSdw.{KeptSdw};
-ghost use Rattle.m36_associative.specs.declared.kept.KeptPtw.{KeptPtw};
+ghost use Rattle.m36_associative.specs.declared.kept.SdwEntry.{SdwEntry};
+ghost use Rattle.m36_associative.specs.declared.kept.PtwEntry.{PtwEntry};
 
 use m36_desc::{Ptw, Sdw};
 
@@ -11,7 +11,7 @@ pub(crate) const ENTRIES: usize = 16;
 
 /// A kept descriptor, by its segment.
 #[derive(Clone, Copy)]
-pub struct KeptSdw {
+pub struct SdwEntry {
     /// The segment number plus 1, or 0 if the entry is empty.
     pub(crate) key: u32,
     pub(crate) sdw: Sdw,
@@ -19,17 +19,17 @@ pub struct KeptSdw {
 
 /// A kept page table word, by its address.
 #[derive(Clone, Copy)]
-pub struct KeptPtw {
+pub struct PtwEntry {
     /// The address plus 1, or 0 if the entry is empty.
     pub(crate) key: u32,
     pub(crate) ptw: Ptw,
 }
 
 /// An empty entry for a descriptor.
-fn no_sdw() -> KeptSdw
+fn no_sdw() -> SdwEntry
     ensures { result.key ≡ 0 }
 {
-    KeptSdw {
+    SdwEntry {
         key: 0,
         sdw: Sdw {
             addr: 0,
@@ -52,10 +52,10 @@ fn no_sdw() -> KeptSdw
 }
 
 /// An empty entry for a page table word.
-fn no_ptw() -> KeptPtw
+fn no_ptw() -> PtwEntry
     ensures { result.key ≡ 0 }
 {
-    KeptPtw {
+    PtwEntry {
         key: 0,
         ptw: Ptw {
             addr: 0,
@@ -68,15 +68,15 @@ fn no_ptw() -> KeptPtw
 }
 
 /// A memory of descriptors with no entries.
-pub(crate) fn no_sdws() -> [KeptSdw; 16]
-    ensures { (e : KeptSdw) → Contains result e → e.key ≡ 0 }
+pub(crate) fn no_sdws() -> [SdwEntry; 16]
+    ensures { (e : SdwEntry) → Contains result e → e.key ≡ 0 }
 {
     [no_sdw(); 16]
 }
 
 /// A memory of page table words with no entries.
-pub(crate) fn no_ptws() -> [KeptPtw; 16]
-    ensures { (e : KeptPtw) → Contains result e → e.key ≡ 0 }
+pub(crate) fn no_ptws() -> [PtwEntry; 16]
+    ensures { (e : PtwEntry) → Contains result e → e.key ≡ 0 }
 {
     [no_ptw(); 16]
 }

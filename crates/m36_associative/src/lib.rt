@@ -30,14 +30,14 @@
 #![tactic(auto)]
 
 pub mod answering;
-mod face;
 pub mod front;
 pub mod kept;
 pub mod memories;
+mod page_rights;
 pub mod reading;
-mod resting;
 pub mod uses;
 pub mod watch;
+mod watched_words;
 pub mod writing;
 
 pub use answering::{

@@ -6,7 +6,7 @@ ghost use Rattle.m36_associative.specs.Right.{AreRight, IsPage, IsPageInFront, I
 ghost use Rattle.m36_associative.specs.declared.front.Page.{Page};
 
 use crate::front::{Fetching, PAGES, Page, no_fetching, no_page, no_pages, slot_of};
-use crate::kept::{KeptPtw, KeptSdw, no_ptws, no_sdws};
+use crate::kept::{PtwEntry, SdwEntry, no_ptws, no_sdws};
 use crate::uses::Uses;
 use crate::watch::Watch;
 use m36_desc::{Ptw, Sdw};
@@ -21,9 +21,9 @@ pub struct Memories {
     /// The times at which they were used.
     pub(crate) uses: Uses,
     /// Descriptors, by segment number.
-    pub(crate) sdws: [KeptSdw; 16],
+    pub(crate) sdws: [SdwEntry; 16],
     /// Page table words, by address.
-    pub(crate) ptws: [KeptPtw; 16],
+    pub(crate) ptws: [PtwEntry; 16],
     /// The addresses of the words from which descriptors were read.
     pub(crate) words: Watch,
     /// The addresses of page table words that were read, or through which a descriptor was found.
@@ -222,7 +222,7 @@ impl Memories {
             → IsDescriptor core dbr self.old.words self.old.tables seg sdw.now
             → AreRight core dbr self.new }
     {
-        self.sdws[e] = KeptSdw {
+        self.sdws[e] = SdwEntry {
             key: seg as u32 + 1,
             sdw: *sdw,
         };
@@ -237,7 +237,7 @@ impl Memories {
             → IsTableWord core dbr self.old.words self.old.tables a ptw.now
             → AreRight core dbr self.new }
     {
-        self.ptws[e] = KeptPtw {
+        self.ptws[e] = PtwEntry {
             key: a + 1,
             ptw: *ptw,
         };

@@ -7,11 +7,11 @@ ghost use Rattle.m36_tables.specs.Tables.{TableIn};
 ghost use Rattle.m36_associative.specs.Right.{AreRight, IsWatched, IsDescriptor, IsTableWord, IsPage, IsMarked, page_key};
 ghost use Rattle.m36_associative.specs.Watched.{watched};
 
-use crate::face::page_of;
 use crate::front::{Page, slot_of};
 use crate::kept::ENTRIES;
 use crate::memories::Memories;
-use crate::resting::{watch_anew, watch_words};
+use crate::page_rights::page_of;
+use crate::watched_words::{rewatch, watch_words};
 use crate::writing::with_mark;
 use m36_core::Core;
 use m36_desc::{Dbr, Ptw, Sdw};
@@ -146,7 +146,7 @@ fn keep_descriptor(core: &Core, dbr: Dbr, memories: &mut Memories, seg: u16, eve
 {
     let e = memories.place_for_sdw();
     if !watch_descriptor(core, dbr, memories, seg, even) {
-        watch_anew(core, dbr, memories);
+        rewatch(core, dbr, memories);
         if !watch_descriptor(core, dbr, memories, seg, even) {
             memories.forget();
             return;
@@ -221,7 +221,7 @@ fn keep_table_word(core: &Core, dbr: Dbr, memories: &mut Memories, a: u32)
     };
     let e = memories.place_for_ptw();
     if !watch_table_word(core, dbr, memories, a) {
-        watch_anew(core, dbr, memories);
+        rewatch(core, dbr, memories);
         if !watch_table_word(core, dbr, memories, a) {
             memories.forget();
             return;

@@ -133,7 +133,7 @@ impl Entries {
 
 impl Entries {
     /// Sets the time of each entry to that of the latest use of it or of its pages in front.
-    fn learn(&mut self, pages: &[u64; 16]) {
+    fn update_time(&mut self, pages: &[u64; 16]) {
         for e in 0..ENTRIES {
             let _ = self.learns(e, pages);
         }
@@ -282,7 +282,7 @@ impl Uses {
     pub(crate) fn sdw_by_use(&mut self, rank: usize) -> Option<usize>
         ensures { IfSome result (λ e. e < 16) }
     {
-        self.sdws.learn(&self.pages);
+        self.sdws.update_time(&self.pages);
         self.sdws.by_use(rank)
     }
 
@@ -290,7 +290,7 @@ impl Uses {
     pub(crate) fn ptw_by_use(&mut self, rank: usize) -> Option<usize>
         ensures { IfSome result (λ e. e < 16) }
     {
-        self.ptws.learn(&self.pages);
+        self.ptws.update_time(&self.pages);
         self.ptws.by_use(rank)
     }
 }

@@ -6,7 +6,7 @@ ghost use Rattle.m36_associative.specs.Right.{AreRight};
 ghost use Rattle.m36_associative.specs.Watched.{watched};
 
 use crate::memories::Memories;
-use crate::resting::watch_anew;
+use crate::watched_words::rewatch;
 use m36_core::Core;
 use m36_desc::Dbr;
 use m36_word::Word;
@@ -19,7 +19,7 @@ fn release_watched(core: &Core, dbr: &Dbr, memories: &mut Memories, a: u32)
     requires { AreRight core.now dbr.now memories.old }
     ensures { (v : ℕ) → AreRight (slice_set core.now a v) dbr.now memories.new }
 {
-    watch_anew(core, *dbr, memories);
+    rewatch(core, *dbr, memories);
     if memories.words.has(a) {
         memories.forget();
         return;
@@ -53,7 +53,7 @@ fn is_read(core: &Core, dbr: &Dbr, memories: &mut Memories, a: u32) -> bool
     if !memories.words.has(a) {
         return false;
     }
-    watch_anew(core, *dbr, memories);
+    rewatch(core, *dbr, memories);
     memories.words.has(a)
 }
 

@@ -57,7 +57,7 @@ count_past f n (suc more) none =
     let here : of_bit (f (n + more)) ≡ 0 = ap of_bit (none (n + more) (omega arith) (omega arith)) in
     let step = count_more f (n + more) in
     let before = count_past f n more (λ i far near. none i far (omega arith)) in
-    let joined : count_below f (n + suc more) ≡ count_below f ((n + more) + 1) = ap (count_below f) e in
+    let with_number : count_below f (n + suc more) ≡ count_below f ((n + more) + 1) = ap (count_below f) e in
     omega arith
 
 -- a number below n that passes

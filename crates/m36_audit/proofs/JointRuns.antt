@@ -8,7 +8,7 @@ use Rattle.m36_model.specs.Place.{in_bounds, core_sdw}
 use Rattle.m36_model.specs.declared.outcome.Refusal.{Refusal}
 use Rattle.m36_audit.specs.declared.run.Run.{Run}
 use Rattle.m36_audit.specs.Runs.{whole_run, page_run_by, run_by, run_ordered, run_of, AreCounted}
-use Rattle.m36_audit.specs.Shares.{first_run, run_of_process, joint_run, piece_count, starts_with, stops_with}
+use Rattle.m36_audit.specs.WordOwners.{first_run, run_of_process, joint_run, piece_count, starts_with, stops_with}
 use Rattle.m36_audit.proofs.Bounds.{live_in_bounds}
 use Rattle.m36_audit.proofs.Covering.{counted_on}
 use Rattle.m36_audit.proofs.SegmentRuns.{counted_by}

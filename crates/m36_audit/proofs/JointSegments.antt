@@ -11,8 +11,8 @@ use Rattle.m36_model.specs.JointAudit.{AreSameWord, IsJointSegment}
 use Rattle.m36_audit.specs.declared.run.Run.{Run}
 use Rattle.m36_audit.specs.Runs.{run, covers, InOrder}
 use Rattle.m36_audit.specs.Classes.{AreClasses}
-use Rattle.m36_audit.specs.Told.{several, IsTold, AreTold}
-use Rattle.m36_audit.specs.Shares.{SegmentOwned, Below, first_run, run_of_process, joint_run, joint_coverage}
+use Rattle.m36_audit.specs.RecordedNumbers.{several, IsRecorded, AreRecorded}
+use Rattle.m36_audit.specs.WordOwners.{SegmentOwned, Below, first_run, run_of_process, joint_run, joint_coverage}
 use Rattle.m36_audit.proofs.Clashes.{Clash, clash}
 use Rattle.m36_audit.proofs.Counting.{two, at_least_two}
 use Rattle.m36_audit.proofs.Conditions.{covers_is, word_below, word_passes, few_segments, runs_in_order}
@@ -166,7 +166,7 @@ module _ (core : List ℕ) (dbrs : List DbrFields) (firsts : List ℕ) (classes 
       apart (omega arith)
 
   -- two processes and two words
-  counts_break : a < length core → (segments : ℕ) → IsTold (Below (SegmentOwned core dbrs) (length dbrs) a) segments → segments ≡ several → 2 ≤ joint_coverage core dbrs firsts a → IsJointSegment core dbrs a
+  counts_break : a < length core → (segments : ℕ) → IsRecorded (Below (SegmentOwned core dbrs) (length dbrs) a) segments → segments ≡ several → 2 ≤ joint_coverage core dbrs firsts a → IsJointSegment core dbrs a
   counts_break inside segments s e more =
       let p = s.two e in
       let k = two (λ i. covers a (joint_run core dbrs firsts i)) (2 ^ 23 * length dbrs) more in
@@ -252,7 +252,7 @@ module _ (core : List ℕ) (dbrs : List DbrFields) (firsts : List ℕ) (classes 
   segment_there : (l : ℕ) (other : DbrFields) (seg w : ℕ) → slice_get dbrs l ≡ Some other → IsSegmentWord core other seg w a → Below (SegmentOwned core dbrs) (length dbrs) a (l + 1)
   segment_there l other seg w at word = (l, slice_get_within dbrs l other at, record { dbr = other; process = at; seg = seg; w = w; word = word; is = refl })
 
-  breaks_told : (segments : ℕ) → IsTold (Below (SegmentOwned core dbrs) (length dbrs) a) segments → IsJointSegment core dbrs a → segments ≡ several
+  breaks_told : (segments : ℕ) → IsRecorded (Below (SegmentOwned core dbrs) (length dbrs) a) segments → IsJointSegment core dbrs a → segments ≡ several
   breaks_told segments s b = at (cases_eq segments several)
     where
       at : (segments ≡ several) ⊎ (segments ≡ several → ⊥) → segments ≡ several
@@ -262,7 +262,7 @@ module _ (core : List ℕ) (dbrs : List DbrFields) (firsts : List ℕ) (classes 
           let other = s.only far (b.two.second + 1) (segment_there b.two.second b.other b.other_seg b.other_w b.two.other_at b.other_word) in
           absurd (b.two.differ (omega arith))
 
-  pub joint_segment_decides : (segments open_runs : ℕ) → a < length core → IsTold (Below (SegmentOwned core dbrs) (length dbrs) a) segments → open_runs ≡ joint_coverage core dbrs firsts a → Decides ((segments == several) && nat_lt 1 open_runs) (IsJointSegment core dbrs a)
+  pub joint_segment_decides : (segments open_runs : ℕ) → a < length core → IsRecorded (Below (SegmentOwned core dbrs) (length dbrs) a) segments → open_runs ≡ joint_coverage core dbrs firsts a → Decides ((segments == several) && nat_lt 1 open_runs) (IsJointSegment core dbrs a)
   joint_segment_decides segments open_runs inside s e = (
     λ h.
         let k = and_parts (segments == several) (nat_lt 1 open_runs) h in
@@ -277,7 +277,7 @@ pub joint_segment_inside : (core : List ℕ) (dbrs : List DbrFields) (a : ℕ) �
 joint_segment_inside core dbrs a b = word_inside core b.dbr b.seg b.w a b.word
 
 -- the test of a core word
-pub parted_at : (core : List ℕ) (dbrs : List DbrFields) (firsts : List ℕ) → AreClasses core dbrs (2 ^ 15 * length dbrs) firsts → (a : ℕ) → a < length core → (segments : List ℕ) → AreTold (Below (SegmentOwned core dbrs) (length dbrs)) (length core) segments → (x open_runs : ℕ) (b : Bool) → x ≡ slice_index segments a → open_runs ≡ joint_coverage core dbrs firsts a → b ≡ ((x == several) && nat_lt 1 open_runs) → Decides b (IsJointSegment core dbrs a)
+pub parted_at : (core : List ℕ) (dbrs : List DbrFields) (firsts : List ℕ) → AreClasses core dbrs (2 ^ 15 * length dbrs) firsts → (a : ℕ) → a < length core → (segments : List ℕ) → AreRecorded (Below (SegmentOwned core dbrs) (length dbrs)) (length core) segments → (x open_runs : ℕ) (b : Bool) → x ≡ slice_index segments a → open_runs ≡ joint_coverage core dbrs firsts a → b ≡ ((x == several) && nat_lt 1 open_runs) → Decides b (IsJointSegment core dbrs a)
 parted_at core dbrs firsts classes a inside segments s x open_runs b e f h =
     let same : b ≡ ((slice_index segments a == several) && nat_lt 1 open_runs) = h ∙ (λ i. (e i == several) && nat_lt 1 open_runs) in
     subst (λ (v : Bool). Decides v (IsJointSegment core dbrs a)) (sym same)

@@ -6,10 +6,10 @@ use Rattle.std.proofs.lemmas.Bool.{eq-eqb, eqb-true, eqb-false, cases_eq}
 use Rattle.std.proofs.lemmas.Option.{slice_get_within}
 use Rattle.m36_desc.specs.Fields.{DbrFields}
 use Rattle.m36_model.specs.Audit.{Table, Sdws, Directory, Pages, IsOf, IsSegmentWord}
-use Rattle.m36_model.specs.JointAudit.{AreShared, IsTaken, IsJointTable}
+use Rattle.m36_model.specs.JointAudit.{AreShared, IsUsedByOther, IsJointTable}
 use Rattle.m36_audit.specs.Classes.{AreClasses}
-use Rattle.m36_audit.specs.Told.{several, TwoOf, IsTold, AreTold}
-use Rattle.m36_audit.specs.Shares.{identity, Identified, TableOwned, SegmentOwned, Below, is_between}
+use Rattle.m36_audit.specs.RecordedNumbers.{several, TwoOf, IsRecorded, AreRecorded}
+use Rattle.m36_audit.specs.WordOwners.{identity, Identified, TableOwned, SegmentOwned, Below, is_between}
 use Rattle.m36_audit.proofs.Clashes.{Clash, clash}
 use Rattle.m36_audit.proofs.SameDescriptors.{live_of, same_firsts, firsts_same}
 
@@ -62,7 +62,7 @@ module _ (core : List ℕ) (dbrs : List DbrFields) (firsts : List ℕ) (classes 
   owners_apart : (k l x y : ℕ) → x ≡ k + 1 → y ≡ l + 1 → x ≢ y → k ≢ l
   owners_apart k l x y e f apart g = apart (omega arith)
 
-  module _ (inside : a < length core) (tables segments identities : ℕ) (t : IsTold (Below (TableOwned core dbrs) (length dbrs) a) tables) (s : IsTold (Below (SegmentOwned core dbrs) (length dbrs) a) segments) (n : IsTold (Below (Identified core dbrs firsts) (length dbrs) a) identities) where
+  module _ (inside : a < length core) (tables segments identities : ℕ) (t : IsRecorded (Below (TableOwned core dbrs) (length dbrs) a) tables) (s : IsRecorded (Below (SegmentOwned core dbrs) (length dbrs) a) segments) (n : IsRecorded (Below (Identified core dbrs firsts) (length dbrs) a) identities) where
     -- two different numbers mean two processes
     by_tables : tables ≡ several → identities ≡ several → IsJointTable core dbrs a
     unfolding Has
@@ -128,17 +128,17 @@ module _ (core : List ℕ) (dbrs : List DbrFields) (firsts : List ℕ) (classes 
     test_breaks false q false false true e f g h i passed = cc
 
     -- the converse
-    not_zero : (Has : ℕ → Type 0) (value k : ℕ) → IsTold Has value → Has (k + 1) → value ≢ 0
-    not_zero Has value k told has e =
-        let is = told.only (λ f. omega arith) (k + 1) has in
+    not_zero : (Has : ℕ → Type 0) (value k : ℕ) → IsRecorded Has value → Has (k + 1) → value ≢ 0
+    not_zero Has value k recorded has e =
+        let is = recorded.only (λ f. omega arith) (k + 1) has in
         omega arith
 
-    two_several : (Has : ℕ → Type 0) (value x y : ℕ) → IsTold Has value → Has x → Has y → x ≢ y → value ≡ several
-    two_several Has value x y told has has_too apart = at (cases_eq value several)
+    two_several : (Has : ℕ → Type 0) (value x y : ℕ) → IsRecorded Has value → Has x → Has y → x ≢ y → value ≡ several
+    two_several Has value x y recorded has has_too apart = at (cases_eq value several)
       where
         at : (value ≡ several) ⊎ (value ≡ several → ⊥) → value ≡ several
         at (inl e) = e
-        at (inr far) = absurd (apart (told.only far x has ∙ sym (told.only far y has_too)))
+        at (inr far) = absurd (apart (recorded.only far x has ∙ sym (recorded.only far y has_too)))
 
     process_below : (k : ℕ) (dbr : DbrFields) → slice_get dbrs k ≡ Some dbr → k < length dbrs
     process_below k dbr h = slice_get_within dbrs k dbr h
@@ -172,7 +172,7 @@ module _ (core : List ℕ) (dbrs : List DbrFields) (firsts : List ℕ) (classes 
         tied (inl far) = far (eqb-true tables segments i)
         tied (inr k) = let x : (tables == several) ≡ true = eq-eqb tables several k in cc
 
-    breaks_by : (b : IsJointTable core dbrs a) → IsTaken core b.dbr b.other b.table a → ((tables ≡ several) × (identities ≡ several)) ⊎ ((tables ≢ 0) × (segments ≢ 0) × ((tables ≢ segments) ⊎ (tables ≡ several)))
+    breaks_by : (b : IsJointTable core dbrs a) → IsUsedByOther core b.dbr b.other b.table a → ((tables ≡ several) × (identities ≡ several)) ⊎ ((tables ≢ 0) × (segments ≢ 0) × ((tables ≢ segments) ⊎ (tables ≡ several)))
     breaks_by b (inl word) =
         let has = table_there b.two.first b.dbr b.table b.two.at b.of in
         let has_too = segment_there b.two.second b.other word.0 word.1 b.two.other_at word.2 in
@@ -202,7 +202,7 @@ module _ (core : List ℕ) (dbrs : List DbrFields) (firsts : List ℕ) (classes 
     )
 
 -- the test of a core word
-pub between_at : (core : List ℕ) (dbrs : List DbrFields) (firsts : List ℕ) → AreClasses core dbrs (2 ^ 15 * length dbrs) firsts → length dbrs ≤ 8 → (a : ℕ) → a < length core → (tables segments identities : List ℕ) → AreTold (Below (TableOwned core dbrs) (length dbrs)) (length core) tables → AreTold (Below (SegmentOwned core dbrs) (length dbrs)) (length core) segments → AreTold (Below (Identified core dbrs firsts) (length dbrs)) (length core) identities → (x y z : ℕ) (b : Bool) → x ≡ slice_index tables a → y ≡ slice_index segments a → z ≡ slice_index identities a → b ≡ is_between x y z → Decides b (IsJointTable core dbrs a)
+pub between_at : (core : List ℕ) (dbrs : List DbrFields) (firsts : List ℕ) → AreClasses core dbrs (2 ^ 15 * length dbrs) firsts → length dbrs ≤ 8 → (a : ℕ) → a < length core → (tables segments identities : List ℕ) → AreRecorded (Below (TableOwned core dbrs) (length dbrs)) (length core) tables → AreRecorded (Below (SegmentOwned core dbrs) (length dbrs)) (length core) segments → AreRecorded (Below (Identified core dbrs firsts) (length dbrs)) (length core) identities → (x y z : ℕ) (b : Bool) → x ≡ slice_index tables a → y ≡ slice_index segments a → z ≡ slice_index identities a → b ≡ is_between x y z → Decides b (IsJointTable core dbrs a)
 between_at core dbrs firsts classes few a inside tables segments identities t s n x y z b e f g h =
     let same : b ≡ is_between (slice_index tables a) (slice_index segments a) (slice_index identities a) = h ∙ (λ i. is_between (e i) (f i) (g i)) in
     subst (λ (v : Bool). Decides v (IsJointTable core dbrs a)) (sym same)

@@ -10,9 +10,9 @@ use Rattle.m36_model.specs.Audit.{AreFindings}
 use Rattle.m36_model.specs.JointAudit.{JointFound, of_process, between, AreFindingsFrom, AreJointFindings, IsJointlyAudited}
 use Rattle.m36_isol.specs.Findings.{JointFindingsLaw}
 use Rattle.m36_audit.specs.declared.joint_verdict.JointFinding.{JointFinding}
-use Rattle.m36_audit.specs.Told.{AreTold}
-use Rattle.m36_audit.specs.Shares.{Below, TableOwned, SegmentOwned, Identified}
-use Rattle.m36_audit.specs.Joints.{all_found, AreShares, AreFoundSo}
+use Rattle.m36_audit.specs.RecordedNumbers.{AreRecorded}
+use Rattle.m36_audit.specs.WordOwners.{Below, TableOwned, SegmentOwned, Identified}
+use Rattle.m36_audit.specs.Joints.{all_found, AreShares, AreFindingsOfFirst}
 use Rattle.m36_audit.proofs.TableWords.{zeros}
 
 drop_at : (dbrs : List DbrFields) (n : ℕ) (dbr : DbrFields) → slice_get dbrs n ≡ Some dbr → drop n dbrs ≡ dbr ∷ drop (suc n) dbrs
@@ -21,12 +21,12 @@ drop_at (d ∷ dbrs) zero dbr h = let same : d ≡ dbr = cc in ap (λ (x : DbrFi
 drop_at (d ∷ dbrs) (suc n) dbr h = drop_at dbrs n dbr h
 
 -- the findings of no process
-pub found_none : (core : List ℕ) (dbrs : List DbrFields) (findings : List JointFinding) → findings ≡ [] → AreFoundSo core dbrs 0 findings
+pub found_none : (core : List ℕ) (dbrs : List DbrFields) (findings : List JointFinding) → findings ≡ [] → AreFindingsOfFirst core dbrs 0 findings
 found_none core dbrs findings e =
     record { whole = λ rest f. subst (λ (l : List JointFinding). AreFindingsFrom 0 core dbrs (all_found l ++ rest)) (sym e) f }
 
 -- the findings of one more process
-pub found_next : (core : List ℕ) (dbrs : List DbrFields) (n : ℕ) (dbr : DbrFields) (findings after : List JointFinding) (own : List (ℕ × ℕ)) → slice_get dbrs n ≡ Some dbr → AreFindings core dbr own → all_found after ≡ all_found findings ++ of_process n own → AreFoundSo core dbrs n findings → AreFoundSo core dbrs (n + 1) after
+pub found_next : (core : List ℕ) (dbrs : List DbrFields) (n : ℕ) (dbr : DbrFields) (findings after : List JointFinding) (own : List (ℕ × ℕ)) → slice_get dbrs n ≡ Some dbr → AreFindings core dbr own → all_found after ≡ all_found findings ++ of_process n own → AreFindingsOfFirst core dbrs n findings → AreFindingsOfFirst core dbrs (n + 1) after
 found_next core dbrs n dbr findings after own process found listed before =
     record { whole = whole }
   where
@@ -40,7 +40,7 @@ found_next core dbrs n dbr findings after own process found listed before =
         subst (AreFindingsFrom 0 core dbrs) same all
 
 -- the findings of all processes
-pub found_all : (core : List ℕ) (dbrs : List DbrFields) (n : ℕ) (findings : List JointFinding) → length dbrs ≤ n → n ≤ length dbrs → AreFoundSo core dbrs n findings → AreFindingsFrom 0 core dbrs (all_found findings)
+pub found_all : (core : List ℕ) (dbrs : List DbrFields) (n : ℕ) (findings : List JointFinding) → length dbrs ≤ n → n ≤ length dbrs → AreFindingsOfFirst core dbrs n findings → AreFindingsFrom 0 core dbrs (all_found findings)
 found_all core dbrs n findings enough few f =
     let none : drop n dbrs ≡ [] = drop_of_length-le dbrs enough in
     let nothing : AreFindingsFrom n core [] [] = refl in
@@ -61,7 +61,7 @@ nothing_joint law core dbrs findings f = (
 pub joined_findings : (core : List ℕ) (dbrs : List DbrFields) (own second_noted third_noted : List JointFinding) (second third : Option ℕ) → all_found second_noted ≡ all_found own ++ between 2 second → all_found third_noted ≡ all_found second_noted ++ between 3 third → all_found third_noted ≡ all_found own ++ between 2 second ++ between 3 third
 joined_findings core dbrs own second_noted third_noted second third e f = f ∙ ap (λ (l : List JointFound). l ++ between 3 third) e
 
-none_told : (Has : ℕ → ℕ → ℕ → Type 0) (size : ℕ) (values : List ℕ) → values ≡ replicate size 0 → AreTold (Below Has 0) size values
+none_told : (Has : ℕ → ℕ → ℕ → Type 0) (size : ℕ) (values : List ℕ) → values ≡ replicate size 0 → AreRecorded (Below Has 0) size values
 none_told Has size values e =
     record {
       len = ap length e ∙ length-replicate {A = ℕ} size 0;
@@ -87,10 +87,10 @@ no_shares core dbrs firsts size tables segments identities is e f g =
 pub zeros_len : (size : ℕ) (values : List ℕ) (n : ℕ) → values ≡ replicate size 0 → size ≡ n → length values ≡ n
 zeros_len size values n e f = ap length e ∙ length-replicate {A = ℕ} size 0 ∙ f
 
-pub found_step : (core : List ℕ) (dbrs : List DbrFields) (n : ℕ) (findings after : List JointFinding) (own : List (ℕ × ℕ)) → n < length dbrs → ((dbr : DbrFields) → slice_get dbrs n ≡ Some dbr → AreFindings core dbr own) → all_found after ≡ all_found findings ++ of_process n own → AreFoundSo core dbrs n findings → AreFoundSo core dbrs (n + 1) after
+pub found_step : (core : List ℕ) (dbrs : List DbrFields) (n : ℕ) (findings after : List JointFinding) (own : List (ℕ × ℕ)) → n < length dbrs → ((dbr : DbrFields) → slice_get dbrs n ≡ Some dbr → AreFindings core dbr own) → all_found after ≡ all_found findings ++ of_process n own → AreFindingsOfFirst core dbrs n findings → AreFindingsOfFirst core dbrs (n + 1) after
 found_step core dbrs n findings after own lt found listed before = at (slice_get_cases dbrs n).1
   where
-    at : ((x : DbrFields) × (n < length dbrs) × (slice_get dbrs n ≡ Some x) × (get_or dbrs n x ≡ x)) ⊎ ((length dbrs ≤ n) × (slice_get dbrs n ≡ None)) → AreFoundSo core dbrs (n + 1) after
+    at : ((x : DbrFields) × (n < length dbrs) × (slice_get dbrs n ≡ Some x) × (get_or dbrs n x ≡ x)) ⊎ ((length dbrs ≤ n) × (slice_get dbrs n ≡ None)) → AreFindingsOfFirst core dbrs (n + 1) after
     at (inl h) = found_next core dbrs n h.0 findings after own h.2 (found h.0 h.2) listed before
     at (inr h) = let past = h.0 in absurd (omega arith)
 

@@ -11,7 +11,7 @@ pub mod SegmentWords
 pub mod Conditions
 pub mod SegmentRuns
 pub mod Verdicts
-pub mod Tellings
+pub mod LookupLaws
 pub mod TableIdentities
 pub mod SameDescriptors
 pub mod Clashes

@@ -6,7 +6,7 @@ use Rattle.std.proofs.lemmas.List.{get_or-set_same, get_or-set_other, length-set
 use Rattle.std.proofs.lemmas.Option.{slice_get_cases, get_or_from_slice_get}
 use Rattle.m36_desc.specs.Fields.{DbrFields}
 use Rattle.m36_model.specs.Place.{in_bounds}
-use Rattle.m36_audit.specs.Classes.{IsKey, KeyAt, AreClasses, FirstNoted, AreNoted, AreNotedSo}
+use Rattle.m36_audit.specs.Classes.{IsKey, KeyAt, AreClasses, FirstNoted, AreRecordedFindings, AreNotedSo}
 use Rattle.m36_audit.proofs.Bounds.{sdw_place_in_bounds}
 use Rattle.m36_audit.proofs.SameDescriptors.{keys_same, numbered, numbered_odd}
 use Rattle.m36_audit.proofs.TableWords.{zeros}
@@ -113,7 +113,7 @@ module _ (core : List ℕ) (dbrs : List DbrFields) (few : length dbrs ≤ 8) whe
       first_noted (Some f) e h = found_noted f e h.0 h.1
       first_noted None e h = new_noted e h.0 h.1
 
-    pub noted_next : (key : Option ℕ) → ((x : ℕ) → key ≡ Some x → KeyAt core dbrs n x) → (key ≡ None → (x : ℕ) → KeyAt core dbrs n x → ⊥) → AreNoted places new firsts after key n → AreNotedSo core dbrs (n + 1) new after
+    pub noted_next : (key : Option ℕ) → ((x : ℕ) → key ≡ Some x → KeyAt core dbrs n x) → (key ≡ None → (x : ℕ) → KeyAt core dbrs n x → ⊥) → AreRecordedFindings places new firsts after key n → AreNotedSo core dbrs (n + 1) new after
     noted_next None hit miss h =
         let le : n ≤ n + 1 = omega arith in
         let there = noted_on n (n + 1) places firsts le (λ i key far lt k. let e : i ≡ n = omega arith in miss refl key (subst (λ (m : ℕ). KeyAt core dbrs m key) e k)) s in
@@ -192,7 +192,7 @@ dbr_at dbrs k d lt e = at (slice_get_cases dbrs k).1
     at (inr h) = let past = h.0 in absurd (omega arith)
 
 -- the descriptor of one segment more
-pub noted_step : (core : List ℕ) (dbrs : List DbrFields) → length dbrs ≤ 8 → (k seg : ℕ) (dbr : DbrFields) → slice_get dbrs k ≡ Some dbr → k < length dbrs → seg < 2 ^ 15 → (places new : ℕ → Option ℕ) (firsts after : List ℕ) (key : Option ℕ) (number : ℕ) → number ≡ 2 ^ 15 * k + seg → MatchOption key ((x : ℕ) → IsKey core dbr seg x → ⊥) (λ x. IsKey core dbr seg x) → ((x : ℕ) → (h : IsKey core dbr seg x) → h.odd < 2 ^ 36) → AreNoted places new firsts after key number → AreNotedSo core dbrs (2 ^ 15 * k + seg) places firsts → AreNotedSo core dbrs (2 ^ 15 * k + (seg + 1)) new after
+pub noted_step : (core : List ℕ) (dbrs : List DbrFields) → length dbrs ≤ 8 → (k seg : ℕ) (dbr : DbrFields) → slice_get dbrs k ≡ Some dbr → k < length dbrs → seg < 2 ^ 15 → (places new : ℕ → Option ℕ) (firsts after : List ℕ) (key : Option ℕ) (number : ℕ) → number ≡ 2 ^ 15 * k + seg → MatchOption key ((x : ℕ) → IsKey core dbr seg x → ⊥) (λ x. IsKey core dbr seg x) → ((x : ℕ) → (h : IsKey core dbr seg x) → h.odd < 2 ^ 36) → AreRecordedFindings places new firsts after key number → AreNotedSo core dbrs (2 ^ 15 * k + seg) places firsts → AreNotedSo core dbrs (2 ^ 15 * k + (seg + 1)) new after
 noted_step core dbrs few k seg dbr process there small places new firsts after key number e says odd noted s =
     let inside : 2 ^ 15 * k + seg < 2 ^ 15 * length dbrs = omega arith in
     let next : 2 ^ 15 * k + seg + 1 ≡ 2 ^ 15 * k + (seg + 1) = omega arith in
@@ -200,7 +200,7 @@ noted_step core dbrs few k seg dbr process there small places new firsts after k
     (noted_next core dbrs few (2 ^ 15 * k + seg) inside places new firsts after s (small_taken core dbrs few k dbr process seg small odd) key
     (λ x f. numbered core dbrs k seg x dbr process small (hit_of key _ _ says x f))
     (λ f x h. miss_of key _ _ says f x (key_taken core dbrs few k dbr process seg x small h))
-    (subst (AreNoted places new firsts after key) e noted))
+    (subst (AreRecordedFindings places new firsts after key) e noted))
 
 pub noted_rest : (core : List ℕ) (dbrs : List DbrFields) → length dbrs ≤ 8 → (k : ℕ) (dbr : DbrFields) → slice_get dbrs k ≡ Some dbr → (n m : ℕ) → ((q : ℕ) → in_bounds dbr q ≡ nat_lt q n) → n ≤ m → m ≤ 2 ^ 15 → (places : ℕ → Option ℕ) (firsts : List ℕ) → AreNotedSo core dbrs (2 ^ 15 * k + m) places firsts → AreNotedSo core dbrs (2 ^ 15 * (k + 1)) places firsts
 noted_rest core dbrs few k dbr process n m bounds enough most places firsts s =

@@ -7,12 +7,12 @@ use Rattle.m36_desc.specs.Fields.{DbrFields}
 use Rattle.m36_model.specs.Audit.{IsOf, IsSegmentWord}
 use Rattle.m36_audit.specs.TableMarks.{AreMarked}
 use Rattle.m36_audit.specs.Runs.{run, covers, coverage}
-use Rattle.m36_audit.specs.Told.{joined, IsTold, AreTold}
-use Rattle.m36_audit.specs.Shares.{Below, TableOwned, SegmentOwned, owned, owned_at, AreOwned}
+use Rattle.m36_audit.specs.RecordedNumbers.{with_number, IsRecorded, AreRecorded}
+use Rattle.m36_audit.specs.WordOwners.{Below, TableOwned, SegmentOwned, owned, owned_at, AreOwned}
 use Rattle.m36_audit.proofs.Counting.{one}
 use Rattle.m36_audit.proofs.Conditions.{covers_is, word_counts}
 use Rattle.m36_audit.proofs.SegmentWords.{covered_word}
-use Rattle.m36_audit.proofs.Tellings.{told_same, told_more}
+use Rattle.m36_audit.proofs.LookupLaws.{told_same, told_more}
 
 module _ (Has : ℕ → ℕ → ℕ → Type 0) (k : ℕ) (few : k < 8) (size : ℕ) (test : ℕ → Bool) (there : (q : ℕ) → q < size → test q ≡ true → Has k q (k + 1)) (tested : (q x : ℕ) → q < size → Has k q x → (test q ≡ true) × (x ≡ k + 1)) (positive : (j q x : ℕ) → Has j q x → 0 < x) where
   still : (q x : ℕ) → Below Has k q x → Below Has (k + 1) q x
@@ -36,18 +36,18 @@ module _ (Has : ℕ → ℕ → ℕ → Type 0) (k : ℕ) (few : k < 8) (size : 
   stays q x inside e (inl b) = b
   stays q x inside e (inr h) = let f = (tested q x inside h).0 in cc
 
-  told_by : (q seen : ℕ) (b : Bool) → q < size → test q ≡ b → IsTold (Below Has k q) seen → IsTold (Below Has (k + 1) q) (owned b seen (k + 1))
+  told_by : (q seen : ℕ) (b : Bool) → q < size → test q ≡ b → IsRecorded (Below Has k q) seen → IsRecorded (Below Has (k + 1) q) (owned b seen (k + 1))
   told_by q seen true inside e t =
       let lt : k < k + 1 = omega arith in
       told_more (Below Has k q) (Below Has (k + 1) q) (k + 1) seen (still q) (λ x w. joins q x inside (split q x w)) (k, lt, there q inside e) (omega arith) (λ x b. positive b.0 q x b.2) t
   told_by q seen false inside e t =
       told_same (Below Has k q) (Below Has (k + 1) q) seen (still q) (λ x w. stays q x inside e (split q x w)) t
 
-  pub owners_told : (old new : List ℕ) → AreOwned test (k + 1) size old new → AreTold (Below Has k) size old → AreTold (Below Has (k + 1)) size new
+  pub owners_told : (old new : List ℕ) → AreOwned test (k + 1) size old new → AreRecorded (Below Has k) size old → AreRecorded (Below Has (k + 1)) size new
   owners_told old new o t =
       record {
         len = o.len ∙ t.len;
-        each = λ q inside. subst (IsTold (Below Has (k + 1) q)) (sym (o.before q inside)) (told_by q (slice_index old q) (test q) inside refl (t.each q inside));
+        each = λ q inside. subst (IsRecorded (Below Has (k + 1) q)) (sym (o.before q inside)) (told_by q (slice_index old q) (test q) inside refl (t.each q inside));
       }
 
 not_on : (m : ℕ) → not (m == 0) ≡ true → m ≢ 0
@@ -57,7 +57,7 @@ on_not : (m : ℕ) → (m ≡ 0 → ⊥) → not (m == 0) ≡ true
 on_not m far = ap not (ne_eqb m 0 far)
 
 -- table words
-pub tables_owned : (core : List ℕ) (dbrs : List DbrFields) (dbr : DbrFields) (k : ℕ) → k < 8 → slice_get dbrs k ≡ Some dbr → (marks : List ℕ) (least : Option ℕ) → AreMarked (IsOf core dbr) (length core) marks least → (old new : List ℕ) → AreOwned (λ q. not (slice_index marks q == 0)) (k + 1) (length core) old new → AreTold (Below (TableOwned core dbrs) k) (length core) old → AreTold (Below (TableOwned core dbrs) (k + 1)) (length core) new
+pub tables_owned : (core : List ℕ) (dbrs : List DbrFields) (dbr : DbrFields) (k : ℕ) → k < 8 → slice_get dbrs k ≡ Some dbr → (marks : List ℕ) (least : Option ℕ) → AreMarked (IsOf core dbr) (length core) marks least → (old new : List ℕ) → AreOwned (λ q. not (slice_index marks q == 0)) (k + 1) (length core) old new → AreRecorded (Below (TableOwned core dbrs) k) (length core) old → AreRecorded (Below (TableOwned core dbrs) (k + 1)) (length core) new
 tables_owned core dbrs dbr k few process marks least m old new o t =
     owners_told (TableOwned core dbrs) k few (length core) (λ q. not (slice_index marks q == 0)) there tested (λ j q x h. let is = h.is in omega arith) old new o t
   where
@@ -73,7 +73,7 @@ tables_owned core dbrs dbr k few process marks least m old new o t =
         (on_not (slice_index marks q) (λ e. m.none q inside e h.table (subst (λ (d : DbrFields). IsOf core d h.table q) one_dbr h.of)), h.is)
 
 -- segment words
-pub segments_owned : (core : List ℕ) (dbrs : List DbrFields) (dbr : DbrFields) (k : ℕ) → k < 8 → slice_get dbrs k ≡ Some dbr → (old new : List ℕ) → AreOwned (λ q. nat_lt 0 (coverage core dbr q)) (k + 1) (length core) old new → AreTold (Below (SegmentOwned core dbrs) k) (length core) old → AreTold (Below (SegmentOwned core dbrs) (k + 1)) (length core) new
+pub segments_owned : (core : List ℕ) (dbrs : List DbrFields) (dbr : DbrFields) (k : ℕ) → k < 8 → slice_get dbrs k ≡ Some dbr → (old new : List ℕ) → AreOwned (λ q. nat_lt 0 (coverage core dbr q)) (k + 1) (length core) old new → AreRecorded (Below (SegmentOwned core dbrs) k) (length core) old → AreRecorded (Below (SegmentOwned core dbrs) (k + 1)) (length core) new
 segments_owned core dbrs dbr k few process old new o t =
     owners_told (SegmentOwned core dbrs) k few (length core) (λ q. nat_lt 0 (coverage core dbr q)) there tested (λ j q x h. let is = h.is in omega arith) old new o t
   where
@@ -92,15 +92,15 @@ segments_owned core dbrs dbr k few process old new o t =
         (lt-ltb 0 (coverage core dbr q) (omega arith), h.is)
 
 owned_len : (b : Bool) (values : List ℕ) (a number : ℕ) → length (owned_at b values a number) ≡ length values
-owned_len true values a number = length-set values a (joined (slice_index values a) number)
+owned_len true values a number = length-set values a (with_number (slice_index values a) number)
 owned_len false values a number = refl
 
 owned_here : (b : Bool) (values : List ℕ) (a number : ℕ) → a < length values → slice_index (owned_at b values a number) a ≡ owned b (slice_index values a) number
-owned_here true values a number inside = get_or-set_same values a (joined (slice_index values a) number) 0 inside
+owned_here true values a number inside = get_or-set_same values a (with_number (slice_index values a) number) 0 inside
 owned_here false values a number inside = refl
 
 owned_far : (b : Bool) (values : List ℕ) (a q number : ℕ) → q ≢ a → slice_index (owned_at b values a number) q ≡ slice_index values q
-owned_far true values a q number far = get_or-set_other values a q (joined (slice_index values a) number) 0 far
+owned_far true values a q number far = get_or-set_other values a q (with_number (slice_index values a) number) 0 far
 owned_far false values a q number far = refl
 
 -- no word is recorded yet

@@ -9,7 +9,7 @@ use Rattle.m36_model.specs.Place.{in_bounds, core_sdw}
 use Rattle.m36_model.specs.Audit.{Finds, IsOutOfOrder, IsCallable, IsNoGate, is_stack_of, HasNoStack}
 use Rattle.m36_model.specs.declared.outcome.Refusal.{Refusal}
 use Rattle.m36_audit.specs.Breaks.{Breaks}
-use Rattle.m36_audit.specs.Live.{Tells, disordered, callable, enterable, serves}
+use Rattle.m36_audit.specs.Live.{IsSameLookup, disordered, callable, enterable, serves}
 use Rattle.m36_audit.specs.declared.breaking.Condition.{Condition}
 use Rattle.m36_audit.specs.declared.breaking.Condition.TheVariants.{Brackets, Gate, Stack}
 use Rattle.m36_audit.proofs.Bounds.{live_in_bounds}
@@ -17,7 +17,7 @@ use Rattle.m36_audit.proofs.Bounds.{live_in_bounds}
 same_live : {E : Type 0} (r : Result SdwFields E) (d e : SdwFields) → r ≡ Ok d → r ≡ Ok e → e ≡ d
 same_live r d e h k = cc
 
-pub out_of_order : (core : List ℕ) (dbr : DbrFields) (seg : ℕ) (found : Option SdwFields) → Tells found (core_sdw core dbr seg) → Decides (disordered found) (IsOutOfOrder (core_sdw core dbr) seg)
+pub out_of_order : (core : List ℕ) (dbr : DbrFields) (seg : ℕ) (found : Option SdwFields) → IsSameLookup found (core_sdw core dbr seg) → Decides (disordered found) (IsOutOfOrder (core_sdw core dbr) seg)
 out_of_order core dbr seg None t = (λ h. cc, λ k. absurd (t k.sdw k.live))
 out_of_order core dbr seg (Some d) t = (
   λ h. record { sdw = d; live = t; out = not-true (in_order d) h },
@@ -34,26 +34,26 @@ is_callable core dbr seg d e t k =
     let same = same_live _ e d k.live t in
     (sym same, ap callable same ∙ and_from e.executable (nat_lt e.r2 e.r3) k.executable (lt-ltb e.r2 e.r3 k.outer))
 
-pub no_gate : (core : List ℕ) (dbr : DbrFields) (seg : ℕ) (found : Option SdwFields) → Tells found (core_sdw core dbr seg) → Decides (enterable found) (IsNoGate (core_sdw core dbr) seg)
+pub no_gate : (core : List ℕ) (dbr : DbrFields) (seg : ℕ) (found : Option SdwFields) → IsSameLookup found (core_sdw core dbr seg) → Decides (enterable found) (IsNoGate (core_sdw core dbr) seg)
 no_gate core dbr seg None t = (λ h. cc, λ k. absurd (t k.sdw k.callable.live))
 no_gate core dbr seg (Some d) t = (
   λ h. let p = and_parts (callable d) d.no_gate h in record { sdw = d; callable = callable_is core dbr seg d t p.0; open_everywhere = p.1 },
   λ k. let p = is_callable core dbr seg d k.sdw t k.callable in and_from (callable d) d.no_gate p.1 (ap (λ (e : SdwFields). e.no_gate) (sym p.0) ∙ k.open_everywhere),
 )
 
-serves_is : (ring : ℕ) (found : Option SdwFields) (r : Result SdwFields Refusal) → Tells found r → serves ring found ≡ is_stack_of ring r
+serves_is : (ring : ℕ) (found : Option SdwFields) (r : Result SdwFields Refusal) → IsSameLookup found r → serves ring found ≡ is_stack_of ring r
 serves_is ring None (Ok d) t = absurd (t d refl)
 serves_is ring None (Err e) t = refl
 serves_is ring (Some d) r t = ap (is_stack_of ring) (sym t)
 
-pub lacks_stack : (core : List ℕ) (dbr : DbrFields) (seg : ℕ) (d : SdwFields) (stack : Option SdwFields) → core_sdw core dbr seg ≡ Ok d → Tells stack (core_sdw core dbr (8 * dbr.stack + d.r2)) → Decides (callable d && not (serves d.r2 stack)) (HasNoStack dbr (core_sdw core dbr) seg)
+pub lacks_stack : (core : List ℕ) (dbr : DbrFields) (seg : ℕ) (d : SdwFields) (stack : Option SdwFields) → core_sdw core dbr seg ≡ Ok d → IsSameLookup stack (core_sdw core dbr (8 * dbr.stack + d.r2)) → Decides (callable d && not (serves d.r2 stack)) (HasNoStack dbr (core_sdw core dbr) seg)
 lacks_stack core dbr seg d stack t s =
     let same = serves_is d.r2 stack (core_sdw core dbr (8 * dbr.stack + d.r2)) s in (
       λ h. let p = and_parts (callable d) (not (serves d.r2 stack)) h in record { sdw = d; callable = callable_is core dbr seg d t p.0; missing = sym same ∙ not-true (serves d.r2 stack) p.1 },
       λ k. let p = is_callable core dbr seg d k.sdw t k.callable in and_from (callable d) (not (serves d.r2 stack)) p.1 (not_from_false (serves d.r2 stack) (same ∙ ap (λ (e : SdwFields). is_stack_of e.r2 (core_sdw core dbr (8 * dbr.stack + e.r2))) (sym p.0) ∙ k.missing)),
     )
 
-pub no_stack_unless : (core : List ℕ) (dbr : DbrFields) (seg : ℕ) → Tells None (core_sdw core dbr seg) → Decides false (HasNoStack dbr (core_sdw core dbr) seg)
+pub no_stack_unless : (core : List ℕ) (dbr : DbrFields) (seg : ℕ) → IsSameLookup None (core_sdw core dbr seg) → Decides false (HasNoStack dbr (core_sdw core dbr) seg)
 no_stack_unless core dbr seg t = (λ h. cc, λ k. absurd (t k.sdw k.callable.live))
 
 least_by : (Breaks : ℕ → Type 0) (p q : ℕ) → ((k : ℕ) → k < p → Breaks k → ⊥) → Breaks q → (q < p) ⊎ (p ≤ q) → p ≤ q

@@ -7,11 +7,11 @@ use Rattle.m36_model.specs.Place.{wrapped, in_bounds, directory_at, page_at, sdw
 use Rattle.m36_model.specs.Audit.{IsPageWord, IsOf, Table, Sdws, Directory, Pages}
 use Rattle.m36_model.specs.declared.outcome.Refusal.{Refusal}
 use Rattle.m36_audit.specs.TableMarks.{SoFar}
-use Rattle.m36_audit.specs.Told.{several, joined_at, AreTold}
-use Rattle.m36_audit.specs.Shares.{identity, descriptor_told, directory_told, pages_told, page_table_told, live_told, segment_told, segments_told, Identified, Below}
+use Rattle.m36_audit.specs.RecordedNumbers.{several, with_number_at, AreRecorded}
+use Rattle.m36_audit.specs.WordOwners.{identity, descriptor_recorded, directory_recorded, pages_recorded, page_table_recorded, live_recorded, segment_recorded, segments_recorded, Identified, Below}
 use Rattle.m36_tables.specs.Tables.{IsSegmentCount}
 use Rattle.m36_audit.proofs.Bounds.{live_fits}
-use Rattle.m36_audit.proofs.Tellings.{all_same, all_more}
+use Rattle.m36_audit.proofs.LookupLaws.{all_same, all_more}
 use Rattle.m36_audit.proofs.TableWords.{sdw_before, no_sdw_back, With_even, half_old, half_new, odd_here, directory_before, no_directory_back, directory_new, directory_here, pages_past, no_pages_back, whole_has_none, none_past, page_new, page_here, sofar_is, is_sofar, nothing_so_far}
 
 -- the numbers of the tables of earlier processes, and of those tables of process k that were
@@ -31,8 +31,8 @@ small_identity firsts k Directory below few = omega arith
 small_identity firsts k (Pages seg) below few = let lt = below (2 ^ 15 * k + seg) in omega arith
 
 module _ (core : List ℕ) (dbrs : List DbrFields) (firsts : List ℕ) (small : (i : ℕ) → slice_index firsts i < 2 ^ 18) (k : ℕ) (few : k < 8) (size : ℕ) where
-  Tells : (Table → ℕ → Type 0) → List ℕ → Type 0
-  Tells V values = AreTold (Marked core dbrs firsts k V) size values
+  IsSameLookup : (Table → ℕ → Type 0) → List ℕ → Type 0
+  IsSameLookup V values = AreRecorded (Marked core dbrs firsts k V) size values
 
   positive : (V : Table → ℕ → Type 0) (a x : ℕ) → Marked core dbrs firsts k V a x → 0 < x
   positive V a x (inl b) =
@@ -48,12 +48,12 @@ module _ (core : List ℕ) (dbrs : List DbrFields) (firsts : List ℕ) (small : 
   widened V W there a x (inl b) = inl b
   widened V W there a x (inr m) = inr (m.0, there m.0 a m.1, m.2)
 
-  same : (V W : Table → ℕ → Type 0) (values : List ℕ) → ((t : Table) (a : ℕ) → V t a → W t a) → ((t : Table) (a : ℕ) → W t a → V t a) → Tells V values → Tells W values
-  unfolding Tells
+  same : (V W : Table → ℕ → Type 0) (values : List ℕ) → ((t : Table) (a : ℕ) → V t a → W t a) → ((t : Table) (a : ℕ) → W t a → V t a) → IsSameLookup V values → IsSameLookup W values
+  unfolding IsSameLookup
   same V W values there back t = all_same _ _ size values (widened V W there) (widened W V back) t
 
-  more : (V W : Table → ℕ → Type 0) (table : Table) (at : ℕ) (values : List ℕ) → ((t : Table) (a : ℕ) → V t a → W t a) → ((t : Table) (a : ℕ) → W t a → V t a ⊎ ((t ≡ table) × (a ≡ at))) → W table at → Tells V values → Tells W (joined_at values at (identity firsts k table))
-  unfolding Tells
+  more : (V W : Table → ℕ → Type 0) (table : Table) (at : ℕ) (values : List ℕ) → ((t : Table) (a : ℕ) → V t a → W t a) → ((t : Table) (a : ℕ) → W t a → V t a ⊎ ((t ≡ table) × (a ≡ at))) → W table at → IsSameLookup V values → IsSameLookup W (with_number_at values at (identity firsts k table))
+  unfolding IsSameLookup
   more V W table at values old new here t =
       all_more _ _ at (identity firsts k table) size values (widened V W old) back (inr (table, here, refl)) (small_identity firsts k table small few) (positive V) t
     where
@@ -66,81 +66,81 @@ module _ (core : List ℕ) (dbrs : List DbrFields) (firsts : List ℕ) (small : 
       back a x (inr m) = new_by a x m.0 m.2 (new m.0 a m.1)
 
   module _ (dbr : DbrFields) (seg : ℕ) where
-    descriptor_by : (d p : ℕ) (v : Result ℕ Refusal) → sdw_place core dbr seg ≡ v → (values : List ℕ) → Tells (SoFar core dbr seg d p) values → Tells (SoFar core dbr (seg + 1) d p) (descriptor_told (2 * k + 1) v values)
+    descriptor_by : (d p : ℕ) (v : Result ℕ Refusal) → sdw_place core dbr seg ≡ v → (values : List ℕ) → IsSameLookup (SoFar core dbr seg d p) values → IsSameLookup (SoFar core dbr (seg + 1) d p) (descriptor_recorded (2 * k + 1) v values)
     unfolding With_even
     descriptor_by d p (Err e) place values t =
         same _ _ values (sdw_before core dbr seg d p) (no_sdw_back core dbr seg d p (λ even h. cc)) t
     descriptor_by d p (Ok even) place values t = both
       where
-        first : Tells (With_even core dbr seg d p even place) (joined_at values even (2 * k + 1))
+        first : IsSameLookup (With_even core dbr seg d p even place) (with_number_at values even (2 * k + 1))
         first = more (SoFar core dbr seg d p) (With_even core dbr seg d p even place) Sdws even values (λ u a h. inl h) (λ u a w. w) (inr (refl, refl)) t
 
-        both : Tells (SoFar core dbr (seg + 1) d p) (joined_at (joined_at values even (2 * k + 1)) (wrapped (even + 1)) (2 * k + 1))
-        both = more (With_even core dbr seg d p even place) (SoFar core dbr (seg + 1) d p) Sdws (wrapped (even + 1)) (joined_at values even (2 * k + 1)) (half_old core dbr seg d p even place) (half_new core dbr seg d p even place) (odd_here core dbr seg d p even place) first
+        both : IsSameLookup (SoFar core dbr (seg + 1) d p) (with_number_at (with_number_at values even (2 * k + 1)) (wrapped (even + 1)) (2 * k + 1))
+        both = more (With_even core dbr seg d p even place) (SoFar core dbr (seg + 1) d p) Sdws (wrapped (even + 1)) (with_number_at values even (2 * k + 1)) (half_old core dbr seg d p even place) (half_new core dbr seg d p even place) (odd_here core dbr seg d p even place) first
 
-    directory_by : (d p : ℕ) (u : Bool) → dbr.unpaged ≡ u → in_bounds dbr seg ≡ true → (values : List ℕ) → Tells (SoFar core dbr d seg p) values → Tells (SoFar core dbr d (seg + 1) p) (directory_told (2 * k + 2) u (directory_at dbr seg) values)
+    directory_by : (d p : ℕ) (u : Bool) → dbr.unpaged ≡ u → in_bounds dbr seg ≡ true → (values : List ℕ) → IsSameLookup (SoFar core dbr d seg p) values → IsSameLookup (SoFar core dbr d (seg + 1) p) (directory_recorded (2 * k + 2) u (directory_at dbr seg) values)
     directory_by d p true e bounds values t =
         same _ _ values (directory_before core dbr seg d p) (no_directory_back core dbr seg d p e) t
     directory_by d p false e bounds values t =
         more _ _ Directory (directory_at dbr seg) values (directory_before core dbr seg d p) (directory_new core dbr seg d p bounds e) (directory_here core dbr seg d p bounds e) t
 
-    at_first : (d p : ℕ) (values : List ℕ) → Tells (SoFar core dbr d p (256 * seg)) values → Tells (SoFar core dbr d p (256 * seg + 0)) values
+    at_first : (d p : ℕ) (values : List ℕ) → IsSameLookup (SoFar core dbr d p (256 * seg)) values → IsSameLookup (SoFar core dbr d p (256 * seg + 0)) values
     at_first d p values t =
         let e : 256 * seg ≡ 256 * seg + 0 = omega arith in
-        subst (λ (n : ℕ). Tells (SoFar core dbr d p n) values) e t
+        subst (λ (n : ℕ). IsSameLookup (SoFar core dbr d p n) values) e t
 
-    no_pages : (d p : ℕ) → ((n a : ℕ) → 0 ≤ n → IsPageWord core dbr seg n a → ⊥) → (values : List ℕ) → Tells (SoFar core dbr d p (256 * seg)) values → Tells (SoFar core dbr d p (256 * (seg + 1))) values
+    no_pages : (d p : ℕ) → ((n a : ℕ) → 0 ≤ n → IsPageWord core dbr seg n a → ⊥) → (values : List ℕ) → IsSameLookup (SoFar core dbr d p (256 * seg)) values → IsSameLookup (SoFar core dbr d p (256 * (seg + 1))) values
     no_pages d p none values t =
         same _ _ values (pages_past core dbr seg d p (256 * seg + 0) (256 * (seg + 1)) (omega arith)) (no_pages_back core dbr seg d p 0 (omega arith) none) (at_first d p values t)
 
     module _ (sdw : SdwFields) (live : core_sdw core dbr seg ≡ Ok sdw) (d p : ℕ) where
-      pages_by : sdw.unpaged ≡ false → (n : ℕ) → n ≤ sdw.bound / 64 + 1 → (values : List ℕ) → Tells (SoFar core dbr d p (256 * seg)) values → Tells (SoFar core dbr d p (256 * seg + n)) (pages_told (17 + slice_index firsts (2 ^ 15 * k + seg)) sdw n values)
-      unfolding pages_told
+      pages_by : sdw.unpaged ≡ false → (n : ℕ) → n ≤ sdw.bound / 64 + 1 → (values : List ℕ) → IsSameLookup (SoFar core dbr d p (256 * seg)) values → IsSameLookup (SoFar core dbr d p (256 * seg + n)) (pages_recorded (17 + slice_index firsts (2 ^ 15 * k + seg)) sdw n values)
+      unfolding pages_recorded
       pages_by paged zero le values t = at_first d p values t
       pages_by paged (suc n) le values t =
           let begins : n ≤ sdw.bound / 64 = omega arith in
           let e : 256 * seg + n + 1 ≡ 256 * seg + suc n = omega arith in
           let before = pages_by paged n (omega arith) values t in
-          subst (λ (m : ℕ). Tells (SoFar core dbr d p m) (joined_at (pages_told (17 + slice_index firsts (2 ^ 15 * k + seg)) sdw n values) (page_at sdw n) (17 + slice_index firsts (2 ^ 15 * k + seg)))) e
-          (more (SoFar core dbr d p (256 * seg + n)) (SoFar core dbr d p (256 * seg + n + 1)) (Pages seg) (page_at sdw n) (pages_told (17 + slice_index firsts (2 ^ 15 * k + seg)) sdw n values) (pages_past core dbr seg d p (256 * seg + n) (256 * seg + n + 1) (omega arith)) (page_new core dbr seg d p n sdw live paged begins) (page_here core dbr seg d p n sdw live paged begins) before)
+          subst (λ (m : ℕ). IsSameLookup (SoFar core dbr d p m) (with_number_at (pages_recorded (17 + slice_index firsts (2 ^ 15 * k + seg)) sdw n values) (page_at sdw n) (17 + slice_index firsts (2 ^ 15 * k + seg)))) e
+          (more (SoFar core dbr d p (256 * seg + n)) (SoFar core dbr d p (256 * seg + n + 1)) (Pages seg) (page_at sdw n) (pages_recorded (17 + slice_index firsts (2 ^ 15 * k + seg)) sdw n values) (pages_past core dbr seg d p (256 * seg + n) (256 * seg + n + 1) (omega arith)) (page_new core dbr seg d p n sdw live paged begins) (page_here core dbr seg d p n sdw live paged begins) before)
 
-      table_by : (u : Bool) → sdw.unpaged ≡ u → (values : List ℕ) → Tells (SoFar core dbr d p (256 * seg)) values → Tells (SoFar core dbr d p (256 * (seg + 1))) (page_table_told (17 + slice_index firsts (2 ^ 15 * k + seg)) sdw u values)
+      table_by : (u : Bool) → sdw.unpaged ≡ u → (values : List ℕ) → IsSameLookup (SoFar core dbr d p (256 * seg)) values → IsSameLookup (SoFar core dbr d p (256 * (seg + 1))) (page_table_recorded (17 + slice_index firsts (2 ^ 15 * k + seg)) sdw u values)
       table_by true e values t = no_pages d p (λ n a le h. whole_has_none core dbr seg d p sdw live e n a h) values t
       table_by false e values t =
           let bound = (live_fits core dbr seg sdw live).bound in
           let few_pages : sdw.bound / 64 + 1 ≤ 256 = omega arith in
           let past : sdw.bound / 64 < sdw.bound / 64 + 1 = omega arith in
-          same _ _ (pages_told (17 + slice_index firsts (2 ^ 15 * k + seg)) sdw (sdw.bound / 64 + 1) values) (pages_past core dbr seg d p (256 * seg + (sdw.bound / 64 + 1)) (256 * (seg + 1)) (omega arith)) (no_pages_back core dbr seg d p (sdw.bound / 64 + 1) few_pages (none_past core dbr seg d p sdw live (sdw.bound / 64 + 1) past)) (pages_by e (sdw.bound / 64 + 1) (omega arith) values t)
+          same _ _ (pages_recorded (17 + slice_index firsts (2 ^ 15 * k + seg)) sdw (sdw.bound / 64 + 1) values) (pages_past core dbr seg d p (256 * seg + (sdw.bound / 64 + 1)) (256 * (seg + 1)) (omega arith)) (no_pages_back core dbr seg d p (sdw.bound / 64 + 1) few_pages (none_past core dbr seg d p sdw live (sdw.bound / 64 + 1) past)) (pages_by e (sdw.bound / 64 + 1) (omega arith) values t)
 
-    live_by : (d p : ℕ) (v : Result SdwFields Refusal) → core_sdw core dbr seg ≡ v → (values : List ℕ) → Tells (SoFar core dbr d p (256 * seg)) values → Tells (SoFar core dbr d p (256 * (seg + 1))) (live_told (17 + slice_index firsts (2 ^ 15 * k + seg)) v values)
+    live_by : (d p : ℕ) (v : Result SdwFields Refusal) → core_sdw core dbr seg ≡ v → (values : List ℕ) → IsSameLookup (SoFar core dbr d p (256 * seg)) values → IsSameLookup (SoFar core dbr d p (256 * (seg + 1))) (live_recorded (17 + slice_index firsts (2 ^ 15 * k + seg)) v values)
     live_by d p (Err e) dead values t =
         no_pages d p (λ n a le h. let live = h.live in cc) values t
     live_by d p (Ok sdw) live values t = table_by sdw live d p sdw.unpaged refl values t
 
-    segment_by : in_bounds dbr seg ≡ true → (values : List ℕ) → Tells (SoFar core dbr seg seg (256 * seg)) values → Tells (SoFar core dbr (seg + 1) (seg + 1) (256 * (seg + 1))) (segment_told core dbr firsts k seg values)
-    unfolding segment_told
+    segment_by : in_bounds dbr seg ≡ true → (values : List ℕ) → IsSameLookup (SoFar core dbr seg seg (256 * seg)) values → IsSameLookup (SoFar core dbr (seg + 1) (seg + 1) (256 * (seg + 1))) (segment_recorded core dbr firsts k seg values)
+    unfolding segment_recorded
     segment_by bounds values t =
         live_by (seg + 1) (seg + 1) (core_sdw core dbr seg) refl _
         (directory_by (seg + 1) (256 * seg) dbr.unpaged refl bounds _
         (descriptor_by seg (256 * seg) (sdw_place core dbr seg) refl values t))
 
   module _ (dbr : DbrFields) (count : ℕ) (counts : IsSegmentCount dbr count) where
-    segments_by : (n : ℕ) → n ≤ count → (values : List ℕ) → Tells (SoFar core dbr 0 0 0) values → Tells (SoFar core dbr n n (256 * n)) (segments_told core dbr firsts k n values)
-    unfolding segments_told
+    segments_by : (n : ℕ) → n ≤ count → (values : List ℕ) → IsSameLookup (SoFar core dbr 0 0 0) values → IsSameLookup (SoFar core dbr n n (256 * n)) (segments_recorded core dbr firsts k n values)
+    unfolding segments_recorded
     segments_by zero le values t = t
     segments_by (suc n) le values t =
         let e : n + 1 ≡ suc n = omega arith in
         let bounds : in_bounds dbr n ≡ true = counts.is n ∙ lt-ltb n count (omega arith) in
-        subst (λ (m : ℕ). Tells (SoFar core dbr m m (256 * m)) (segment_told core dbr firsts k n (segments_told core dbr firsts k n values))) e
-        (segment_by dbr n bounds (segments_told core dbr firsts k n values) (segments_by n (omega arith) values t))
+        subst (λ (m : ℕ). IsSameLookup (SoFar core dbr m m (256 * m)) (segment_recorded core dbr firsts k n (segments_recorded core dbr firsts k n values))) e
+        (segment_by dbr n bounds (segments_recorded core dbr firsts k n values) (segments_by n (omega arith) values t))
 
     -- all table words of process k are recorded
-    pub process_told : slice_get dbrs k ≡ Some dbr → (values after : List ℕ) → after ≡ segments_told core dbr firsts k count values → AreTold (Below (Identified core dbrs firsts) k) size values → AreTold (Below (Identified core dbrs firsts) (k + 1)) size after
-    unfolding Tells
+    pub process_told : slice_get dbrs k ≡ Some dbr → (values after : List ℕ) → after ≡ segments_recorded core dbr firsts k count values → AreRecorded (Below (Identified core dbrs firsts) k) size values → AreRecorded (Below (Identified core dbrs firsts) (k + 1)) size after
+    unfolding IsSameLookup
     process_told process values after is t =
-        subst (AreTold (Below (Identified core dbrs firsts) (k + 1)) size) (sym is)
-        (all_same _ _ size (segments_told core dbr firsts k count values) there back
-        (same (SoFar core dbr count count (256 * count)) (IsOf core dbr) (segments_told core dbr firsts k count values) (sofar_is core dbr count count counts.is (omega arith)) (is_sofar core dbr count count counts.is (omega arith))
+        subst (AreRecorded (Below (Identified core dbrs firsts) (k + 1)) size) (sym is)
+        (all_same _ _ size (segments_recorded core dbr firsts k count values) there back
+        (same (SoFar core dbr count count (256 * count)) (IsOf core dbr) (segments_recorded core dbr firsts k count values) (sofar_is core dbr count count counts.is (omega arith)) (is_sofar core dbr count count counts.is (omega arith))
         (segments_by count (omega arith) values (all_same _ _ size values (λ a x b. inl b) none t))))
       where
         none : (a x : ℕ) → Marked core dbrs firsts k (SoFar core dbr 0 0 0) a x → Below (Identified core dbrs firsts) k a x

@@ -56,9 +56,9 @@ FirstNoted old new firsts after key number None =
     × (after ≡ slice_set firsts number number)
 
 -- as `FirstNoted`, for a descriptor that may not be in core
-abbrev pub AreNoted : (ℕ → Option ℕ) → (ℕ → Option ℕ) → List ℕ → List ℕ → Option ℕ → ℕ → Type 0
-AreNoted old new firsts after None number = ((q : ℕ) → new q ≡ old q) × (after ≡ firsts)
-AreNoted old new firsts after (Some key) number =
+abbrev pub AreRecordedFindings : (ℕ → Option ℕ) → (ℕ → Option ℕ) → List ℕ → List ℕ → Option ℕ → ℕ → Type 0
+AreRecordedFindings old new firsts after None number = ((q : ℕ) → new q ≡ old q) × (after ≡ firsts)
+AreRecordedFindings old new firsts after (Some key) number =
     FirstNoted old new firsts after key number (old key)
 
 -- The first n descriptors are recorded, with numbers as in `AreClasses`. The map has the number of

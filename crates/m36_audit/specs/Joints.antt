@@ -2,8 +2,8 @@
 use Rattle.std.specs.Prelude.{ℕ, List, ◌++◌, map, drop, length}
 use Rattle.m36_desc.specs.Fields.{DbrFields}
 use Rattle.m36_model.specs.JointAudit.{JointFound, AreFindingsFrom}
-use Rattle.m36_audit.specs.Told.{AreTold}
-use Rattle.m36_audit.specs.Shares.{Below, TableOwned, SegmentOwned, Identified}
+use Rattle.m36_audit.specs.RecordedNumbers.{AreRecorded}
+use Rattle.m36_audit.specs.WordOwners.{Below, TableOwned, SegmentOwned, Identified}
 use Rattle.m36_audit.specs.declared.joint_verdict.JointFinding.{JointFinding}
 
 -- a finding of a joint audit, in the form that `m36_model` uses
@@ -18,12 +18,12 @@ all_found findings = map found_of findings
 -- which have a segment word there, and which tables these are.
 pub record AreShares (core : List ℕ) (dbrs : List DbrFields) (firsts : List ℕ) (n : ℕ)
     (tables segments identities : List ℕ) : Type 0 where
-  pub of_tables : AreTold (Below (TableOwned core dbrs) n) (length core) tables
-  pub of_segments : AreTold (Below (SegmentOwned core dbrs) n) (length core) segments
-  pub of_identities : AreTold (Below (Identified core dbrs firsts) n) (length core) identities
+  pub of_tables : AreRecorded (Below (TableOwned core dbrs) n) (length core) tables
+  pub of_segments : AreRecorded (Below (SegmentOwned core dbrs) n) (length core) segments
+  pub of_identities : AreRecorded (Below (Identified core dbrs firsts) n) (length core) identities
 
 -- The findings of the first n processes: together with those of the rest they are those of all.
-pub record AreFoundSo (core : List ℕ) (dbrs : List DbrFields) (n : ℕ)
+pub record AreFindingsOfFirst (core : List ℕ) (dbrs : List DbrFields) (n : ℕ)
     (findings : List JointFinding) : Type 0 where
   pub whole :
       (rest : List JointFound) → AreFindingsFrom n core (drop n dbrs) rest

@@ -3,7 +3,7 @@ pub mod TableMarks
 pub mod Runs
 pub mod Findings
 pub mod Breaks
-pub mod Told
+pub mod RecordedNumbers
 pub mod Classes
-pub mod Shares
+pub mod WordOwners
 pub mod Joints

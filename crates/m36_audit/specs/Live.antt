@@ -6,9 +6,9 @@ use Rattle.m36_desc.specs.Access.{in_order}
 use Rattle.m36_model.specs.Audit.{is_stack_of}
 
 -- the code has a value exactly if the definition has one, and it is the same
-abbrev pub Tells : {A E : Type 0} → Option A → Result A E → Type 0
-Tells {A} None definition = (a : A) → definition ≡ Ok a → ⊥
-Tells (Some a) definition = definition ≡ Ok a
+abbrev pub IsSameLookup : {A E : Type 0} → Option A → Result A E → Type 0
+IsSameLookup {A} None definition = (a : A) → definition ≡ Ok a → ⊥
+IsSameLookup (Some a) definition = definition ≡ Ok a
 
 -- the ring brackets of the segment, if there is one, are out of order
 abbrev pub disordered : Option SdwFields → Bool

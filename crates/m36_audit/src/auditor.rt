@@ -47,7 +47,7 @@ pub(crate) fn found(marks: &TableMarks, counts: &RunCounts, core: &Core, dbr: Db
 }
 
 /// The findings. `marks` and `counts` have an entry for each core word, all of them zero.
-fn judged(marks: &mut TableMarks, counts: &mut RunCounts, core: &Core, dbr: Dbr) -> Verdict
+fn findings_of(marks: &mut TableMarks, counts: &mut RunCounts, core: &Core, dbr: Dbr) -> Verdict
     requires tables { marks.old.tables ≡ replicate (length core.now) 0 }
     requires least { marks.old.least ≡ None }
     requires starts { counts.old.starts ≡ replicate (length core.now) 0 }
@@ -74,5 +74,5 @@ pub fn audit(alloc: Global, core: &Core, dbr: Dbr) -> Result<Verdict, NoMemory>
     let mut counts = RunCounts::new(alloc, size)?;
     law_findings();
     law_window();
-    Ok(judged(&mut marks, &mut counts, core, dbr))
+    Ok(findings_of(&mut marks, &mut counts, core, dbr))
 }

@@ -3,7 +3,7 @@
 ghost use Rattle.std.specs.Prelude.{ℕ, ◌≡◌, ◌+◌, ◌*◌, ◌<◌, ◌≤◌, ◌^◌, Some, IfOk, OnOk, MatchOption, length, slice_get, slice_set, slice_index, nat_eq};
 ghost use Rattle.std.specs.HashMap.{get};
 ghost use Rattle.m36_model.specs.JointAudit.{most_processes};
-ghost use Rattle.m36_audit.specs.Classes.{descriptors_of_process, IsKey, KeyAt, AreClasses, AreNoted, AreNotedSo};
+ghost use Rattle.m36_audit.specs.Classes.{descriptors_of_process, IsKey, KeyAt, AreClasses, AreRecordedFindings, AreNotedSo};
 
 use crate::run::zeros;
 use m36_core::Core;
@@ -73,7 +73,7 @@ fn note(
     number: u32,
 ) -> Result<(), NoMemory>
     requires { number < length firsts.old.items }
-    ensures { OnOk result (AreNoted (get nat_eq places.old) (get nat_eq places.new) firsts.old.items
+    ensures { OnOk result (AreRecordedFindings (get nat_eq places.old) (get nat_eq places.new) firsts.old.items
         firsts.new.items key number) }
 {
     let Some(key) = key else {

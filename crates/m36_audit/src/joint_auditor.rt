@@ -13,16 +13,16 @@ ghost use Rattle.m36_audit.specs.Joints.{all_found, AreShares};
 
 use crate::auditor::found;
 use crate::classes::classes;
-use crate::identities::tell_tables;
+use crate::identities::record_tables;
 use crate::joint_runs::count_processes;
 use crate::joint_verdict::{Joint, JointFinding, note_between, note_process};
 use crate::joint_words::{on_joint_segment, on_joint_table};
-use crate::owners::tell_owners;
+use crate::owners::record_owners;
+use crate::recorded::RecordedNumbers;
 use crate::run::RunCounts;
 use crate::segment_runs::count_segments;
 use crate::table_words::mark_tables;
 use crate::tables::TableMarks;
-use crate::told::Told;
 use crate::verdict::Verdict;
 use arrayvec::ArrayVec;
 use m36_core::Core;
@@ -33,26 +33,26 @@ use std::alloc::Global;
 
 /// What is recorded for each core word over several processes.
 #[derive(Drop)]
-struct Shares {
+struct WordOwners {
     /// The process that has a table word there.
-    tables: Told,
+    tables: RecordedNumbers,
     /// The process that has a segment word there.
-    segments: Told,
+    segments: RecordedNumbers,
     /// The table that has a word there.
-    identities: Told,
+    identities: RecordedNumbers,
 }
 
-impl Shares {
+impl WordOwners {
     /// Nothing is recorded. Fails only if memory runs out.
-    fn new(alloc: Global, size: u32) -> Result<Shares, NoMemory>
+    fn new(alloc: Global, size: u32) -> Result<WordOwners, NoMemory>
         ensures tables { IfOk result (λ s. s.tables.values.items ≡ replicate size 0) }
         ensures segments { IfOk result (λ s. s.segments.values.items ≡ replicate size 0) }
         ensures identities { IfOk result (λ s. s.identities.values.items ≡ replicate size 0) }
     {
-        let tables = Told::new(alloc, size)?;
-        let segments = Told::new(alloc, size)?;
-        let identities = Told::new(alloc, size)?;
-        Ok(Shares {
+        let tables = RecordedNumbers::new(alloc, size)?;
+        let segments = RecordedNumbers::new(alloc, size)?;
+        let identities = RecordedNumbers::new(alloc, size)?;
+        Ok(WordOwners {
             tables,
             segments,
             identities,
@@ -61,10 +61,10 @@ impl Shares {
 }
 
 /// The findings of process k. Its words are recorded in `shares`.
-fn judged(
+fn findings_of(
     marks: &mut TableMarks,
     counts: &mut RunCounts,
-    shares: &mut Shares,
+    shares: &mut WordOwners,
     core: &Core,
     dbrs: &[Dbr],
     firsts: &Vec<u32>,
@@ -94,7 +94,7 @@ fn judged(
     mark_tables(marks, core, dbr);
     count_segments(counts, core, dbr);
     let number = k as u32;
-    tell_owners(
+    record_owners(
         &mut shares.tables,
         &mut shares.segments,
         marks,
@@ -103,15 +103,15 @@ fn judged(
         dbr,
         number,
     );
-    tell_tables(&mut shares.identities, core, dbr, firsts, number);
+    record_tables(&mut shares.identities, core, dbr, firsts, number);
     found(marks, counts, core, dbr)
 }
 
 /// The findings of all processes, in order.
-fn judged_all(
+fn findings_of_all(
     marks: &mut TableMarks,
     counts: &mut RunCounts,
-    shares: &mut Shares,
+    shares: &mut WordOwners,
     core: &Core,
     dbrs: &[Dbr],
     firsts: &Vec<u32>,
@@ -134,17 +134,17 @@ fn judged_all(
 {
     let mut findings = ArrayVec::new();
     for k in 0..dbrs.len() {
-        let own = judged(marks, counts, shares, core, dbrs, firsts, k);
+        let own = findings_of(marks, counts, shares, core, dbrs, firsts, k);
         note_process(&mut findings, k as u8, &own);
     }
     findings
 }
 
 /// The findings. Nothing is recorded in `shares` before.
-fn jointly_judged(
+fn joint_findings(
     marks: &mut TableMarks,
     counts: &mut RunCounts,
-    shares: &mut Shares,
+    shares: &mut WordOwners,
     core: &Core,
     dbrs: &[Dbr],
     firsts: &Vec<u32>,
@@ -159,7 +159,7 @@ fn jointly_judged(
         shares.old.identities.values.items }
     ensures { AreJointFindings core.now dbrs.now (all_found result.findings.items) }
 {
-    let mut findings = judged_all(marks, counts, shares, core, dbrs, firsts);
+    let mut findings = findings_of_all(marks, counts, shares, core, dbrs, firsts);
     let second = on_joint_table(
         &shares.tables,
         &shares.segments,
@@ -201,9 +201,9 @@ pub fn joint(alloc: Global, core: &Core, dbrs: &[Dbr]) -> Result<Joint, NoMemory
     let size = core.len();
     let mut marks = TableMarks::new(alloc, size)?;
     let mut counts = RunCounts::new(alloc, size)?;
-    let mut shares = Shares::new(alloc, size)?;
+    let mut shares = WordOwners::new(alloc, size)?;
     let firsts = classes(alloc, core, dbrs)?;
     law_joint_findings();
     law_schedule();
-    Ok(jointly_judged(&mut marks, &mut counts, &mut shares, core, dbrs, &firsts))
+    Ok(joint_findings(&mut marks, &mut counts, &mut shares, core, dbrs, &firsts))
 }

@@ -7,7 +7,7 @@ ghost use Rattle.m36_model.specs.JointAudit.{most_processes};
 ghost use Rattle.m36_model.specs.Place.{core_sdw};
 ghost use Rattle.m36_audit.specs.Runs.{runs_of_segment, runs_of_process, run_by, AreCounted};
 ghost use Rattle.m36_audit.specs.Classes.{descriptors_of_process, most_descriptors};
-ghost use Rattle.m36_audit.specs.Shares.{joint_run, piece_count, starts_with, stops_with, HasRoom};
+ghost use Rattle.m36_audit.specs.WordOwners.{joint_run, piece_count, starts_with, stops_with, HasRoom};
 
 use crate::live::live;
 use crate::run::{Run, RunCounts};

@@ -8,11 +8,11 @@ ghost use Rattle.m36_model.specs.Audit.{Finds};
 ghost use Rattle.m36_model.specs.JointAudit.{IsJointTable, IsJointSegment, most_processes};
 ghost use Rattle.m36_audit.specs.Runs.{runs_of_process, AreCounted, AreOpen, count_below, covers};
 ghost use Rattle.m36_audit.specs.Classes.{descriptors_of_process, AreClasses};
-ghost use Rattle.m36_audit.specs.Told.{AreTold, several};
-ghost use Rattle.m36_audit.specs.Shares.{joint_run, Below, Identified, TableOwned, SegmentOwned, is_between, joint_coverage};
+ghost use Rattle.m36_audit.specs.RecordedNumbers.{AreRecorded, several};
+ghost use Rattle.m36_audit.specs.WordOwners.{joint_run, Below, Identified, TableOwned, SegmentOwned, is_between, joint_coverage};
 
+use crate::recorded::{RecordedNumbers, SEVERAL};
 use crate::run::RunCounts;
-use crate::told::{SEVERAL, Told};
 use m36_core::Core;
 use m36_desc::Dbr;
 
@@ -28,20 +28,20 @@ fn is_between(tables: u32, segments: u32, identities: u32) -> bool
 /// The first core word that is a table word of one process, and a table word that is not shared or
 /// a segment word of another.
 pub(crate) fn on_joint_table(
-    tables: &Told,
-    segments: &Told,
-    identities: &Told,
+    tables: &RecordedNumbers,
+    segments: &RecordedNumbers,
+    identities: &RecordedNumbers,
     core: &Core,
     dbrs: &[Dbr],
     firsts: &Vec<u32>,
 ) -> Option<u32>
     requires classes { AreClasses core.now dbrs.now (descriptors_of_process * length dbrs.now)
         firsts.now.items }
-    requires tables { AreTold (Below (TableOwned core.now dbrs.now) (length dbrs.now))
+    requires tables { AreRecorded (Below (TableOwned core.now dbrs.now) (length dbrs.now))
         (length core.now) tables.now.values.items }
-    requires segments { AreTold (Below (SegmentOwned core.now dbrs.now) (length dbrs.now))
+    requires segments { AreRecorded (Below (SegmentOwned core.now dbrs.now) (length dbrs.now))
         (length core.now) segments.now.values.items }
-    requires identities { AreTold (Below (Identified core.now dbrs.now firsts.now.items)
+    requires identities { AreRecorded (Below (Identified core.now dbrs.now firsts.now.items)
         (length dbrs.now)) (length core.now) identities.now.values.items }
     requires few { length dbrs.now ≤ most_processes }
     ensures { Finds (IsJointTable core.now dbrs.now) result }
@@ -90,7 +90,7 @@ fn is_parted(segments: u32, open_runs: u32) -> bool
 
 /// The first core word that is different segment words of two processes.
 pub(crate) fn on_joint_segment(
-    segments: &Told,
+    segments: &RecordedNumbers,
     counts: &RunCounts,
     core: &Core,
     dbrs: &[Dbr],
@@ -99,7 +99,7 @@ pub(crate) fn on_joint_segment(
     requires few { length dbrs.now ≤ most_processes }
     requires classes { AreClasses core.now dbrs.now (descriptors_of_process * length dbrs.now)
         firsts.now.items }
-    requires segments { AreTold (Below (SegmentOwned core.now dbrs.now) (length dbrs.now))
+    requires segments { AreRecorded (Below (SegmentOwned core.now dbrs.now) (length dbrs.now))
         (length core.now) segments.now.values.items }
     requires counted { AreCounted (joint_run core.now dbrs.now firsts.now.items)
         (runs_of_process * length dbrs.now) (length core.now) counts.now.starts

@@ -66,11 +66,11 @@ pub mod joint_verdict;
 mod joint_words;
 mod live;
 mod owners;
+mod recorded;
 mod run;
 mod segment_runs;
 mod table_words;
 mod tables;
-mod told;
 pub mod verdict;
 mod words;
 

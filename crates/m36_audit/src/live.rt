@@ -1,7 +1,7 @@
 //! The descriptors of live segments.
 
 ghost use Rattle.std.specs.Prelude.{◌<◌, ◌^◌};
-ghost use Rattle.m36_audit.specs.Live.{Tells};
+ghost use Rattle.m36_audit.specs.Live.{IsSameLookup};
 ghost use Rattle.m36_model.specs.Place.{core_sdw};
 
 use m36_core::Core;
@@ -12,7 +12,7 @@ use m36_tables::descriptor;
 #[tactic(auto, using(crate::proofs::Telling::tells))]
 pub(crate) fn live(core: &Core, dbr: Dbr, seg: u16) -> Option<Sdw>
     requires { seg < 2 ^ 15 }
-    ensures { Tells result (core_sdw core.now dbr seg) }
+    ensures { IsSameLookup result (core_sdw core.now dbr seg) }
 {
     descriptor(core, dbr, seg).ok()
 }

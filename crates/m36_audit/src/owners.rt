@@ -5,30 +5,30 @@ ghost use Rattle.m36_model.specs.Audit.{IsOf};
 ghost use Rattle.m36_model.specs.JointAudit.{most_processes};
 ghost use Rattle.m36_audit.specs.TableMarks.{AreMarked};
 ghost use Rattle.m36_audit.specs.Runs.{runs_of_process, run, coverage, AreCounted};
-ghost use Rattle.m36_audit.specs.Told.{joined_at};
-ghost use Rattle.m36_audit.specs.Shares.{owned_at, AreOwned};
+ghost use Rattle.m36_audit.specs.RecordedNumbers.{with_number_at};
+ghost use Rattle.m36_audit.specs.WordOwners.{owned_at, AreOwned};
 
+use crate::recorded::RecordedNumbers;
 use crate::run::RunCounts;
 use crate::tables::TableMarks;
-use crate::told::Told;
 use crate::words::open_at;
 use m36_core::Core;
 use m36_desc::Dbr;
 
 /// Records a process for a core word, if it has something there.
-fn tell_owner(told: &mut Told, a: u32, has: bool, number: u32)
-    ensures { told.new.values.items ≡ owned_at has told.old.values.items a number }
+fn record_owner(recorded: &mut RecordedNumbers, a: u32, has: bool, number: u32)
+    ensures { recorded.new.values.items ≡ owned_at has recorded.old.values.items a number }
 {
     if has {
-        told.tell(a, number);
+        recorded.record_number(a, number);
     }
 }
 
 /// Records process k for each core word: in `tables` if it has a table word there, and in
 /// `segments` if it has a segment word there. Its number is k + 1.
-pub(crate) fn tell_owners(
-    tables: &mut Told,
-    segments: &mut Told,
+pub(crate) fn record_owners(
+    tables: &mut RecordedNumbers,
+    segments: &mut RecordedNumbers,
     marks: &TableMarks,
     counts: &RunCounts,
     core: &Core,
@@ -49,7 +49,7 @@ pub(crate) fn tell_owners(
     let mut open_runs = 0;
     for a in 0..core.len() {
         open_runs = open_at(counts, core, dbr, a, open_runs);
-        tell_owner(tables, a, marks.tables.at(a) != 0, k + 1);
-        tell_owner(segments, a, open_runs > 0, k + 1);
+        record_owner(tables, a, marks.tables.at(a) != 0, k + 1);
+        record_owner(segments, a, open_runs > 0, k + 1);
     }
 }

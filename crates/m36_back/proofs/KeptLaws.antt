@@ -3,7 +3,7 @@ use Rattle.std.proofs.Common.{◌≡◌, ◌+◌, ◌<◌, ◌^◌, ℕ, Bool, L
 use Rattle.std.specs.List.{filter}
 use Rattle.std.proofs.lemmas.List.Elements.{All-nil, All-take, All-filter, All-push}
 use Rattle.m36_back.specs.History.{state_at}
-use Rattle.m36_back.specs.Kept.{AllKept, IsHistory}
+use Rattle.m36_back.specs.Kept.{AllKept, PastInvariant}
 use Rattle.m36_back.specs.declared.kept.Kept.{Kept}
 
 pub first_kept :
@@ -28,7 +28,7 @@ pub ruleset keeping = (first_kept, some_kept, one_more_kept)
 -- no step was taken yet
 pub new_history :
     {M : Type 0} (after : M → M) (first machine : M) (kept : List (Kept M))
-    → first ≡ machine → kept ≡ [] → IsHistory after first machine 0 kept
+    → first ≡ machine → kept ≡ [] → PastInvariant after first machine 0 kept
 unfolding state_at
 new_history after first machine kept is none = record {
   bound = omega arith;
@@ -39,9 +39,9 @@ new_history after first machine kept is none = record {
 -- one more step
 pub stepped_history :
     {M : Type 0} (after : M → M) (first machine next : M) (taken count : ℕ) (kept others : List (Kept M))
-    → IsHistory after first machine taken kept → next ≡ after machine → count ≡ taken + 1 → count < 2 ^ 64
+    → PastInvariant after first machine taken kept → next ≡ after machine → count ≡ taken + 1 → count < 2 ^ 64
     → (AllKept after first kept → next ≡ state_at after first count → AllKept after first others)
-    → IsHistory after first next count others
+    → PastInvariant after first next count others
 unfolding state_at
 stepped_history after first machine next taken count kept others before is one below keeps =
     let there : next ≡ state_at after first count = is ∙ ap after before.state ∙ ap (state_at after first) (sym (one ∙ add-one taken)) in

@@ -18,15 +18,15 @@ pub record History (M : Type 0) : Type 0 where
   pub taken : ℕ
 
 -- the current state of the machine
-abbrev pub standing_at : {M : Type 0} → (M → M) → History M → M
-standing_at after h = state_at after h.first h.taken
+abbrev pub current_state : {M : Type 0} → (M → M) → History M → M
+current_state after h = state_at after h.first h.taken
 
 -- ---- turns
 
 -- A turn is a turn of the machine, unless the count of steps is at its maximum.
 abbrev pub past_answer : {M : Type 0} → (M → Turn) → (M → M) → History M → Turn
 past_answer answer after h =
-    if h.taken == most_taken then Full else answer (standing_at after h)
+    if h.taken == most_taken then Full else answer (current_state after h)
 
 -- the history after that turn
 abbrev pub past_after : {M : Type 0} → (M → Turn) → (M → M) → History M → History M
@@ -43,10 +43,10 @@ PastTurns answer after before turn later =
 
 -- Done: n steps are taken back, and at least n were taken. NoMemory is always allowed in that
 -- case.
-abbrev pub PastWent : {M : Type 0} → History M → ℕ → BackAnswer → History M → Type 0
-PastWent before n back.Done later =
+abbrev pub MayGoBack : {M : Type 0} → History M → ℕ → BackAnswer → History M → Type 0
+MayGoBack before n back.Done later =
     (n ≤ before.taken) × (later ≡ record { first = before.first; taken = before.taken - n })
-PastWent before n (back.Before taken) later =
+MayGoBack before n (back.Before taken) later =
     (before.taken < n) × (taken ≡ before.taken) × (later ≡ before)
-PastWent before n back.Unable later = ⊥
-PastWent before n back.NoMemory later = (n ≤ before.taken) × (later ≡ before)
+MayGoBack before n back.Unable later = ⊥
+MayGoBack before n back.NoMemory later = (n ≤ before.taken) × (later ≡ before)

@@ -8,7 +8,7 @@ abbrev pub AllKept : {M : Type 0} → (M → M) → M → List (Kept M) → Type
 AllKept after first kept = All (λ k. k.state ≡ state_at after first k.at) kept
 
 -- the invariant of a machine that is `taken` steps after its first state
-pub record IsHistory {M : Type 0} (after : M → M) (first machine : M) (taken : ℕ)
+pub record PastInvariant {M : Type 0} (after : M → M) (first machine : M) (taken : ℕ)
     (kept : List (Kept M)) : Type 0 where
   pub bound : taken < 2 ^ 64
   pub state : machine ≡ state_at after first taken

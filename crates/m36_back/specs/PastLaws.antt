@@ -1,19 +1,19 @@
 -- Laws of a machine that goes back.
 use Rattle.std.specs.Prelude.{ℕ, suc, ◌≡◌, ◌==◌, ◌⊎◌, Bool, true, false, if◌then◌else◌}
 use Rattle.std.proofs.Common.{inl, inr, subst, ap, ◌∙◌, add-one}
-use Rattle.m36_step.specs.Answers.{IsDone, IsService, IsStep, IsStepOrEnd, Interrupts}
+use Rattle.m36_step.specs.Answers.{IsDone, IsService, IsStep, IsStepOrEnd, PrecludesStep}
 use Rattle.m36_step.specs.Counting.{most_taken, counted}
 use Rattle.m36_step.specs.declared.turns.Turn.{Turn}
 use Rattle.m36_step.specs.declared.turns.Turn.TheVariants.{Stepped, Linked, Console, Ended, Full}
 use Rattle.m36_step.specs.declared.turns.Turn.TheVariants.{NoMemory}
 use Rattle.m36_step.specs.declared.turns.BackAnswer.{BackAnswer}
 use Rattle.m36_step.specs.declared.turns.BackAnswer.TheVariants as back
-use Rattle.m36_back.specs.History.{History, state_at, standing_at, past_answer, PastTurns, PastWent}
+use Rattle.m36_back.specs.History.{History, state_at, current_state, past_answer, PastTurns, MayGoBack}
 
 -- going back changes nothing unless it answers Done
 pub past_stays :
     {M : Type 0} (before : History M) (n : ℕ) (answer : BackAnswer) (later : History M)
-    → PastWent before n answer later → IsDone answer ⊎ (later ≡ before)
+    → MayGoBack before n answer later → IsDone answer ⊎ (later ≡ before)
 past_stays before n back.Done later went = inl tt
 past_stays before n (back.Before taken) later went = inr went.2
 past_stays before n back.Unable later went = absurd went
@@ -41,14 +41,14 @@ pub past_apart :
     → PastTurns answer after first one second → PastTurns answer after second two third
     → IsService one → IsService two → ⊥
 past_apart answer after kept first second third one two turns further service other =
-    no_service_if (after (standing_at after first) ≡ standing_at after first)
-    (first.taken == most_taken) (answer (standing_at after first))
-    (kept (standing_at after first)) (subst IsService turns.0 service)
+    no_service_if (after (current_state after first) ≡ current_state after first)
+    (first.taken == most_taken) (answer (current_state after first))
+    (kept (current_state after first)) (subst IsService turns.0 service)
 
 -- ---- a turn that interrupts is not followed by a step
 
 interrupts_if : (full : Bool) (turn : Turn)
-    → Interrupts (if full then Full else turn) → Interrupts turn
+    → PrecludesStep (if full then Full else turn) → PrecludesStep turn
 interrupts_if true turn interrupts = absurd interrupts
 interrupts_if false turn interrupts = interrupts
 
@@ -59,7 +59,7 @@ no_step_if false turn none step = none step
 
 -- a turn that interrupts is a step, and counts 1
 counts_one : (Same : Type 0) (taken : ℕ) (turn : Turn)
-    → IsStepOrEnd Same turn → Interrupts turn → counted taken turn ≡ suc taken
+    → IsStepOrEnd Same turn → PrecludesStep turn → counted taken turn ≡ suc taken
 counts_one Same taken (Stepped told) kept interrupts = add-one taken
 counts_one Same taken (Linked note) kept interrupts = absurd kept
 counts_one Same taken (Console text) kept interrupts = absurd kept
@@ -68,7 +68,7 @@ counts_one Same taken Full kept interrupts = absurd interrupts
 counts_one Same taken NoMemory kept interrupts = absurd interrupts
 
 counts_one_if : (Same : Type 0) (full : Bool) (taken : ℕ) (turn : Turn)
-    → IsStepOrEnd Same turn → Interrupts (if full then Full else turn)
+    → IsStepOrEnd Same turn → PrecludesStep (if full then Full else turn)
     → counted taken (if full then Full else turn) ≡ suc taken
 counts_one_if Same true taken turn kept interrupts = absurd interrupts
 counts_one_if Same false taken turn kept interrupts = counts_one Same taken turn kept interrupts
@@ -77,20 +77,20 @@ counts_one_if Same false taken turn kept interrupts = counts_one Same taken turn
 pub past_interrupted :
     {M : Type 0} (answer : M → Turn) (after : M → M)
     (kept : (state : M) → IsStepOrEnd (after state ≡ state) (answer state))
-    (held : (state : M) → Interrupts (answer state) → IsStep (answer (after state)) → ⊥)
+    (held : (state : M) → PrecludesStep (answer state) → IsStep (answer (after state)) → ⊥)
     (first second third : History M) (one two : Turn)
     → PastTurns answer after first one second → PastTurns answer after second two third
-    → Interrupts one → IsStep two → ⊥
+    → PrecludesStep one → IsStep two → ⊥
 unfolding state_at
 past_interrupted answer after kept held first second third one two turns further last step =
-    let here = standing_at after first in
+    let here = current_state after first in
     let full = first.taken == most_taken in
-    let interrupts = subst Interrupts turns.0 last in
+    let interrupts = subst PrecludesStep turns.0 last in
     let count : counted first.taken (past_answer answer after first) ≡ suc first.taken =
     counts_one_if (after here ≡ here) full first.taken (answer here) (kept here) interrupts in
-    let there : standing_at after second ≡ after here =
-    ap (standing_at after) turns.1 ∙ ap (state_at after first.first) count in
-    no_step_if (second.taken == most_taken) (answer (standing_at after second))
+    let there : current_state after second ≡ after here =
+    ap (current_state after) turns.1 ∙ ap (state_at after first.first) count in
+    no_step_if (second.taken == most_taken) (answer (current_state after second))
     (λ stepped.
     held here (interrupts_if full (answer here) interrupts)
     (subst (λ state. IsStep (answer state)) there stepped))

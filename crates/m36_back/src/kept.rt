@@ -63,7 +63,7 @@ pub(crate) fn drop_later<M: Replay + Drop>(kept: &mut Vec<Kept<M>>, target: u64)
 
 /// Drops the states whose numbers have any bit of `mask`.
 #[tactic(auto, using(crate::proofs::KeptLaws::keeping))]
-fn thin<M: Replay + Drop>(kept: &mut Vec<Kept<M>>, mask: u64)
+fn drop_every_second<M: Replay + Drop>(kept: &mut Vec<Kept<M>>, mask: u64)
     ensures { (first : M) → AllKept M.after first kept.old.items
         → AllKept M.after first kept.new.items }
 {
@@ -75,7 +75,7 @@ fn thin<M: Replay + Drop>(kept: &mut Vec<Kept<M>>, mask: u64)
 #[cold]
 #[inline(never)]
 #[tactic(auto, using(crate::proofs::KeptLaws::keeping))]
-fn keep_due<M: Replay + Drop>(
+fn keep_now<M: Replay + Drop>(
     alloc: Global,
     kept: &mut Vec<Kept<M>>,
     machine: &M,
@@ -89,7 +89,7 @@ fn keep_due<M: Replay + Drop>(
     let mut mask = mask;
     if kept.len() >= MOST_KEPT {
         mask = mask.saturating_mul(2) | 1;
-        thin(kept, mask);
+        drop_every_second(kept, mask);
         if taken & mask != 0 {
             return mask;
         }
@@ -121,7 +121,7 @@ pub(crate) fn keep<M: Replay + Drop>(
         → AllKept M.after first kept.new.items }
 {
     if taken & mask == 0 {
-        keep_due(alloc, kept, machine, taken, mask)
+        keep_now(alloc, kept, machine, taken, mask)
     } else {
         mask
     }

@@ -29,13 +29,13 @@ pub struct Past<M: Replay> {
 
 impl<M: Replay> Model for Past<M> {
     ghost use Rattle.m36_back.specs.History.{History};
-    ghost use Rattle.m36_back.specs.Kept.{IsHistory};
+    ghost use Rattle.m36_back.specs.Kept.{PastInvariant};
 
     ghost Value = { History M };
 
     ghost view = { λ p. record { first = p.first; taken = p.taken } };
 
-    ghost invariant = { λ p. IsHistory M.after p.first p.machine p.taken p.kept.items };
+    ghost invariant = { λ p. PastInvariant M.after p.first p.machine p.taken p.kept.items };
 }
 
 impl<M: Replay + Drop> Past<M> {
@@ -79,16 +79,16 @@ fn count(taken: u64, turn: &Turn) -> u64
 }
 
 impl<M: Replay + Drop> Stepper for Past<M> {
-    ghost use Rattle.m36_back.specs.History.{standing_at, PastTurns, PastWent};
+    ghost use Rattle.m36_back.specs.History.{current_state, PastTurns, MayGoBack};
     ghost use Rattle.m36_back.specs.PastLaws.{past_stays, past_apart, past_interrupted};
 
     ghost next = { λ before turn later. PastTurns M.answer M.after before turn later };
 
-    ghost went = { λ before n answer later. PastWent before n answer later };
+    ghost went = { λ before n answer later. MayGoBack before n answer later };
 
-    ghost regs = { λ h. M.regs (standing_at M.after h) };
+    ghost regs = { λ h. M.regs (current_state M.after h) };
 
-    ghost content = { λ h seg word. M.content (standing_at M.after h) seg word };
+    ghost content = { λ h seg word. M.content (current_state M.after h) seg word };
 
     /// A turn of the machine inside. Answers Full exactly if the count is 2^64 - 1, and then
     /// changes nothing.

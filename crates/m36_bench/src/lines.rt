@@ -9,16 +9,16 @@ const ALMOST_FULL: usize = 32_000;
 
 /// Trace lines, and the number of their bytes.
 #[derive(Drop)]
-pub struct Lines {
+pub struct TraceLines {
     text: TraceText,
     block: Block,
     bytes: u64,
 }
 
-impl Lines {
+impl TraceLines {
     /// No lines.
-    pub fn new() -> Lines {
-        Lines {
+    pub fn new() -> TraceLines {
+        TraceLines {
             text: TraceText::new(),
             block: Block::new(),
             bytes: 0,

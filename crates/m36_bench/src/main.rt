@@ -22,7 +22,7 @@ mod running;
 
 use image::{Loop, counted, machine};
 use m36_step::Machine;
-use running::{Taken, quietly, with_lines, without_lines};
+use running::{StepCount, quick_steps, with_lines, without_lines};
 use std::io::Print;
 use std::rt::{Clock, Env};
 use std::time::Instant;
@@ -71,7 +71,7 @@ fn read_words(rt: &(impl Env + AllocGlobal)) -> io::Result<Asked> {
 
 /// What is made of each step: a record, its trace line, or nothing.
 #[derive(Clone, Copy)]
-enum Made {
+enum Output {
     Record,
     Line,
     Nothing,
@@ -84,33 +84,33 @@ struct Run {
     asked: Option<u64>,
     chosen: Loop,
     paged: bool,
-    made: Made,
+    made: Output,
 }
 
 /// The result of a run.
 #[derive(Clone, Copy)]
-struct Went {
-    taken: Taken,
+struct RunResult {
+    taken: StepCount,
     turns: u64,
     nanoseconds: u128,
 }
 
-fn take_steps(machine: &mut Machine, run: Run) -> Taken {
+fn take_steps(machine: &mut Machine, run: Run) -> StepCount {
     let steps = run.asked.unwrap_or(1000);
     match run.made {
-        Made::Record => without_lines(machine, steps),
-        Made::Line => with_lines(machine, steps),
-        Made::Nothing => quietly(machine, steps),
+        Output::Record => without_lines(machine, steps),
+        Output::Line => with_lines(machine, steps),
+        Output::Nothing => quick_steps(machine, steps),
     }
 }
 
 /// Takes the steps of a run, and measures the time.
-fn measured(rt: &impl Clock, machine: &mut Machine, run: Run) -> io::Result<Went> {
+fn measured(rt: &impl Clock, machine: &mut Machine, run: Run) -> io::Result<RunResult> {
     let start = Instant::now(rt)?;
     let taken = take_steps(machine, run);
     let nanoseconds = start.elapsed(rt)?.as_nanos();
     let turns = counted(machine, run.chosen);
-    Ok(Went {
+    Ok(RunResult {
         taken,
         turns,
         nanoseconds,
@@ -118,13 +118,13 @@ fn measured(rt: &impl Clock, machine: &mut Machine, run: Run) -> io::Result<Went
 }
 
 /// Prints the loop, the kind of its segment, the number of steps, and how often the loop has run.
-fn print_steps(rt: &(impl Print + AllocGlobal), run: Run, went: Went) -> io::Result<()> {
+fn print_steps(rt: &(impl Print + AllocGlobal), run: Run, went: RunResult) -> io::Result<()> {
     let mixed = match run.chosen {
         Loop::Simple => "",
         Loop::Mixed => "mixed, ",
     };
     let quiet = match run.made {
-        Made::Nothing => "quiet, ",
+        Output::Nothing => "quiet, ",
         _ => "",
     };
     let name = if run.paged { "paged" } else { "unpaged" };
@@ -134,9 +134,9 @@ fn print_steps(rt: &(impl Print + AllocGlobal), run: Run, went: Went) -> io::Res
 }
 
 /// Prints the length of the trace lines, if they are made.
-fn print_lines(rt: &(impl Print + AllocGlobal), run: Run, went: Went) -> io::Result<()> {
+fn print_lines(rt: &(impl Print + AllocGlobal), run: Run, went: RunResult) -> io::Result<()> {
     match run.made {
-        Made::Line => {
+        Output::Line => {
             let bytes = went.taken.bytes;
             print!(rt; ", lines of {bytes} bytes")
         }
@@ -151,7 +151,7 @@ fn rate(steps: u64, nanoseconds: u128) -> u64 {
 }
 
 /// Prints the steps per second, if a number of steps is asked for, and ends the line.
-fn print_rate(rt: &(impl Print + AllocGlobal), run: Run, went: Went) -> io::Result<()> {
+fn print_rate(rt: &(impl Print + AllocGlobal), run: Run, went: RunResult) -> io::Result<()> {
     if run.asked.is_some() {
         let rate = rate(went.taken.steps, went.nanoseconds);
         println!(rt; ", {rate} steps a second")
@@ -161,7 +161,7 @@ fn print_rate(rt: &(impl Print + AllocGlobal), run: Run, went: Went) -> io::Resu
 }
 
 /// Prints the line of a run.
-fn print_run(rt: &(impl Print + AllocGlobal), run: Run, went: Went) -> io::Result<()> {
+fn print_run(rt: &(impl Print + AllocGlobal), run: Run, went: RunResult) -> io::Result<()> {
     print_steps(rt, run, went)?;
     print_lines(rt, run, went)?;
     print_rate(rt, run, went)
@@ -181,16 +181,16 @@ fn report<R: Print + Clock + AllocGlobal>(rt: &R, run: Run) -> io::Result<()> {
 }
 
 /// Takes steps of a loop in both kinds of segments, with and without trace lines.
-fn told_reports<R: Print + Clock + AllocGlobal>(
+fn recorded_reports<R: Print + Clock + AllocGlobal>(
     rt: &R,
     asked: Option<u64>,
     chosen: Loop,
 ) -> io::Result<()> {
     for (paged, made) in [
-        (false, Made::Record),
-        (false, Made::Line),
-        (true, Made::Record),
-        (true, Made::Line),
+        (false, Output::Record),
+        (false, Output::Line),
+        (true, Output::Record),
+        (true, Output::Line),
     ] {
         let run = Run {
             asked,
@@ -214,7 +214,7 @@ fn quiet_reports<R: Print + Clock + AllocGlobal>(
             asked,
             chosen,
             paged,
-            made: Made::Nothing,
+            made: Output::Nothing,
         };
         report(rt, run)?;
     }
@@ -224,7 +224,7 @@ fn quiet_reports<R: Print + Clock + AllocGlobal>(
 /// Takes the steps of a loop that are asked for.
 fn reports<R: Print + Clock + AllocGlobal>(rt: &R, asked: Asked, chosen: Loop) -> io::Result<()> {
     if !asked.quiet {
-        told_reports(rt, asked.steps, chosen)?;
+        recorded_reports(rt, asked.steps, chosen)?;
     }
     if asked.quiet || asked.steps.is_none() {
         quiet_reports(rt, asked.steps, chosen)?;

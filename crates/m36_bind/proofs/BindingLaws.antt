@@ -6,7 +6,7 @@ use Rattle.obj36_parts.specs.ObjectSegment.{version_of}
 use Rattle.obj36_parts.specs.declared.definition.Named.{Named}
 use Rattle.m36_bindfile.specs.declared.fault.BindFault.{BindFault}
 use Rattle.m36_bindfile.specs.declared.line.BindLine.{BindLine}
-use Rattle.m36_bindfile.specs.BindFile.{bind_lines, asks_newer, Refuses, BindSays}
+use Rattle.m36_bindfile.specs.BindFile.{bind_lines, asks_newer, Refuses, BindResult}
 use Rattle.m36_relocate.specs.Fields.{ShapeFields}
 use Rattle.m36_bind.specs.Given.{GivenFields}
 use Rattle.m36_text.specs.Results.{and_then}
@@ -33,14 +33,14 @@ parts_bound frame all kept parts text statics links relocations bound version t 
 -- ---- results, one after another
 
 goes_on : {A B : Type 0} (result : Result B BindFault) (d : Result A BindFault) (a : A) (f : A → Result B BindFault)
-    → d ≡ Ok a → BindSays result (f a) → BindSays result (and_then d f)
+    → d ≡ Ok a → BindResult result (f a) → BindResult result (and_then d f)
 goes_on {A} {B} result d a f is says =
-    let P : Result A BindFault → Type 0 = λ x. BindSays result (and_then x f) in subst P (sym is) says
+    let P : Result A BindFault → Type 0 = λ x. BindResult result (and_then x f) in subst P (sym is) says
 
 pub components_go :
     (frame : ShapeFields) (all : List PlacedFields) (lines : List BindLine) (kept : List Named) (result : Result PartsFields BindFault)
-    → kept_from (exports_from frame [] all) [] 1 lines ≡ Ok kept → BindSays result (made_of frame all kept)
-    → BindSays result (bound_of_components frame all lines)
+    → kept_from (exports_from frame [] all) [] 1 lines ≡ Ok kept → BindResult result (made_of frame all kept)
+    → BindResult result (bound_of_components frame all lines)
 components_go frame all lines kept result keeps says =
     goes_on result (kept_from (exports_from frame [] all) [] 1 lines) kept (λ k. made_of frame all k) keeps says
 
@@ -54,10 +54,10 @@ pub ruleset of_components = (components_go, components_stop)
 
 pub lines_go :
     (given : GivenFields) (lines : List BindLine) (all : List PlacedFields) (frame : ShapeFields) (result : Result PartsFields BindFault)
-    → picked_of given lines ≡ Ok all → frame ≡ frame_of (asks_newer lines) all → BindSays result (bound_of_components frame all lines)
-    → BindSays result (bound_of_lines given lines)
+    → picked_of given lines ≡ Ok all → frame ≡ frame_of (asks_newer lines) all → BindResult result (bound_of_components frame all lines)
+    → BindResult result (bound_of_lines given lines)
 lines_go given lines all frame result picks is says =
-    let P : ShapeFields → Type 0 = λ f. BindSays result (bound_of_components f all lines) in
+    let P : ShapeFields → Type 0 = λ f. BindResult result (bound_of_components f all lines) in
     goes_on result (picked_of given lines) all (λ a. bound_of_components (frame_of (asks_newer lines) a) a lines) picks (subst P is says)
 
 pub lines_stop :
@@ -70,13 +70,13 @@ pub ruleset of_lines = (lines_go, lines_stop)
 
 pub text_goes :
     (text : List ℕ) (names : List (List ℕ)) (objects : List PartsFields) (given : GivenFields) (lines lent : List BindLine) (result : Result PartsFields BindFault)
-    → bind_lines text ≡ Ok lines → lent ≡ lines → given ≡ record { names = names; objects = objects } → BindSays result (bound_of_lines given lent)
-    → BindSays result (bound_of text names objects)
+    → bind_lines text ≡ Ok lines → lent ≡ lines → given ≡ record { names = names; objects = objects } → BindResult result (bound_of_lines given lent)
+    → BindResult result (bound_of text names objects)
 unfolding bound_of
 text_goes text names objects given lines lent result reads is are says =
     let all : GivenFields = record { names = names; objects = objects } in
-    let P : List BindLine → Type 0 = λ ls. BindSays result (bound_of_lines given ls) in
-    let Q : GivenFields → Type 0 = λ g. BindSays result (bound_of_lines g lines) in
+    let P : List BindLine → Type 0 = λ ls. BindResult result (bound_of_lines given ls) in
+    let Q : GivenFields → Type 0 = λ g. BindResult result (bound_of_lines g lines) in
     goes_on result (bind_lines text) lines (λ ls. bound_of_lines all ls) reads (subst Q are (subst P is says))
 
 pub text_stops :

@@ -11,18 +11,18 @@ use Rattle.obj36_parts.proofs.LengthLaws.{length-words_of, least_size}
 use Rattle.m36_bindfile.specs.declared.fault.BindFault.{BindFault}
 use Rattle.m36_bindfile.specs.declared.fault.BindFault.TheVariants as fault
 use Rattle.m36_bindfile.specs.declared.line.BindLine.{BindLine}
-use Rattle.m36_bindfile.specs.BindFile.{bind_lines, asks_newer, retained_names, BindSays}
+use Rattle.m36_bindfile.specs.BindFile.{bind_lines, asks_newer, retained_names, BindResult}
 use Rattle.m36_relocate.specs.Fields.{ShapeFields, BasesFields}
 use Rattle.m36_bind.specs.Given.{GivenFields}
-use Rattle.m36_relocate.specs.Layout.{shape_of, first_bases, bases_behind}
+use Rattle.m36_relocate.specs.Layout.{shape_of, first_bases, next_bases}
 use Rattle.m36_relocate.specs.Words.{words_in, all_fit}
 use Rattle.m36_bind.specs.Components.{PlacedFields, moving, picked_of}
 use Rattle.m36_bind.specs.Kept.{exports_from, kept_from}
 use Rattle.m36_bind.specs.Links.{link_moved}
 use Rattle.m36_bind.specs.Bound.{is_newer_component, links_end, frame_of, laid_from, relocations_from, first_bound, bound_parts, component_fits, components_fit, made_of, bound_of_components, bound_of_lines, bound_of}
-use Rattle.m36_bind.specs.Meaning.{AreInOrder, IsOutside, start_in, IsMovedWord, WordsStand, LinksStand, DefinitionSource, BoundMeaning, AreObjects}
+use Rattle.m36_bind.specs.Meaning.{AreInOrder, IsOutside, start_in, IsRelocatedWord, HasWords, HasLinks, DefinitionSource, BoundMeaning, AreObjects}
 use Rattle.m36_bind.proofs.MovedWords.{word_by, word_at}
-use Rattle.m36_bind.proofs.LaidWords.{laid_at, laid_gap, laid_within, statics_long, links_within, words_count}
+use Rattle.m36_bind.proofs.ComponentWords.{laid_at, laid_gap, laid_within, statics_long, links_within, words_count}
 use Rattle.m36_bind.proofs.Images.{IsWithin}
 use Rattle.m36_bind.proofs.WordNames.{word_means}
 use Rattle.m36_bind.proofs.MovedRelocations.{relocation_stands, relocation_source}
@@ -38,7 +38,7 @@ shaped_in : (b : BasesFields) (all : List PlacedFields) (p : PlacedFields) → A
 unfolding AreInOrder
 shaped_in b [] p order among = absurd (omega (arith, among.1))
 shaped_in b (q ∷ all) p order (zero, lt, same) = subst (λ (x : PlacedFields). x.shape ≡ shape_of x.parts) same order.1
-shaped_in b (q ∷ all) p order (suc k, lt, same) = shaped_in (bases_behind b q.parts) all p order.2 (k, omega (arith, lt), same)
+shaped_in b (q ∷ all) p order (suc k, lt, same) = shaped_in (next_bases b q.parts) all p order.2 (k, omega (arith, lt), same)
 
 fits_in : (frame : ShapeFields) (all : List PlacedFields) (p : PlacedFields) → components_fit frame all ≡ true → Contains all p → component_fits frame p ≡ true
 unfolding components_fit
@@ -56,7 +56,7 @@ fits_in frame (q ∷ all) p e (suc k, lt, same) = fits_in frame all p (later (co
 
 -- ---- the parts of the bound object
 
-module _ (asked : Bool) (all : List PlacedFields) (kept : List Named) (picked : ArePicked all) where
+module _ (asked : Bool) (all : List PlacedFields) (kept : List Named) (components_of : ArePicked all) where
   abbrev frame : ShapeFields
   frame = frame_of asked all
 
@@ -67,21 +67,21 @@ module _ (asked : Bool) (all : List PlacedFields) (kept : List Named) (picked : 
   unfolding frame_of bound_parts
   frame_is = λ i. record {
     newer = newer_is (asked || list_any is_newer_component all) i;
-    statics = sym (statics_long (frame_of asked all) [] first_bases all picked.order refl) i;
-    links = sym (links_long (frame_of asked all) all first_bases [] all picked.order refl) i;
+    statics = sym (statics_long (frame_of asked all) [] first_bases all components_of.order refl) i;
+    links = sym (links_long (frame_of asked all) all first_bases [] all components_of.order refl) i;
   }
 
   within : is_well_formed bound ≡ true → (p : PlacedFields) → Contains all p → IsWithin bound p
   unfolding bound_parts
   within formed p among =
-      let shaped = shaped_in first_bases all p picked.order among in
+      let shaped = shaped_in first_bases all p components_of.order among in
       let size = length-words_of bound in
       let small = (is_formed bound formed).fits in
       let least = least_size (eqb bound.version 2) in
       record {
-        text = laid_within frame false [] first_bases all p picked.order refl among;
-        statics = subst (λ n. p.bases.statics + n ≤ length bound.statics) (ap (λ (s : ShapeFields). s.statics) (sym shaped)) (laid_within frame true [] first_bases all p picked.order refl among);
-        links = subst (λ n. p.bases.links + p.shape.links ≤ n) (sym (links_long frame all first_bases [] all picked.order refl)) (links_within first_bases all p picked.order among);
+        text = laid_within frame false [] first_bases all p components_of.order refl among;
+        statics = subst (λ n. p.bases.statics + n ≤ length bound.statics) (ap (λ (s : ShapeFields). s.statics) (sym shaped)) (laid_within frame true [] first_bases all p components_of.order refl among);
+        links = subst (λ n. p.bases.links + p.shape.links ≤ n) (sym (links_long frame all first_bases [] all components_of.order refl)) (links_within first_bases all p components_of.order among);
         few_text = omega (arith, size, small, least);
         few_others = omega (arith, size, small, least);
       }
@@ -108,24 +108,24 @@ module _ (asked : Bool) (all : List PlacedFields) (kept : List Named) (picked : 
   starts true = refl
   starts false = refl
 
-  words_stand : is_well_formed bound ≡ true → components_fit frame all ≡ true → (p : PlacedFields) → Contains all p → (statics : Bool) → WordsStand bound p statics
+  words_stand : is_well_formed bound ≡ true → components_fit frame all ≡ true → (p : PlacedFields) → Contains all p → (statics : Bool) → HasWords bound p statics
   words_stand formed fit p among statics = λ i lt small.
       let rs = p.parts.relocations in
       let old = slice_index (words_in statics p.parts) i in
       let here : slice_index (words_in statics bound) (start_in statics p.bases + i) ≡ word_by (moving (shape_of bound) p) statics i rs old =
       ap (λ (ws : List ℕ). slice_index ws (start_in statics p.bases + i)) (words_are statics)
-      ∙ laid_at frame statics [] first_bases all p i picked.order (starts statics) among lt
+      ∙ laid_at frame statics [] first_bases all p i components_of.order (starts statics) among lt
       ∙ word_at (moving frame p) statics i rs (words_in statics p.parts) lt
       ∙ ap (λ (f : ShapeFields). word_by (moving f p) statics i rs old) frame_is
       in
-      subst (λ w. IsMovedWord bound p statics i old w) (sym here)
-      (word_means bound p statics i old (within formed p among) (picked.formed p among) (shaped_in first_bases all p picked.order among) (fits fit p among statics) refl small)
+      subst (λ w. IsRelocatedWord bound p statics i old w) (sym here)
+      (word_means bound p statics i old (within formed p among) (components_of.formed p among) (shaped_in first_bases all p components_of.order among) (fits fit p among statics) refl small)
 
-  links_stand : is_well_formed bound ≡ true → (p : PlacedFields) → Contains all p → LinksStand bound all p
+  links_stand : is_well_formed bound ≡ true → (p : PlacedFields) → Contains all p → HasLinks bound all p
   unfolding bound_parts
   links_stand formed p among = λ i old is. (
     link_moved (shape_of bound) all p old,
-    links_at frame all first_bases [] all p i old picked.order refl among is ∙ ap (λ (f : ShapeFields). Some (link_moved f all p old)) frame_is,
+    links_at frame all first_bases [] all p i old components_of.order refl among is ∙ ap (λ (f : ShapeFields). Some (link_moved f all p old)) frame_is,
     link_means bound all p old (within formed) among,
   )
 
@@ -136,11 +136,11 @@ module _ (asked : Bool) (all : List PlacedFields) (kept : List Named) (picked : 
   gap_is : (statics : Bool) (j : ℕ) → ((p : PlacedFields) → Contains all p → IsOutside statics p j) → slice_index (words_in statics bound) j ≡ 0
   gap_is statics j outside =
       ap (λ (ws : List ℕ). slice_index ws j) (words_are statics)
-      ∙ laid_gap frame statics [] first_bases all j picked.order (starts statics) (omega arith) outside
+      ∙ laid_gap frame statics [] first_bases all j components_of.order (starts statics) (omega arith) outside
 
   links_count : length bound.links ≡ links_end 0 all
   unfolding bound_parts
-  links_count = links_long frame all first_bases [] all picked.order refl
+  links_count = links_long frame all first_bases [] all components_of.order refl
 
   retained_are : (lines : List BindLine) → kept_from (exports_from frame [] all) [] 1 lines ≡ Ok kept → definition_names bound.definitions ≡ retained_names lines
   unfolding bound_parts definition_names
@@ -183,29 +183,29 @@ parts_mean : (text : List ℕ) (names : List (List ℕ)) (objects : List PartsFi
     → kept_from (exports_from (frame_of (asks_newer lines) all) [] all) [] 1 lines ≡ Ok kept
     → components_fit (frame_of (asks_newer lines) all) all ≡ true → is_well_formed (bound_parts (frame_of (asks_newer lines) all) all kept) ≡ true
     → BoundMeaning text names objects (bound_parts (frame_of (asks_newer lines) all) all kept)
-parts_mean text names objects lines all kept read pick picked keeps fit formed =
+parts_mean text names objects lines all kept read pick components_of keeps fit formed =
     let asked = asks_newer lines in
     record {
       lines = lines;
       read = read;
       components = all;
-      picked = pick;
-      order = picked.order;
-      texts = λ p among. words_stand asked all kept picked formed fit p among false;
-      statics = λ p among. words_stand asked all kept picked formed fit p among true;
-      links = λ p among. links_stand asked all kept picked formed p among;
+      components_of = pick;
+      order = components_of.order;
+      texts = λ p among. words_stand asked all kept components_of formed fit p among false;
+      statics = λ p among. words_stand asked all kept components_of formed fit p among true;
+      links = λ p among. links_stand asked all kept components_of formed p among;
       relocations = λ p among r there.
-          relocation_stands (bound asked all kept picked) all p r (relocations_are asked all kept picked) (within asked all kept picked formed p among) among there;
-      retained = retained_are asked all kept picked lines keeps;
-      definitions = λ d among. definition_means asked all kept picked lines keeps formed d among;
-      text_length = ap (λ (ws : List ℕ). length ws) (words_are asked all kept picked false) ∙ words_count (frame_of asked all) false [] first_bases all picked.order refl;
-      statics_length = ap (λ (ws : List ℕ). length ws) (words_are asked all kept picked true) ∙ words_count (frame_of asked all) true [] first_bases all picked.order refl;
-      gaps = λ statics j outside. gap_is asked all kept picked statics j outside;
-      links_length = links_count asked all kept picked;
+          relocation_stands (bound asked all kept components_of) all p r (relocations_are asked all kept components_of) (within asked all kept components_of formed p among) among there;
+      retained = retained_are asked all kept components_of lines keeps;
+      definitions = λ d among. definition_means asked all kept components_of lines keeps formed d among;
+      text_length = ap (λ (ws : List ℕ). length ws) (words_are asked all kept components_of false) ∙ words_count (frame_of asked all) false [] first_bases all components_of.order refl;
+      statics_length = ap (λ (ws : List ℕ). length ws) (words_are asked all kept components_of true) ∙ words_count (frame_of asked all) true [] first_bases all components_of.order refl;
+      gaps = λ statics j outside. gap_is asked all kept components_of statics j outside;
+      links_length = links_count asked all kept components_of;
       no_other_relocations = λ r among.
-          relocation_source (bound asked all kept picked) all r (relocations_are asked all kept picked) (within asked all kept picked formed) among;
-      entry_bound = entry_is asked all kept picked;
-      version = version_is asked all kept picked;
+          relocation_source (bound asked all kept components_of) all r (relocations_are asked all kept components_of) (within asked all kept components_of formed) among;
+      entry_bound = entry_is asked all kept components_of;
+      version = version_is asked all kept components_of;
     }
 
 pub bound_means : (text : List ℕ) (names : List (List ℕ)) (objects : List PartsFields) (o : PartsFields) → ((q : PartsFields) → Contains objects q → is_well_formed q ≡ true)
@@ -225,6 +225,6 @@ bound_means text names objects o formed e =
     (parts_mean text names objects lines all c.0 a.1 b.1 (picked_are given lines all formed b.1) c.1 m.0 m.1)
 
 pub means_of : (text : List ℕ) (names : List (List ℕ)) (objects : List PartsFields) (result : Result PartsFields BindFault) → AreObjects objects
-    → BindSays result (bound_of text names objects) → IfOk result (λ o. BoundMeaning text names objects o)
+    → BindResult result (bound_of text names objects) → IfOk result (λ o. BoundMeaning text names objects o)
 means_of text names objects (Ok o) are says = bound_means text names objects o are says
 means_of text names objects (Err told) are says = tt

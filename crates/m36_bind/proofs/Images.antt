@@ -5,10 +5,10 @@ use Rattle.obj36_parts.specs.PartsFields.{PartsFields}
 use Rattle.obj36_parts.specs.declared.section.Section.{Section}
 use Rattle.obj36_parts.specs.declared.section.Section.TheVariants.{Text, Linkage, Symbol, Static}
 use Rattle.m36_relocate.specs.Fields.{ShapeFields, BasesFields}
-use Rattle.m36_relocate.specs.Layout.{shape_of, meant, meant_older, meant_newer, first_link, first_static, spot, image_spot, static_spot, spot_moved, image_number, number_moved}
-use Rattle.m36_relocate.specs.declared.layout.Meant.{Meant}
-use Rattle.m36_relocate.specs.declared.layout.Meant.TheVariants.{TextWord, StaticWord, LinkWord, HeadWord}
-use Rattle.m36_relocate.specs.declared.layout.Spot.{Spot}
+use Rattle.m36_relocate.specs.Layout.{shape_of, denoted, meant_older, meant_newer, first_link, first_static, spot, image_spot, static_spot, relocated_place, image_number, relocated_number}
+use Rattle.m36_relocate.specs.declared.layout.Denoted.{Denoted}
+use Rattle.m36_relocate.specs.declared.layout.Denoted.TheVariants.{TextWord, StaticWord, LinkWord, HeadWord}
+use Rattle.m36_relocate.specs.declared.layout.BoundPlace.{BoundPlace}
 use Rattle.m36_bind.specs.Components.{PlacedFields, moving}
 use Rattle.m36_bind.specs.Meaning.{image, is_there, NamesImage}
 use Rattle.m36_relocate.proofs.LinkPlaces.{in_linkage, past_head, link_named}
@@ -88,7 +88,7 @@ module _ (bound : PartsFields) (p : PlacedFields) (within : IsWithin bound p) wh
 
   -- ---- numbers
 
-  InLinkage : Meant → Type 0
+  InLinkage : Denoted → Type 0
   InLinkage (TextWord v) = ⊥
   InLinkage (StaticWord w) = Unit {0}
   InLinkage (LinkWord k) = Unit {0}
@@ -102,7 +102,7 @@ module _ (bound : PartsFields) (p : PlacedFields) (within : IsWithin bound p) wh
   is_in_linkage false false c true v w k x y = tt
   is_in_linkage false false c false v w k x y = tt
 
-  linkage_number : (x : Meant) → InLinkage x → is_there p x ≡ true
+  linkage_number : (x : Denoted) → InLinkage x → is_there p x ≡ true
       → in_linkage frame.newer frame.statics frame.links (image_number frame p.bases Linkage x % 2 ^ 18) ≡ image p.bases x
   unfolding InLinkage
   linkage_number (TextWord v) is there = absurd is
@@ -110,37 +110,37 @@ module _ (bound : PartsFields) (p : PlacedFields) (within : IsWithin bound p) wh
   linkage_number (LinkWord k) is there = link_there k there
   linkage_number (HeadWord v) is there = head_there v there
 
-  pub number_names : (target : Section) (old : ℕ) → NamesImage bound p target old target (number_moved (moving frame p) target old % 2 ^ 18)
-  unfolding number_moved meant in_linkage
+  pub number_names : (target : Section) (old : ℕ) → NamesImage bound p target old target (relocated_number (moving frame p) target old % 2 ^ 18)
+  unfolding relocated_number denoted in_linkage
   number_names Text old there = text_there old there
   number_names Static old there = own_static old there
   number_names Symbol old there = ap (λ n. HeadWord n) (small_is old (omega (arith, ltb-true old 8 there)))
   number_names Linkage old there =
-      linkage_number (meant p.shape Linkage old)
+      linkage_number (denoted p.shape Linkage old)
       (is_in_linkage (ltb old 8) p.shape.newer (ltb old (8 + 2 * p.shape.links)) (ltb old (8 + p.shape.statics)) old (old - (8 + 2 * p.shape.links)) (old - 8) (old - 8) (old - (8 + p.shape.statics)))
       there
 
   -- ---- places
 
   static_place : (newer : Bool) (w : ℕ) → frame.newer ≡ newer → ltb w p.shape.statics ≡ true
-      → meant frame (static_spot frame (p.bases.statics + w)).section (static_spot frame (p.bases.statics + w)).offset ≡ StaticWord (p.bases.statics + w)
-  unfolding meant in_linkage
+      → denoted frame (static_spot frame (p.bases.statics + w)).section (static_spot frame (p.bases.statics + w)).offset ≡ StaticWord (p.bases.statics + w)
+  unfolding denoted in_linkage
   static_place true w is there =
-      ap (λ b. meant frame (cond b (spot Static (p.bases.statics + w)) (spot Linkage (8 + (p.bases.statics + w)))).section (cond b (spot Static (p.bases.statics + w)) (spot Linkage (8 + (p.bases.statics + w)))).offset) is
+      ap (λ b. denoted frame (cond b (spot Static (p.bases.statics + w)) (spot Linkage (8 + (p.bases.statics + w)))).section (cond b (spot Static (p.bases.statics + w)) (spot Linkage (8 + (p.bases.statics + w)))).offset) is
       ∙ own_static w there
   static_place false w is there =
-      ap (λ b. meant frame (cond b (spot Static (p.bases.statics + w)) (spot Linkage (8 + (p.bases.statics + w)))).section (cond b (spot Static (p.bases.statics + w)) (spot Linkage (8 + (p.bases.statics + w)))).offset) is
+      ap (λ b. denoted frame (cond b (spot Static (p.bases.statics + w)) (spot Linkage (8 + (p.bases.statics + w)))).section (cond b (spot Static (p.bases.statics + w)) (spot Linkage (8 + (p.bases.statics + w)))).offset) is
       ∙ ap (λ b. in_linkage frame.newer frame.statics frame.links ((cond b (8 + 2 * frame.links) 8 + (p.bases.statics + w)) % 2 ^ 18)) (sym is)
       ∙ static_there w there
 
-  place_names : (x : Meant) → is_there p x ≡ true → meant frame (image_spot frame p.bases x).section (image_spot frame p.bases x).offset ≡ image p.bases x
-  unfolding meant in_linkage
+  place_names : (x : Denoted) → is_there p x ≡ true → denoted frame (image_spot frame p.bases x).section (image_spot frame p.bases x).offset ≡ image p.bases x
+  unfolding denoted in_linkage
   place_names (TextWord v) there = text_there v there
   place_names (StaticWord w) there = static_place frame.newer w refl there
   place_names (LinkWord k) there = link_there k there
   place_names (HeadWord v) there = head_there v there
 
   pub spot_names : (section : Section) (old : ℕ)
-      → NamesImage bound p section old (spot_moved (moving frame p) section old).section (spot_moved (moving frame p) section old).offset
-  unfolding spot_moved
-  spot_names section old there = place_names (meant p.shape section old) there
+      → NamesImage bound p section old (relocated_place (moving frame p) section old).section (relocated_place (moving frame p) section old).offset
+  unfolding relocated_place
+  spot_names section old there = place_names (denoted p.shape section old) there

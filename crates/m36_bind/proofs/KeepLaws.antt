@@ -9,13 +9,13 @@ use Rattle.m36_bindfile.specs.declared.line.BindLine.{BindLine}
 use Rattle.m36_bindfile.specs.BindFile.{Refuses}
 use Rattle.m36_relocate.specs.declared.exports.Export.{Export}
 use Rattle.m36_text.specs.Results.{and_then}
-use Rattle.m36_bind.specs.Kept.{kept_one, kept_line, kept_from}
+use Rattle.m36_bind.specs.Kept.{with_retained, kept_line, kept_from}
 use Rattle.m36_bind.proofs.ComponentLaws.{refused_whole}
 
 pub keep_done :
     (before after : List Named) (n : ℕ) (name copy : List ℕ) (e : Export)
     → (list_any (λ d. same name d.name) before || e.twice) ≡ false → copy ≡ name → after ≡ before ++ record { name = copy; def = e.def } ∷ []
-    → kept_one before n name (Some e) ≡ Ok after
+    → with_retained before n name (Some e) ≡ Ok after
 keep_done before after n name copy e new is grown =
     let named : List ℕ → Named = λ m. record { name = m; def = e.def } in
     ap (λ (b : Bool). cond b (Err (fault.B3 n)) (Ok (before ++ named name ∷ []))) new

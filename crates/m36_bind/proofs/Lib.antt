@@ -6,7 +6,7 @@ pub mod KeepLaws
 pub mod BindingLaws
 pub mod WordParts
 pub mod MovedWords
-pub mod LaidWords
+pub mod ComponentWords
 pub mod Images
 pub mod WordNames
 pub mod PickedOrder

@@ -18,10 +18,10 @@ use Rattle.m36_bindfile.specs.declared.line.BindLine.TheVariants as line
 use Rattle.m36_bindfile.specs.BindFile.{retained_names}
 use Rattle.m36_relocate.specs.Fields.{ShapeFields}
 use Rattle.m36_relocate.specs.Layout.{shape_of}
-use Rattle.m36_relocate.specs.Exports.{export_named, export_behind, with_export, is_symbol, def_moved, with_moved, moved_from}
+use Rattle.m36_relocate.specs.Exports.{export_named, export_behind, with_export, is_symbol, relocated_def, with_moved, moved_from}
 use Rattle.m36_text.specs.Results.{and_then}
 use Rattle.m36_bind.specs.Components.{PlacedFields, moving}
-use Rattle.m36_bind.specs.Kept.{exports_from, kept_one, kept_from}
+use Rattle.m36_bind.specs.Kept.{exports_from, with_retained, kept_from}
 use Rattle.m36_bind.specs.Meaning.{DefinitionSource}
 use Rattle.m36_relocate.specs.declared.exports.Export.{Export}
 use Rattle.m36_relocate.proofs.Entries.{found_then}
@@ -35,7 +35,7 @@ pub record IsDefined (frame : ShapeFields) (all : List PlacedFields) (name : Lis
   pub among : Contains component.parts.definitions old
   pub name_is : old.name ≡ name
   pub counts : is_symbol old.def.section ≡ false
-  pub moved : def ≡ def_moved (moving frame component) old.def
+  pub moved : def ≡ relocated_def (moving frame component) old.def
 
 module _ (frame : ShapeFields) (whole : List PlacedFields) where
   -- the entry of a name in a table
@@ -75,10 +75,10 @@ module _ (frame : ShapeFields) (whole : List PlacedFields) where
       sound_moved (with_moved (moving frame p) table d) p ds (by (is_symbol d.def.section) refl) there
       (λ x among. are x (suc among.0, omega (arith, among.1), among.2))
     where
-      by : (b : Bool) → is_symbol d.def.section ≡ b → IsSound (cond b table (with_export table d.name (def_moved (moving frame p) d.def)))
+      by : (b : Bool) → is_symbol d.def.section ≡ b → IsSound (cond b table (with_export table d.name (relocated_def (moving frame p) d.def)))
       by true is = sound
       by false is =
-          sound_with table d.name (def_moved (moving frame p) d.def) sound
+          sound_with table d.name (relocated_def (moving frame p) d.def) sound
           (record { component = p; one = there; old = d; among = are d (zero, omega arith, refl); name_is = refl; counts = is; moved = refl })
 
   sound_from : (table : List (List ℕ × Export)) (all : List PlacedFields) → IsSound table → ((p : PlacedFields) → Contains all p → Contains whole p)
@@ -121,7 +121,7 @@ kept_names exports kept new n (line.Retain name ∷ lines) e = by (export_named 
         ∙ ap (λ (ns : List (List ℕ)). ns ++ retained_names lines) (definition_names-append kept (one ∷ []))
         ∙ append_assoc (definition_names kept) (name ∷ []) (retained_names lines)
 
-    by : (o : Option Export) → ((more : List Named) → kept_from exports more (n + 1) lines ≡ Ok new → definition_names new ≡ definition_names more ++ retained_names lines) → and_then (kept_one kept n name o) (λ more. kept_from exports more (n + 1) lines) ≡ Ok new
+    by : (o : Option Export) → ((more : List Named) → kept_from exports more (n + 1) lines ≡ Ok new → definition_names new ≡ definition_names more ++ retained_names lines) → and_then (with_retained kept n name o) (λ more. kept_from exports more (n + 1) lines) ≡ Ok new
         → definition_names new ≡ definition_names kept ++ (name ∷ retained_names lines)
     by None go e = absurd cc
     by (Some x) go e = added x (list_any (λ d. same name d.name) kept || x.twice) go e
@@ -153,7 +153,7 @@ kept_sound frame all exports kept new n (line.Retain name ∷ lines) sound are e
     by : (o : Option Export) → export_named name exports ≡ o
         → ((more : List Named) → ((d : Named) → Contains more d → IsDefined frame all d.name d.def) → kept_from exports more (n + 1) lines ≡ Ok new
         → (d : Named) → Contains new d → IsDefined frame all d.name d.def)
-        → and_then (kept_one kept n name o) (λ more. kept_from exports more (n + 1) lines) ≡ Ok new
+        → and_then (with_retained kept n name o) (λ more. kept_from exports more (n + 1) lines) ≡ Ok new
         → (d : Named) → Contains new d → IsDefined frame all d.name d.def
     by None found go e = absurd cc
     by (Some x) found go e = added x (list_any (λ d. same name d.name) kept || x.twice) found go e
@@ -169,7 +169,7 @@ pub defined_means : (bound : PartsFields) (frame : ShapeFields) (all : List Plac
 defined_means bound frame all name def is within defined =
     let p = defined.component in
     let old = defined.old in
-    let moved : def ≡ def_moved (moving (shape_of bound) p) old.def = defined.moved ∙ ap (λ (f : ShapeFields). def_moved (moving f p) old.def) is in
+    let moved : def ≡ relocated_def (moving (shape_of bound) p) old.def = defined.moved ∙ ap (λ (f : ShapeFields). relocated_def (moving f p) old.def) is in
     subst (λ (d : DefFields). DefinitionSource bound all name d) (sym moved)
     (record {
       component = p;

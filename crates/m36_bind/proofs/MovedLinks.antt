@@ -8,12 +8,12 @@ use Rattle.obj36_parts.specs.PartsFields.{PartsFields}
 use Rattle.obj36_parts.specs.Names.{same}
 use Rattle.obj36_parts.specs.Sections.{later_section}
 use Rattle.m36_relocate.specs.Fields.{ShapeFields, BasesFields}
-use Rattle.m36_relocate.specs.Layout.{shape_of, bases_behind, spot_moved}
+use Rattle.m36_relocate.specs.Layout.{shape_of, next_bases, relocated_place}
 use Rattle.m36_relocate.specs.Exports.{export_named}
 use Rattle.m36_bind.specs.Components.{PlacedFields, moving, names_of, component_named}
 use Rattle.m36_bind.specs.Links.{own_link, segment_link, entry_link, outer_link, inner_link, link_moved, links_onto, links_from}
 use Rattle.m36_bind.specs.Bound.{links_end}
-use Rattle.m36_bind.specs.Meaning.{AreInOrder, IsMovedLink}
+use Rattle.m36_bind.specs.Meaning.{AreInOrder, ReplacesLink}
 use Rattle.m36_bind.proofs.Images.{IsWithin, spot_names}
 use Rattle.m36_bind.proofs.PickedOrder.{got}
 
@@ -22,7 +22,7 @@ use Rattle.m36_bind.proofs.PickedOrder.{got}
 module _ (frame : ShapeFields) (all : List PlacedFields) (p : PlacedFields) where
   by_kind : ℕ → LinkFields → LinkFields
   by_kind k l =
-      cond (eqb k 1) (own_link l (spot_moved (moving frame p) l.section l.expr))
+      cond (eqb k 1) (own_link l (relocated_place (moving frame p) l.section l.expr))
       (cond (eqb k 3) (segment_link l (component_named l.name all))
       (cond (eqb k 4) (outer_link frame l (component_named l.name all))
       (cond (eqb k 5) (inner_link frame p l (export_named l.entry p.entries)) l)))
@@ -40,24 +40,24 @@ found_among name all q e = by (position (same name) (names_of all)) e
     by (Some i) e = got all i q e
 
 pub link_means : (bound : PartsFields) (all : List PlacedFields) (p : PlacedFields) (old : LinkFields) → ((q : PlacedFields) → Contains all q → IsWithin bound q) → Contains all p
-    → IsMovedLink bound all p old (link_moved (shape_of bound) all p old)
+    → ReplacesLink bound all p old (link_moved (shape_of bound) all p old)
 unfolding by_kind
 link_means bound all p old within there =
     let frame = shape_of bound in
     record {
       own = λ kind. record {
-        place = spot_moved (moving frame p) old.section old.expr;
+        place = relocated_place (moving frame p) old.section old.expr;
         names = spot_names bound p (within p there) old.section old.expr;
         is = moved_by_kind frame all p old 1 kind;
       };
       segment = λ q kind found. moved_by_kind frame all p old 3 kind ∙ ap (segment_link old) found;
       outer = λ q e kind found defined. record {
-        place = spot_moved (moving frame q) e.def.section e.def.value;
+        place = relocated_place (moving frame q) e.def.section e.def.value;
         names = spot_names bound q (within q (found_among old.name all q found)) e.def.section e.def.value;
         is = moved_by_kind frame all p old 4 kind ∙ ap (outer_link frame old) found ∙ ap (entry_link frame old q) defined;
       };
       inner = λ e kind defined. record {
-        place = spot_moved (moving frame p) (later_section old.section e.def.section) e.def.value;
+        place = relocated_place (moving frame p) (later_section old.section e.def.section) e.def.value;
         names = spot_names bound p (within p there) (later_section old.section e.def.section) e.def.value;
         is = moved_by_kind frame all p old 5 kind ∙ ap (inner_link frame p old) defined;
       };
@@ -134,12 +134,12 @@ module _ (frame : ShapeFields) (all : List PlacedFields) where
       ∙ ap (λ n. slice_get (links_from frame all (links_onto frame all p done p.parts.links) more) (n + i)) at
       ∙ from_keeps (links_onto frame all p done p.parts.links) more (length done + i) (link_moved frame all p l) (onto_at p done p.parts.links i l e)
   links_at b done (q ∷ more) p i l order starts (suc k, lt, same) e =
-      links_at (bases_behind b q.parts) (links_onto frame all q done q.parts.links) more p i l order.2 (next_links b q done starts) (k, omega (arith, lt), same) e
+      links_at (next_bases b q.parts) (links_onto frame all q done q.parts.links) more p i l order.2 (next_links b q done starts) (k, omega (arith, lt), same) e
 
   pub links_long : (b : BasesFields) (done : List LinkFields) (more : List PlacedFields) → AreInOrder b more → length done ≡ b.links
       → length (links_from frame all done more) ≡ links_end (length done) more
   unfolding links_from links_end AreInOrder
   links_long b done [] order starts = refl
   links_long b done (p ∷ more) order starts =
-      links_long (bases_behind b p.parts) (links_onto frame all p done p.parts.links) more order.2 (next_links b p done starts)
+      links_long (next_bases b p.parts) (links_onto frame all p done p.parts.links) more order.2 (next_links b p done starts)
       ∙ ap (λ n. links_end n more) (next_links b p done starts ∙ (λ i. (sym order.0 i).links + (sym order.1 i).links))

@@ -8,24 +8,24 @@ use Rattle.obj36_parts.specs.PartsFields.{PartsFields}
 use Rattle.obj36_parts.specs.Sections.{is_text_section}
 use Rattle.m36_relocate.specs.Fields.{ShapeFields}
 use Rattle.m36_relocate.specs.Layout.{shape_of}
-use Rattle.m36_relocate.specs.Words.{stands_in}
+use Rattle.m36_relocate.specs.Words.{is_in}
 use Rattle.m36_bind.specs.Components.{PlacedFields, moving}
 use Rattle.m36_bind.specs.Bound.{relocation_moved, with_relocation, relocations_onto, relocations_from}
-use Rattle.m36_bind.specs.Meaning.{IsMovedRelocation, MovedRelocation, RelocationSource}
-use Rattle.m36_relocate.specs.declared.layout.Moving.{Moving}
+use Rattle.m36_bind.specs.Meaning.{IsRelocatedMark, RelocatedRelocation, RelocationSource}
+use Rattle.m36_relocate.specs.declared.layout.Relocation.{Relocation}
 use Rattle.m36_bind.proofs.Images.{IsWithin, spot_names}
 
-module _ (m : Moving) (statics : Bool) where
+module _ (m : Relocation) (statics : Bool) where
   onto_keeps : (done rs : List RelocFields) (x : RelocFields) → Contains done x → Contains (relocations_onto m statics done rs) x
   unfolding relocations_onto
   onto_keeps done [] x among = among
-  onto_keeps done (r ∷ rs) x among = onto_keeps (with_relocation m statics done r) rs x (by (stands_in statics r))
+  onto_keeps done (r ∷ rs) x among = onto_keeps (with_relocation m statics done r) rs x (by (is_in statics r))
     where
       by : (b : Bool) → Contains (cond b (done ++ relocation_moved m r ∷ []) done) x
       by true = Contains-append_left done (relocation_moved m r ∷ []) x among
       by false = among
 
-  onto_has : (done rs : List RelocFields) (r : RelocFields) → Contains rs r → stands_in statics r ≡ true → Contains (relocations_onto m statics done rs) (relocation_moved m r)
+  onto_has : (done rs : List RelocFields) (r : RelocFields) → Contains rs r → is_in statics r ≡ true → Contains (relocations_onto m statics done rs) (relocation_moved m r)
   unfolding relocations_onto
   onto_has done [] r among stands = absurd (omega (arith, among.1))
   onto_has done (s ∷ rs) r (zero, lt, same) stands =
@@ -52,7 +52,7 @@ module _ (m : Moving) (statics : Bool) where
       first false there = inl there
 
       by : IsFrom (with_relocation m statics done r) rs x → IsFrom done (r ∷ rs) x
-      by (inl there) = first (stands_in statics r) there
+      by (inl there) = first (is_in statics r) there
       by (inr (s, (k, lt, e), is)) = inr (s, (suc k, omega (arith, lt), e), is)
 
 module _ (frame : ShapeFields) (statics : Bool) where
@@ -62,7 +62,7 @@ module _ (frame : ShapeFields) (statics : Bool) where
   from_keeps done (p ∷ all) x among =
       from_keeps (relocations_onto (moving frame p) statics done p.parts.relocations) all x (onto_keeps (moving frame p) statics done p.parts.relocations x among)
 
-  pub from_has : (done : List RelocFields) (all : List PlacedFields) (p : PlacedFields) (r : RelocFields) → Contains all p → Contains p.parts.relocations r → stands_in statics r ≡ true
+  pub from_has : (done : List RelocFields) (all : List PlacedFields) (p : PlacedFields) (r : RelocFields) → Contains all p → Contains p.parts.relocations r → is_in statics r ≡ true
       → Contains (relocations_from frame statics done all) (relocation_moved (moving frame p) r)
   unfolding relocations_from
   from_has done [] p r there among stands = absurd (omega (arith, there.1))
@@ -93,31 +93,31 @@ module _ (frame : ShapeFields) (statics : Bool) where
 
 -- ---- both kinds
 
-stands_one : (r : RelocFields) → (stands_in false r ≡ true) ⊎ (stands_in true r ≡ true)
+stands_one : (r : RelocFields) → (is_in false r ≡ true) ⊎ (is_in true r ≡ true)
 stands_one r = by (is_text_section r.section)
   where
     by : (b : Bool) → (b ≡ true) ⊎ (not b ≡ true)
     by true = inl refl
     by false = inr refl
 
-moved_is : (bound : PartsFields) (p : PlacedFields) (r : RelocFields) → IsWithin bound p → IsMovedRelocation bound p r (relocation_moved (moving (shape_of bound) p) r)
+moved_is : (bound : PartsFields) (p : PlacedFields) (r : RelocFields) → IsWithin bound p → IsRelocatedMark bound p r (relocation_moved (moving (shape_of bound) p) r)
 moved_is bound p r within = record { place = spot_names bound p within r.section r.offset; part = refl; target = refl }
 
 abbrev pub both : ShapeFields → List PlacedFields → List RelocFields
 both frame all = relocations_from frame true (relocations_from frame false [] all) all
 
 pub relocation_stands : (bound : PartsFields) (all : List PlacedFields) (p : PlacedFields) (r : RelocFields) → bound.relocations ≡ both (shape_of bound) all → IsWithin bound p
-    → Contains all p → Contains p.parts.relocations r → MovedRelocation bound p r
+    → Contains all p → Contains p.parts.relocations r → RelocatedRelocation bound p r
 relocation_stands bound all p r are within there among = by (stands_one r)
   where
-    stands : Contains (both (shape_of bound) all) (relocation_moved (moving (shape_of bound) p) r) → MovedRelocation bound p r
+    stands : Contains (both (shape_of bound) all) (relocation_moved (moving (shape_of bound) p) r) → RelocatedRelocation bound p r
     stands has = record {
       new = relocation_moved (moving (shape_of bound) p) r;
       among = subst (λ (xs : List RelocFields). Contains xs (relocation_moved (moving (shape_of bound) p) r)) (sym are) has;
       moved = moved_is bound p r within;
     }
 
-    by : (stands_in false r ≡ true) ⊎ (stands_in true r ≡ true) → MovedRelocation bound p r
+    by : (is_in false r ≡ true) ⊎ (is_in true r ≡ true) → RelocatedRelocation bound p r
     by (inl text) =
         stands (from_keeps (shape_of bound) true (relocations_from (shape_of bound) false [] all) all (relocation_moved (moving (shape_of bound) p) r)
         (from_has (shape_of bound) false [] all p r there among text))
@@ -135,7 +135,7 @@ relocation_source bound all x are within among =
       one = there;
       old = r;
       among = old;
-      moved = subst (λ (y : RelocFields). IsMovedRelocation bound p r y) (sym is) (moved_is bound p r (within p there));
+      moved = subst (λ (y : RelocFields). IsRelocatedMark bound p r y) (sym is) (moved_is bound p r (within p there));
     }
 
     first : FromAny (shape_of bound) false [] all x → RelocationSource bound all x

@@ -8,59 +8,59 @@ use Rattle.obj36_parts.specs.Fields.{RelocFields}
 use Rattle.obj36_parts.specs.Halves.{left}
 use Rattle.obj36_parts.specs.Sections.{place_number}
 use Rattle.obj36_parts.specs.ObjectSegment.{part_of, order_of, are_rising}
-use Rattle.m36_relocate.specs.Words.{stands_in, place_in, moved_at, one_moved, words_moved, word_moved}
-use Rattle.m36_relocate.specs.declared.layout.Moving.{Moving}
+use Rattle.m36_relocate.specs.Words.{is_in, place_in, moved_at, one_moved, relocated_words, relocated_word}
+use Rattle.m36_relocate.specs.declared.layout.Relocation.{Relocation}
 use Rattle.m36_bind.proofs.WordParts.{overlap, cut_to, number_put, put_below, put_got, put_kept, put_first, word_puts}
 
 -- ---- one word
 
-module _ (m : Moving) (statics : Bool) (i : ℕ) where
+module _ (m : Relocation) (statics : Bool) (i : ℕ) where
   -- whether a relocation is of a part of the word
   unfoldable pub at : RelocFields → Bool
-  at r = stands_in statics r && eqb (place_in m.shape statics r) i
+  at r = is_in statics r && eqb (place_in m.shape statics r) i
 
   pub one_by : RelocFields → ℕ → ℕ
-  one_by r w = cond (at r) (word_moved m r w) w
+  one_by r w = cond (at r) (relocated_word m r w) w
 
   pub word_by : List RelocFields → ℕ → ℕ
   word_by [] w = w
   word_by (r ∷ rs) w = word_by rs (one_by r w)
 
   placed_one : (r : RelocFields) (j : ℕ) (words : List ℕ) (b e : Bool) → i < length words → eqb j i ≡ e
-      → slice_index (cond b (moved_at m r j words) words) i ≡ cond (b && e) (word_moved m r (slice_index words i)) (slice_index words i)
+      → slice_index (cond b (moved_at m r j words) words) i ≡ cond (b && e) (relocated_word m r (slice_index words i)) (slice_index words i)
   placed_one r j words false e lt is = refl
   placed_one r j words true true lt is =
       ap (λ k. slice_index (moved_at m r k words) i) (eqb-true j i is)
-      ∙ ap (λ c. slice_index (cond c (slice_set words i (word_moved m r (slice_index words i))) words) i) (lt-ltb i (length words) lt)
-      ∙ get_or-set_same words i (word_moved m r (slice_index words i)) 0 lt
+      ∙ ap (λ c. slice_index (cond c (slice_set words i (relocated_word m r (slice_index words i))) words) i) (lt-ltb i (length words) lt)
+      ∙ get_or-set_same words i (relocated_word m r (slice_index words i)) 0 lt
   placed_one r j words true false lt is = by (ltb j (length words))
     where
-      by : (c : Bool) → slice_index (cond c (slice_set words j (word_moved m r (slice_index words j))) words) i ≡ slice_index words i
-      by true = get_or-set_other words j i (word_moved m r (slice_index words j)) 0 (λ same. true≢false (sym (eq-eqb j i (sym same)) ∙ is))
+      by : (c : Bool) → slice_index (cond c (slice_set words j (relocated_word m r (slice_index words j))) words) i ≡ slice_index words i
+      by true = get_or-set_other words j i (relocated_word m r (slice_index words j)) 0 (λ same. true≢false (sym (eq-eqb j i (sym same)) ∙ is))
       by false = refl
 
   one_at : (r : RelocFields) (words : List ℕ) → i < length words → slice_index (one_moved m statics r words) i ≡ one_by r (slice_index words i)
   unfolding one_moved one_by at
-  one_at r words lt = placed_one r (place_in m.shape statics r) words (stands_in statics r) (eqb (place_in m.shape statics r) i) lt refl
+  one_at r words lt = placed_one r (place_in m.shape statics r) words (is_in statics r) (eqb (place_in m.shape statics r) i) lt refl
 
-pub one_long : (m : Moving) (statics : Bool) (r : RelocFields) (words : List ℕ) → length (one_moved m statics r words) ≡ length words
+pub one_long : (m : Relocation) (statics : Bool) (r : RelocFields) (words : List ℕ) → length (one_moved m statics r words) ≡ length words
 unfolding one_moved
-one_long m statics r words = by (stands_in statics r) (ltb (place_in m.shape statics r) (length words))
+one_long m statics r words = by (is_in statics r) (ltb (place_in m.shape statics r) (length words))
   where
     by : (b c : Bool)
-        → length (cond b (cond c (slice_set words (place_in m.shape statics r) (word_moved m r (slice_index words (place_in m.shape statics r)))) words) words) ≡ length words
-    by true true = length-set words (place_in m.shape statics r) (word_moved m r (slice_index words (place_in m.shape statics r)))
+        → length (cond b (cond c (slice_set words (place_in m.shape statics r) (relocated_word m r (slice_index words (place_in m.shape statics r)))) words) words) ≡ length words
+    by true true = length-set words (place_in m.shape statics r) (relocated_word m r (slice_index words (place_in m.shape statics r)))
     by true false = refl
     by false c = refl
 
-pub words_long : (m : Moving) (statics : Bool) (rs : List RelocFields) (words : List ℕ) → length (words_moved m statics rs words) ≡ length words
-unfolding words_moved
+pub words_long : (m : Relocation) (statics : Bool) (rs : List RelocFields) (words : List ℕ) → length (relocated_words m statics rs words) ≡ length words
+unfolding relocated_words
 words_long m statics [] words = refl
 words_long m statics (r ∷ rs) words = words_long m statics rs (one_moved m statics r words) ∙ one_long m statics r words
 
-pub word_at : (m : Moving) (statics : Bool) (i : ℕ) (rs : List RelocFields) (words : List ℕ) → i < length words
-    → slice_index (words_moved m statics rs words) i ≡ word_by m statics i rs (slice_index words i)
-unfolding words_moved word_by
+pub word_at : (m : Relocation) (statics : Bool) (i : ℕ) (rs : List RelocFields) (words : List ℕ) → i < length words
+    → slice_index (relocated_words m statics rs words) i ≡ word_by m statics i rs (slice_index words i)
+unfolding relocated_words word_by
 word_at m statics i [] words lt = refl
 word_at m statics i (r ∷ rs) words lt =
     word_at m statics i rs (one_moved m statics r words) (let long : length (one_moved m statics r words) ≡ length words = one_long m statics r words in omega (arith, long, lt))
@@ -74,12 +74,12 @@ AreApart at [] = Unit {0}
 AreApart at (r ∷ rs) =
     (r.part ≤ 2) × ((s : RelocFields) → Contains rs s → at r ≡ true → at s ≡ true → (overlap r.part s.part ≡ false) × (overlap s.part r.part ≡ false)) × AreApart at rs
 
-module _ (m : Moving) (statics : Bool) (i : ℕ) where
+module _ (m : Relocation) (statics : Bool) (i : ℕ) where
   one_below : (r : RelocFields) (w : ℕ) → w < 2 ^ 36 → one_by m statics i r w < 2 ^ 36
   unfolding one_by
   one_below r w small = by (at m statics i r)
     where
-      by : (b : Bool) → cond b (word_moved m r w) w < 2 ^ 36
+      by : (b : Bool) → cond b (relocated_word m r w) w < 2 ^ 36
       by true = subst (λ x. x < 2 ^ 36) (sym (word_puts m r w)) (put_below r.part w (number_put m r.target r.part (part_of r.part w)))
       by false = small
 
@@ -87,9 +87,9 @@ module _ (m : Moving) (statics : Bool) (i : ℕ) where
       → part_of k (one_by m statics i r w) ≡ part_of k w
   unfolding one_by
   one_kept r k w true is few part apart small =
-      ap (λ b. part_of k (cond b (word_moved m r w) w)) is ∙ ap (part_of k) (word_puts m r w)
+      ap (λ b. part_of k (cond b (relocated_word m r w) w)) is ∙ ap (part_of k) (word_puts m r w)
       ∙ put_kept r.part k w (number_put m r.target r.part (part_of r.part w)) few part (apart refl) small
-  one_kept r k w false is few part apart small = ap (λ b. part_of k (cond b (word_moved m r w) w)) is
+  one_kept r k w false is few part apart small = ap (λ b. part_of k (cond b (relocated_word m r w) w)) is
 
   pub word_kept : (rs : List RelocFields) (k w : ℕ) → w < 2 ^ 36 → k ≤ 2 → AreApart (at m statics i) rs
       → ((r : RelocFields) → Contains rs r → at m statics i r ≡ true → overlap r.part k ≡ false)
@@ -104,9 +104,9 @@ module _ (m : Moving) (statics : Bool) (i : ℕ) where
       → left (one_by m statics i r w) / 2 ^ 15 ≡ left w / 2 ^ 15
   unfolding one_by
   one_first r w true is few other small =
-      ap (λ b. left (cond b (word_moved m r w) w) / 2 ^ 15) is ∙ ap (λ x. left x / 2 ^ 15) (word_puts m r w)
+      ap (λ b. left (cond b (relocated_word m r w) w) / 2 ^ 15) is ∙ ap (λ x. left x / 2 ^ 15) (word_puts m r w)
       ∙ put_first r.part w (number_put m r.target r.part (part_of r.part w)) few (other refl) small
-  one_first r w false is few other small = ap (λ b. left (cond b (word_moved m r w) w) / 2 ^ 15) is
+  one_first r w false is few other small = ap (λ b. left (cond b (relocated_word m r w) w) / 2 ^ 15) is
 
   -- bits 0 to 2 do not change if no relocation is of the left half
   pub word_first : (rs : List RelocFields) (w : ℕ) → w < 2 ^ 36 → AreApart (at m statics i) rs
@@ -121,7 +121,7 @@ module _ (m : Moving) (statics : Bool) (i : ℕ) where
   one_moved_part : (r : RelocFields) (w : ℕ) → at m statics i r ≡ true → part_of r.part (one_by m statics i r w) ≡ cut_to r.part (number_put m r.target r.part (part_of r.part w))
   unfolding one_by
   one_moved_part r w is =
-      ap (λ b. part_of r.part (cond b (word_moved m r w) w)) is ∙ ap (part_of r.part) (word_puts m r w)
+      ap (λ b. part_of r.part (cond b (relocated_word m r w) w)) is ∙ ap (part_of r.part) (word_puts m r w)
       ∙ put_got r.part w (number_put m r.target r.part (part_of r.part w))
 
   pub word_part : (rs : List RelocFields) (w : ℕ) (s : RelocFields) → w < 2 ^ 36 → AreApart (at m statics i) rs → s.part ≤ 2 → Contains rs s → at m statics i s ≡ true

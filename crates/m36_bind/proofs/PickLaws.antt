@@ -10,11 +10,11 @@ use Rattle.m36_bindfile.specs.declared.line.BindLine.{BindLine}
 use Rattle.m36_bindfile.specs.BindFile.{Refuses}
 use Rattle.m36_relocate.specs.Fields.{BasesFields}
 use Rattle.m36_bind.specs.Given.{GivenFields}
-use Rattle.m36_relocate.specs.Layout.{bases_behind}
+use Rattle.m36_relocate.specs.Layout.{next_bases}
 use Rattle.m36_relocate.specs.Exports.{own_from}
 use Rattle.m36_relocate.specs.declared.exports.Export.{Export}
 use Rattle.m36_text.specs.Results.{and_then}
-use Rattle.m36_bind.specs.Components.{PlacedFields, AllFields, component, with_component, no_components, names_of, placed_in, picked_one, picked_line, picked_from, picked_of, Picks}
+use Rattle.m36_bind.specs.Components.{PlacedFields, AllFields, component, with_component, no_components, names_of, placed_in, picked_one, picked_line, picked_from, picked_of, AddsComponent}
 use Rattle.m36_bind.proofs.ComponentLaws.{refused_on, refused_whole}
 
 -- ---- one component
@@ -22,7 +22,7 @@ use Rattle.m36_bind.proofs.ComponentLaws.{refused_on, refused_whole}
 pub pick_done :
     (before after : List PlacedFields) (next behind : BasesFields) (n : ℕ) (name : List ℕ) (p q : PartsFields) (table : List (List ℕ × Export))
     → list_any (same name) (names_of before) ≡ false → q ≡ p → table ≡ own_from [] q.definitions
-    → after ≡ before ++ component name q next table ∷ [] → behind ≡ bases_behind next q
+    → after ≡ before ++ component name q next table ∷ [] → behind ≡ next_bases next q
     → picked_one (record { placed = before; next = next }) n name (Some p) ≡ Ok (record { placed = after; next = behind })
 pick_done before after next behind n name p q table fresh is tabled grown goes =
     let all : AllFields = record { placed = before; next = next } in
@@ -31,7 +31,7 @@ pick_done before after next behind n name p q table fresh is tabled grown goes =
     ap (λ (r : PartsFields). before ++ component name r next (own_from [] r.definitions) ∷ []) (sym is)
     ∙ ap (λ (t : List (List ℕ × Export)). before ++ component name q next t ∷ []) (sym tabled) ∙ sym grown
     in
-    let bases : bases_behind next p ≡ behind = ap (bases_behind next) (sym is) ∙ sym goes in
+    let bases : next_bases next p ≡ behind = ap (next_bases next) (sym is) ∙ sym goes in
     ap (λ (b : Bool). cond b (Err (fault.B3 n)) (Ok (with_component all (component name p next (own_from [] p.definitions))))) fresh
     ∙ (λ i. Ok (old (items i) (bases i)))
 
@@ -47,9 +47,9 @@ pub ruleset picking = (pick_done, pick_refused)
 
 pub pick_found :
     (new : List PlacedFields) (result : Result BasesFields BindFault) (all : AllFields) (n : ℕ) (name : List ℕ) (found given : Option PartsFields)
-    → found ≡ given → Picks new result (picked_one all n name found) → Picks new result (picked_one all n name given)
+    → found ≡ given → AddsComponent new result (picked_one all n name found) → AddsComponent new result (picked_one all n name given)
 pick_found new result all n name found given is picks =
-    let P : Option PartsFields → Type 0 = λ o. Picks new result (picked_one all n name o) in subst P is picks
+    let P : Option PartsFields → Type 0 = λ o. AddsComponent new result (picked_one all n name o) in subst P is picks
 
 -- ---- lines in order
 
@@ -63,8 +63,8 @@ pub pick_goes :
     (given : GivenFields) (all more : AllFields) (n : ℕ) (line : BindLine) (others rest : List BindLine) (whole : Result AllFields BindFault)
     → rest ≡ line ∷ others → picked_line given all n line ≡ Ok more → picked_from given all n rest ≡ whole
     → picked_from given more (n + 1) others ≡ whole
-pick_goes given all more n line others rest whole is picked so_far =
-    sym (ap (λ (d : Result AllFields BindFault). and_then d (λ m. picked_from given m (n + 1) others)) picked)
+pick_goes given all more n line others rest whole is components_of so_far =
+    sym (ap (λ (d : Result AllFields BindFault). and_then d (λ m. picked_from given m (n + 1) others)) components_of)
     ∙ sym (first_picked given all n line others rest is) ∙ so_far
 
 pub pick_stops :

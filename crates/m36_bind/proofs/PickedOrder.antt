@@ -11,7 +11,7 @@ use Rattle.m36_bindfile.specs.declared.line.BindLine.{BindLine}
 use Rattle.m36_bindfile.specs.declared.line.BindLine.TheVariants as line
 use Rattle.m36_relocate.specs.Fields.{BasesFields}
 use Rattle.m36_bind.specs.Given.{GivenFields, object_named}
-use Rattle.m36_relocate.specs.Layout.{shape_of, bases_behind, first_bases}
+use Rattle.m36_relocate.specs.Layout.{shape_of, next_bases, first_bases}
 use Rattle.m36_relocate.specs.Exports.{own_from}
 use Rattle.m36_text.specs.Results.{and_then}
 use Rattle.m36_bind.specs.Components.{PlacedFields, AllFields, component, with_component, no_components, names_of, placed_in, picked_one, picked_from, picked_of}
@@ -24,7 +24,7 @@ went (Err told) f o e = absurd cc
 -- components in order, up to where the next begins
 InOrderTo : BasesFields → List PlacedFields → BasesFields → Type 0
 InOrderTo b [] next = next ≡ b
-InOrderTo b (p ∷ all) next = (p.bases ≡ b) × (p.shape ≡ shape_of p.parts) × InOrderTo (bases_behind b p.parts) all next
+InOrderTo b (p ∷ all) next = (p.bases ≡ b) × (p.shape ≡ shape_of p.parts) × InOrderTo (next_bases b p.parts) all next
 
 AreFormed : List PlacedFields → Type 0
 AreFormed all = (p : PlacedFields) → Contains all p → is_well_formed p.parts ≡ true
@@ -32,13 +32,13 @@ AreFormed all = (p : PlacedFields) → Contains all p → is_well_formed p.parts
 in_order : (b : BasesFields) (all : List PlacedFields) (next : BasesFields) → InOrderTo b all next → AreInOrder b all
 unfolding InOrderTo AreInOrder
 in_order b [] next e = tt
-in_order b (p ∷ all) next e = (e.0, e.1, in_order (bases_behind b p.parts) all next e.2)
+in_order b (p ∷ all) next e = (e.0, e.1, in_order (next_bases b p.parts) all next e.2)
 
 one_more : (b : BasesFields) (all : List PlacedFields) (next : BasesFields) (p : PlacedFields) → InOrderTo b all next → p.bases ≡ next → p.shape ≡ shape_of p.parts
-    → InOrderTo b (all ++ p ∷ []) (bases_behind next p.parts)
+    → InOrderTo b (all ++ p ∷ []) (next_bases next p.parts)
 unfolding InOrderTo
-one_more b [] next p e is shaped = (is ∙ e, shaped, ap (λ (x : BasesFields). bases_behind x p.parts) e)
-one_more b (q ∷ all) next p e is shaped = (e.0, e.1, one_more (bases_behind b q.parts) all next p e.2 is shaped)
+one_more b [] next p e is shaped = (is ∙ e, shaped, ap (λ (x : BasesFields). next_bases x p.parts) e)
+one_more b (q ∷ all) next p e is shaped = (e.0, e.1, one_more (next_bases b q.parts) all next p e.2 is shaped)
 
 formed_more : (all : List PlacedFields) (p : PlacedFields) → AreFormed all → is_well_formed p.parts ≡ true → AreFormed (all ++ p ∷ [])
 unfolding AreFormed

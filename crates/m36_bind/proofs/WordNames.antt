@@ -12,11 +12,11 @@ use Rattle.obj36_parts.specs.declared.section.Section.{Section}
 use Rattle.obj36_parts.specs.declared.section.Section.TheVariants.{Text, Linkage, Symbol, Static}
 use Rattle.obj36_parts.proofs.Formed.{is_formed}
 use Rattle.m36_relocate.specs.Fields.{ShapeFields}
-use Rattle.m36_relocate.specs.Layout.{shape_of, meant, number_moved}
-use Rattle.m36_relocate.specs.Words.{stands_in, place_in, words_in, offset_raised, below_zero, part_fits, one_fits, all_fit}
+use Rattle.m36_relocate.specs.Layout.{shape_of, denoted, relocated_number}
+use Rattle.m36_relocate.specs.Words.{is_in, place_in, words_in, offset_raised, below_zero, part_fits, one_fits, all_fit}
 use Rattle.m36_bind.specs.Components.{PlacedFields, moving}
-use Rattle.m36_bind.specs.Meaning.{Moves, IsMovedWord}
-use Rattle.m36_relocate.specs.declared.layout.Moving.{Moving}
+use Rattle.m36_bind.specs.Meaning.{IsRelocationAt, IsRelocatedWord}
+use Rattle.m36_relocate.specs.declared.layout.Relocation.{Relocation}
 use Rattle.m36_bind.proofs.WordParts.{overlap, cut_to, number_put, first_field, offset_field, right_field}
 use Rattle.m36_bind.proofs.MovedWords.{at, word_by, word_kept, word_first, word_part, AreApart, AreOf, rising_apart, parts_apart}
 use Rattle.m36_bind.proofs.Images.{IsWithin, number_names}
@@ -74,7 +74,7 @@ module _ (frame : ShapeFields) (p : PlacedFields) (formed : is_well_formed p.par
       let a = and_parts (is_place (length parts.text) inner outer r.section r.offset) (ltb r.offset (2 ^ 18)) b.0 in (
         leb-true r.part 2 b.1,
         λ here.
-            let h = and_parts (stands_in statics r) (eqb (place_in p.shape statics r) i) here in
+            let h = and_parts (is_in statics r) (eqb (place_in p.shape statics r) i) here in
             let newer : p.shape.newer ≡ is_newer parts = ap (λ (s : ShapeFields). s.newer) shaped in
             let number : place_number r.section * 2 ^ 18 + r.offset ≡ word_number statics p.shape.newer i =
             word_numbered statics p.shape.newer r.section r.offset i (length parts.text) inner outer a.0 (λ e. inner_none parts (sym newer ∙ e)) (λ e. outer_none parts (sym newer ∙ e))
@@ -86,36 +86,36 @@ module _ (frame : ShapeFields) (p : PlacedFields) (formed : is_well_formed p.par
   apart : AreApart (at (moving frame p) statics i) p.parts.relocations
   apart = rising_apart (at (moving frame p) statics i) (word_number statics p.shape.newer i) 0 3 p.parts.relocations (is_formed p.parts formed).rising of_word
 
-  here_at : (r : RelocFields) → Moves p statics i r → at (moving frame p) statics i r ≡ true
+  here_at : (r : RelocFields) → IsRelocationAt p statics i r → at (moving frame p) statics i r ≡ true
   unfolding at
   here_at r moves = (λ j. moves.stands j && eqb (moves.place j) i) ∙ eq-eqb i i refl
 
-  pub part_moved : (w : ℕ) (r : RelocFields) → w < 2 ^ 36 → Moves p statics i r
+  pub part_moved : (w : ℕ) (r : RelocFields) → w < 2 ^ 36 → IsRelocationAt p statics i r
       → part_of r.part (word_by (moving frame p) statics i p.parts.relocations w) ≡ cut_to r.part (number_put (moving frame p) r.target r.part (part_of r.part w))
   part_moved w r small moves =
       word_part (moving frame p) statics i p.parts.relocations w r small apart (of_word r moves.among).0 moves.among (here_at r moves)
 
-  pub part_kept : (w k : ℕ) → w < 2 ^ 36 → k ≤ 2 → ((r : RelocFields) → Moves p statics i r → overlap r.part k ≡ false)
+  pub part_kept : (w k : ℕ) → w < 2 ^ 36 → k ≤ 2 → ((r : RelocFields) → IsRelocationAt p statics i r → overlap r.part k ≡ false)
       → part_of k (word_by (moving frame p) statics i p.parts.relocations w) ≡ part_of k w
   unfolding at
   part_kept w k small part none =
       word_kept (moving frame p) statics i p.parts.relocations k w small part apart
       (λ r among here.
-      let h = and_parts (stands_in statics r) (eqb (place_in p.shape statics r) i) here in
+      let h = and_parts (is_in statics r) (eqb (place_in p.shape statics r) i) here in
       none r (record { among = among; stands = h.0; place = eqb-true (place_in p.shape statics r) i h.1 }))
 
-  pub first_kept : (w : ℕ) → w < 2 ^ 36 → ((r : RelocFields) → Moves p statics i r → r.part ≡ 0 → ⊥)
+  pub first_kept : (w : ℕ) → w < 2 ^ 36 → ((r : RelocFields) → IsRelocationAt p statics i r → r.part ≡ 0 → ⊥)
       → left (word_by (moving frame p) statics i p.parts.relocations w) / 2 ^ 15 ≡ left w / 2 ^ 15
   unfolding at
   first_kept w small none =
       word_first (moving frame p) statics i p.parts.relocations w small apart
       (λ r among here.
-      let h = and_parts (stands_in statics r) (eqb (place_in p.shape statics r) i) here in
+      let h = and_parts (is_in statics r) (eqb (place_in p.shape statics r) i) here in
       none r (record { among = among; stands = h.0; place = eqb-true (place_in p.shape statics r) i h.1 }))
 
 -- ---- the parts that fit
 
-fits_at : (m : Moving) (statics : Bool) (words : List ℕ) (rs : List RelocFields) (r : RelocFields) → all_fit m statics words rs ≡ true → Contains rs r → one_fits m statics words r ≡ true
+fits_at : (m : Relocation) (statics : Bool) (words : List ℕ) (rs : List RelocFields) (r : RelocFields) → all_fit m statics words rs ≡ true → Contains rs r → one_fits m statics words r ≡ true
 unfolding all_fit
 fits_at m statics words [] r e among = absurd (omega (arith, among.1))
 fits_at m statics words (x ∷ rs) r e (zero, lt, same) = ap (one_fits m statics words) (sym same) ∙ first (one_fits m statics words x) e
@@ -129,8 +129,8 @@ fits_at m statics words (x ∷ rs) r e (suc k, lt, same) = fits_at m statics wor
     later true e = e
     later false e = absurd (true≢false (sym e))
 
-pub fits_of : (m : Moving) (statics : Bool) (words : List ℕ) (rs : List RelocFields) (r : RelocFields) (i : ℕ) → all_fit m statics words rs ≡ true → Contains rs r
-    → stands_in statics r ≡ true → place_in m.shape statics r ≡ i → part_fits m r (slice_index words i) ≡ true
+pub fits_of : (m : Relocation) (statics : Bool) (words : List ℕ) (rs : List RelocFields) (r : RelocFields) (i : ℕ) → all_fit m statics words rs ≡ true → Contains rs r
+    → is_in statics r ≡ true → place_in m.shape statics r ≡ i → part_fits m r (slice_index words i) ≡ true
 unfolding one_fits
 fits_of m statics words rs r i e among stands place =
     ap (λ j. part_fits m r (slice_index words j)) (sym place)
@@ -142,15 +142,15 @@ low_fits n v raised number two fits is =
     let lt : ltb raised (2 ^ 15 + 2 ^ 14) ≡ true = ap (λ k. cond (eqb k 0) true (cond (eqb k 1) true (ltb raised (2 ^ 15 + 2 ^ 14)))) (sym two) ∙ fits in
     omega (arith, ltb-true raised (2 ^ 15 + 2 ^ 14) lt, is)
 
-number_in : (m : Moving) (target : Section) (n w : ℕ) → n ≤ 2 → (n ≡ 2 → part_of 2 w < 2 ^ 14)
+number_in : (m : Relocation) (target : Section) (n w : ℕ) → n ≤ 2 → (n ≡ 2 → part_of 2 w < 2 ^ 14)
     → cond (eqb n 0) true (cond (eqb n 1) true (ltb (offset_raised m target (offset_in w)) (2 ^ 15 + 2 ^ 14))) ≡ true
-    → cut_to n (number_put m target n (part_of n w)) ≡ number_moved m target (part_of n w) % 2 ^ 18
+    → cut_to n (number_put m target n (part_of n w)) ≡ relocated_number m target (part_of n w) % 2 ^ 18
 unfolding cut_to number_put part_of offset_raised
 number_in m target zero w few low fits = refl
 number_in m target (suc zero) w few low fits = refl
 number_in m target (suc (suc zero)) w few low fits =
     let v : ℕ = offset_in w in
-    let number : ℕ = number_moved m target v in
+    let number : ℕ = relocated_number m target v in
     let raised : cond (ltb v (2 ^ 14)) (2 ^ 15 + number) (below_zero m.bases target v) ≡ 2 ^ 15 + number =
     cond-true (ltb v (2 ^ 14)) (2 ^ 15 + number) (below_zero m.bases target v) (lt-ltb v (2 ^ 14) (low refl))
     in
@@ -158,32 +158,32 @@ number_in m target (suc (suc zero)) w few low fits =
     ap (λ n. n % 2 ^ 15) raised ∙ (let k : (2 ^ 15 + number) % 2 ^ 15 ≡ number % 2 ^ 18 = omega (arith, lt) in k)
 number_in m target (suc (suc (suc n))) w few low fits = absurd (omega (arith, few))
 
-below_in : (m : Moving) (target : Section) (w : ℕ) → 2 ^ 14 ≤ part_of 2 w → cut_to 2 (number_put m target 2 (part_of 2 w)) ≡ below_zero m.bases target (part_of 2 w) % 2 ^ 15
+below_in : (m : Relocation) (target : Section) (w : ℕ) → 2 ^ 14 ≤ part_of 2 w → cut_to 2 (number_put m target 2 (part_of 2 w)) ≡ below_zero m.bases target (part_of 2 w) % 2 ^ 15
 unfolding cut_to number_put part_of offset_raised
 below_in m target w high =
     let v : ℕ = offset_in w in
-    ap (λ n. n % 2 ^ 15) (cond-false (ltb v (2 ^ 14)) (2 ^ 15 + number_moved m target v) (below_zero m.bases target v) (le-ltb v (2 ^ 14) high))
+    ap (λ n. n % 2 ^ 15) (cond-false (ltb v (2 ^ 14)) (2 ^ 15 + relocated_number m target v) (below_zero m.bases target v) (le-ltb v (2 ^ 14) high))
 
 pub word_means : (bound : PartsFields) (p : PlacedFields) (statics : Bool) (i w : ℕ) → IsWithin bound p → is_well_formed p.parts ≡ true → p.shape ≡ shape_of p.parts
     → all_fit (moving (shape_of bound) p) statics (words_in statics p.parts) p.parts.relocations ≡ true → w ≡ slice_index (words_in statics p.parts) i → w < 2 ^ 36
-    → IsMovedWord bound p statics i w (word_by (moving (shape_of bound) p) statics i p.parts.relocations w)
+    → IsRelocatedWord bound p statics i w (word_by (moving (shape_of bound) p) statics i p.parts.relocations w)
 unfolding part_fits
 word_means bound p statics i w within formed shaped fits is small =
     let frame = shape_of bound in
     let m = moving frame p in
     let rs = p.parts.relocations in
     let new = word_by m statics i rs w in
-    let moved : (r : RelocFields) → Moves p statics i r → part_of r.part new ≡ cut_to r.part (number_put m r.target r.part (part_of r.part w)) =
+    let moved : (r : RelocFields) → IsRelocationAt p statics i r → part_of r.part new ≡ cut_to r.part (number_put m r.target r.part (part_of r.part w)) =
     λ r moves. part_moved frame p formed shaped statics i w r small moves
     in
     record {
       names = λ r moves low there.
-          let number : part_of r.part new ≡ number_moved m r.target (part_of r.part w) % 2 ^ 18 =
+          let number : part_of r.part new ≡ relocated_number m r.target (part_of r.part w) % 2 ^ 18 =
           moved r moves
           ∙ number_in m r.target r.part w (of_word frame p formed shaped statics i r moves.among).0 low
           (ap (λ x. part_fits m r x) is ∙ fits_of m statics (words_in statics p.parts) rs r i fits moves.among moves.stands moves.place)
           in
-          ap (λ n. meant frame r.target n) number ∙ number_names bound p within r.target (part_of r.part w) there;
+          ap (λ n. denoted frame r.target n) number ∙ number_names bound p within r.target (part_of r.part w) there;
       below = λ r moves two high.
           ap (λ n. part_of n new) (sym two) ∙ moved r moves ∙ ap (λ n. cut_to n (number_put m r.target n (part_of n w))) two ∙ below_in m r.target w high;
       first_bits = λ none.

@@ -6,9 +6,9 @@ use Rattle.obj36_parts.specs.Halves.{left, right, offset_in, joined}
 use Rattle.obj36_parts.specs.ObjectSegment.{part_of}
 use Rattle.m36_word.specs.Field.{field}
 use Rattle.obj36_parts.specs.declared.section.Section.{Section}
-use Rattle.m36_relocate.specs.Layout.{number_moved}
-use Rattle.m36_relocate.specs.Words.{with_offset, offset_raised, word_moved}
-use Rattle.m36_relocate.specs.declared.layout.Moving.{Moving}
+use Rattle.m36_relocate.specs.Layout.{relocated_number}
+use Rattle.m36_relocate.specs.Words.{with_offset, offset_raised, relocated_word}
+use Rattle.m36_relocate.specs.declared.layout.Relocation.{Relocation}
 
 -- whether two parts of a word have bits in common
 abbrev pub overlap : ℕ → ℕ → Bool
@@ -115,28 +115,28 @@ right_field w = omega arith
 
 -- ---- the number that a relocation stores
 
-unfoldable pub number_put : Moving → Section → ℕ → ℕ → ℕ
-number_put m target zero v = number_moved m target v
-number_put m target (suc zero) v = number_moved m target v
+unfoldable pub number_put : Relocation → Section → ℕ → ℕ → ℕ
+number_put m target zero v = relocated_number m target v
+number_put m target (suc zero) v = relocated_number m target v
 number_put m target (suc (suc n)) v = offset_raised m target v
 
-moved_by : Moving → Section → ℕ → ℕ → ℕ
+moved_by : Relocation → Section → ℕ → ℕ → ℕ
 moved_by m target n w =
-    cond (eqb n 0) (joined (number_moved m target (left w)) (right w))
-    (cond (eqb n 1) (joined (left w) (number_moved m target (right w))) (with_offset w (offset_raised m target (offset_in w))))
+    cond (eqb n 0) (joined (relocated_number m target (left w)) (right w))
+    (cond (eqb n 1) (joined (left w) (relocated_number m target (right w))) (with_offset w (offset_raised m target (offset_in w))))
 
-moved_puts : (m : Moving) (target : Section) (n w : ℕ) → moved_by m target n w ≡ put_in n w (number_put m target n (part_of n w))
+moved_puts : (m : Relocation) (target : Section) (n w : ℕ) → moved_by m target n w ≡ put_in n w (number_put m target n (part_of n w))
 unfolding moved_by put_in number_put part_of
 moved_puts m target zero w = refl
 moved_puts m target (suc zero) w = refl
 moved_puts m target (suc (suc n)) w =
-    let here : ℕ = joined (number_moved m target (left w)) (right w) in
-    let there : ℕ = joined (left w) (number_moved m target (right w)) in
+    let here : ℕ = joined (relocated_number m target (left w)) (right w) in
+    let there : ℕ = joined (left w) (relocated_number m target (right w)) in
     let low : ℕ = with_offset w (offset_raised m target (offset_in w)) in
     cond-false (eqb (suc (suc n)) 0) here (cond (eqb (suc (suc n)) 1) there low) (ne_eqb (suc (suc n)) 0 (λ same. absurd (omega (arith, same))))
     ∙ cond-false (eqb (suc (suc n)) 1) there low (ne_eqb (suc (suc n)) 1 (λ same. absurd (omega (arith, same))))
     ∙ ap (λ v. with_offset w (offset_raised m target v)) (sym (later_part n w))
 
-pub word_puts : (m : Moving) (r : RelocFields) (w : ℕ) → word_moved m r w ≡ put_in r.part w (number_put m r.target r.part (part_of r.part w))
-unfolding word_moved moved_by
+pub word_puts : (m : Relocation) (r : RelocFields) (w : ℕ) → relocated_word m r w ≡ put_in r.part w (number_put m r.target r.part (part_of r.part w))
+unfolding relocated_word moved_by
 word_puts m r w = moved_puts m r.target r.part w

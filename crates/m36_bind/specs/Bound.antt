@@ -11,7 +11,7 @@ use Rattle.std.specs.List.{list_any}
 use Rattle.obj36_parts.specs.Fields.{RelocFields}
 use Rattle.obj36_parts.specs.PartsFields.{PartsFields}
 use Rattle.obj36_parts.specs.ObjectSegment.{is_well_formed, sections_fit}
-use Rattle.obj36_parts.specs.ObjectSegment.{version_of, evened_words}
+use Rattle.obj36_parts.specs.ObjectSegment.{version_of, padded_to_even}
 use Rattle.obj36_parts.specs.declared.definition.Named.{Named}
 use Rattle.m36_bindfile.specs.declared.fault.BindFault.{BindFault}
 use Rattle.m36_bindfile.specs.declared.fault.BindFault.TheVariants as fault
@@ -19,13 +19,13 @@ use Rattle.m36_bindfile.specs.declared.line.BindLine.{BindLine}
 use Rattle.m36_bindfile.specs.BindFile.{bind_lines, asks_newer}
 use Rattle.m36_relocate.specs.Fields.{ShapeFields}
 use Rattle.m36_bind.specs.Given.{GivenFields}
-use Rattle.m36_relocate.specs.Layout.{spot_moved}
-use Rattle.m36_relocate.specs.Words.{stands_in, words_in, words_moved, all_fit}
+use Rattle.m36_relocate.specs.Layout.{relocated_place}
+use Rattle.m36_relocate.specs.Words.{is_in, words_in, relocated_words, all_fit}
 use Rattle.m36_text.specs.Results.{and_then}
 use Rattle.m36_bind.specs.Components.{PlacedFields, moving, picked_of}
 use Rattle.m36_bind.specs.Kept.{exports_from, kept_from}
 use Rattle.m36_bind.specs.Links.{links_from}
-use Rattle.m36_relocate.specs.declared.layout.Moving.{Moving}
+use Rattle.m36_relocate.specs.declared.layout.Relocation.{Relocation}
 
 -- ---- the shape of the bound object
 
@@ -60,29 +60,29 @@ frame_of asked all =
 -- the words of a component, relocated: its text, or its static words
 abbrev pub component_words : ShapeFields → Bool → PlacedFields → List ℕ
 component_words frame statics p =
-    words_moved (moving frame p) statics p.parts.relocations (words_in statics p.parts)
+    relocated_words (moving frame p) statics p.parts.relocations (words_in statics p.parts)
 
 -- the words, and after them those of components, each from an even word on
 unfoldable pub laid_from : ShapeFields → Bool → List ℕ → List PlacedFields → List ℕ
 laid_from frame statics words [] = words
 laid_from frame statics words (p ∷ all) =
-    laid_from frame statics (evened_words words ++ component_words frame statics p) all
+    laid_from frame statics (padded_to_even words ++ component_words frame statics p) all
 
 -- ---- relocations: each of the relocated word, with the same part and target
 
 -- the relocation of the same word in the bound object
-abbrev pub relocation_moved : Moving → RelocFields → RelocFields
+abbrev pub relocation_moved : Relocation → RelocFields → RelocFields
 relocation_moved m r =
-    let s = spot_moved m r.section r.offset in
+    let s = relocated_place m r.section r.offset in
     record { section = s.section; offset = s.offset; part = r.part; target = r.target }
 
 -- the relocations so far, with one of the static words, or of the text, as `statics` says
-abbrev pub with_relocation : Moving → Bool → List RelocFields → RelocFields → List RelocFields
+abbrev pub with_relocation : Relocation → Bool → List RelocFields → RelocFields → List RelocFields
 with_relocation m statics done r =
-    if stands_in statics r then done ++ relocation_moved m r ∷ [] else done
+    if is_in statics r then done ++ relocation_moved m r ∷ [] else done
 
 -- the relocations so far, with those of a component
-unfoldable pub relocations_onto : Moving → Bool → List RelocFields → List RelocFields
+unfoldable pub relocations_onto : Relocation → Bool → List RelocFields → List RelocFields
     → List RelocFields
 relocations_onto m statics done [] = done
 relocations_onto m statics done (r ∷ rs) =

@@ -18,10 +18,10 @@ use Rattle.m36_bindfile.specs.declared.line.BindLine.TheVariants as line
 use Rattle.m36_bindfile.specs.BindFile.{Refuses}
 use Rattle.m36_relocate.specs.Fields.{ShapeFields, BasesFields}
 use Rattle.m36_bind.specs.Given.{GivenFields, object_named}
-use Rattle.m36_relocate.specs.Layout.{shape_of, first_bases, bases_behind}
+use Rattle.m36_relocate.specs.Layout.{shape_of, first_bases, next_bases}
 use Rattle.m36_relocate.specs.Exports.{own_from}
 use Rattle.m36_relocate.specs.declared.exports.Export.{Export}
-use Rattle.m36_relocate.specs.declared.layout.Moving.{Moving}
+use Rattle.m36_relocate.specs.declared.layout.Relocation.{Relocation}
 
 -- A component: the name by which others refer to it, its parts and their shape, where they begin in
 -- the bound object, and its definitions by their names.
@@ -38,7 +38,7 @@ component name p b table =
     record { name = name; parts = p; shape = shape_of p; bases = b; entries = table }
 
 -- how the places of a component are relocated to those of a bound object with this shape
-abbrev pub moving : ShapeFields → PlacedFields → Moving
+abbrev pub moving : ShapeFields → PlacedFields → Relocation
 moving frame p = record { frame = frame; shape = p.shape; bases = p.bases }
 
 -- components in their order, and where the next begins
@@ -57,7 +57,7 @@ names_of all = map (λ p. p.name) all
 -- the components, with one more after them
 abbrev pub with_component : AllFields → PlacedFields → AllFields
 with_component all p =
-    record { placed = all.placed ++ p ∷ []; next = bases_behind all.next p.parts }
+    record { placed = all.placed ++ p ∷ []; next = next_bases all.next p.parts }
 
 -- ---- the component of a name
 
@@ -104,19 +104,19 @@ picked_of given lines =
     and_then (picked_from given no_components 1 lines) (λ all. Ok (placed_in all))
 
 -- The result of a call that adds a component, which is where the next one begins.
-abbrev pub Picks : List PlacedFields → Result BasesFields BindFault → Result AllFields BindFault
+abbrev pub AddsComponent : List PlacedFields → Result BasesFields BindFault → Result AllFields BindFault
     → Type 0
-Picks new (Ok next) definition = definition ≡ Ok (record { placed = new; next = next })
-Picks new (Err told) definition = Refuses told definition
+AddsComponent new (Ok next) definition = definition ≡ Ok (record { placed = new; next = next })
+AddsComponent new (Err told) definition = Refuses told definition
 
 -- bounds for where the components of n lines begin
-pub record AreNear (b : BasesFields) (n : ℕ) : Type 0 where
+pub record AreBounded (b : BasesFields) (n : ℕ) : Type 0 where
   pub text : b.text ≤ 2 ^ 19 * n
   pub statics : b.statics ≤ 2 ^ 19 * n
   pub links : b.links ≤ 2 ^ 19 * n
 
 -- an object has at most 2^18 words of text, 2^18 static words and 2^18 links
-pub record AreFew (p : PartsFields) : Type 0 where
+pub record HasShortParts (p : PartsFields) : Type 0 where
   pub text : length p.text ≤ segment_limit
   pub statics : length p.statics ≤ segment_limit
   pub links : length p.links ≤ segment_limit

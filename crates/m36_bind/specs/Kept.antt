@@ -24,9 +24,9 @@ exports_from frame table (p ∷ all) =
     exports_from frame (moved_from (moving frame p) table p.parts.definitions) all
 
 -- the definitions so far with that of the name that line n retains, or the refusal of the line
-abbrev pub kept_one : List Named → ℕ → List ℕ → Option Export → Result (List Named) BindFault
-kept_one kept n name None = Err (fault.B5 n)
-kept_one kept n name (Some e) =
+abbrev pub with_retained : List Named → ℕ → List ℕ → Option Export → Result (List Named) BindFault
+with_retained kept n name None = Err (fault.B5 n)
+with_retained kept n name (Some e) =
     if has_definition name kept || e.twice then Err (fault.B3 n)
     else Ok (kept ++ record { name = name; def = e.def } ∷ [])
 
@@ -35,7 +35,7 @@ abbrev pub kept_line : List (List ℕ × Export) → List Named → ℕ → Bind
     → Result (List Named) BindFault
 kept_line exports kept n line.Version = Ok kept
 kept_line exports kept n (line.Object name) = Ok kept
-kept_line exports kept n (line.Retain name) = kept_one kept n name (export_named name exports)
+kept_line exports kept n (line.Retain name) = with_retained kept n name (export_named name exports)
 
 -- the definitions, with those of lines from line n on
 unfoldable pub kept_from : List (List ℕ × Export) → List Named → ℕ → List BindLine

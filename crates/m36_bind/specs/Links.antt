@@ -6,14 +6,14 @@ use Rattle.obj36_parts.specs.Fields.{LinkFields}
 use Rattle.obj36_parts.specs.Sections.{later_section}
 use Rattle.obj36_parts.specs.ObjectSegment.{to_section, to_segment, to_entry, to_own_entry}
 use Rattle.m36_relocate.specs.Fields.{ShapeFields}
-use Rattle.m36_relocate.specs.Layout.{spot, spot_moved, text_spot}
+use Rattle.m36_relocate.specs.Layout.{spot, relocated_place, text_spot}
 use Rattle.m36_relocate.specs.Exports.{export_named}
 use Rattle.m36_bind.specs.Components.{PlacedFields, moving, component_named}
 use Rattle.m36_relocate.specs.declared.exports.Export.{Export}
-use Rattle.m36_relocate.specs.declared.layout.Spot.{Spot}
+use Rattle.m36_relocate.specs.declared.layout.BoundPlace.{BoundPlace}
 
 -- a link to a place of the bound object itself, with the same modifier
-abbrev pub own_link : LinkFields → Spot → LinkFields
+abbrev pub own_link : LinkFields → BoundPlace → LinkFields
 own_link l s =
     record {
       kind = to_section;
@@ -25,8 +25,8 @@ own_link l s =
     }
 
 -- the place n words farther in the section
-abbrev pub farther : Spot → ℕ → Spot
-farther s n = spot s.section (s.offset + n)
+abbrev pub offset_by : BoundPlace → ℕ → BoundPlace
+offset_by s n = spot s.section (s.offset + n)
 
 -- to a segment: the word 0 of the component's text, plus the number of the link
 abbrev pub segment_link : LinkFields → Option PlacedFields → LinkFields
@@ -37,7 +37,7 @@ segment_link l (Some p) = own_link l (text_spot p.bases l.expr)
 abbrev pub entry_link : ShapeFields → LinkFields → PlacedFields → Option Export → LinkFields
 entry_link frame l p None = l
 entry_link frame l p (Some e) =
-    own_link l (farther (spot_moved (moving frame p) e.def.section e.def.value) l.expr)
+    own_link l (offset_by (relocated_place (moving frame p) e.def.section e.def.value) l.expr)
 
 -- what a link to another segment becomes; it is unchanged if that is not a component
 abbrev pub outer_link : ShapeFields → LinkFields → Option PlacedFields → LinkFields
@@ -49,13 +49,13 @@ outer_link frame l (Some p) = entry_link frame l p (export_named l.entry p.entri
 abbrev pub inner_link : ShapeFields → PlacedFields → LinkFields → Option Export → LinkFields
 inner_link frame p l None = l
 inner_link frame p l (Some e) =
-    own_link l (farther
-    (spot_moved (moving frame p) (later_section l.section e.def.section) e.def.value) l.expr)
+    own_link l (offset_by
+    (relocated_place (moving frame p) (later_section l.section e.def.section) e.def.value) l.expr)
 
 -- the link of the bound object that replaces a link of a component
 unfoldable pub link_moved : ShapeFields → List PlacedFields → PlacedFields → LinkFields → LinkFields
 link_moved frame all p l =
-    if nat_eq l.kind to_section then own_link l (spot_moved (moving frame p) l.section l.expr)
+    if nat_eq l.kind to_section then own_link l (relocated_place (moving frame p) l.section l.expr)
     else if nat_eq l.kind to_segment then segment_link l (component_named l.name all)
     else if nat_eq l.kind to_entry then outer_link frame l (component_named l.name all)
     else if nat_eq l.kind to_own_entry then inner_link frame p l (export_named l.entry p.entries)

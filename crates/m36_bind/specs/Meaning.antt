@@ -21,29 +21,29 @@ use Rattle.obj36_parts.specs.declared.section.Section.{Section}
 use Rattle.m36_bindfile.specs.declared.line.BindLine.{BindLine}
 use Rattle.m36_bindfile.specs.BindFile.{bind_lines, asks_newer, retained_names}
 use Rattle.m36_relocate.specs.Fields.{BasesFields}
-use Rattle.m36_relocate.specs.Layout.{shape_of, first_bases, bases_behind, meant, text_spot}
-use Rattle.m36_relocate.specs.declared.layout.Meant.{Meant}
-use Rattle.m36_relocate.specs.declared.layout.Meant.TheVariants.{TextWord, StaticWord, LinkWord}
-use Rattle.m36_relocate.specs.declared.layout.Meant.TheVariants.{HeadWord}
-use Rattle.m36_relocate.specs.Words.{below_zero, stands_in, place_in, words_in}
+use Rattle.m36_relocate.specs.Layout.{shape_of, first_bases, next_bases, denoted, text_spot}
+use Rattle.m36_relocate.specs.declared.layout.Denoted.{Denoted}
+use Rattle.m36_relocate.specs.declared.layout.Denoted.TheVariants.{TextWord, StaticWord, LinkWord}
+use Rattle.m36_relocate.specs.declared.layout.Denoted.TheVariants.{HeadWord}
+use Rattle.m36_relocate.specs.Words.{below_zero, is_in, place_in, words_in}
 use Rattle.m36_relocate.specs.Exports.{export_named, is_symbol}
 use Rattle.m36_bind.specs.Components.{PlacedFields, component_named, picked_of}
-use Rattle.m36_bind.specs.Links.{own_link, farther}
+use Rattle.m36_bind.specs.Links.{own_link, offset_by}
 use Rattle.m36_bind.specs.Bound.{links_end, first_bound, is_newer_bound}
-use Rattle.m36_relocate.specs.declared.layout.Spot.{Spot}
+use Rattle.m36_relocate.specs.declared.layout.BoundPlace.{BoundPlace}
 use Rattle.m36_relocate.specs.declared.exports.Export.{Export}
 
 -- ---- words to which numbers refer
 
 -- the word of the bound object that is this word of a component
-abbrev pub image : BasesFields → Meant → Meant
+abbrev pub image : BasesFields → Denoted → Denoted
 image b (TextWord v) = TextWord (b.text + v)
 image b (StaticWord w) = StaticWord (b.statics + w)
 image b (LinkWord k) = LinkWord (2 * b.links + k)
 image b (HeadWord v) = HeadWord v
 
 -- whether a component has this word
-abbrev pub is_there : PlacedFields → Meant → Bool
+abbrev pub is_there : PlacedFields → Denoted → Bool
 is_there p (TextWord v) = nat_lt v (length p.parts.text)
 is_there p (StaticWord w) = nat_lt w p.shape.statics
 is_there p (LinkWord k) = nat_lt k (2 * p.shape.links)
@@ -53,15 +53,15 @@ is_there p (HeadWord v) = nat_lt v head_words
 -- refers in the component, if there is such a word.
 abbrev pub NamesImage : PartsFields → PlacedFields → Section → ℕ → Section → ℕ → Type 0
 NamesImage bound p section old target new =
-    is_there p (meant p.shape section old) ≡ true
-    → meant (shape_of bound) target new ≡ image p.bases (meant p.shape section old)
+    is_there p (denoted p.shape section old) ≡ true
+    → denoted (shape_of bound) target new ≡ image p.bases (denoted p.shape section old)
 
 -- ---- words
 
 -- A relocation of the component, of a part of word i of its text or of its static words.
-pub record Moves (p : PlacedFields) (statics : Bool) (i : ℕ) (r : RelocFields) : Type 0 where
+pub record IsRelocationAt (p : PlacedFields) (statics : Bool) (i : ℕ) (r : RelocFields) : Type 0 where
   pub among : Contains p.parts.relocations r
-  pub stands : stands_in statics r ≡ true
+  pub stands : is_in statics r ≡ true
   pub place : place_in p.shape statics r ≡ i
 
 -- The word of the bound object that is word i of a component. Each relocated part refers to the
@@ -69,19 +69,19 @@ pub record Moves (p : PlacedFields) (statics : Bool) (i : ℕ) (r : RelocFields)
 -- words of the component begin. The other bits are unchanged: bits 0 to 2 unless the left half is
 -- relocated, also if bits 3 to 17 are; bits 3 to 17 unless they or the left half are relocated; and
 -- the right half unless it is relocated.
-pub record IsMovedWord (bound : PartsFields) (p : PlacedFields) (statics : Bool)
+pub record IsRelocatedWord (bound : PartsFields) (p : PlacedFields) (statics : Bool)
     (i old new : ℕ) : Type 0 where
-  pub names : (r : RelocFields) → Moves p statics i r
+  pub names : (r : RelocFields) → IsRelocationAt p statics i r
       → (r.part ≡ offset_part → part_of offset_part old < offset_limit)
       → NamesImage bound p r.target (part_of r.part old) r.target (part_of r.part new)
-  pub below : (r : RelocFields) → Moves p statics i r → r.part ≡ offset_part
+  pub below : (r : RelocFields) → IsRelocationAt p statics i r → r.part ≡ offset_part
       → offset_limit ≤ part_of offset_part old
       → part_of offset_part new ≡ below_zero p.bases r.target (part_of offset_part old) % 2 ^ 15
-  pub first_bits : ((r : RelocFields) → Moves p statics i r → r.part ≡ left_part → ⊥)
+  pub first_bits : ((r : RelocFields) → IsRelocationAt p statics i r → r.part ≡ left_part → ⊥)
       → field new 0 3 ≡ field old 0 3
-  pub offset_bits : ((r : RelocFields) → Moves p statics i r → r.part ≡ right_part)
+  pub offset_bits : ((r : RelocFields) → IsRelocationAt p statics i r → r.part ≡ right_part)
       → field new 3 15 ≡ field old 3 15
-  pub right_bits : ((r : RelocFields) → Moves p statics i r → r.part ≡ right_part → ⊥)
+  pub right_bits : ((r : RelocFields) → IsRelocationAt p statics i r → r.part ≡ right_part → ⊥)
       → field new 18 18 ≡ field old 18 18
 
 -- ---- the places of components
@@ -91,7 +91,7 @@ pub record IsMovedWord (bound : PartsFields) (p : PlacedFields) (statics : Bool)
 unfoldable pub AreInOrder : BasesFields → List PlacedFields → Type 0
 AreInOrder b [] = Unit {0}
 AreInOrder b (p ∷ all) =
-    (p.bases ≡ b) × (p.shape ≡ shape_of p.parts) × AreInOrder (bases_behind b p.parts) all
+    (p.bases ≡ b) × (p.shape ≡ shape_of p.parts) × AreInOrder (next_bases b p.parts) all
 
 -- where the text of a component begins, or its static words
 abbrev pub start_in : Bool → BasesFields → ℕ
@@ -110,28 +110,28 @@ words_end statics n (p ∷ all) =
 
 -- The words of a component are in the bound object one after another, from where the component
 -- begins, each relocated. A word has 36 bits.
-abbrev pub WordsStand : PartsFields → PlacedFields → Bool → Type 0
-WordsStand bound p statics =
+abbrev pub HasWords : PartsFields → PlacedFields → Bool → Type 0
+HasWords bound p statics =
     (i : ℕ) → i < length (words_in statics p.parts)
     → slice_index (words_in statics p.parts) i < 2 ^ 36
-    → IsMovedWord bound p statics i (slice_index (words_in statics p.parts) i)
+    → IsRelocatedWord bound p statics i (slice_index (words_in statics p.parts) i)
     (slice_index (words_in statics bound) (start_in statics p.bases + i))
 
 -- ---- relocations
 
 -- The new relocation is that of the same part of the same word, with the same target.
-pub record IsMovedRelocation (bound : PartsFields) (p : PlacedFields)
+pub record IsRelocatedMark (bound : PartsFields) (p : PlacedFields)
     (old new : RelocFields) : Type 0 where
   pub place : NamesImage bound p old.section old.offset new.section new.offset
   pub part : new.part ≡ old.part
   pub target : new.target ≡ old.target
 
 -- the relocation of the bound object for one of a component
-pub record MovedRelocation (bound : PartsFields) (p : PlacedFields)
+pub record RelocatedRelocation (bound : PartsFields) (p : PlacedFields)
     (old : RelocFields) : Type 0 where
   pub new : RelocFields
   pub among : Contains bound.relocations new
-  pub moved : IsMovedRelocation bound p old new
+  pub moved : IsRelocatedMark bound p old new
 
 -- the relocation of a component for one of the bound object
 pub record RelocationSource (bound : PartsFields) (all : List PlacedFields)
@@ -140,7 +140,7 @@ pub record RelocationSource (bound : PartsFields) (all : List PlacedFields)
   pub one : Contains all component
   pub old : RelocFields
   pub among : Contains component.parts.relocations old
-  pub moved : IsMovedRelocation bound component old new
+  pub moved : IsRelocatedMark bound component old new
 
 -- ---- links
 
@@ -148,13 +148,13 @@ pub record RelocationSource (bound : PartsFields) (all : List PlacedFields)
 -- link. The modifier is unchanged.
 pub record LinksTo (bound : PartsFields) (p : PlacedFields) (section : Section) (value : ℕ)
     (old new : LinkFields) : Type 0 where
-  pub place : Spot
+  pub place : BoundPlace
   pub names : NamesImage bound p section value place.section place.offset
-  pub is : new ≡ own_link old (farther place old.expr)
+  pub is : new ≡ own_link old (offset_by place old.expr)
 
 -- a link to a place of the bound object, without a number that is added
 pub record LinksAt (bound : PartsFields) (p : PlacedFields) (old new : LinkFields) : Type 0 where
-  pub place : Spot
+  pub place : BoundPlace
   pub names : NamesImage bound p old.section old.expr place.section place.offset
   pub is : new ≡ own_link old place
 
@@ -165,7 +165,7 @@ IsUndefined all l =
 
 -- The link of the bound object that replaces a link of a component, by its type. A link to no
 -- component, or to a name that the component does not define, is unchanged.
-pub record IsMovedLink (bound : PartsFields) (all : List PlacedFields) (p : PlacedFields)
+pub record ReplacesLink (bound : PartsFields) (all : List PlacedFields) (p : PlacedFields)
     (old new : LinkFields) : Type 0 where
   pub own : old.kind ≡ to_section → LinksAt bound p old new
   pub segment : (q : PlacedFields) → old.kind ≡ to_segment → component_named old.name all ≡ Some q
@@ -180,11 +180,11 @@ pub record IsMovedLink (bound : PartsFields) (all : List PlacedFields) (p : Plac
   pub no_entry : old.kind ≡ to_own_entry → export_named old.entry p.entries ≡ None → new ≡ old
 
 -- The links of a component are in the bound object one after another, from its first on.
-abbrev pub LinksStand : PartsFields → List PlacedFields → PlacedFields → Type 0
-LinksStand bound all p =
+abbrev pub HasLinks : PartsFields → List PlacedFields → PlacedFields → Type 0
+HasLinks bound all p =
     (i : ℕ) (old : LinkFields) → slice_get p.parts.links i ≡ Some old
     → (new : LinkFields) × (slice_get bound.links (p.bases.links + i) ≡ Some new)
-    × IsMovedLink bound all p old new
+    × ReplacesLink bound all p old new
 
 -- ---- definitions
 
@@ -209,14 +209,14 @@ pub record BoundMeaning (text : List ℕ) (names : List (List ℕ)) (objects : L
   pub lines : List BindLine
   pub read : bind_lines text ≡ Ok lines
   pub components : List PlacedFields
-  pub picked : picked_of (record { names = names; objects = objects }) lines ≡ Ok components
+  pub components_of : picked_of (record { names = names; objects = objects }) lines ≡ Ok components
   -- what is in the bound object
   pub order : AreInOrder first_bases components
-  pub texts : (p : PlacedFields) → Contains components p → WordsStand bound p false
-  pub statics : (p : PlacedFields) → Contains components p → WordsStand bound p true
-  pub links : (p : PlacedFields) → Contains components p → LinksStand bound components p
+  pub texts : (p : PlacedFields) → Contains components p → HasWords bound p false
+  pub statics : (p : PlacedFields) → Contains components p → HasWords bound p true
+  pub links : (p : PlacedFields) → Contains components p → HasLinks bound components p
   pub relocations : (p : PlacedFields) → Contains components p → (r : RelocFields)
-      → Contains p.parts.relocations r → MovedRelocation bound p r
+      → Contains p.parts.relocations r → RelocatedRelocation bound p r
   pub retained : definition_names bound.definitions ≡ retained_names lines
   pub definitions : (d : Named) → Contains bound.definitions d
       → DefinitionSource bound components d.name d.def

@@ -2,7 +2,7 @@
 
 ghost use Rattle.std.specs.Prelude.{◌≡◌, ◌^◌, ◌<◌, true, [], length, IfOk};
 ghost use Rattle.obj36_parts.specs.ObjectSegment.{is_well_formed};
-ghost use Rattle.m36_bindfile.specs.BindFile.{asks_newer, is_version, BindSays};
+ghost use Rattle.m36_bindfile.specs.BindFile.{asks_newer, is_version, BindResult};
 ghost use Rattle.m36_bind.specs.Kept.{exports_from, kept_from};
 ghost use Rattle.m36_bind.specs.Bound.{bound_parts, fitting, made, made_of, bound_of_components, bound_of_lines, bound_of};
 ghost use Rattle.m36_bind.specs.Meaning.{AreObjects, BoundMeaning};
@@ -11,7 +11,7 @@ use crate::bound::{bound_parts, frame_of};
 use crate::fitting::{components_fit, sections_fit};
 use crate::given::Given;
 use crate::kept::{exports, kept};
-use crate::placed::{Components, picked};
+use crate::placed::{Components, components_of};
 use m36_bindfile::{BindFault, BindLine, read_lines};
 use m36_relocate::layout::Shape;
 use m36_text::{HashSeed, Name};
@@ -35,7 +35,7 @@ fn asks_newer(lines: &[BindLine]) -> bool
 
 // The object if each of its sections is within the limit, otherwise B4.
 fn fitting(object: Object) -> Result<Object, BindFault>
-    ensures { BindSays result (fitting object) }
+    ensures { BindResult result (fitting object) }
 {
     if sections_fit(&object) {
         Ok(object)
@@ -50,7 +50,7 @@ fn fitting(object: Object) -> Result<Object, BindFault>
 // B4.
 fn object_fitting(alloc: Global, parts: Parts) -> Result<Object, BindFault>
     requires { is_well_formed parts ≡ true }
-    ensures { BindSays result (fitting parts) }
+    ensures { BindResult result (fitting parts) }
 {
     let object = Object::new(alloc, parts)?;
     fitting(object)
@@ -59,7 +59,7 @@ fn object_fitting(alloc: Global, parts: Parts) -> Result<Object, BindFault>
 // The object with these parts if they are well formed and each section is within the limit,
 // otherwise B4.
 fn made(alloc: Global, parts: Parts) -> Result<Object, BindFault>
-    ensures { BindSays result (made parts) }
+    ensures { BindResult result (made parts) }
 {
     if parts.is_object() {
         object_fitting(alloc, parts)
@@ -76,7 +76,7 @@ fn made_of(
     all: &Components<'_>,
     kept: Defs,
 ) -> Result<Object, BindFault>
-    ensures { BindSays result (made_of frame.now all.now kept) }
+    ensures { BindResult result (made_of frame.now all.now kept) }
 {
     if !components_fit(frame, all.items()) {
         drop(kept);
@@ -86,14 +86,14 @@ fn made_of(
 }
 
 // The definitions of the retained names, or the first of B3 and B5.
-fn kept_of(
+fn retained_of(
     alloc: Global,
     frame: &Shape,
     all: &Components<'_>,
     lines: &[BindLine],
 ) -> Result<Defs, BindFault>
     requires { length lines.now < 2 ^ 32 }
-    ensures { BindSays result (kept_from (exports_from frame.now [] all.now) [] 1 lines.now) }
+    ensures { BindResult result (kept_from (exports_from frame.now [] all.now) [] 1 lines.now) }
 {
     let exports = exports(alloc, frame, all.items())?;
     kept(alloc, &exports, lines)
@@ -108,9 +108,9 @@ fn bound_of_components(
     lines: &[BindLine],
 ) -> Result<Object, BindFault>
     requires { length lines.now < 2 ^ 32 }
-    ensures { BindSays result (bound_of_components frame.now all.now lines.now) }
+    ensures { BindResult result (bound_of_components frame.now all.now lines.now) }
 {
-    let kept = kept_of(alloc, frame, all, lines)?;
+    let kept = retained_of(alloc, frame, all, lines)?;
     made_of(alloc, frame, all, kept)
 }
 
@@ -118,9 +118,9 @@ fn bound_of_components(
 #[tactic(auto, using(crate::proofs::BindingLaws::of_lines))]
 fn bound_of_lines(alloc: Global, lines: &[BindLine], given: &Given<'_>) -> Result<Object, BindFault>
     requires { length lines.now < 2 ^ 32 }
-    ensures { BindSays result (bound_of_lines given.now lines.now) }
+    ensures { BindResult result (bound_of_lines given.now lines.now) }
 {
-    let all = picked(alloc, given, lines)?;
+    let all = components_of(alloc, given, lines)?;
     let frame = frame_of(asks_newer(lines), all.items());
     bound_of_components(alloc, &frame, &all, lines)
 }
@@ -146,7 +146,7 @@ pub fn bind(
     objects: &[Object],
 ) -> Result<Object, BindFault>
     requires { length bindfile.now < 2 ^ 32 }
-    ensures says { BindSays result (bound_of bindfile.now names.now objects.now) }
+    ensures says { BindResult result (bound_of bindfile.now names.now objects.now) }
     ensures means { IfOk result (λ object. BoundMeaning bindfile.now names.now objects.now object) }
 {
     are_objects(objects);

@@ -4,14 +4,14 @@ ghost use Rattle.std.specs.Prelude.{ℕ, ◌≡◌, ◌+◌, ◌++◌, ◌^◌, 
 ghost use Rattle.std.specs.List.{list_any};
 ghost use Rattle.m36_bind.specs.Components.{moving};
 ghost use Rattle.m36_bind.specs.Links.{links_from};
-ghost use Rattle.m36_relocate.specs.Words.{words_in, words_moved};
-ghost use Rattle.obj36_parts.specs.ObjectSegment.{evened_words};
+ghost use Rattle.m36_relocate.specs.Words.{words_in, relocated_words};
+ghost use Rattle.obj36_parts.specs.ObjectSegment.{padded_to_even};
 ghost use Rattle.m36_bind.specs.Bound.{is_newer_component, is_newer_bound, statics_end, links_end, frame_of, component_words, laid_from, relocation_moved, with_relocation, relocations_onto, relocations_from, first_bound, bound_parts};
 
 use crate::links::links;
 use crate::placed::{Components, Placed, moving};
-use m36_relocate::layout::{Moving, Shape, spot_moved};
-use m36_relocate::words::{move_words, stands_in};
+use m36_relocate::layout::{Relocation, Shape, relocated_place};
+use m36_relocate::words::{is_in, move_words};
 use m36_word::{NoMemory, Word, Words};
 use obj36_parts::sections::{push_all, push_evening, version_of};
 use obj36_parts::{Defs, Links, Parts, Reloc, Relocs};
@@ -108,13 +108,13 @@ fn words_in<'a>(statics: bool, parts: &'a Parts) -> &'a [Word]
 // The words of a component, relocated.
 fn moved_words(
     alloc: Global,
-    m: &Moving,
+    m: &Relocation,
     statics: bool,
     relocations: &[Reloc],
     words: &[Word],
 ) -> Result<Vec<Word>, NoMemory>
     ensures { IfOk result
-        (λ moved. moved.items ≡ words_moved m.now statics relocations.now words.now) }
+        (λ moved. moved.items ≡ relocated_words m.now statics relocations.now words.now) }
 {
     let mut moved = words.to_vec(alloc)?;
     move_words(moved.as_mut_slice(), m, statics, relocations);
@@ -141,7 +141,7 @@ fn component_words(
 }
 
 // Adds the words of a component, from an even word on.
-fn lay(
+fn add_words(
     alloc: Global,
     out: &mut Words,
     frame: &Shape,
@@ -149,7 +149,7 @@ fn lay(
     p: &Placed<'_>,
 ) -> Result<(), NoMemory>
     ensures { OnOk result
-        (out.new ≡ evened_words out.old ++ component_words frame.now statics p.now) }
+        (out.new ≡ padded_to_even out.old ++ component_words frame.now statics p.now) }
 {
     push_evening(out)?;
     let words = component_words(alloc, frame, statics, p)?;
@@ -164,7 +164,7 @@ fn laid(alloc: Global, frame: &Shape, statics: bool, all: &[Placed<'_>]) -> Resu
     let mut out = Words::new(alloc);
     let mut rest = all;
     while let [p, others @ ..] = rest {
-        lay(alloc, &mut out, frame, statics, p)?;
+        add_words(alloc, &mut out, frame, statics, p)?;
         rest = others;
     }
     Ok(out)
@@ -172,10 +172,10 @@ fn laid(alloc: Global, frame: &Shape, statics: bool, all: &[Placed<'_>]) -> Resu
 
 // ---- relocations
 
-fn relocation_moved(m: &Moving, r: &Reloc) -> Reloc
+fn relocation_moved(m: &Relocation, r: &Reloc) -> Reloc
     ensures { result ≡ relocation_moved m.now r.now }
 {
-    let s = spot_moved(m, r.section, r.offset as u64);
+    let s = relocated_place(m, r.section, r.offset as u64);
     Reloc {
         offset: s.offset,
         section: s.section,
@@ -184,10 +184,15 @@ fn relocation_moved(m: &Moving, r: &Reloc) -> Reloc
     }
 }
 
-fn add_relocation(out: &mut Relocs, m: &Moving, statics: bool, r: &Reloc) -> Result<(), NoMemory>
+fn add_relocation(
+    out: &mut Relocs,
+    m: &Relocation,
+    statics: bool,
+    r: &Reloc,
+) -> Result<(), NoMemory>
     ensures { OnOk result (out.new ≡ with_relocation m.now statics out.old r.now) }
 {
-    if !stands_in(statics, r) {
+    if !is_in(statics, r) {
         return Ok(());
     }
     out.push(relocation_moved(m, r))
@@ -196,7 +201,7 @@ fn add_relocation(out: &mut Relocs, m: &Moving, statics: bool, r: &Reloc) -> Res
 #[tactic(auto, unfolding(crate::specs::Bound::relocations_onto))]
 fn add_relocations(
     out: &mut Relocs,
-    m: &Moving,
+    m: &Relocation,
     statics: bool,
     relocations: &[Reloc],
 ) -> Result<(), NoMemory>
@@ -277,19 +282,19 @@ fn first_bound(all: &[Placed<'_>]) -> u32
 
 // The texts of the components, and their static words.
 #[derive(Drop)]
-struct LaidWords {
+struct ComponentWords {
     text: Words,
     statics: Words,
 }
 
 // The text and the static words of the bound object.
-fn all_laid(alloc: Global, frame: &Shape, all: &[Placed<'_>]) -> Result<LaidWords, NoMemory>
+fn all_laid(alloc: Global, frame: &Shape, all: &[Placed<'_>]) -> Result<ComponentWords, NoMemory>
     ensures text { IfOk result (λ laid. laid.text ≡ laid_from frame.now false [] all.now) }
     ensures statics { IfOk result (λ laid. laid.statics ≡ laid_from frame.now true [] all.now) }
 {
     let text = laid(alloc, frame, false, all)?;
     let statics = laid(alloc, frame, true, all)?;
-    Ok(LaidWords { text, statics })
+    Ok(ComponentWords { text, statics })
 }
 
 // The links and the relocations of the bound object.

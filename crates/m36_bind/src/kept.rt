@@ -1,15 +1,15 @@
 //! The definitions of the bound object: those of the retained names.
 
 ghost use Rattle.std.specs.Prelude.{ℕ, ◌≡◌, ◌^◌, ◌<◌, ◌||◌, [], length, IfOk, OnOk};
-ghost use Rattle.m36_bindfile.specs.BindFile.{BindSays};
+ghost use Rattle.m36_bindfile.specs.BindFile.{BindResult};
 ghost use Rattle.m36_bind.specs.Components.{Changes, moving};
 ghost use Rattle.m36_relocate.specs.Exports.{moved_from};
-ghost use Rattle.m36_bind.specs.Kept.{exports_from, kept_one, kept_line, kept_from};
+ghost use Rattle.m36_bind.specs.Kept.{exports_from, with_retained, kept_line, kept_from};
 ghost use Rattle.obj36_parts.specs.ObjectSegment.{has_definition};
 
 use crate::placed::{Placed, moving, seed_of};
 use m36_bindfile::{BindFault, BindLine};
-use m36_relocate::exports::{Export, Exports, add_moved};
+use m36_relocate::exports::{Export, Exports, add_relocated};
 use m36_relocate::layout::Shape;
 use m36_text::Name;
 use m36_word::NoMemory;
@@ -23,7 +23,7 @@ fn add_component(table: &mut Exports, frame: &Shape, p: &Placed<'_>) -> Result<(
 {
     let m = moving(frame, p);
     let parts = p.parts;
-    add_moved(table, &m, parts.definitions.items())
+    add_relocated(table, &m, parts.definitions.items())
 }
 
 // The definitions of all components, at their places in the bound object.
@@ -41,7 +41,7 @@ pub(crate) fn exports(alloc: Global, frame: &Shape, all: &[Placed<'_>]) -> Resul
 }
 
 // Whether a retain line above has the name, or more than one component defines it.
-fn stands_twice(kept: &Defs, name: &Name, export: &Export) -> bool
+fn is_ambiguous(kept: &Defs, name: &Name, export: &Export) -> bool
     ensures { result ≡ (has_definition name.now kept.now || export.now.twice) }
 {
     kept.has(name) || export.twice
@@ -49,14 +49,19 @@ fn stands_twice(kept: &Defs, name: &Name, export: &Export) -> bool
 
 // Adds the definition of a retained name, or refuses line n.
 #[tactic(auto, using(crate::proofs::KeepLaws::keep_done))]
-fn keep_one(kept: &mut Defs, n: u64, name: &Name, export: Option<Export>) -> Result<(), BindFault>
+fn retain_name(
+    kept: &mut Defs,
+    n: u64,
+    name: &Name,
+    export: Option<Export>,
+) -> Result<(), BindFault>
     requires { n < 2 ^ 32 }
-    ensures { Changes kept.new result (kept_one kept.old n name.now export) }
+    ensures { Changes kept.new result (with_retained kept.old n name.now export) }
 {
     match export {
         None => Err(BindFault::B5(n as u32)),
         Some(export) => {
-            if stands_twice(kept, name, &export) {
+            if is_ambiguous(kept, name, &export) {
                 return Err(BindFault::B3(n as u32));
             }
             kept.push(Named {
@@ -69,12 +74,12 @@ fn keep_one(kept: &mut Defs, n: u64, name: &Name, export: Option<Export>) -> Res
 }
 
 // Adds the definition that line n retains, if it retains one, or refuses the line.
-fn keep_line(exports: &Exports, kept: &mut Defs, n: u64, line: &BindLine) -> Result<(), BindFault>
+fn retain_line(exports: &Exports, kept: &mut Defs, n: u64, line: &BindLine) -> Result<(), BindFault>
     requires { n < 2 ^ 32 }
     ensures { Changes kept.new result (kept_line exports.now kept.old n line.now) }
 {
     match line {
-        BindLine::Retain(name) => keep_one(kept, n, name, exports.find(name)),
+        BindLine::Retain(name) => retain_name(kept, n, name, exports.find(name)),
         _ => Ok(()),
     }
 }
@@ -82,12 +87,12 @@ fn keep_line(exports: &Exports, kept: &mut Defs, n: u64, line: &BindLine) -> Res
 // The definitions of the retained names, or the first of B3 and B5.
 pub(crate) fn kept(alloc: Global, exports: &Exports, lines: &[BindLine]) -> Result<Defs, BindFault>
     requires { length lines.now < 2 ^ 32 }
-    ensures { BindSays result (kept_from exports.now [] 1 lines.now) }
+    ensures { BindResult result (kept_from exports.now [] 1 lines.now) }
 {
     let mut kept = Defs::new(alloc, exports.seed());
     let mut n: u64 = 1;
     for line in lines {
-        match keep_line(exports, &mut kept, n, line) {
+        match retain_line(exports, &mut kept, n, line) {
             Ok(()) => {}
             Err(fault) => return Err(fault),
         }

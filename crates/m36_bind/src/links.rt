@@ -2,12 +2,12 @@
 
 ghost use Rattle.std.specs.Prelude.{ℕ, ◌≡◌, ◌+◌, ◌%◌, ◌^◌, ◌<◌, [], OnOk, IfOk, option_map};
 ghost use Rattle.m36_bind.specs.Components.{moving};
-ghost use Rattle.m36_relocate.specs.Layout.{spot_moved};
-ghost use Rattle.m36_bind.specs.Links.{own_link, farther, segment_link, entry_link, outer_link, inner_link, link_moved, links_onto, links_from};
+ghost use Rattle.m36_relocate.specs.Layout.{relocated_place};
+ghost use Rattle.m36_bind.specs.Links.{own_link, offset_by, segment_link, entry_link, outer_link, inner_link, link_moved, links_onto, links_from};
 
 use crate::placed::{Components, Placed, moving, seed_of};
 use m36_relocate::exports::Export;
-use m36_relocate::layout::{Shape, Spot, spot_at, spot_moved};
+use m36_relocate::layout::{BoundPlace, Shape, relocated_place, spot_at};
 use m36_text::Name;
 use m36_word::NoMemory;
 use obj36_parts::sections::later_section;
@@ -24,7 +24,7 @@ const TO_ENTRY: u8 = 4;
 const TO_OWN_ENTRY: u8 = 5;
 
 // A link to a place of the bound object itself. The modifier is kept.
-fn own_link(l: &Link, s: Spot) -> Link
+fn own_link(l: &Link, s: BoundPlace) -> Link
     requires { s.offset < 2 ^ 18 }
     ensures { result ≡ own_link l.now s }
 {
@@ -38,13 +38,13 @@ fn own_link(l: &Link, s: Spot) -> Link
     }
 }
 
-fn farther(s: Spot, n: u32) -> Spot
+fn offset_by(s: BoundPlace, n: u32) -> BoundPlace
     requires offset { s.offset < 2 ^ 18 }
     requires more { n < 2 ^ 18 }
-    ensures value { result ≡ farther s n }
+    ensures value { result ≡ offset_by s n }
     ensures bound { result.offset < 2 ^ 18 }
 {
-    Spot {
+    BoundPlace {
         offset: (s.offset + n) % (1 << 18),
         section: s.section,
     }
@@ -66,8 +66,8 @@ fn entry_link(frame: &Shape, l: &Link, p: &Placed<'_>, export: Option<Export>) -
         None => l.copied(),
         Some(e) => {
             let m = moving(frame, p);
-            let s = spot_moved(&m, e.def.section, e.def.value as u64);
-            own_link(l, farther(s, l.expr))
+            let s = relocated_place(&m, e.def.section, e.def.value as u64);
+            own_link(l, offset_by(s, l.expr))
         }
     }
 }
@@ -91,7 +91,7 @@ fn inner_link(frame: &Shape, p: &Placed<'_>, l: &Link, export: Option<Export>) -
             let section = later_section(l.section, e.def.section);
             own_link(
                 l,
-                farther(spot_moved(&m, section, e.def.value as u64), l.expr),
+                offset_by(relocated_place(&m, section, e.def.value as u64), l.expr),
             )
         }
     }
@@ -100,10 +100,10 @@ fn inner_link(frame: &Shape, p: &Placed<'_>, l: &Link, export: Option<Export>) -
 // A link of type 1, relocated.
 fn moved_own(frame: &Shape, p: &Placed<'_>, l: &Link) -> Link
     ensures { result ≡ own_link l.now
-        (spot_moved (moving frame.now p.now) l.now.section l.now.expr) }
+        (relocated_place (moving frame.now p.now) l.now.section l.now.expr) }
 {
     let m = moving(frame, p);
-    own_link(l, spot_moved(&m, l.section, l.expr as u64))
+    own_link(l, relocated_place(&m, l.section, l.expr as u64))
 }
 
 // The link of the bound object that replaces a link of a component.

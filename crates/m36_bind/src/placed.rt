@@ -5,15 +5,15 @@ ghost use Rattle.std.specs.List.{list_any};
 ghost use Rattle.obj36_parts.specs.Names.{same};
 ghost use Rattle.obj36_parts.specs.ObjectSegment.{is_newer, segment_limit};
 ghost use Rattle.m36_relocate.specs.Exports.{own_from};
-ghost use Rattle.m36_bindfile.specs.BindFile.{BindSays};
-ghost use Rattle.m36_relocate.specs.Layout.{shape_of, first_bases, bases_behind};
-ghost use Rattle.m36_bind.specs.Components.{component, moving, names_of, component_named, picked_one, picked_line, picked_of, Picks, AreNear, AreFew};
+ghost use Rattle.m36_bindfile.specs.BindFile.{BindResult};
+ghost use Rattle.m36_relocate.specs.Layout.{shape_of, first_bases, next_bases};
+ghost use Rattle.m36_bind.specs.Components.{component, moving, names_of, component_named, picked_one, picked_line, picked_of, AddsComponent, AreBounded, HasShortParts};
 
 use crate::given::Given;
 use indexmap::IndexSet;
 use m36_bindfile::{BindFault, BindLine};
 use m36_relocate::exports::{Exports, own_entries};
-use m36_relocate::layout::{Bases, Moving, Shape, evened};
+use m36_relocate::layout::{Bases, Relocation, Shape, evened};
 use m36_text::{HashSeed, Name};
 use m36_word::NoMemory;
 use obj36::Object;
@@ -65,10 +65,10 @@ impl<'a> Model for Components<'a> {
 }
 
 // How the places of a component are relocated to those of a bound object with this shape.
-pub(crate) fn moving(frame: &Shape, p: &Placed<'_>) -> Moving
+pub(crate) fn moving(frame: &Shape, p: &Placed<'_>) -> Relocation
     ensures { result ≡ moving frame.now p.now }
 {
-    Moving {
+    Relocation {
         frame: *frame,
         shape: p.shape,
         bases: p.bases,
@@ -107,12 +107,12 @@ fn entries_of(alloc: Global, parts: &Parts) -> Result<Exports, NoMemory>
 }
 
 // Where the words of the next component begin.
-fn bases_behind(b: &Bases, parts: &Parts, n: u64) -> Bases
+fn next_bases(b: &Bases, parts: &Parts, n: u64) -> Bases
     requires small { n < 2 ^ 32 }
-    requires near { AreNear b.now n }
-    requires few { AreFew parts.now }
-    ensures value { result ≡ bases_behind b.now parts.now }
-    ensures near { AreNear result (n + 1) }
+    requires near { AreBounded b.now n }
+    requires few { HasShortParts parts.now }
+    ensures value { result ≡ next_bases b.now parts.now }
+    ensures near { AreBounded result (n + 1) }
 {
     Bases {
         text: evened(b.text + text_length(parts)),
@@ -122,7 +122,7 @@ fn bases_behind(b: &Bases, parts: &Parts, n: u64) -> Bases
 }
 
 fn shape_of(parts: &Parts) -> Shape
-    requires { AreFew parts.now }
+    requires { HasShortParts parts.now }
     ensures value { result ≡ shape_of parts.now }
     ensures statics { result.statics ≤ segment_limit }
     ensures links { result.links ≤ segment_limit }
@@ -137,7 +137,7 @@ fn shape_of(parts: &Parts) -> Shape
 // The parts of an object, each with at most 2^18 items.
 fn parts_of(object: &Object) -> &Parts
     ensures value { result.now ≡ object.now }
-    ensures few { AreFew result.now }
+    ensures few { HasShortParts result.now }
 {
     object.formed();
     object.parts()
@@ -196,7 +196,7 @@ impl<'a> Components<'a> {
         bases: Bases,
     ) -> Result<(), NoMemory>
         requires fresh { list_any (same name.now) (names_of self.old) ≡ false }
-        requires few { AreFew parts.now }
+        requires few { HasShortParts parts.now }
         ensures { OnOk result
             (self.new ≡ self.old ++ component name.now parts.now bases entries ∷ []) }
     {
@@ -229,16 +229,16 @@ fn pick<'a>(
     object: &'a Object,
 ) -> Result<Bases, BindFault>
     requires small { n < 2 ^ 32 }
-    requires near { AreNear next n }
-    ensures answer { Picks all.new result
+    requires near { AreBounded next n }
+    ensures answer { AddsComponent all.new result
         (picked_one (record { placed = all.old; next = next }) n name.now (Some object.now)) }
-    ensures near { IfOk result (λ next. AreNear next (n + 1)) }
+    ensures near { IfOk result (λ next. AreBounded next (n + 1)) }
 {
     if all.has(name) {
         return Err(BindFault::B3(n as u32));
     }
     let parts = parts_of(object);
-    let behind = bases_behind(&next, parts, n);
+    let behind = next_bases(&next, parts, n);
     let entries = entries_of(alloc, parts)?;
     all.add(name, parts, entries, next)?;
     Ok(behind)
@@ -247,7 +247,7 @@ fn pick<'a>(
 // Adds the component of line n, if it is an `object` line, or refuses the line. Returns where the
 // next component begins.
 #[tactic(auto, using(crate::proofs::PickLaws::pick_found))]
-fn pick_line<'a>(
+fn add_component_of_line<'a>(
     alloc: Global,
     given: &Given<'a>,
     all: &mut Components<'a>,
@@ -256,10 +256,10 @@ fn pick_line<'a>(
     line: &'a BindLine,
 ) -> Result<Bases, BindFault>
     requires small { n < 2 ^ 32 }
-    requires near { AreNear next n }
-    ensures answer { Picks all.new result
+    requires near { AreBounded next n }
+    ensures answer { AddsComponent all.new result
         (picked_line given.now (record { placed = all.old; next = next }) n line.now) }
-    ensures near { IfOk result (λ next. AreNear next (n + 1)) }
+    ensures near { IfOk result (λ next. AreBounded next (n + 1)) }
 {
     match line {
         BindLine::Object(name) => match given.find(name) {
@@ -272,7 +272,7 @@ fn pick_line<'a>(
 
 fn first_bases() -> Bases
     ensures value { result ≡ first_bases }
-    ensures near { AreNear result 1 }
+    ensures near { AreBounded result 1 }
 {
     Bases {
         text: 0,
@@ -282,19 +282,19 @@ fn first_bases() -> Bases
 }
 
 // The components that lines name, or the first of B2 and B3.
-pub(crate) fn picked<'a>(
+pub(crate) fn components_of<'a>(
     alloc: Global,
     given: &Given<'a>,
     lines: &'a [BindLine],
 ) -> Result<Components<'a>, BindFault>
     requires { length lines.now < 2 ^ 32 }
-    ensures { BindSays result (picked_of given.now lines.now) }
+    ensures { BindResult result (picked_of given.now lines.now) }
 {
     let mut all = Components::new(alloc, given.seed());
     let mut next = first_bases();
     let mut n: u64 = 1;
     for line in lines {
-        match pick_line(alloc, given, &mut all, next, n, line) {
+        match add_component_of_line(alloc, given, &mut all, next, n, line) {
             Ok(behind) => next = behind,
             Err(fault) => return Err(fault),
         }

@@ -3,32 +3,32 @@ use Rattle.std.proofs.Common.{ℕ, ◌≡◌, ◌+◌, ◌<◌, ◌≤◌, Bool,
 use Rattle.std.proofs.lemmas.List.{length-append}
 use Rattle.std.specs.Prelude.{◌||◌}
 use Rattle.std.specs.List.{list_any}
-use Rattle.m36_text.specs.Lines.{lines_of, open_lines_of, cut_line, last_of}
+use Rattle.m36_text.specs.Lines.{lines_of, open_lines_of, unended_line, last_of}
 use Rattle.m36_bindfile.specs.declared.line.BindLine.{BindLine}
 use Rattle.m36_bindfile.specs.declared.fault.BindFault.{BindFault}
 use Rattle.m36_bindfile.specs.declared.fault.BindFault.TheVariants as fault
-use Rattle.m36_bindfile.specs.BindFile.{line_given, lines_given, gives_object, has_object, lines_from, in_order, read_on, is_cut}
+use Rattle.m36_bindfile.specs.BindFile.{line_given, lines_given, is_object_line, has_object, lines_from, in_order, read_on, lacks_line_feed}
 
 -- ---- an `object` line
 
 object_line_first : (rest line behind : List ℕ) → open_lines_of rest ≡ line ∷ open_lines_of behind
-    → has_object rest ≡ (gives_object (line_given (Some line)) || has_object behind)
+    → has_object rest ≡ (is_object_line (line_given (Some line)) || has_object behind)
 unfolding has_object
-object_line_first rest line behind e = ap (λ (ls : List (List ℕ)). list_any (λ l. gives_object (line_given (Some l))) ls) e
+object_line_first rest line behind e = ap (λ (ls : List (List ℕ)). list_any (λ l. is_object_line (line_given (Some l))) ls) e
 
 pub object_found : (rest line behind : List ℕ) (total : Bool) → open_lines_of rest ≡ line ∷ open_lines_of behind
-    → true ≡ gives_object (line_given (Some line)) → has_object rest ≡ total → true ≡ total
+    → true ≡ is_object_line (line_given (Some line)) → has_object rest ≡ total → true ≡ total
 object_found rest line behind total e here so_far =
     ap (λ (b : Bool). (b || has_object behind)) here ∙ sym (object_line_first rest line behind e) ∙ so_far
 
 pub object_more : (rest line behind : List ℕ) (total : Bool) → open_lines_of rest ≡ line ∷ open_lines_of behind
-    → false ≡ gives_object (line_given (Some line)) → has_object rest ≡ total → has_object behind ≡ total
+    → false ≡ is_object_line (line_given (Some line)) → has_object rest ≡ total → has_object behind ≡ total
 object_more rest line behind total e here so_far =
     ap (λ (b : Bool). (b || has_object behind)) here ∙ sym (object_line_first rest line behind e) ∙ so_far
 
 pub object_none : (rest : List ℕ) (total : Bool) → open_lines_of rest ≡ [] → has_object rest ≡ total → false ≡ total
 unfolding has_object
-object_none rest total e so_far = ap (λ (ls : List (List ℕ)). list_any (λ l. gives_object (line_given (Some l))) ls) (sym e) ∙ so_far
+object_none rest total e so_far = ap (λ (ls : List (List ℕ)). list_any (λ l. is_object_line (line_given (Some l))) ls) (sym e) ∙ so_far
 
 -- ---- lines in order
 
@@ -59,23 +59,23 @@ line_wrong above number rest line behind total e here at so_far =
     ∙ ap (λ (o : Option BindLine). read_on (Err (fault.B1 (length above + 1))) (λ l. lines_from (above ++ l ∷ []) (lines_given behind)) o) (sym here)
     ∙ ap (λ (n : ℕ). Err (fault.B1 n)) (sym at)
 
-cut_rest : (above : List BindLine) (rest : List ℕ) → is_cut rest ≡ true → lines_from above (map line_given (cut_line rest)) ≡ Err (fault.B1 (length above + 1))
+cut_rest : (above : List BindLine) (rest : List ℕ) → lacks_line_feed rest ≡ true → lines_from above (map line_given (unended_line rest)) ≡ Err (fault.B1 (length above + 1))
 unfolding lines_from line_given
 cut_rest above [] cut = cc
 cut_rest above (b ∷ rest) cut = refl
 
-whole_rest : (above : List BindLine) (rest : List ℕ) → is_cut rest ≡ false → lines_from above (map line_given (cut_line rest)) ≡ Ok above
+whole_rest : (above : List BindLine) (rest : List ℕ) → lacks_line_feed rest ≡ false → lines_from above (map line_given (unended_line rest)) ≡ Ok above
 unfolding lines_from
 whole_rest above [] whole = refl
 whole_rest above (b ∷ rest) whole = cc
 
-pub lines_read : (above : List BindLine) (total : Result (List BindLine) BindFault) (rest : List ℕ) → lines_of rest ≡ cut_line rest → is_cut rest ≡ false
+pub lines_read : (above : List BindLine) (total : Result (List BindLine) BindFault) (rest : List ℕ) → lines_of rest ≡ unended_line rest → lacks_line_feed rest ≡ false
     → lines_from above (lines_given rest) ≡ total → total ≡ Ok above
 unfolding lines_given
 lines_read above total rest e whole so_far =
     sym so_far ∙ ap (λ (ls : List (Option (List ℕ))). lines_from above (map line_given ls)) e ∙ whole_rest above rest whole
 
-pub line_cut : (above : List BindLine) (number : ℕ) (total : Result (List BindLine) BindFault) (rest : List ℕ) → lines_of rest ≡ cut_line rest → is_cut rest ≡ true
+pub line_cut : (above : List BindLine) (number : ℕ) (total : Result (List BindLine) BindFault) (rest : List ℕ) → lines_of rest ≡ unended_line rest → lacks_line_feed rest ≡ true
     → number ≡ length above + 1 → lines_from above (lines_given rest) ≡ total → total ≡ Err (fault.B1 number)
 unfolding lines_given
 line_cut above number total rest e cut at so_far =

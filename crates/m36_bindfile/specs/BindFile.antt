@@ -87,14 +87,14 @@ may_begin (line.Object name) = true
 may_begin (line.Retain name) = false
 
 -- whether a line may follow another one, or begin the file
-abbrev pub is_in_order_behind : Option BindLine → BindLine → Bool
-is_in_order_behind None next = may_begin next
-is_in_order_behind (Some above) next = may_follow above next
+abbrev pub is_in_order_after : Option BindLine → BindLine → Bool
+is_in_order_after None next = may_begin next
+is_in_order_after (Some above) next = may_follow above next
 
 -- a line that has a form and may follow the line above it
 abbrev pub in_order : Option BindLine → Option BindLine → Option BindLine
 in_order above None = None
-in_order above (Some next) = if is_in_order_behind above next then Some next else None
+in_order above (Some next) = if is_in_order_after above next then Some next else None
 
 -- ---- B1
 
@@ -113,18 +113,18 @@ lines_from above (given ∷ more) =
     (in_order (last_of above) given)
 
 -- whether the text goes on after its last line feed
-abbrev pub is_cut : List ℕ → Bool
-is_cut [] = false
-is_cut (b ∷ rest) = true
+abbrev pub lacks_line_feed : List ℕ → Bool
+lacks_line_feed [] = false
+lacks_line_feed (b ∷ rest) = true
 
 -- whether a line has a form and is an `object` line
-abbrev pub gives_object : Option BindLine → Bool
-gives_object None = false
-gives_object (Some next) = is_object next
+abbrev pub is_object_line : Option BindLine → Bool
+is_object_line None = false
+is_object_line (Some next) = is_object next
 
 -- whether a line is an `object` line, including a last line that lacks its line feed
 unfoldable pub has_object : List ℕ → Bool
-has_object text = list_any (λ line. gives_object (line_given (Some line))) (open_lines_of text)
+has_object text = list_any (λ line. is_object_line (line_given (Some line))) (open_lines_of text)
 
 -- the lines of a bind file, or B1 with a line number
 unfoldable pub bind_lines : List ℕ → Result (List BindLine) BindFault
@@ -170,9 +170,9 @@ Refuses fault.NoMemory definition = Unit {0}
 Refuses told definition = definition ≡ Err told
 
 -- The result of a call is that of the definition, or `NoMemory`.
-abbrev pub BindSays : {A : Type 0} → Result A BindFault → Result A BindFault → Type 0
-BindSays (Ok value) definition = definition ≡ Ok value
-BindSays (Err told) definition = Refuses told definition
+abbrev pub BindResult : {A : Type 0} → Result A BindFault → Result A BindFault → Type 0
+BindResult (Ok value) definition = definition ≡ Ok value
+BindResult (Err told) definition = Refuses told definition
 
 -- the names of the components of a bind file, or B1
 abbrev pub names_by : Result (List BindLine) BindFault → Result (List (List ℕ)) BindFault

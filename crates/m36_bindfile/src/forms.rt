@@ -3,7 +3,7 @@
 
 ghost use Rattle.std.specs.Prelude.{◌≡◌, Some};
 ghost use Rattle.m36_text.specs.Lines.{words_of, last_of};
-ghost use Rattle.m36_bindfile.specs.BindFile.{object_line, retain_line, version_line, two_words, line_given, is_object, may_begin, may_follow, is_in_order_behind, in_order, gives_object};
+ghost use Rattle.m36_bindfile.specs.BindFile.{object_line, retain_line, version_line, two_words, line_given, is_object, may_begin, may_follow, is_in_order_after, in_order, is_object_line};
 
 use crate::line::{BindLine, BindLines};
 use m36_text::{Name, first_word, is_file_name, only_word};
@@ -69,8 +69,8 @@ fn is_object(line: &BindLine) -> bool
 }
 
 /// Whether a line is an `object` line.
-pub(crate) fn gives_object(text: &[u8]) -> bool
-    ensures { result ≡ gives_object (line_given (Some text.now)) }
+pub(crate) fn is_object_line(text: &[u8]) -> bool
+    ensures { result ≡ is_object_line (line_given (Some text.now)) }
 {
     match read_line(text) {
         Some(line) => is_object(&line),
@@ -97,7 +97,7 @@ fn may_follow(above: &BindLine, next: &BindLine) -> bool
 }
 
 fn is_in_order(above: &[BindLine], next: &BindLine) -> bool
-    ensures { result ≡ is_in_order_behind (last_of above.now) next.now }
+    ensures { result ≡ is_in_order_after (last_of above.now) next.now }
 {
     match above.last() {
         None => may_begin(next),
@@ -106,7 +106,7 @@ fn is_in_order(above: &[BindLine], next: &BindLine) -> bool
 }
 
 /// The parsed line, if it has a form and may follow the lines above.
-pub(crate) fn line_behind(above: &BindLines, text: &[u8]) -> Option<BindLine>
+pub(crate) fn line_after(above: &BindLines, text: &[u8]) -> Option<BindLine>
     ensures { result ≡ in_order (last_of above.now) (line_given (Some text.now)) }
 {
     let next = read_line(text)?;

@@ -1,12 +1,12 @@
 //! Parses the lines of a bind file in order, up to the first that has no form or is out of order.
 
 ghost use Rattle.std.specs.Prelude.{◌≡◌, ◌+◌, ◌++◌, ◌<◌, ◌≤◌, ◌^◌, [], length, IfOk, OnOk};
-ghost use Rattle.m36_bindfile.specs.BindFile.{lines_given, lines_from, is_cut, has_object, bind_lines, with_component, component_names, names_by, BindSays};
+ghost use Rattle.m36_bindfile.specs.BindFile.{lines_given, lines_from, lacks_line_feed, has_object, bind_lines, with_component, component_names, names_by, BindResult};
 ghost use Rattle.m36_text.specs.Once.{with_once};
 ghost use Rattle.m36_text.specs.Texts.{are_same};
 
 use crate::fault::BindFault;
-use crate::forms::{gives_object, line_behind};
+use crate::forms::{is_object_line, line_after};
 use crate::line::{BindLine, BindLines};
 use indexmap::IndexSet;
 use m36_text::{HashSeed, Name, Names, first_line, first_open_line};
@@ -20,7 +20,7 @@ fn has_object(text: &[u8]) -> bool
 {
     let mut rest = text;
     while let Some((line, behind)) = first_open_line(rest) {
-        if gives_object(line) {
+        if is_object_line(line) {
             return true;
         }
         rest = behind;
@@ -29,7 +29,7 @@ fn has_object(text: &[u8]) -> bool
 }
 
 // The number of the line after these.
-fn number_behind(above: &BindLines) -> u32
+fn next_number(above: &BindLines) -> u32
     requires { length above.now + 1 < 2 ^ 32 }
     ensures { result ≡ length above.now + 1 }
 {
@@ -37,8 +37,8 @@ fn number_behind(above: &BindLines) -> u32
 }
 
 // Whether the text has a last line that lacks its line feed.
-fn is_cut(rest: &[u8]) -> bool
-    ensures { result ≡ is_cut rest.now }
+fn lacks_line_feed(rest: &[u8]) -> bool
+    ensures { result ≡ lacks_line_feed rest.now }
 {
     !rest.is_empty()
 }
@@ -47,20 +47,20 @@ fn is_cut(rest: &[u8]) -> bool
 // its line feed.
 fn lines_in(alloc: Global, text: &[u8]) -> Result<BindLines, BindFault>
     requires { length text.now < 2 ^ 32 }
-    ensures says { BindSays result (lines_from [] (lines_given text.now)) }
+    ensures says { BindResult result (lines_from [] (lines_given text.now)) }
     ensures few { IfOk result (λ lines. length lines ≤ length text.now) }
 {
     let mut above = BindLines::new(alloc);
     let mut rest = text;
     while let Some((line, behind)) = first_line(rest) {
-        match line_behind(&above, line) {
+        match line_after(&above, line) {
             Some(next) => above.push(next)?,
-            None => return Err(BindFault::B1(number_behind(&above))),
+            None => return Err(BindFault::B1(next_number(&above))),
         }
         rest = behind;
     }
-    if is_cut(rest) {
-        Err(BindFault::B1(number_behind(&above)))
+    if lacks_line_feed(rest) {
+        Err(BindFault::B1(next_number(&above)))
     } else {
         Ok(above)
     }
@@ -71,7 +71,7 @@ fn lines_in(alloc: Global, text: &[u8]) -> Result<BindLines, BindFault>
 #[tactic(auto, unfolding(crate::specs::BindFile::bind_lines))]
 pub fn read_lines(alloc: Global, text: &[u8]) -> Result<BindLines, BindFault>
     requires { length text.now < 2 ^ 32 }
-    ensures says { BindSays result (bind_lines text.now) }
+    ensures says { BindResult result (bind_lines text.now) }
     ensures few { IfOk result (λ lines. length lines ≤ length text.now) }
 {
     if has_object(text) {
@@ -132,7 +132,7 @@ fn names_in(alloc: Global, seed: HashSeed, lines: &[BindLine]) -> Result<Names, 
 /// or B1 with a line number. The text has fewer than 2^32 bytes.
 pub fn components(alloc: Global, text: &[u8]) -> Result<Names, BindFault>
     requires { length text.now < 2 ^ 32 }
-    ensures says { BindSays result (names_by (bind_lines text.now)) }
+    ensures says { BindResult result (names_by (bind_lines text.now)) }
 {
     let lines = read_lines(alloc, text)?;
     Ok(names_in(alloc, HashSeed::of(text), lines.items())?)

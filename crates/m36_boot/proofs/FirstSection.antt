@@ -5,14 +5,14 @@ use Rattle.m36_dir.specs.Catalog.{CatalogFields}
 use Rattle.m36_link.specs.Fields.{LaidFields, LayFields, RingNameFields, SnapFields}
 use Rattle.m36_link.specs.Known.{nothing_known, base_of, next_base, lot_words}
 use Rattle.m36_link.specs.Accepted.{laid_of, with_laid, accepted, MayBeLaid}
-use Rattle.m36_link.specs.Laws.{IsOfCatalog, IsWhole, IsMade, MayBeAcceptedFrom, KeepsMadeFrom}
+use Rattle.m36_link.specs.Laws.{IsOfCatalog, IsWholeSection, IsConsistent, MayBeAcceptedFrom, KeepsMadeFrom}
 use Rattle.m36_boot.specs.Start.{start_link, start_answer}
 use Rattle.m36_boot.proofs.Sizes.{IsFirst}
 
-nothing_made : (catalog : CatalogFields) (files : List (List ℕ)) → IsMade catalog files nothing_known
+nothing_made : (catalog : CatalogFields) (files : List (List ℕ)) → IsConsistent catalog files nothing_known
 nothing_made catalog files = record {
   names = All-nil (λ (e : RingNameFields × ℕ). IsOfCatalog catalog e.1);
-  laid = All-nil (λ (l : LaidFields). IsWhole catalog files l);
+  laid = All-nil (λ (l : LaidFields). IsWholeSection catalog files l);
 }
 
 pub base_first : (ring : ℕ) → base_of [] ring ≡ lot_words
@@ -20,11 +20,11 @@ unfolding next_base
 base_first ring = refl
 
 first_by : (catalog : CatalogFields) (files : List (List ℕ)) (lay : Option LayFields) → length catalog.segments ≤ 512
-    → All (IsWhole catalog files) (with_laid [] lay) → MayBeLaid nothing_known lay → IsFirst lay
+    → All (IsWholeSection catalog files) (with_laid [] lay) → MayBeLaid nothing_known lay → IsFirst lay
 unfolding with_laid
 first_by catalog files None few whole next = tt
 first_by catalog files (Some l) few whole next =
-    let below = (All-head (IsWhole catalog files) (laid_of l) [] whole).segment.below in
+    let below = (All-head (IsWholeSection catalog files) (laid_of l) [] whole).segment.below in
     let base = next.base in
     let first = base_first l.ring in
     let fits = next.fits in

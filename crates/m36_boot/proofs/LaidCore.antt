@@ -16,7 +16,7 @@ use Rattle.m36_page.specs.Given.{table_given}
 use Rattle.m36_link.specs.Fields.{LayFields}
 use Rattle.m36_boot.specs.Segments.{booted_sdw}
 use Rattle.m36_model.specs.Place.{page_count}
-use Rattle.m36_boot.specs.Image.{descriptor_word, page_table_word, booted_word, booted_tables, IsWhole, AreDescribed}
+use Rattle.m36_boot.specs.Image.{descriptor_word, page_table_word, booted_word, booted_tables, IsWellFormed, AreDescribed}
 use Rattle.m36_boot.proofs.Sizes.{AreFiles, live}
 use Rattle.m36_boot.proofs.ImageTables.{page_table, has_table, table_is}
 
@@ -54,10 +54,10 @@ odd_of catalog files s =
     ap (λ h. descriptor_word h (booted_sdw catalog files ((2 * s + 1) / 2))) half ∙ ap (λ k. descriptor_word 1 (booted_sdw catalog files k)) seg
 
 whole_by : (o : Option SdwFields) (d : SdwFields) → o ≡ Some d → IfSome o (λ x. in_order x ≡ true) → IfSome o (λ x. sdw_of (sdw_even x) (sdw_odd x) ≡ x)
-    → IsWhole d
+    → IsWellFormed d
 whole_by None d e ordered back = absurd (cc)
 whole_by (Some c) d e ordered back =
-    let P : SdwFields → Type 0 = λ x. IsWhole x in
+    let P : SdwFields → Type 0 = λ x. IsWellFormed x in
     subst P (let same : c ≡ d = cc in same) (record { back = back; ordered = ordered })
 
 pub described_more : (catalog : CatalogFields) (files : List (List ℕ)) (s e o : ℕ) (old mid new : List ℕ) (d : Option SdwFields) → 2 * s + 1 < length mid

@@ -16,7 +16,7 @@ use Rattle.m36_dir.specs.Catalog.{CatalogFields}
 use Rattle.m36_page.proofs.Frames.{absent_unmarked}
 use Rattle.m36_link.specs.Fields.{LayFields}
 use Rattle.m36_boot.specs.Segments.{booted_sdw}
-use Rattle.m36_boot.specs.Image.{descriptor_word, IsWhole}
+use Rattle.m36_boot.specs.Image.{descriptor_word, IsWellFormed}
 use Rattle.m36_boot.proofs.Sizes.{AreFiles, live}
 use Rattle.m36_boot.proofs.LaidCore.{IsMade, absent_at, descriptor_here, even_of, odd_of, size_of}
 
@@ -28,7 +28,7 @@ sdw_by (Some d) = Ok d
 
 abbrev Sound : Option SdwFields → Type 0
 Sound None = Unit {0}
-Sound (Some d) = IsWhole d × (d.f ≡ true)
+Sound (Some d) = IsWellFormed d × (d.f ≡ true)
 
 pair_by : (o : Option SdwFields) (e w : ℕ) → e ≡ descriptor_word 0 o → w ≡ descriptor_word 1 o → Sound o → live_by (is_on e 33) e w ≡ sdw_by o
 pair_by None e w even odd sound = ap (λ n. live_by (is_on n 33) n w) even

@@ -8,43 +8,43 @@ use Rattle.m36_link.specs.Fields.{SnapFields}
 use Rattle.m36_link.specs.Known.{segment_of, object_in}
 use Rattle.m36_link.specs.Snap.{RefusedFields}
 use Rattle.m36_boot.specs.Start.{start_answer, start_segment, may_start}
-use Rattle.m36_boot.specs.Refusals.{Answer, is_object, answer_if, start_in, start_of, least_frames, unless, boot_answer, first_gate_fault, Told, ToldOfGates}
+use Rattle.m36_boot.specs.Refusals.{Answer, is_object, answer_if, start_in, start_of, least_frames, first_or, boot_answer, first_gate_fault, ReportsFault, ReportsGateFault}
 
 pub lay_few : (catalog : CatalogFields) (files : List (List ℕ)) → catalog.frames < 24 → boot_answer catalog files ≡ Err fault.U1
 unfolding boot_answer
 lay_few catalog files few =
-    let answer = unless (first_gate_fault catalog files 0 (length catalog.segments)) (start_of catalog files) in
+    let answer = first_or (first_gate_fault catalog files 0 (length catalog.segments)) (start_of catalog files) in
     ap (λ b. cond b (Err fault.U1) answer) (lt-ltb catalog.frames least_frames few)
 
 enough : (catalog : CatalogFields) (files : List (List ℕ)) → 24 ≤ catalog.frames
-    → boot_answer catalog files ≡ unless (first_gate_fault catalog files 0 (length catalog.segments)) (start_of catalog files)
+    → boot_answer catalog files ≡ first_or (first_gate_fault catalog files 0 (length catalog.segments)) (start_of catalog files)
 unfolding boot_answer
 enough catalog files many =
-    let answer = unless (first_gate_fault catalog files 0 (length catalog.segments)) (start_of catalog files) in
+    let answer = first_or (first_gate_fault catalog files 0 (length catalog.segments)) (start_of catalog files) in
     ap (λ b. cond b (Err fault.U1) answer) (le-ltb catalog.frames least_frames many)
 
-gates_told : (told : BootFault) (first : Option BootFault) (answer : Answer) → ToldOfGates told first → Told told (unless first answer)
+gates_told : (told : BootFault) (first : Option BootFault) (answer : Answer) → ReportsGateFault told first → ReportsFault told (first_or first answer)
 gates_told fault.NoMemory first answer says = tt
-gates_told fault.U1 first answer says = ap (λ o. unless o answer) says
-gates_told (fault.U2 n) first answer says = ap (λ o. unless o answer) says
-gates_told fault.U3 first answer says = ap (λ o. unless o answer) says
-gates_told (fault.U4 n) first answer says = ap (λ o. unless o answer) says
+gates_told fault.U1 first answer says = ap (λ o. first_or o answer) says
+gates_told (fault.U2 n) first answer says = ap (λ o. first_or o answer) says
+gates_told fault.U3 first answer says = ap (λ o. first_or o answer) says
+gates_told (fault.U4 n) first answer says = ap (λ o. first_or o answer) says
 
 pub lay_gates : (catalog : CatalogFields) (files : List (List ℕ)) (told : BootFault) → 24 ≤ catalog.frames
-    → ToldOfGates told (first_gate_fault catalog files 0 (length catalog.segments)) → Told told (boot_answer catalog files)
+    → ReportsGateFault told (first_gate_fault catalog files 0 (length catalog.segments)) → ReportsFault told (boot_answer catalog files)
 lay_gates catalog files told many says =
-    let P : Answer → Type 0 = λ x. Told told x in
+    let P : Answer → Type 0 = λ x. ReportsFault told x in
     subst P (sym (enough catalog files many))
     (gates_told told (first_gate_fault catalog files 0 (length catalog.segments)) (start_of catalog files) says)
 
 pub lay_from : (catalog : CatalogFields) (files : List (List ℕ)) → 24 ≤ catalog.frames
     → first_gate_fault catalog files 0 (length catalog.segments) ≡ None → boot_answer catalog files ≡ start_of catalog files
-lay_from catalog files many none = enough catalog files many ∙ ap (λ o. unless o (start_of catalog files)) none
+lay_from catalog files many none = enough catalog files many ∙ ap (λ o. first_or o (start_of catalog files)) none
 
 pub lay_start : (catalog : CatalogFields) (files : List (List ℕ)) (told : BootFault) → 24 ≤ catalog.frames
-    → first_gate_fault catalog files 0 (length catalog.segments) ≡ None → Told told (start_of catalog files) → Told told (boot_answer catalog files)
+    → first_gate_fault catalog files 0 (length catalog.segments) ≡ None → ReportsFault told (start_of catalog files) → ReportsFault told (boot_answer catalog files)
 lay_start catalog files told many none says =
-    let P : Answer → Type 0 = λ x. Told told x in
+    let P : Answer → Type 0 = λ x. ReportsFault told x in
     subst P (sym (lay_from catalog files many none)) says
 
 pub lay_point : (catalog : CatalogFields) (files : List (List ℕ)) (s : SnapFields) → 24 ≤ catalog.frames

@@ -10,7 +10,7 @@ use Rattle.m36_dir.specs.Fields.{SegmentFields}
 use Rattle.m36_boot.specs.declared.fault.BootFault.{BootFault}
 use Rattle.m36_boot.specs.declared.fault.BootFault.TheVariants as fault
 use Rattle.m36_boot.specs.Segments.{file_at, limit_of}
-use Rattle.m36_boot.specs.Refusals.{is_entry_count, ToldOfGates, bound_fault, gate_fault, gate_fault_of, first_gate_fault, limit_at, AreLimits}
+use Rattle.m36_boot.specs.Refusals.{is_entry_count, ReportsGateFault, bound_fault, gate_fault, gate_fault_of, first_gate_fault, limit_at, AreLimits}
 
 gates_by : (catalog : CatalogFields) (files : List (List ℕ)) (i n left : ℕ) → n - i ≡ suc left
     → first_gate_fault catalog files i (n - i)
@@ -32,7 +32,7 @@ gates_at catalog files i n s words lt at file =
     ∙ ap (λ o. option_or (gate_fault_of (64 + i) o (file_at files i)) (first_gate_fault catalog files (i + 1) (n - (i + 1)))) at
     ∙ ap (λ (w : List ℕ). option_or (gate_fault (64 + i) s w) (first_gate_fault catalog files (i + 1) (n - (i + 1)))) (sym file)
 
-told_by : (told : BootFault) (here later total : Option BootFault) → ToldOfGates told here → option_or here later ≡ total → ToldOfGates told total
+told_by : (told : BootFault) (here later total : Option BootFault) → ReportsGateFault told here → option_or here later ≡ total → ReportsGateFault told total
 told_by fault.NoMemory here later total says e = tt
 told_by fault.U1 here later total says e = sym e ∙ ap (λ o. option_or o later) says
 told_by (fault.U2 n) here later total says e = sym e ∙ ap (λ o. option_or o later) says
@@ -40,9 +40,9 @@ told_by fault.U3 here later total says e = sym e ∙ ap (λ o. option_or o later
 told_by (fault.U4 n) here later total says e = sym e ∙ ap (λ o. option_or o later) says
 
 pub limits_stop : (catalog : CatalogFields) (files : List (List ℕ)) (i n : ℕ) (s : SegmentFields) (words : List ℕ) (told : BootFault)
-    → i < n → slice_get catalog.segments i ≡ Some s → words ≡ file_at files i → ToldOfGates told (gate_fault (64 + i) s words)
+    → i < n → slice_get catalog.segments i ≡ Some s → words ≡ file_at files i → ReportsGateFault told (gate_fault (64 + i) s words)
     → first_gate_fault catalog files i (n - i) ≡ first_gate_fault catalog files 0 n
-    → ToldOfGates told (first_gate_fault catalog files 0 n)
+    → ReportsGateFault told (first_gate_fault catalog files 0 n)
 limits_stop catalog files i n s words told lt at file says so_far =
     told_by told (gate_fault (64 + i) s words) (first_gate_fault catalog files (i + 1) (n - (i + 1))) (first_gate_fault catalog files 0 n) says
     (sym (gates_at catalog files i n s words lt at file) ∙ so_far)

@@ -22,7 +22,7 @@ use Rattle.m36_link.specs.Fields.{LayFields, SnapFields}
 use Rattle.m36_link.specs.Known.{first_segment, linkage_segment}
 use Rattle.m36_boot.specs.Segments.{ring_segment, linkage_pages, booted_sdw, booted_words}
 use Rattle.m36_boot.specs.Start.{start_regs}
-use Rattle.m36_boot.specs.Refusals.{least_frames, Told, boot_answer}
+use Rattle.m36_boot.specs.Refusals.{least_frames, ReportsFault, boot_answer}
 
 -- ---- core
 
@@ -50,7 +50,7 @@ booted_word catalog files a =
     else 0
 
 -- The words of a descriptor decode to that descriptor, and its brackets are in order.
-pub record IsWhole (d : SdwFields) : Type 0 where
+pub record IsWellFormed (d : SdwFields) : Type 0 where
   pub back : sdw_of (sdw_even d) (sdw_odd d) ≡ d
   pub ordered : in_order d ≡ true
 
@@ -65,7 +65,7 @@ pub record AreDescribed
       → slice_index new a ≡ described_word catalog files a
   pub others : (a : ℕ) → 2 * count ≤ a → slice_index new a ≡ slice_index old a
   pub whole :
-      (seg : ℕ) (d : SdwFields) → seg < count → booted_sdw catalog files seg ≡ Some d → IsWhole d
+      (seg : ℕ) (d : SdwFields) → seg < count → booted_sdw catalog files seg ≡ Some d → IsWellFormed d
 
 -- ---- pages
 
@@ -165,4 +165,4 @@ pub record IsRunnable (frames : ℕ) (image : Image) : Type 0 where
 abbrev pub LaySays : CatalogFields → List (List ℕ) → Result Image BootFault → Type 0
 LaySays catalog files (Ok image) =
     (boot_answer catalog files ≡ Ok image.snap) × IsImage catalog files image.snap image
-LaySays catalog files (Err told) = Told told (boot_answer catalog files)
+LaySays catalog files (Err told) = ReportsFault told (boot_answer catalog files)

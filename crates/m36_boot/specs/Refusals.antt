@@ -12,7 +12,7 @@ use Rattle.m36_boot.specs.declared.fault.BootFault.{BootFault}
 use Rattle.m36_boot.specs.declared.fault.BootFault.TheVariants as fault
 use Rattle.m36_link.specs.Fields.{SnapFields}
 use Rattle.m36_link.specs.Known.{catalog_number, segment_of, object_in}
-use Rattle.m36_link.specs.Landing.{is_plain}
+use Rattle.m36_link.specs.Target.{is_plain}
 use Rattle.m36_link.specs.Snap.{RefusedFields}
 use Rattle.m36_boot.specs.Segments.{file_at, is_gate, entry_bound_of, limit_of}
 use Rattle.m36_boot.specs.Start.{start_answer, start_segment, may_start}
@@ -95,46 +95,46 @@ start_of catalog files = start_in catalog files (start_segment catalog)
 -- ---- all of them
 
 -- the first fault, if there is one, and otherwise the answer
-abbrev pub unless : Option BootFault → Answer → Answer
-unless (Some first) answer = Err first
-unless None answer = answer
+abbrev pub first_or : Option BootFault → Answer → Answer
+first_or (Some first) answer = Err first
+first_or None answer = answer
 
 -- the answer with which the catalog is booted, or its first fault
 unfoldable pub boot_answer : CatalogFields → List (List ℕ) → Answer
 boot_answer catalog files =
     if nat_lt catalog.frames least_frames then Err fault.U1
-    else unless (first_gate_fault catalog files 0 (length catalog.segments))
+    else first_or (first_gate_fault catalog files 0 (length catalog.segments))
     (start_of catalog files)
 
 -- ---- the results of the code, which may also be NoMemory
 
 -- The code reports this fault, or has run out of memory.
-abbrev pub Told : BootFault → Answer → Type 0
-Told fault.NoMemory answer = Unit {0}
-Told told answer = answer ≡ Err told
+abbrev pub ReportsFault : BootFault → Answer → Type 0
+ReportsFault fault.NoMemory answer = Unit {0}
+ReportsFault told answer = answer ≡ Err told
 
 -- The code's result for the start.
 abbrev pub StartSays : Result SnapFields BootFault → Answer → Type 0
 StartSays (Ok s) answer = answer ≡ Ok s
-StartSays (Err told) answer = Told told answer
+StartSays (Err told) answer = ReportsFault told answer
 
 -- The code reports this fault of a gate, or has run out of memory.
-abbrev pub ToldOfGates : BootFault → Option BootFault → Type 0
-ToldOfGates fault.NoMemory first = Unit {0}
-ToldOfGates told first = first ≡ Some told
+abbrev pub ReportsGateFault : BootFault → Option BootFault → Type 0
+ReportsGateFault fault.NoMemory first = Unit {0}
+ReportsGateFault told first = first ≡ Some told
 
 -- the call limiter of a gate
 abbrev pub GateSays : ℕ → List ℕ → Result ℕ BootFault → Type 0
 GateSays seg words (Ok limit) =
     (bound_fault seg (value_of words) ≡ None) × (limit ≡ entry_bound_of (value_of words))
     × IsLimit limit
-GateSays seg words (Err told) = ToldOfGates told (bound_fault seg (value_of words))
+GateSays seg words (Err told) = ReportsGateFault told (bound_fault seg (value_of words))
 
 -- the call limiter of a segment
 abbrev pub LimitSays : ℕ → SegmentFields → List ℕ → Result ℕ BootFault → Type 0
 LimitSays seg s words (Ok limit) =
     (gate_fault seg s words ≡ None) × (limit ≡ limit_of s words) × IsLimit limit
-LimitSays seg s words (Err told) = ToldOfGates told (gate_fault seg s words)
+LimitSays seg s words (Err told) = ReportsGateFault told (gate_fault seg s words)
 
 -- the call limiter of a segment that may not exist
 abbrev pub limit_at : Option SegmentFields → List ℕ → ℕ

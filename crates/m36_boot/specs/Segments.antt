@@ -29,8 +29,8 @@ abbrev pub stack_segment : ℕ → ℕ
 stack_segment ring = first_stack + ring
 
 -- the first number after those of the rings
-abbrev pub behind_rings : ℕ
-behind_rings = linkage_segment 8
+abbrev pub after_ring_segments : ℕ
+after_ring_segments = linkage_segment 8
 
 -- the number of pages of a stack
 abbrev pub stack_pages : ℕ
@@ -135,7 +135,7 @@ unfoldable pub booted_sdw : CatalogFields → List (List ℕ) → ℕ → Option
 booted_sdw catalog files seg =
     if nat_lt seg first_stack then None
     else if nat_lt seg first_linkage then Some (ring_segment seg (seg - first_stack) stack_pages)
-    else if nat_lt seg behind_rings then Some (ring_segment seg (seg - first_linkage) linkage_pages)
+    else if nat_lt seg after_ring_segments then Some (ring_segment seg (seg - first_linkage) linkage_pages)
     else if nat_lt seg first_segment then None
     else catalog_segment seg (slice_get catalog.segments (catalog_index seg))
     (file_at files (catalog_index seg))
@@ -166,6 +166,6 @@ unfoldable pub booted_words : List (List ℕ) → Option LayFields → ℕ → L
 booted_words files lay seg =
     if nat_lt seg first_stack then []
     else if nat_lt seg first_linkage then stack_words (seg - first_stack)
-    else if nat_lt seg behind_rings then linkage_words lay (seg - first_linkage)
+    else if nat_lt seg after_ring_segments then linkage_words lay (seg - first_linkage)
     else if nat_lt seg first_segment then []
     else file_at files (catalog_index seg)

@@ -2,7 +2,7 @@
 
 ghost use Rattle.std.specs.Prelude.{◌≡◌, ◌+◌, ◌<◌, ◌++◌, ◌∷◌, [], true, length, OnOk, IfOk, IfErr, None};
 ghost use Rattle.m36_boot.specs.Segments.{AreShort};
-ghost use Rattle.m36_boot.specs.Refusals.{is_entry_count, IsLimit, GateSays, LimitSays, AreLimits, ToldOfGates, first_gate_fault};
+ghost use Rattle.m36_boot.specs.Refusals.{is_entry_count, IsLimit, GateSays, LimitSays, AreLimits, ReportsGateFault, first_gate_fault};
 
 use crate::fault::BootFault;
 use crate::objects::{file, object_of};
@@ -69,7 +69,7 @@ pub(crate) fn limits_of(
         (λ limits. first_gate_fault catalog.now files.now 0 (length catalog.now.segments) ≡ None) }
     ensures limits { IfOk result
         (λ limits. AreLimits catalog.now files.now (length catalog.now.segments) limits.items) }
-    ensures told { IfErr result (λ told. ToldOfGates told
+    ensures told { IfErr result (λ told. ReportsGateFault told
         (first_gate_fault catalog.now files.now 0 (length catalog.now.segments))) }
 {
     let count = catalog.count();

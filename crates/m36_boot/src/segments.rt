@@ -5,13 +5,13 @@ ghost use Rattle.m36_desc.specs.Access.{in_order};
 ghost use Rattle.m36_model.specs.BootedCore.{table_words, table_at, booted_segments};
 ghost use Rattle.obj36_parts.specs.ObjectSegment.{segment_limit};
 ghost use Rattle.m36_link.specs.Known.{first_segment};
-ghost use Rattle.m36_boot.specs.Segments.{AreShort, first_stack, behind_rings, paged_segment, ring_segment, limited_segment, booted_sdw, stack_words, lot_of, linkage_words, booted_words};
+ghost use Rattle.m36_boot.specs.Segments.{AreShort, first_stack, after_ring_segments, paged_segment, ring_segment, limited_segment, booted_sdw, stack_words, lot_of, linkage_words, booted_words};
 ghost use Rattle.m36_boot.specs.Refusals.{IsLimit, AreLimits};
 
 use crate::objects::file;
 use m36_desc::{ITS_TAG, Sdw};
 use m36_dir::{Catalog, SegKind, Segment};
-use m36_link::{FIRST_LINKAGE, FIRST_SEGMENT, File, LOT_WORDS, Lay};
+use m36_link::{FIRST_LINKAGE, FIRST_SEGMENT, File, LOT_WORDS, NewSection};
 use m36_word::{NoMemory, Word, Words};
 use obj36_parts::sections::{copied, push_all, push_zeros};
 use std::alloc::Global;
@@ -20,7 +20,7 @@ use std::alloc::Global;
 pub(crate) const FIRST_STACK: u16 = 8;
 
 // The first number after those of the linkage segments.
-const BEHIND_RINGS: u16 = 24;
+const AFTER_RING_SEGMENTS: u16 = 24;
 
 // The place in core of the page table of a segment.
 pub(crate) fn table_at(seg: u16) -> u32
@@ -115,7 +115,7 @@ pub(crate) fn descriptor(catalog: &Catalog, files: &[File], limits: &[u16], seg:
         None
     } else if seg < FIRST_LINKAGE {
         Some(ring_segment(seg, (seg - FIRST_STACK) as u8, 16))
-    } else if seg < BEHIND_RINGS {
+    } else if seg < AFTER_RING_SEGMENTS {
         Some(ring_segment(seg, (seg - FIRST_LINKAGE) as u8, 256))
     } else if seg < FIRST_SEGMENT {
         None
@@ -154,7 +154,7 @@ fn stack_words(alloc: Global, ring: u8) -> Result<Words, NoMemory>
 }
 
 // The LOT of a ring in which one linkage section is laid.
-fn lot_of(alloc: Global, lay: &Lay) -> Result<Words, NoMemory>
+fn lot_of(alloc: Global, lay: &NewSection) -> Result<Words, NoMemory>
     ensures { IfOk result (λ words. words ≡ lot_of lay.now) }
 {
     let mut words = Words::new(alloc);
@@ -169,7 +169,7 @@ fn lot_of(alloc: Global, lay: &Lay) -> Result<Words, NoMemory>
 
 // The words of a linkage segment.
 #[tactic(auto, unfolding(crate::specs::Segments::linkage_words))]
-fn linkage_words(alloc: Global, lay: &Option<Lay>, ring: u8) -> Result<Words, NoMemory>
+fn linkage_words(alloc: Global, lay: &Option<NewSection>, ring: u8) -> Result<Words, NoMemory>
     ensures { IfOk result (λ words. words ≡ linkage_words lay.now ring) }
 {
     match lay {
@@ -187,18 +187,18 @@ fn linkage_words(alloc: Global, lay: &Option<Lay>, ring: u8) -> Result<Words, No
 pub(crate) fn words_of(
     alloc: Global,
     files: &[File],
-    lay: &Option<Lay>,
+    lay: &Option<NewSection>,
     seg: u16,
 ) -> Result<Words, NoMemory>
     requires short { AreShort files.now }
     requires seg { seg < first_segment + length files.now }
     requires rings { first_stack ≤ seg }
-    requires given { (seg < behind_rings) ⊎ (first_segment ≤ seg) }
+    requires given { (seg < after_ring_segments) ⊎ (first_segment ≤ seg) }
     ensures { IfOk result (λ words. words ≡ booted_words files.now lay.now seg) }
 {
     if seg < FIRST_LINKAGE {
         stack_words(alloc, (seg - FIRST_STACK) as u8)
-    } else if seg < BEHIND_RINGS {
+    } else if seg < AFTER_RING_SEGMENTS {
         linkage_words(alloc, lay, (seg - FIRST_LINKAGE) as u8)
     } else {
         copied(alloc, file(files, (seg - FIRST_SEGMENT) as usize).words())

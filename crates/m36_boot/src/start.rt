@@ -10,7 +10,7 @@ use crate::fault::BootFault;
 use crate::segments::FIRST_STACK;
 use m36_desc::{Dbr, Its, Ptr};
 use m36_dir::{Catalog, SegKind, Segment, Start};
-use m36_link::{FIRST_LINKAGE, File, Known, Lay, LinkFault, Snap, object_in, segment_of};
+use m36_link::{FIRST_LINKAGE, File, Known, LinkFault, NewSection, Snap, object_in, segment_of};
 use m36_model::{Ind, Ppr, Regs};
 use m36_word::Word;
 use obj36::{Link, Object, Section};
@@ -116,7 +116,7 @@ fn pointer(seg: u16, ring: u8, word: u32) -> Ptr
 }
 
 // The place in its linkage segment of a section that is laid; 0 if there is none.
-fn section_base(lay: &Option<Lay>) -> u32
+fn section_base(lay: &Option<NewSection>) -> u32
     ensures value { result ≡ section_base lay.now }
     ensures bound { result < 2 ^ 18 }
 {
@@ -127,7 +127,7 @@ fn section_base(lay: &Option<Lay>) -> u32
 }
 
 /// The section that is laid for a start.
-pub(crate) fn section_of(snap: &Snap) -> &Option<Lay>
+pub(crate) fn section_of(snap: &Snap) -> &Option<NewSection>
     ensures { result.now ≡ snap.now.lay }
 {
     &snap.lay

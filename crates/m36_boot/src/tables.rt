@@ -8,7 +8,7 @@ ghost use Rattle.m36_boot.specs.Image.{table_of_segment, booted_tables};
 
 use crate::segments::{descriptor, table_at, words_of};
 use m36_dir::Catalog;
-use m36_link::{FIRST_SEGMENT, File, Lay};
+use m36_link::{FIRST_SEGMENT, File, NewSection};
 use m36_page::PageTable;
 use m36_word::NoMemory;
 use std::alloc::Global;
@@ -20,7 +20,7 @@ fn add_table(
     catalog: &Catalog,
     files: &[File],
     limits: &[u16],
-    lay: &Option<Lay>,
+    lay: &Option<NewSection>,
     seg: u16,
 ) -> Result<(), NoMemory>
     requires files { length files.now ≡ length catalog.now.segments }
@@ -53,7 +53,7 @@ pub(crate) fn booted_tables(
     catalog: &Catalog,
     files: &[File],
     limits: &[u16],
-    lay: &Option<Lay>,
+    lay: &Option<NewSection>,
 ) -> Result<Vec<PageTable>, NoMemory>
     requires files { length files.now ≡ length catalog.now.segments }
     requires short { AreShort files.now }

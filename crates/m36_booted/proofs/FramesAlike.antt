@@ -14,11 +14,11 @@ use Rattle.m36_boot.specs.declared.fault.BootFault.{BootFault}
 use Rattle.m36_boot.specs.declared.fault.BootFault.TheVariants as fault
 use Rattle.m36_boot.specs.Segments.{booted_sdw}
 use Rattle.m36_boot.specs.Start.{start_answer, start_segment, start_regs}
-use Rattle.m36_boot.specs.Refusals.{Answer, unless, start_of, boot_answer}
+use Rattle.m36_boot.specs.Refusals.{Answer, first_or, start_of, boot_answer}
 use Rattle.m36_boot.specs.Image.{booted_word, booted_content, words_from, booted_flat, paged_of}
 use Rattle.m36_super.specs.Library.{Library}
-use Rattle.m36_super.specs.declared.coming.Coming.{Coming}
-use Rattle.m36_super.specs.declared.coming.Coming.TheVariants.{Step, Link, Print, Over}
+use Rattle.m36_super.specs.declared.coming.NextEvent.{NextEvent}
+use Rattle.m36_super.specs.declared.coming.NextEvent.TheVariants.{Step, Link, Print, Over}
 use Rattle.m36_super.specs.FlatRun.{FlatRun, flat_linked_by, flat_turn_by, flat_turn}
 use Rattle.m36_super.specs.SuperFields.{SuperFields, booted_of}
 use Rattle.m36_super.specs.BootedRun.{flat_run_of}
@@ -37,7 +37,7 @@ same_snap :
 unfolding snap_of landing_of outer_landing searched candidates found_in found segment_of
 same_snap known catalog files n at = refl
 
-alike_by : (coming : Coming) (lib : Library) (n : ℕ) (r : FlatRun) → flat_turn_by coming lib r ≡ flat_turn_by coming (with_frames lib n) r
+alike_by : (coming : NextEvent) (lib : Library) (n : ℕ) (r : FlatRun) → flat_turn_by coming lib r ≡ flat_turn_by coming (with_frames lib n) r
 alike_by Step lib n r = refl
 alike_by (Link at) lib n r = ap (λ a. flat_linked_by a r at) (same_snap r.known lib.catalog lib.files n at)
 alike_by Print lib n r = refl
@@ -78,7 +78,7 @@ same_start : (catalog : CatalogFields) (files : List (List ℕ)) (n : ℕ) → s
 unfolding start_of start_answer start_segment outer_snap outer_landing searched candidates found_in found segment_of
 same_start catalog files n = refl
 
-started_by : (few : Bool) (gate : Option BootFault) (start : Answer) (s : SnapFields) → (if few then Err fault.U1 else unless gate start) ≡ Ok s → start ≡ Ok s
+started_by : (few : Bool) (gate : Option BootFault) (start : Answer) (s : SnapFields) → (if few then Err fault.U1 else first_or gate start) ≡ Ok s → start ≡ Ok s
 started_by true gate start s is = absurd (cc)
 started_by false None start s is = is
 started_by false (Some first) start s is = absurd (cc)

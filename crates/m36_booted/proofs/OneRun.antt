@@ -8,10 +8,10 @@ use Rattle.m36_model.specs.declared.record.StepRecord.{StepRecord}
 use Rattle.m36_step.specs.declared.turns.Turn.{Turn}
 use Rattle.m36_step.specs.declared.turns.Turn.TheVariants.{Stepped, Linked, Console, Ended, Full, NoMemory}
 use Rattle.m36_super.specs.Library.{Library}
-use Rattle.m36_super.specs.declared.coming.Coming.{Coming}
-use Rattle.m36_super.specs.declared.coming.Coming.TheVariants.{Step, Link, Print, Over}
+use Rattle.m36_super.specs.declared.coming.NextEvent.{NextEvent}
+use Rattle.m36_super.specs.declared.coming.NextEvent.TheVariants.{Step, Link, Print, Over}
 use Rattle.m36_super.specs.FlatRun.{FlatRun, FlatTurn, flat_stepped, flat_turn_by, flat_turn}
-use Rattle.m36_super.specs.BootedRun.{Booted, IsTurn, AreTurns, Stands, flat_run_of}
+use Rattle.m36_super.specs.BootedRun.{Booted, IsTurn, AreTurns, LaidOutUntilLdbr, flat_run_of}
 use Rattle.m36_super.specs.TurnLaws.{LocatesInTurn, IsFlatTurn, IsPlainTurn}
 use Rattle.m36_super.proofs.Turns.{turn_law}
 use Rattle.m36_super.proofs.Audited.{flat_loaded, not_located, plain_flat}
@@ -26,7 +26,7 @@ use Rattle.m36_booted.specs.DueLaw.{HasMemory}
 -- a state of a run in which no LDBR was executed, with the invariant of such states
 pub record IsFresh (lib : Library) (r : Booted) : Type 0 where
   pub loaded : r.loaded ≡ false
-  pub stands : Stands false lib.catalog.frames r.state
+  pub stands : LaidOutUntilLdbr false lib.catalog.frames r.state
 
 record Goes (lib : Library) (r : Booted) (turn : Turn) (mid : Booted) : Type 0 where
   pub flat : IsFlatTurn lib r turn mid
@@ -39,7 +39,7 @@ goes lib r turn mid fresh is plain =
     let next : mid.loaded ≡ false = ap (λ (s : FlatRun). s.loaded) flat.after_is ∙ flat_loaded lib (flat_run_of r) fresh.loaded (subst IsPlainTurn flat.turn_is plain) in
     record {
       flat = flat;
-      fresh = record { loaded = next; stands = subst (λ (b : Bool). Stands b lib.catalog.frames mid.state) next kept.stands };
+      fresh = record { loaded = next; stands = subst (λ (b : Bool). LaidOutUntilLdbr b lib.catalog.frames mid.state) next kept.stands };
     }
 
 -- A turn that is made is that of the flat run, or both execute ABSA.
@@ -70,7 +70,7 @@ plain_like turn other flat is plain (inr h) = absurd (not_located turn (subst Lo
 -- ---- what comes next
 
 -- If a step is next, the flat turn is a step.
-steps_next : (coming : Coming) (lib : Library) (r : FlatRun) → coming ≡ Step → (e : StepRecord) × ((flat_turn_by coming lib r).turn ≡ Stepped e)
+steps_next : (coming : NextEvent) (lib : Library) (r : FlatRun) → coming ≡ Step → (e : StepRecord) × ((flat_turn_by coming lib r).turn ≡ Stepped e)
 unfolding flat_stepped
 steps_next Step lib r is = (record_of flat_store r.state, refl)
 steps_next (Link at) lib r is = absurd (cc)

@@ -10,7 +10,7 @@ use Rattle.m36_link.specs.Fields.{SnapFields}
 use Rattle.m36_link.specs.Known.{nothing_known}
 use Rattle.m36_link.specs.Accepted.{accepted}
 use Rattle.m36_super.specs.Library.{Library}
-use Rattle.m36_super.specs.declared.coming.Coming.TheVariants.{Step}
+use Rattle.m36_super.specs.declared.coming.NextEvent.TheVariants.{Step}
 use Rattle.m36_super.specs.SuperFields.{SuperFields}
 use Rattle.m36_super.specs.BootSays.{IsBooted, at_start}
 

@@ -9,8 +9,8 @@ use Rattle.m36_step.specs.LinkNoteFields.{LinkNoteFields}
 use Rattle.m36_step.specs.declared.turns.Turn.{Turn}
 use Rattle.m36_step.specs.declared.turns.Turn.TheVariants.{Stepped, Linked, Console, Ended, Full, NoMemory}
 use Rattle.m36_super.specs.Library.{Library}
-use Rattle.m36_super.specs.declared.coming.Coming.{Coming}
-use Rattle.m36_super.specs.declared.coming.Coming.TheVariants.{Step, Link, Print, Over}
+use Rattle.m36_super.specs.declared.coming.NextEvent.{NextEvent}
+use Rattle.m36_super.specs.declared.coming.NextEvent.TheVariants.{Step, Link, Print, Over}
 use Rattle.m36_super.specs.BootedRun.{Booted, IsStepTurn, IsLinkTurn, IsConsoleTurn, IsTurnBy, IsTurn}
 use Rattle.m36_super.specs.SuperFields.{SuperFields, booted_of}
 use Rattle.m36_super.specs.SuperTurn.{SuperTurns, IsQuiet, link_quiet}
@@ -71,7 +71,7 @@ print_is false (Err f) before turn after is = subst IsPrint (sym is.0) tt
 print_is false (Ok text) before turn after is = subst IsPrint (sym is.0) tt
 
 by_coming :
-    (lib : Library) (before after : SuperFields) (turn : Turn) (coming : Coming)
+    (lib : Library) (before after : SuperFields) (turn : Turn) (coming : NextEvent)
     → before.coming ≡ coming → IsTurn lib (booted_of before) turn (booted_of after)
     → IsTurnBy coming lib (booted_of before) turn (booted_of after)
 unfolding IsTurn
@@ -126,7 +126,7 @@ print_leaves false (Err f) before e after is = ap (λ (r : Booted). r.state.regs
 print_leaves false (Ok text) before e after is = absurd (subst IsUnended (sym is.0) tt)
 
 end_leaves :
-    (coming : Coming) (lib : Library) (before : Booted) (e : End) (after : Booted)
+    (coming : NextEvent) (lib : Library) (before : Booted) (e : End) (after : Booted)
     → IsTurnBy coming lib before (Ended e) after → after.state.regs ≡ before.state.regs
 end_leaves Step lib before e after is = absurd (step_is before.loaded lib.catalog.frames before (Ended e) after is)
 end_leaves (Link at) lib before e after is =

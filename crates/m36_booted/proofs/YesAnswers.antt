@@ -18,10 +18,10 @@ use Rattle.m36_link.specs.Snap.{RefusedFields}
 use Rattle.m36_step.specs.declared.turns.Turn.{Turn}
 use Rattle.m36_step.specs.declared.turns.Turn.TheVariants.{Stepped, Linked, Console, Ended, Full, NoMemory}
 use Rattle.m36_super.specs.Library.{Library}
-use Rattle.m36_super.specs.declared.coming.Coming.{Coming}
-use Rattle.m36_super.specs.declared.coming.Coming.TheVariants.{Step, Link, Print, Over}
-use Rattle.m36_super.specs.Coming.{loaded_after}
-use Rattle.m36_super.specs.BootedRun.{Booted, told_of, IsStepTurn, IsLinkTurn, IsConsoleTurn, IsTurnBy, IsTurn, AreTurns, IsStanding, Stands}
+use Rattle.m36_super.specs.declared.coming.NextEvent.{NextEvent}
+use Rattle.m36_super.specs.declared.coming.NextEvent.TheVariants.{Step, Link, Print, Over}
+use Rattle.m36_super.specs.NextEvent.{loaded_after}
+use Rattle.m36_super.specs.BootedRun.{Booted, record_of_state, IsStepTurn, IsLinkTurn, IsConsoleTurn, IsTurnBy, IsTurn, AreTurns, IsLaidOut, LaidOutUntilLdbr}
 use Rattle.m36_super.specs.SuperFields.{SuperFields, booted_of}
 use Rattle.m36_super.specs.BootSays.{IsBooted}
 use Rattle.m36_super.proofs.BootTurns.{start_unloaded}
@@ -79,7 +79,7 @@ step_loaded :
     → loaded ≡ true → IsLoaded before → IsStepTurn loaded frames before turn after → IsLoaded after
 step_loaded false frames before turn after e is turns = absurd (cc)
 step_loaded true frames before turn after e is turns =
-    ap (λ (r : Booted). r.loaded) turns.after_is ∙ ap (λ b. loaded_after b (told_of before.state)) is
+    ap (λ (r : Booted). r.loaded) turns.after_is ∙ ap (λ b. loaded_after b (record_of_state before.state)) is
 
 link_loaded :
     (answer : Result SnapFields RefusedFields) (frames : ℕ) (at : AtFields) (before : Booted) (turn : Turn) (after : Booted)
@@ -105,7 +105,7 @@ print_loaded false (Err f) before turn after is turns = ap (λ (r : Booted). r.l
 print_loaded false (Ok text) before turn after is turns = ap (λ (r : Booted). r.loaded) turns.1 ∙ is
 
 turn_loaded :
-    (coming : Coming) (lib : Library) (before : Booted) (turn : Turn) (after : Booted)
+    (coming : NextEvent) (lib : Library) (before : Booted) (turn : Turn) (after : Booted)
     → IsLoaded before → IsTurnBy coming lib before turn after → IsLoaded after
 turn_loaded Step lib before turn after is turns = step_loaded before.loaded lib.catalog.frames before turn after is is turns
 turn_loaded (Link at) lib before turn after is turns = link_loaded _ lib.catalog.frames at before turn after is turns
@@ -123,7 +123,7 @@ turns_loaded lib (turn ∷ turns) r last is are =
 -- ---- what is kept until then
 
 pub record IsKept (lib : Library) (r : Booted) : Type 0 where
-  pub stands : IsStanding lib.catalog.frames r.state
+  pub stands : IsLaidOut lib.catalog.frames r.state
   pub audited : IsAudited r.state.memory.core booted_dbr
 
 mid_unloaded :
@@ -134,7 +134,7 @@ mid_unloaded true lib turns mid last e are un =
     let loaded : last.loaded ≡ true = turns_loaded lib turns mid last e are in
     absurd (cc)
 
-stood : (loaded : Bool) (lib : Library) (r : Booted) → loaded ≡ false → Stands loaded lib.catalog.frames r.state → IsStanding lib.catalog.frames r.state
+stood : (loaded : Bool) (lib : Library) (r : Booted) → loaded ≡ false → LaidOutUntilLdbr loaded lib.catalog.frames r.state → IsLaidOut lib.catalog.frames r.state
 stood false lib r e stands = stands
 stood true lib r e stands = absurd (cc)
 

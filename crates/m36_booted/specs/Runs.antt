@@ -5,9 +5,9 @@ use Rattle.m36_step.specs.declared.turns.Turn.{Turn}
 use Rattle.m36_step.specs.declared.turns.Turn.TheVariants.{Stepped, Linked, Console, Ended}
 use Rattle.m36_step.specs.declared.turns.Turn.TheVariants.{Full, NoMemory}
 use Rattle.m36_super.specs.Library.{Library}
-use Rattle.m36_super.specs.declared.coming.Coming.{Coming}
-use Rattle.m36_super.specs.declared.coming.Coming.TheVariants.{Step, Link, Print}
-use Rattle.m36_super.specs.declared.coming.Coming.TheVariants as coming
+use Rattle.m36_super.specs.declared.coming.NextEvent.{NextEvent}
+use Rattle.m36_super.specs.declared.coming.NextEvent.TheVariants.{Step, Link, Print}
+use Rattle.m36_super.specs.declared.coming.NextEvent.TheVariants as coming
 use Rattle.m36_super.specs.BootedRun.{Booted, IsTurn, AreTurns}
 use Rattle.m36_reading.specs.Answers.{Answer}
 use Rattle.m36_booted.specs.declared.running.Finish.{Finish}
@@ -47,7 +47,7 @@ Finishes (Over e) lib limit turns last =
 Finishes Limit lib limit turns last = (steps_in turns ≡ limit) × (last.coming ≡ Step)
 
 -- A link service is next.
-abbrev pub AwaitsLink : Coming → Type 0
+abbrev pub AwaitsLink : NextEvent → Type 0
 AwaitsLink (Link at) = ⊤
 AwaitsLink Step = ⊥
 AwaitsLink Print = ⊥

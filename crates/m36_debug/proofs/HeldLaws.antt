@@ -13,7 +13,7 @@ use Rattle.m36_outside.specs.declared.sink.Put.{Put}
 use Rattle.m36_outside.specs.declared.sink.Put.TheVariants.{Done, Failed}
 use Rattle.m36_outside.proofs.Grown.{grew_by_nothing, grew_on, grew_more}
 use Rattle.m36_outside.proofs.LinesTaken.{takes_no_lines, takes_lines_on, takes_lines_more}
-use Rattle.m36_world.specs.Did.{IsInput, IsInputFailed, IsOutput}
+use Rattle.m36_world.specs.Happened.{IsInput, IsInputFailed, IsOutput}
 use Rattle.m36_world.specs.Follow.{Follow, outputs}
 use Rattle.m36_world.specs.Seen.{Seen}
 use Rattle.m36_program.specs.Gathered.{Gathers, Loses}
@@ -21,14 +21,14 @@ use Rattle.m36_program.specs.Trail.{output_of}
 use Rattle.m36_program.proofs.PieceLaws.{puts_longer}
 use Rattle.m36_debug.specs.declared.fault.SessionFault.{SessionFault}
 use Rattle.m36_debug.specs.declared.fault.SessionFault.TheVariants as fault
-use Rattle.m36_debug.specs.declared.turning.Ends.{Ends}
-use Rattle.m36_debug.specs.declared.turning.Ends.TheVariants as ends
-use Rattle.m36_debug.specs.Parts.{EndSays}
+use Rattle.m36_debug.specs.declared.turning.LineResult.{LineResult}
+use Rattle.m36_debug.specs.declared.turning.LineResult.TheVariants as ends
+use Rattle.m36_debug.specs.Parts.{LineContract}
 use Rattle.m36_debug.specs.PieceSays.{AnsweredAll, AnsweredQuit, AnsweredSome, AnsweredCut}
 use Rattle.m36_debug.specs.Putting.{pending}
-use Rattle.m36_debug.specs.Session.{Turning, Waiting, Starved, standing, lines_said}
-use Rattle.m36_debug.specs.SessionSays.{LinesSeen, IsSession, SaysInWorld, answer_of, put_by, bytes_limit}
-use Rattle.m36_debug.specs.Sitting.{SittingFields, new_sitting}
+use Rattle.m36_debug.specs.Session.{Turning, Waiting, Starved, standing, texts_of}
+use Rattle.m36_debug.specs.SessionSays.{LinesSeen, IsSession, SaysInWorld, answer_of, last_put_of, bytes_limit}
+use Rattle.m36_debug.specs.SessionState.{SittingFields, new_sitting}
 use Rattle.m36_debug.specs.Taking.{IsTaken}
 use Rattle.m36_debug.proofs.Replied.{input_by, outputs_keep}
 use Rattle.m36_debug.proofs.SessionBridge.{got_piece, got_end, got_nothing}
@@ -119,14 +119,14 @@ held_start o left begun s m now all none new =
 -- What was said last was put, and the session is over.
 held_all :
     {M : Type 0} (o : Turning M) (result : Result (Unit {0}) SessionFault) (m m' : M) (written more : List (List ℕ)) (old now mid new : Seen)
-    → PutsPieces Done written (output_of old) (output_of now) → output_of mid ≡ output_of now → WasPut (put_by result) more mid new
+    → PutsPieces Done written (output_of old) (output_of now) → output_of mid ≡ output_of now → WasPut (last_put_of result) more mid new
     → IsSession o result m m' (input_by old) (input_by mid) (written ++ more)
     → SaysInWorld o result m m' old new
 held_all o result m m' written more old now mid new puts same last session = record {
   lines = written ++ more;
   session = subst (λ (i : LinesSeen). IsSession o result m m' (input_by old) i (written ++ more)) (sym last.input) session;
-  wrote = put_then (put_by result) (output_of old) (output_of now) (output_of new) written more puts
-      (subst (λ s. PutsPieces (put_by result) more s (output_of new)) same last.puts);
+  wrote = put_then (last_put_of result) (output_of old) (output_of now) (output_of new) written more puts
+      (subst (λ s. PutsPieces (last_put_of result) more s (output_of new)) same last.puts);
 }
 
 -- ---- nothing more is answered
@@ -159,17 +159,17 @@ held_too_long o m m' left count begun buffer sitting old now new held none taken
 -- ---- the input has ended
 
 pub held_end :
-    {M : Type 0} (o : Turning M) (end : Ends) (m m1 m2 : M) (left : ℕ) (begun : List ℕ) (s sitting : SittingFields) (old now mid new : Seen)
+    {M : Type 0} (o : Turning M) (end : LineResult) (m m1 m2 : M) (left : ℕ) (begun : List ℕ) (s sitting : SittingFields) (old now mid new : Seen)
     → HeldSoFar o m m1 old now left begun s → IsInput [] now mid
-    → EndSays o end (standing s Waiting) m1 (open_rest begun) sitting m2 (pending [] mid) (pending [] new)
+    → LineContract o end (standing s Waiting) m1 (open_rest begun) sitting m2 (pending [] mid) (pending [] new)
     → SaysInWorld o (answer_of end) m m2 old new
 held_end o ends.Line m m1 m2 left begun s sitting old now mid new held did said =
-    let more = lines_said o (standing s Waiting) said.events in
+    let more = texts_of o (standing s Waiting) said.events in
     held_all o (Ok tt) m m2 held.written more old now mid new held.puts (ap output_of did.rest) (all_put more mid new said.wrote)
     (going_end o m m1 m2 (input_by old) (input_by now) (input_by mid) left begun s sitting held.written more held.going (got_end now mid did)
     (record { events = said.events; follow = said.follow; took = said.took; said = refl }))
 held_end o ends.Quit m m1 m2 left begun s sitting old now mid new held did said =
-    let more = lines_said o (standing s Waiting) said.events in
+    let more = texts_of o (standing s Waiting) said.events in
     held_all o (Ok tt) m m2 held.written more old now mid new held.puts (ap output_of did.rest) (all_put more mid new said.wrote)
     (going_last_quit o m m1 (input_by old) (input_by now) (input_by mid) left begun s held.written more held.going (got_end now mid did)
     (record {
@@ -178,7 +178,7 @@ held_end o ends.Quit m m1 m2 left begun s sitting old now mid new held did said 
       happens = record { events = said.events; follow = said.follow; took = said.took; said = refl };
     }))
 held_end o ends.Starved m m1 m2 left begun s sitting old now mid new held did said =
-    let more = lines_said o (standing s Waiting) said.events in
+    let more = texts_of o (standing s Waiting) said.events in
     held_all o (Err fault.NoMemory) m m2 held.written more old now mid new held.puts (ap output_of did.rest) (all_put more mid new said.wrote)
     (going_last_breaks Starving o m m1 (input_by old) (input_by now) (input_by mid) left begun s held.written more held.going (got_end now mid did)
     (record {
@@ -187,7 +187,7 @@ held_end o ends.Starved m m1 m2 left begun s sitting old now mid new held did sa
       happens = record { events = said.events; follow = said.follow; took = said.took; said = refl };
     }))
 held_end o ends.Cut m m1 m2 left begun s sitting old now mid new held did said =
-    let more = lines_said o (standing s Waiting) said.part.events in
+    let more = texts_of o (standing s Waiting) said.part.events in
     held_all o (Err fault.WriteFault) m m2 held.written more old now mid new held.puts (ap output_of did.rest) (some_put more mid new said.part.wrote)
     (going_last_breaks Unwritten o m m1 (input_by old) (input_by now) (input_by mid) left begun s held.written more held.going (got_end now mid did)
     (record {
@@ -225,7 +225,7 @@ pub held_on :
     → AnsweredAll o (standing s Waiting) m1 (begun ++ take count buffer) kept sitting m2 (pending [] mid) (pending [] new)
     → HeldSoFar o m m2 old new (left - count) kept sitting
 held_on o m m1 m2 left count begun kept buffer s sitting old now mid new held taken said =
-    let more = lines_said o (standing s Waiting) said.part.events in
+    let more = texts_of o (standing s Waiting) said.part.events in
     let next = next_piece o m m1 left count begun buffer s held.written old now mid held.going taken in
     let last = all_put more mid new said.part.wrote in
     record {
@@ -248,7 +248,7 @@ pub held_quit :
     → AnsweredQuit o (standing s Waiting) m1 (begun ++ take count buffer) sitting m2 (pending [] mid) (pending [] new)
     → SaysInWorld o (Ok tt) m m2 old new
 held_quit o m m1 m2 left count begun buffer s sitting old now mid new held taken said =
-    let more = lines_said o (standing s Waiting) said.part.events in
+    let more = texts_of o (standing s Waiting) said.part.events in
     let next = next_piece o m m1 left count begun buffer s held.written old now mid held.going taken in
     held_all o (Ok tt) m m2 held.written more old now mid new held.puts next.same (all_put more mid new said.part.wrote)
     (going_quit o m m1 (input_by old) (input_by now) (input_by mid) (left - count) begun (take count buffer) s held.written more next.going next.got
@@ -267,7 +267,7 @@ pub held_starved :
     → AnsweredSome o (standing s Waiting) m1 (begun ++ take count buffer) m2 (pending [] mid) (pending [] new)
     → SaysInWorld o (Err fault.NoMemory) m m2 old new
 held_starved o m m1 m2 left count begun buffer s old now mid new held taken said =
-    let more = lines_said o (standing s Waiting) said.part.events in
+    let more = texts_of o (standing s Waiting) said.part.events in
     let next = next_piece o m m1 left count begun buffer s held.written old now mid held.going taken in
     held_all o (Err fault.NoMemory) m m2 held.written more old now mid new held.puts next.same (all_put more mid new said.part.wrote)
     (going_breaks Starving o m m1 (input_by old) (input_by now) (input_by mid) (left - count) begun (take count buffer) s held.written more next.going next.got
@@ -287,7 +287,7 @@ pub held_cut :
     → SaysInWorld o (Err fault.WriteFault) m m2 old new
 held_cut o m m1 m2 left count begun buffer s old now mid new held taken said =
     let part = said.part.part in
-    let more = lines_said o (standing s Waiting) part.events in
+    let more = texts_of o (standing s Waiting) part.events in
     let next = next_piece o m m1 left count begun buffer s held.written old now mid held.going taken in
     held_all o (Err fault.WriteFault) m m2 held.written more old now mid new held.puts next.same (some_put more mid new part.wrote)
     (going_breaks Unwritten o m m1 (input_by old) (input_by now) (input_by mid) (left - count) begun (take count buffer) s held.written more next.going next.got

@@ -11,7 +11,7 @@ use Rattle.std.proofs.lemmas.List.Sums.{split_at_first, fails_before_first, pass
 use Rattle.std.proofs.Math.Dec.{ltb}
 use Rattle.m36_text.proofs.Splitting.{cond_none, ended_line, open_line, rest_whole}
 use Rattle.m36_outside.specs.Passing.{joined}
-use Rattle.m36_text.specs.Lines.{as_line, cut_line, ended, lines_of, those_read, open_rest, open_ended, open_lines_of}
+use Rattle.m36_text.specs.Lines.{as_line, unended_line, ended, lines_of, those_read, open_rest, open_lines_of_parts, open_lines_of}
 use Rattle.m36_debug.specs.LinesTaken.{whole_lines, IsUnbroken, IsLines, IsFirstPart}
 
 -- ---- a line feed in a text
@@ -117,8 +117,8 @@ unfolding open_lines_of
 open_lines_on [] rest unbroken = refl
 open_lines_on (line ∷ lines) rest unbroken =
     let behind : List ℕ = joined (map as_line lines) ++ rest in
-    ap (λ t. open_ended (slice_split (λ b. b == 10) t)) (append_assoc (as_line line) (joined (map as_line lines)) rest)
-    ∙ ap open_ended (split_line line behind (All-head IsUnbroken line lines unbroken))
+    ap (λ t. open_lines_of_parts (slice_split (λ b. b == 10) t)) (append_assoc (as_line line) (joined (map as_line lines)) rest)
+    ∙ ap open_lines_of_parts (split_line line behind (All-head IsUnbroken line lines unbroken))
     ∙ open_line line (slice_split (λ b. b == 10) behind) (omega (arith, length-slice_split (λ b. b == 10) behind))
     ∙ ap (λ l. line ∷ l) (open_lines_on lines rest (All-tail IsUnbroken line lines unbroken))
 
@@ -136,9 +136,9 @@ whole_lines_on (line ∷ lines) rest unbroken =
 
 open_last : (rest : List ℕ) → IsUnbroken rest → open_lines_of rest ≡ open_rest rest
 unfolding open_lines_of
-open_last rest unbroken = ap open_ended (slice_split_none (λ b. b == 10) rest unbroken)
+open_last rest unbroken = ap open_lines_of_parts (slice_split_none (λ b. b == 10) rest unbroken)
 
-no_whole : (rest : List ℕ) → those_read (cut_line rest) ≡ []
+no_whole : (rest : List ℕ) → those_read (unended_line rest) ≡ []
 no_whole [] = refl
 no_whole (b ∷ rest) = refl
 

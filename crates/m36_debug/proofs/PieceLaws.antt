@@ -3,21 +3,21 @@ use Rattle.std.proofs.Common.{◌≡◌, ◌<◌, ℕ, List, [], ◌∷◌, ◌+
 use Rattle.m36_outside.specs.declared.sink.Put.TheVariants.{Done}
 use Rattle.m36_debug.specs.Putting.{Pending}
 use Rattle.m36_text.specs.Lines.{as_line, open_rest}
-use Rattle.m36_debug.specs.declared.turning.Ends.{Ends}
-use Rattle.m36_debug.specs.declared.turning.Ends.TheVariants as ends
+use Rattle.m36_debug.specs.declared.turning.LineResult.{LineResult}
+use Rattle.m36_debug.specs.declared.turning.LineResult.TheVariants as ends
 use Rattle.m36_debug.specs.LinesTaken.{IsLines, IsUnbroken}
-use Rattle.m36_debug.specs.Parts.{Part, EndSays}
+use Rattle.m36_debug.specs.Parts.{SessionPart, LineContract}
 use Rattle.m36_debug.specs.PieceSays.{AnsweredAll, AnsweredQuit, AnsweredSome, AnsweredCut}
-use Rattle.m36_debug.specs.Session.{Turning, Waiting, Over, Starved, Standing, standing}
-use Rattle.m36_debug.specs.Sitting.{SittingFields}
+use Rattle.m36_debug.specs.Session.{Turning, Waiting, Over, Starved, SessionPoint, standing}
+use Rattle.m36_debug.specs.SessionState.{SittingFields}
 use Rattle.m36_debug.proofs.LinesLaws.{lines_none, lines_line}
 use Rattle.m36_debug.proofs.PartLaws.{part_none, part_on, part_cut}
 
 -- The first lines of a text were answered, and the bytes `left` of it are left.
-pub record SoFar {M : Type 0} (o : Turning M) (s : Standing) (m : M) (text left : List ℕ) (sitting : SittingFields) (m' : M) (old new : Pending) : Type 0 where
+pub record SoFar {M : Type 0} (o : Turning M) (s : SessionPoint) (m : M) (text left : List ℕ) (sitting : SittingFields) (m' : M) (old new : Pending) : Type 0 where
   pub lines : List (List ℕ)
   pub is : IsLines text lines left
-  pub part : Part o s m lines (standing sitting Waiting) m' Done old new
+  pub part : SessionPart o s m lines (standing sitting Waiting) m' Done old new
 
 pub so_far_start :
     {M : Type 0} (o : Turning M) (sitting : SittingFields) (m : M) (text : List ℕ) (now : Pending)
@@ -27,7 +27,7 @@ so_far_start o sitting m text now =
 
 -- the lines with one more
 more_lines :
-    {M : Type 0} (o : Turning M) (s : Standing) (m : M) (text begun end behind rest line : List ℕ) (sitting : SittingFields) (m1 : M) (old now : Pending)
+    {M : Type 0} (o : Turning M) (s : SessionPoint) (m : M) (text begun end behind rest line : List ℕ) (sitting : SittingFields) (m1 : M) (old now : Pending)
     → (f : SoFar o s m text (begun ++ rest) sitting m1 old now)
     → IsUnbroken begun → IsUnbroken end → rest ≡ as_line end ++ behind → line ≡ begun ++ end
     → IsLines text (f.lines ++ line ∷ []) behind
@@ -37,10 +37,10 @@ more_lines o s m text begun end behind rest line sitting m1 old now f begun_unbr
 
 -- one more line was answered, and the session waits for the next
 pub so_far_line :
-    {M : Type 0} (o : Turning M) (s : Standing) (m : M) (text begun end behind rest line : List ℕ) (sitting sitting' : SittingFields) (m1 m2 : M) (old now new : Pending)
+    {M : Type 0} (o : Turning M) (s : SessionPoint) (m : M) (text begun end behind rest line : List ℕ) (sitting sitting' : SittingFields) (m1 m2 : M) (old now new : Pending)
     → SoFar o s m text (begun ++ rest) sitting m1 old now
     → IsUnbroken begun → IsUnbroken end → rest ≡ as_line end ++ behind → line ≡ begun ++ end
-    → EndSays o ends.Line (standing sitting Waiting) m1 (line ∷ []) sitting' m2 now new
+    → LineContract o ends.Line (standing sitting Waiting) m1 (line ∷ []) sitting' m2 now new
     → SoFar o s m text behind sitting' m2 old new
 so_far_line o s m text begun end behind rest line sitting sitting' m1 m2 old now new f begun_unbroken end_unbroken cut is said = record {
   lines = f.lines ++ line ∷ [];
@@ -50,10 +50,10 @@ so_far_line o s m text begun end behind rest line sitting sitting' m1 m2 old now
 
 -- the line was `quit`
 pub so_far_quit :
-    {M : Type 0} (o : Turning M) (s : Standing) (m : M) (text begun end behind rest line : List ℕ) (sitting sitting' : SittingFields) (m1 m2 : M) (old now new : Pending)
+    {M : Type 0} (o : Turning M) (s : SessionPoint) (m : M) (text begun end behind rest line : List ℕ) (sitting sitting' : SittingFields) (m1 m2 : M) (old now new : Pending)
     → SoFar o s m text (begun ++ rest) sitting m1 old now
     → IsUnbroken begun → IsUnbroken end → rest ≡ as_line end ++ behind → line ≡ begun ++ end
-    → EndSays o ends.Quit (standing sitting Waiting) m1 (line ∷ []) sitting' m2 now new
+    → LineContract o ends.Quit (standing sitting Waiting) m1 (line ∷ []) sitting' m2 now new
     → AnsweredQuit o s m text sitting' m2 old new
 so_far_quit o s m text begun end behind rest line sitting sitting' m1 m2 old now new f begun_unbroken end_unbroken cut is said = record {
   lines = f.lines ++ line ∷ [];
@@ -64,10 +64,10 @@ so_far_quit o s m text begun end behind rest line sitting sitting' m1 m2 old now
 
 -- the line ran out of memory
 pub so_far_starved :
-    {M : Type 0} (o : Turning M) (s : Standing) (m : M) (text begun end behind rest line : List ℕ) (sitting sitting' : SittingFields) (m1 m2 : M) (old now new : Pending)
+    {M : Type 0} (o : Turning M) (s : SessionPoint) (m : M) (text begun end behind rest line : List ℕ) (sitting sitting' : SittingFields) (m1 m2 : M) (old now new : Pending)
     → SoFar o s m text (begun ++ rest) sitting m1 old now
     → IsUnbroken begun → IsUnbroken end → rest ≡ as_line end ++ behind → line ≡ begun ++ end
-    → EndSays o ends.Starved (standing sitting Waiting) m1 (line ∷ []) sitting' m2 now new
+    → LineContract o ends.Starved (standing sitting Waiting) m1 (line ∷ []) sitting' m2 now new
     → AnsweredSome o s m text m2 old new
 so_far_starved o s m text begun end behind rest line sitting sitting' m1 m2 old now new f begun_unbroken end_unbroken cut is said = record {
   lines = f.lines ++ line ∷ [];
@@ -79,10 +79,10 @@ so_far_starved o s m text begun end behind rest line sitting sitting' m1 m2 old 
 
 -- what the line says could not be written
 pub so_far_cut :
-    {M : Type 0} (o : Turning M) (s : Standing) (m : M) (text begun end behind rest line : List ℕ) (sitting sitting' : SittingFields) (m1 m2 : M) (old now new : Pending)
+    {M : Type 0} (o : Turning M) (s : SessionPoint) (m : M) (text begun end behind rest line : List ℕ) (sitting sitting' : SittingFields) (m1 m2 : M) (old now new : Pending)
     → SoFar o s m text (begun ++ rest) sitting m1 old now
     → IsUnbroken begun → IsUnbroken end → rest ≡ as_line end ++ behind → line ≡ begun ++ end
-    → EndSays o ends.Cut (standing sitting Waiting) m1 (line ∷ []) sitting' m2 now new
+    → LineContract o ends.Cut (standing sitting Waiting) m1 (line ∷ []) sitting' m2 now new
     → AnsweredCut o s m text m2 old new
 so_far_cut o s m text begun end behind rest line sitting sitting' m1 m2 old now new f begun_unbroken end_unbroken cut is said = record {
   lines = f.lines ++ line ∷ [];
@@ -93,7 +93,7 @@ so_far_cut o s m text begun end behind rest line sitting sitting' m1 m2 old now 
 
 -- memory ran out for a line that has begun
 pub so_far_unkept :
-    {M : Type 0} (o : Turning M) (s : Standing) (m : M) (text left : List ℕ) (sitting : SittingFields) (m1 : M) (old now : Pending)
+    {M : Type 0} (o : Turning M) (s : SessionPoint) (m : M) (text left : List ℕ) (sitting : SittingFields) (m1 : M) (old now : Pending)
     → SoFar o s m text left sitting m1 old now → AnsweredSome o s m text m1 old now
 so_far_unkept o s m text left sitting m1 old now f = record {
   lines = f.lines;
@@ -105,7 +105,7 @@ so_far_unkept o s m text left sitting m1 old now f = record {
 
 -- what is left is kept
 pub so_far_all :
-    {M : Type 0} (o : Turning M) (s : Standing) (m : M) (text left kept : List ℕ) (sitting : SittingFields) (m1 : M) (old now : Pending)
+    {M : Type 0} (o : Turning M) (s : SessionPoint) (m : M) (text left kept : List ℕ) (sitting : SittingFields) (m1 : M) (old now : Pending)
     → SoFar o s m text left sitting m1 old now → kept ≡ left → IsUnbroken kept
     → AnsweredAll o s m text kept sitting m1 old now
 so_far_all o s m text left kept sitting m1 old now f is unbroken = record {
@@ -120,15 +120,15 @@ so_far_all o s m text left kept sitting m1 old now f is unbroken = record {
 -- no line has begun
 pub last_none :
     {M : Type 0} (o : Turning M) (s : SittingFields) (m : M) (text : List ℕ) (now : Pending)
-    → length text ≡ 0 → Part o (standing s Waiting) m (open_rest text) (standing s Waiting) m Done now now
+    → length text ≡ 0 → SessionPart o (standing s Waiting) m (open_rest text) (standing s Waiting) m Done now now
 last_none o s m [] now none = part_none o (standing s Waiting) m now
 last_none o s m (b ∷ text) now none = absurd (omega (arith, none))
 
 -- a line has begun, and it is a line although it has no line feed
 pub last_some :
-    {M : Type 0} (o : Turning M) (end : Ends) (s : SittingFields) (m : M) (text : List ℕ) (sitting : SittingFields) (m' : M) (old new : Pending)
-    → 0 < length text → EndSays o end (standing s Waiting) m (text ∷ []) sitting m' old new
-    → EndSays o end (standing s Waiting) m (open_rest text) sitting m' old new
+    {M : Type 0} (o : Turning M) (end : LineResult) (s : SittingFields) (m : M) (text : List ℕ) (sitting : SittingFields) (m' : M) (old new : Pending)
+    → 0 < length text → LineContract o end (standing s Waiting) m (text ∷ []) sitting m' old new
+    → LineContract o end (standing s Waiting) m (open_rest text) sitting m' old new
 last_some o end s m [] sitting m' old new some said = absurd (omega arith)
 last_some o end s m (b ∷ text) sitting m' old new some said = said
 

@@ -5,7 +5,7 @@ use Rattle.m36_desc.specs.Fields.{PtrFields}
 use Rattle.m36_outside.specs.declared.sink.Put.{Put}
 use Rattle.m36_outside.specs.declared.sink.Put.TheVariants.{Done, Failed}
 use Rattle.m36_world.proofs.Following.{follow_none}
-use Rattle.m36_world.specs.Did.{IsOutputFailed}
+use Rattle.m36_world.specs.Happened.{IsOutputFailed}
 use Rattle.m36_world.specs.Follow.{Follow, outputs}
 use Rattle.m36_world.specs.Seen.{Seen}
 use Rattle.m36_program.specs.Gathered.{Gathers}

@@ -7,45 +7,45 @@ use Rattle.m36_model.specs.Registers.{RegsFields}
 use Rattle.m36_model.specs.declared.endings.End.{End}
 use Rattle.m36_step.specs.declared.turns.BackAnswer.{BackAnswer}
 use Rattle.m36_step.specs.declared.turns.BackAnswer.TheVariants as back
-use Rattle.m36_debug.specs.declared.commands.Command.{Command}
-use Rattle.m36_debug.specs.declared.commands.Further.{Further}
-use Rattle.m36_debug.specs.declared.commands.Further.TheVariants.{Runs, Waits, Starves}
+use Rattle.m36_debug.specs.declared.commands.TurnCommand.{TurnCommand}
+use Rattle.m36_debug.specs.declared.commands.AfterTurn.{AfterTurn}
+use Rattle.m36_debug.specs.declared.commands.AfterTurn.TheVariants.{Runs, Waits, Starves}
 use Rattle.m36_debug.specs.declared.session_line.SessionLine.{SessionLine}
 use Rattle.m36_debug.specs.declared.session_line.SessionLine.TheVariants.{Quit}
 use Rattle.m36_debug.specs.declared.session_line.SessionLine.TheVariants as session
-use Rattle.m36_debug.specs.Session.{Turning, Doing, Waiting, Running, Backing, Over, Starved, Standing, standing, Happening, Took, Turned, Went, Event, May, begun, run_begun, doing_by, went, next_of, onward, Follow, lines_in, line_in}
+use Rattle.m36_debug.specs.Session.{Turning, Activity, Waiting, Running, Backing, Over, Starved, SessionPoint, standing, EventKind, Took, Turned, Went, SessionEvent, May, begun, run_begun, doing_by, went, next_of, state_after, Follow, lines_in, line_in}
 use Rattle.m36_debug.specs.SessionLines.{session_line, IsNotQuit}
 use Rattle.m36_debug.specs.SessionSays.{EndInQuit}
-use Rattle.m36_debug.specs.Sitting.{SittingFields}
+use Rattle.m36_debug.specs.SessionState.{SittingFields}
 
-none_over : {M : Type 0} (o : Turning M) (m : M) (h : Happening) (m' : M) → May o Over m h m' → ⊥
+none_over : {M : Type 0} (o : Turning M) (m : M) (h : EventKind) (m' : M) → May o Over m h m' → ⊥
 none_over o m (Took line) m' may = may
 none_over o m (Turned turn) m' may = may
 none_over o m (Went answer) m' may = may
 
 -- nothing happens once the session is over
 over_stays :
-    {M : Type 0} (o : Turning M) (sitting : SittingFields) (doing : Doing) (m : M) (events : List (Event M)) (s' : Standing) (m' : M)
+    {M : Type 0} (o : Turning M) (sitting : SittingFields) (doing : Activity) (m : M) (events : List (SessionEvent M)) (s' : SessionPoint) (m' : M)
     → doing ≡ Over → Follow o (standing sitting doing) m events s' m' → s'.doing ≡ Over
 unfolding Follow
-over_stays o sitting doing m [] s' m' over follow = ap (λ (s : Standing). s.doing) follow.0 ∙ over
+over_stays o sitting doing m [] s' m' over follow = ap (λ (s : SessionPoint). s.doing) follow.0 ∙ over
 over_stays o sitting doing m (e ∷ events) s' m' over follow =
     absurd (none_over o m e.happened e.after (subst (λ d. May o d m e.happened e.after) over follow.0))
 
-not_both : (d : Doing) → d ≡ Over → d ≡ Waiting → ⊥
+not_both : (d : Activity) → d ≡ Over → d ≡ Waiting → ⊥
 not_both d over waits = cc
 
-quit_over : (g : RegsFields) (sitting : SittingFields) (line : List ℕ) → session_line line ≡ Quit → (onward g (standing sitting Waiting) (Took line)).doing ≡ Over
-unfolding onward
+quit_over : (g : RegsFields) (sitting : SittingFields) (line : List ℕ) → session_line line ≡ Quit → (state_after g (standing sitting Waiting) (Took line)).doing ≡ Over
+unfolding state_after
 quit_over g sitting line is = ap (begun sitting line) is
 
 -- a line that was taken, after which the session continues
 taken_no_quit :
-    {M : Type 0} (o : Turning M) (g : RegsFields) (sitting : SittingFields) (doing : Doing) (m m' m2 : M) (h : Happening) (events : List (Event M)) (s2 : Standing)
-    → May o doing m h m' → Follow o (onward g (standing sitting doing) h) m' events s2 m2 → s2.doing ≡ Waiting
+    {M : Type 0} (o : Turning M) (g : RegsFields) (sitting : SittingFields) (doing : Activity) (m m' m2 : M) (h : EventKind) (events : List (SessionEvent M)) (s2 : SessionPoint)
+    → May o doing m h m' → Follow o (state_after g (standing sitting doing) h) m' events s2 m2 → s2.doing ≡ Waiting
     → All IsNotQuit (line_in h)
 taken_no_quit o g sitting Waiting m m' m2 (Took line) events s2 may follow waits =
-    let after : Standing = onward g (standing sitting Waiting) (Took line) in
+    let after : SessionPoint = state_after g (standing sitting Waiting) (Took line) in
     All-cons IsNotQuit line []
     (λ is. not_both s2.doing (over_stays o after.sitting after.doing m' events s2 m2 (quit_over g sitting line is) follow) waits)
     (All-nil IsNotQuit)
@@ -57,19 +57,19 @@ taken_no_quit o g sitting doing m m' m2 (Turned turn) events s2 may follow waits
 taken_no_quit o g sitting doing m m' m2 (Went answer) events s2 may follow waits = All-nil IsNotQuit
 
 pub no_quit :
-    {M : Type 0} (o : Turning M) (sitting : SittingFields) (doing : Doing) (m : M) (events : List (Event M)) (s' : Standing) (m' : M)
+    {M : Type 0} (o : Turning M) (sitting : SittingFields) (doing : Activity) (m : M) (events : List (SessionEvent M)) (s' : SessionPoint) (m' : M)
     → Follow o (standing sitting doing) m events s' m' → s'.doing ≡ Waiting → All IsNotQuit (lines_in events)
 unfolding Follow lines_in
 no_quit o sitting doing m [] s' m' follow waits = All-nil IsNotQuit
 no_quit o sitting doing m (e ∷ events) s' m' follow waits =
-    let after : Standing = onward (o.regs e.after) (standing sitting doing) e.happened in
+    let after : SessionPoint = state_after (o.regs e.after) (standing sitting doing) e.happened in
     All-append IsNotQuit (line_in e.happened) (lines_in events)
     (taken_no_quit o (o.regs e.after) sitting doing m e.after m' e.happened events s' follow.0 follow.1 waits)
     (no_quit o after.sitting after.doing e.after events s' m' follow.1 waits)
 
 -- ---- a session that is over has taken `quit` last
 
-run_not_over : (ended : Option End) (command : Command) (left : ℕ) → run_begun ended command left ≡ Over → ⊥
+run_not_over : (ended : Option End) (command : TurnCommand) (left : ℕ) → run_begun ended command left ≡ Over → ⊥
 run_not_over None command left is = cc
 run_not_over (Some end) command left is = cc
 
@@ -89,7 +89,7 @@ over_kind s line session.Quit is = refl
 over_kind s line session.Empty is = cc
 over_kind s line session.Unknown is = cc
 
-further_not_over : (next : Further) → doing_by next ≡ Over → ⊥
+further_not_over : (next : AfterTurn) → doing_by next ≡ Over → ⊥
 further_not_over (Runs run) is = cc
 further_not_over Waits is = cc
 further_not_over Starves is = cc
@@ -102,9 +102,9 @@ went_not_over s n back.NoMemory is = cc
 
 -- the last event was that `quit` was taken
 happened_quit :
-    {M : Type 0} (o : Turning M) (g : RegsFields) (sitting : SittingFields) (doing : Doing) (m m' : M) (h : Happening)
-    → May o doing m h m' → (onward g (standing sitting doing) h).doing ≡ Over → EndInQuit (line_in h)
-unfolding onward
+    {M : Type 0} (o : Turning M) (g : RegsFields) (sitting : SittingFields) (doing : Activity) (m m' : M) (h : EventKind)
+    → May o doing m h m' → (state_after g (standing sitting doing) h).doing ≡ Over → EndInQuit (line_in h)
+unfolding state_after
 happened_quit o g sitting Waiting m m' (Took line) may over =
     record { before = []; last = line; are = refl; quits = over_kind sitting line (session_line line) over }
 happened_quit o g sitting (Running run) m m' (Took line) may over = absurd may
@@ -124,7 +124,7 @@ happened_quit o g sitting Starved m m' (Went answer) may over = absurd may
 
 -- nothing happens once the session is over, and so no line is taken
 over_takes_none :
-    {M : Type 0} (o : Turning M) (sitting : SittingFields) (doing : Doing) (m : M) (events : List (Event M)) (s' : Standing) (m' : M)
+    {M : Type 0} (o : Turning M) (sitting : SittingFields) (doing : Activity) (m : M) (events : List (SessionEvent M)) (s' : SessionPoint) (m' : M)
     → doing ≡ Over → Follow o (standing sitting doing) m events s' m' → lines_in events ≡ []
 unfolding Follow lines_in
 over_takes_none o sitting doing m [] s' m' over follow = refl
@@ -139,10 +139,10 @@ quit_behind front lines quit = record {
   quits = quit.quits;
 }
 
-IsOverOrNot : Doing → Type 0
+IsOverOrNot : Activity → Type 0
 IsOverOrNot d = (d ≡ Over) ⊎ (d ≡ Over → ⊥)
 
-over_or_not : (d : Doing) → IsOverOrNot d
+over_or_not : (d : Activity) → IsOverOrNot d
 unfolding IsOverOrNot
 over_or_not Waiting = inr (λ is. let no : Waiting ≡ Over = is in not_both Waiting no refl)
 over_or_not (Running run) = inr (λ is. further_not_over (Runs run) is)
@@ -151,13 +151,13 @@ over_or_not Over = inl refl
 over_or_not Starved = inr (λ is. further_not_over Starves is)
 
 pub quit_last :
-    {M : Type 0} (o : Turning M) (sitting : SittingFields) (doing : Doing) (m : M) (events : List (Event M)) (s' : Standing) (m' : M)
+    {M : Type 0} (o : Turning M) (sitting : SittingFields) (doing : Activity) (m : M) (events : List (SessionEvent M)) (s' : SessionPoint) (m' : M)
     → (doing ≡ Over → ⊥) → Follow o (standing sitting doing) m events s' m' → s'.doing ≡ Over → EndInQuit (lines_in events)
 unfolding Follow lines_in IsOverOrNot
 quit_last o sitting doing m [] s' m' going follow over =
-    absurd (going (sym (ap (λ (s : Standing). s.doing) follow.0) ∙ over))
+    absurd (going (sym (ap (λ (s : SessionPoint). s.doing) follow.0) ∙ over))
 quit_last o sitting doing m (e ∷ events) s' m' going follow over =
-    let after : Standing = onward (o.regs e.after) (standing sitting doing) e.happened in
+    let after : SessionPoint = state_after (o.regs e.after) (standing sitting doing) e.happened in
     elim (over_or_not after.doing) [
       | inl there ↦ subst (λ l. EndInQuit (line_in e.happened ++ l)) (sym (over_takes_none o after.sitting after.doing e.after events s' m' there follow.1))
           (subst EndInQuit (sym (append-nil (line_in e.happened))) (happened_quit o (o.regs e.after) sitting doing m e.after e.happened follow.0 there))

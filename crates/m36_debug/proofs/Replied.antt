@@ -1,6 +1,6 @@
 -- The events of a session's program: answers are put, and it continues or ends; a piece of input is taken, or not.
 use Rattle.std.proofs.Common.{◌≡◌, ◌≤◌, ◌⊎◌, ℕ, zero, suc, List, [], ◌∷◌, ◌++◌, length, Result, Ok, Err, refl, sym, ap, subst, ◌∙◌, inl, inr}
-use Rattle.m36_world.specs.Did.{IsInput, IsInputFailed, IsOutput, IsOutputFailed}
+use Rattle.m36_world.specs.Happened.{IsInput, IsInputFailed, IsOutput, IsOutputFailed}
 use Rattle.m36_world.specs.Follow.{Next, Follow, outputs}
 use Rattle.m36_world.specs.Seen.{Seen}
 use Rattle.m36_world.specs.declared.event.Event.{Event}
@@ -14,7 +14,7 @@ use Rattle.m36_debug.specs.Replies.{Reply, All, Quits, Breaks}
 use Rattle.m36_debug.specs.Session.{Turning}
 use Rattle.m36_debug.specs.SessionProgram.{Talk, too_long, starves, takes_within, on_reply, replies, session_from}
 use Rattle.m36_debug.specs.SessionSays.{LinesSeen, input}
-use Rattle.m36_debug.specs.Sitting.{SittingFields}
+use Rattle.m36_debug.specs.SessionState.{SittingFields}
 
 -- ---- the input
 
@@ -30,12 +30,12 @@ outputs_keep (piece ∷ pieces) old new follow =
     outputs_keep pieces follow.between new follow.goes_on ∙ ap input_by did.rest
 
 -- Some pieces were put, and more happened.
-pub record Further (more : List Event) (old new : Seen) : Type 0 where
+pub record AfterTurn (more : List Event) (old new : Seen) : Type 0 where
   pub between : Seen
   pub follow : Follow more between new
   pub input : input_by between ≡ input_by old
 
-further : (pieces : List (List ℕ)) (more : List Event) (old new : Seen) → Follow (outputs pieces ++ more) old new → Further more old new
+further : (pieces : List (List ℕ)) (more : List Event) (old new : Seen) → Follow (outputs pieces ++ more) old new → AfterTurn more old new
 further pieces more old new follow =
     let parts = follow_split (outputs pieces) more old new follow in
     record { between = parts.between; follow = parts.goes_on; input = outputs_keep pieces old parts.between parts.begins }
@@ -183,7 +183,7 @@ pub record WentOn {M : Type 0} (Is : Reply M → Type 0) (on : List ℕ → Sitt
   pub more : List Event
   pub events_are : events ≡ outputs written ++ more
   pub goes : Goes (on kept sitting machine) more result
-  pub further : Further more old new
+  pub further : AfterTurn more old new
 
 -- The last was `quit`.
 pub record HasQuit {M : Type 0} (Is : Reply M → Type 0) (events : List Event) (result : Result (Unit {0}) Status) (old new : Seen) : Type 0 where

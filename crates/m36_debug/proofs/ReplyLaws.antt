@@ -2,7 +2,7 @@
 use Rattle.std.proofs.Common.{◌≤◌, ℕ, List, [], ◌∷◌, ◌++◌, length, Ok, Err, refl, sym, subst, inl, inr}
 use Rattle.std.proofs.lemmas.List.{append_assoc}
 use Rattle.m36_text.specs.Lines.{open_rest}
-use Rattle.m36_world.specs.Did.{IsInput, IsInputFailed}
+use Rattle.m36_world.specs.Happened.{IsInput, IsInputFailed}
 use Rattle.m36_world.specs.Seen.{Seen}
 use Rattle.m36_world.specs.declared.event.Event.TheVariants.{Input, InputFailed}
 use Rattle.m36_world.proofs.Following.{follow_on, follow_one, follow_none}
@@ -13,16 +13,16 @@ use Rattle.m36_program.specs.Performs.{Performs, Leads}
 use Rattle.m36_program.specs.Program.{done, some, puts_all}
 use Rattle.m36_program.proofs.LeadLaws.{leads_some, leads_empty, leads_gathers, leads_lost, leads_ends}
 use Rattle.m36_program.proofs.Performing.{goes_no_memory}
-use Rattle.m36_debug.specs.Parts.{EndSays}
+use Rattle.m36_debug.specs.Parts.{LineContract}
 use Rattle.m36_debug.specs.PieceSays.{AnsweredAll, AnsweredQuit, AnsweredSome, AnsweredCut}
 use Rattle.m36_debug.specs.Putting.{pending}
 use Rattle.m36_debug.specs.Replies.{Reply, All, Quits, Breaks, IsReply, IsLast}
-use Rattle.m36_debug.specs.Session.{Turning, Waiting, Starved, standing, lines_said}
+use Rattle.m36_debug.specs.Session.{Turning, Waiting, Starved, standing, texts_of}
 use Rattle.m36_debug.specs.SessionProgram.{Talk, starves, takes_within, on_reply, replies, at_end, ended_by}
 use Rattle.m36_debug.specs.SessionSays.{answer_of}
-use Rattle.m36_debug.specs.Sitting.{SittingFields}
-use Rattle.m36_debug.specs.declared.turning.Ends.{Ends}
-use Rattle.m36_debug.specs.declared.turning.Ends.TheVariants as ends
+use Rattle.m36_debug.specs.SessionState.{SittingFields}
+use Rattle.m36_debug.specs.declared.turning.LineResult.{LineResult}
+use Rattle.m36_debug.specs.declared.turning.LineResult.TheVariants as ends
 
 -- ---- a piece of input
 
@@ -129,18 +129,18 @@ goes_done = record { none = refl; result_is = refl }
 
 -- the last line was answered, if there was one
 pub ended_so :
-    {M : Type 0} (o : Turning M) (end : Ends) (begun : List ℕ) (s sitting : SittingFields) (m m' : M) (first : Talk) (old between new : Seen)
+    {M : Type 0} (o : Turning M) (end : LineResult) (begun : List ℕ) (s sitting : SittingFields) (m m' : M) (first : Talk) (old between new : Seen)
     → Leads (at_end o begun s m) first old between
-    → EndSays o end (standing s Waiting) m (open_rest begun) sitting m' (pending [] between) (pending [] new)
+    → LineContract o end (standing s Waiting) m (open_rest begun) sitting m' (pending [] between) (pending [] new)
     → Performs first (ended_by (answer_of end)) old new
 ended_so o ends.Line begun s sitting m m' first old between new left said =
-    let written = lines_said o (standing s Waiting) said.events in
+    let written = texts_of o (standing s Waiting) said.events in
     leads_ends (done tt) first (Ok tt) old new new
     (replied_all (IsLast o (standing s Waiting) m begun) (λ kept sitting later. done tt) written [] sitting m' first old between new
     (record { events = said.events; follow = said.follow; took = said.took; said = refl }) left said.wrote)
     (record { events = []; follow = follow_none new; goes = goes_done })
 ended_so o ends.Quit begun s sitting m m' first old between new left said =
-    replied_quit (IsLast o (standing s Waiting) m begun) (λ kept sitting later. done tt) (lines_said o (standing s Waiting) said.events) first old between new
+    replied_quit (IsLast o (standing s Waiting) m begun) (λ kept sitting later. done tt) (texts_of o (standing s Waiting) said.events) first old between new
     (record {
       sitting = sitting;
       machine = m';
@@ -148,7 +148,7 @@ ended_so o ends.Quit begun s sitting m m' first old between new left said =
     })
     left said.wrote
 ended_so o ends.Starved begun s sitting m m' first old between new left said =
-    replied_starved (IsLast o (standing s Waiting) m begun) (λ kept sitting later. done tt) (lines_said o (standing s Waiting) said.events) first old between new
+    replied_starved (IsLast o (standing s Waiting) m begun) (λ kept sitting later. done tt) (texts_of o (standing s Waiting) said.events) first old between new
     (record {
       stands = standing sitting Starved;
       machine = m';
@@ -156,7 +156,7 @@ ended_so o ends.Starved begun s sitting m m' first old between new left said =
     })
     left said.wrote
 ended_so o ends.Cut begun s sitting m m' first old between new left said =
-    replied_cut (IsLast o (standing s Waiting) m begun) (λ kept sitting later. done tt) (lines_said o (standing s Waiting) said.part.events) first old between new
+    replied_cut (IsLast o (standing s Waiting) m begun) (λ kept sitting later. done tt) (texts_of o (standing s Waiting) said.part.events) first old between new
     (record {
       stands = said.stands;
       machine = m';
@@ -174,7 +174,7 @@ pub piece_all :
     → AnsweredAll o (standing s Waiting) m text kept sitting m' (pending [] between) (pending [] new)
     → Leads (on kept sitting m') first old new
 piece_all o text kept s sitting m m' on first old between new left said =
-    replied_all (IsReply o (standing s Waiting) m text) on (lines_said o (standing s Waiting) said.part.events) kept sitting m' first old between new
+    replied_all (IsReply o (standing s Waiting) m text) on (texts_of o (standing s Waiting) said.part.events) kept sitting m' first old between new
     (record {
       lines = said.lines;
       is = said.is;
@@ -190,7 +190,7 @@ pub piece_quit :
     → AnsweredQuit o (standing s Waiting) m text sitting m' (pending [] between) (pending [] new)
     → Performs first (Ok tt) old new
 piece_quit o text s sitting m m' on first old between new left said =
-    replied_quit (IsReply o (standing s Waiting) m text) on (lines_said o (standing s Waiting) said.part.events) first old between new
+    replied_quit (IsReply o (standing s Waiting) m text) on (texts_of o (standing s Waiting) said.part.events) first old between new
     (record {
       lines = said.lines;
       rest = said.rest;
@@ -208,7 +208,7 @@ pub piece_starved :
     → AnsweredSome o (standing s Waiting) m text m' (pending [] between) (pending [] new)
     → Performs first (Err NoMemory) old new
 piece_starved o text s m m' on first old between new left said =
-    replied_starved (IsReply o (standing s Waiting) m text) on (lines_said o (standing s Waiting) said.part.events) first old between new
+    replied_starved (IsReply o (standing s Waiting) m text) on (texts_of o (standing s Waiting) said.part.events) first old between new
     (record {
       lines = said.lines;
       rest = said.rest;
@@ -227,7 +227,7 @@ pub piece_cut :
     → Performs first (Err WriteFault) old new
 piece_cut o text s m m' on first old between new left said =
     let happened = said.part.part in
-    replied_cut (IsReply o (standing s Waiting) m text) on (lines_said o (standing s Waiting) happened.events) first old between new
+    replied_cut (IsReply o (standing s Waiting) m text) on (texts_of o (standing s Waiting) happened.events) first old between new
     (record {
       lines = said.lines;
       rest = said.rest;

@@ -6,7 +6,7 @@ use Rattle.m36_outside.specs.SinkState.{SinkState}
 use Rattle.m36_outside.specs.Putting.{PutsPieces}
 use Rattle.m36_outside.specs.declared.sink.Put.{Put}
 use Rattle.m36_outside.specs.declared.sink.Put.TheVariants.{Done, Failed}
-use Rattle.m36_world.specs.Did.{IsInput, IsInputFailed}
+use Rattle.m36_world.specs.Happened.{IsInput, IsInputFailed}
 use Rattle.m36_world.specs.Follow.{Follow, outputs}
 use Rattle.m36_world.specs.Seen.{Seen}
 use Rattle.m36_world.specs.declared.event.Event.{Event}
@@ -23,8 +23,8 @@ use Rattle.m36_debug.specs.declared.fault.SessionFault.TheVariants as fault
 use Rattle.m36_debug.specs.Replies.{Reply, All, Quits, Breaks, IsReply, IsLast, RepliesSome, LastBreaks}
 use Rattle.m36_debug.specs.Session.{Turning, Waiting, Over, standing}
 use Rattle.m36_debug.specs.SessionProgram.{Talk, too_long, replies, at_end, by_piece, session_from, session, ended_by}
-use Rattle.m36_debug.specs.SessionSays.{LinesSeen, IsSession, WroteBy, put_by, bytes_limit}
-use Rattle.m36_debug.specs.Sitting.{SittingFields, new_sitting}
+use Rattle.m36_debug.specs.SessionSays.{LinesSeen, IsSession, WroteBy, last_put_of, bytes_limit}
+use Rattle.m36_debug.specs.SessionState.{SittingFields, new_sitting}
 use Rattle.m36_debug.proofs.Replied.{input_by, written_in, Replied, HasTaken, HasNotTaken, replies_go, takes_go, session_puts_none, done_puts_none, nothing_more}
 use Rattle.m36_debug.proofs.SessionLaws.{GotPiece, GotEnd, GotNothing, Going, Unwritten, Starving, going_start, going_unread, going_too_long, going_end, going_last_quit, going_last_breaks, going_on, going_quit, going_breaks}
 
@@ -73,7 +73,7 @@ pub record EndedSo {M : Type 0} (o : Turning M) (m : M) (before after : LinesSee
   pub later : M
   pub lines : List (List ℕ)
   pub session : IsSession o ended m later before after lines
-  pub puts : Puts (put_by ended) written events lines
+  pub puts : Puts (last_put_of ended) written events lines
 
 -- the pieces of some events, and whether they were put
 record Gives (events : List Event) (pieces : List (List ℕ)) (how : Put) : Type 0 where
@@ -248,7 +248,7 @@ at_piece o m m1 before left taken rest begun piece sitting written events more r
       later = later.later;
       lines = later.lines;
       session = later.session;
-      puts = puts_before (put_by later.ended) written on.written later.lines on.more events
+      puts = puts_before (last_put_of later.ended) written on.written later.lines on.more events
           (ap pieces_of (is ∙ ap (λ e. Input piece ∷ e) on.events_are) ∙ pieces_put on.written on.more)
           (ap put_of (is ∙ ap (λ e. Input piece ∷ e) on.events_are) ∙ put_after on.written on.more)
           later.puts;
@@ -438,6 +438,6 @@ session_held o m result old new performs =
       later = ended.later;
       lines = ended.lines;
       session = ended.session;
-      wrote = wrote_so (put_by ended.ended) performs.events ended.lines (output_of old) (output_of new) ended.puts
+      wrote = wrote_so (last_put_of ended.ended) performs.events ended.lines (output_of old) (output_of new) ended.puts
           (performs_text (session o m) result old new performs);
     }

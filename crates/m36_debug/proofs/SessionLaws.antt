@@ -13,9 +13,9 @@ use Rattle.m36_debug.specs.declared.fault.SessionFault.{SessionFault}
 use Rattle.m36_debug.specs.declared.fault.SessionFault.TheVariants as fault
 use Rattle.m36_debug.specs.LinesTaken.{IsLines, IsUnbroken}
 use Rattle.m36_debug.specs.Replies.{Happens, RepliesAll, RepliesQuit, RepliesSome, LastQuits, LastBreaks}
-use Rattle.m36_debug.specs.Session.{Turning, Waiting, Over, Standing, standing, Follow, lines_said, lines_in}
+use Rattle.m36_debug.specs.Session.{Turning, Waiting, Over, SessionPoint, standing, Follow, texts_of, lines_in}
 use Rattle.m36_debug.specs.SessionSays.{LinesSeen, IsSession, TookBy, CountBy, ReadHasCause, bytes_limit, HasEnded, StopsAtEnd, TookSome, TookOpen, EndInQuit, TookWhole}
-use Rattle.m36_debug.specs.Sitting.{SittingFields, new_sitting}
+use Rattle.m36_debug.specs.SessionState.{SittingFields, new_sitting}
 use Rattle.m36_debug.proofs.LinesLaws.{lines_none, lines_on, all_open, all_whole, some_whole}
 use Rattle.m36_debug.proofs.PartLaws.{follow_on, said_on, in_on}
 use Rattle.m36_debug.specs.SessionLines.{IsNotQuit}
@@ -23,19 +23,19 @@ use Rattle.m36_debug.proofs.QuitLaws.{no_quit, quit_last}
 
 -- ---- what happens
 
-pub happens_none : {M : Type 0} (o : Turning M) (s : Standing) (m : M) → Happens o s m [] [] s m
-unfolding Follow lines_said lines_in
+pub happens_none : {M : Type 0} (o : Turning M) (s : SessionPoint) (m : M) → Happens o s m [] [] s m
+unfolding Follow texts_of lines_in
 happens_none o s m = record { events = []; follow = (refl, refl); took = refl; said = refl }
 
 pub happens_on :
-    {M : Type 0} (o : Turning M) (s : Standing) (m : M) (lines others written more : List (List ℕ)) (s1 : Standing) (m1 : M) (s2 : Standing) (m2 : M)
+    {M : Type 0} (o : Turning M) (s : SessionPoint) (m : M) (lines others written more : List (List ℕ)) (s1 : SessionPoint) (m1 : M) (s2 : SessionPoint) (m2 : M)
     → Happens o s m lines written s1 m1 → Happens o s1 m1 others more s2 m2
     → Happens o s m (lines ++ others) (written ++ more) s2 m2
 happens_on o s m lines others written more s1 m1 s2 m2 one two = record {
   events = one.events ++ two.events;
   follow = follow_on o s m one.events two.events s1 m1 s2 m2 one.follow two.follow;
   took = in_on one.events two.events ∙ ap (λ l. l ++ lines_in two.events) one.took ∙ ap (λ l. lines ++ l) two.took;
-  said = said_on o s m one.events two.events s1 m1 one.follow ∙ ap (λ l. l ++ lines_said o s1 two.events) one.said
+  said = said_on o s m one.events two.events s1 m1 one.follow ∙ ap (λ l. l ++ texts_of o s1 two.events) one.said
       ∙ ap (λ l. written ++ l) two.said;
 }
 
@@ -173,7 +173,7 @@ going_start o m before unbroken = record {
 
 -- what happened is a session
 says :
-    {M : Type 0} (o : Turning M) (result : Result (Unit {0}) SessionFault) (m m' : M) (before after : LinesSeen) (pieces lines written : List (List ℕ)) (stands : Standing)
+    {M : Type 0} (o : Turning M) (result : Result (Unit {0}) SessionFault) (m m' : M) (before after : LinesSeen) (pieces lines written : List (List ℕ)) (stands : SessionPoint)
     → Came before after pieces → CountBy result (length (joined pieces)) → ReadHasCause result before.faults after.faults
     → StopsAtEnd pieces before.faults after.faults
     → TookBy result pieces lines stands.doing after
@@ -294,7 +294,7 @@ fault_of Unwritten = fault.WriteFault
 fault_of Starving = fault.NoMemory
 
 breaks :
-    {M : Type 0} (how : Breaking) (o : Turning M) (m m' : M) (before after : LinesSeen) (pieces lines written : List (List ℕ)) (stands : Standing)
+    {M : Type 0} (how : Breaking) (o : Turning M) (m m' : M) (before after : LinesSeen) (pieces lines written : List (List ℕ)) (stands : SessionPoint)
     → Came before after pieces → length (joined pieces) ≤ bytes_limit → after.faults ≡ before.faults
     → StopsAtEnd pieces before.faults after.faults
     → TookSome pieces lines after

@@ -1,23 +1,23 @@
 -- A session, piece by piece: what is left of its program.
 use Rattle.std.proofs.Common.{◌≡◌, ◌≤◌, ◌<◌, ◌-◌, ℕ, zero, suc, List, [], ◌∷◌, ◌++◌, length, take, Ok, Err, refl, sym, ap, subst, ◌∙◌, arith, length-take}
 use Rattle.m36_text.specs.Lines.{open_rest}
-use Rattle.m36_world.specs.Did.{IsInput, IsInputFailed}
+use Rattle.m36_world.specs.Happened.{IsInput, IsInputFailed}
 use Rattle.m36_world.specs.Seen.{Seen}
 use Rattle.m36_world.proofs.Following.{follow_none}
 use Rattle.m36_program.specs.Goes.{Goes}
 use Rattle.m36_program.specs.Performs.{Performs, Leads}
 use Rattle.m36_program.proofs.LeadLaws.{leads_start, leads_as, leads_ends}
-use Rattle.m36_debug.specs.Parts.{EndSays}
+use Rattle.m36_debug.specs.Parts.{LineContract}
 use Rattle.m36_debug.specs.PieceSays.{PieceSays, AnsweredAll, AnsweredQuit, AnsweredSome, AnsweredCut}
 use Rattle.m36_debug.specs.Putting.{pending}
 use Rattle.m36_debug.specs.Replies.{IsReply}
-use Rattle.m36_debug.specs.Session.{Turning, Waiting, Standing, standing}
+use Rattle.m36_debug.specs.Session.{Turning, Waiting, SessionPoint, standing}
 use Rattle.m36_debug.specs.SessionProgram.{Talk, too_long, takes_within, replies, at_end, by_piece, session_from, session, ended_by}
 use Rattle.m36_debug.specs.SessionSays.{bytes_limit, answer_of}
-use Rattle.m36_debug.specs.Sitting.{SittingFields, new_sitting}
+use Rattle.m36_debug.specs.SessionState.{SittingFields, new_sitting}
 use Rattle.m36_debug.specs.Taking.{IsTaken}
 use Rattle.m36_debug.specs.declared.fault.SessionFault.TheVariants as fault
-use Rattle.m36_debug.specs.declared.turning.Ends.{Ends}
+use Rattle.m36_debug.specs.declared.turning.LineResult.{LineResult}
 use Rattle.m36_debug.proofs.ReplyLaws.{leads_taken, leads_untaken, ended_so, piece_all, piece_quit, piece_starved, piece_cut}
 
 -- what is left of a session before a piece is taken
@@ -125,10 +125,10 @@ unread_last o left begun s m first old between new so_far none did =
 
 -- the input has ended
 pub input_ended :
-    {M : Type 0} (o : Turning M) (left : ℕ) (begun : List ℕ) (s : SittingFields) (m : M) (end : Ends) (sitting : SittingFields) (m' : M) (first : Talk)
+    {M : Type 0} (o : Turning M) (left : ℕ) (begun : List ℕ) (s : SittingFields) (m : M) (end : LineResult) (sitting : SittingFields) (m' : M) (first : Talk)
     (old between mid new : Seen)
     → Left o left begun s m first old between → 0 < left → IsInput [] between mid
-    → EndSays o end (standing s Waiting) m (open_rest begun) sitting m' (pending [] mid) (pending [] new)
+    → LineContract o end (standing s Waiting) m (open_rest begun) sitting m' (pending [] mid) (pending [] new)
     → Performs first (ended_by (answer_of end)) old new
 input_ended o left begun s m end sitting m' first old between mid new so_far some did said =
     ended_so o end begun s sitting m m' first old mid new
@@ -136,10 +136,10 @@ input_ended o left begun s m end sitting m' first old between mid new so_far som
     said
 
 pub input_ended_last :
-    {M : Type 0} (o : Turning M) (left : ℕ) (begun : List ℕ) (s : SittingFields) (m : M) (end : Ends) (sitting : SittingFields) (m' : M) (first : Talk)
+    {M : Type 0} (o : Turning M) (left : ℕ) (begun : List ℕ) (s : SittingFields) (m : M) (end : LineResult) (sitting : SittingFields) (m' : M) (first : Talk)
     (old between mid new : Seen)
     → Left o left begun s m first old between → left ≡ 0 → IsInput [] between mid
-    → EndSays o end (standing s Waiting) m (open_rest begun) sitting m' (pending [] mid) (pending [] new)
+    → LineContract o end (standing s Waiting) m (open_rest begun) sitting m' (pending [] mid) (pending [] new)
     → Performs first (ended_by (answer_of end)) old new
 input_ended_last o left begun s m end sitting m' first old between mid new so_far none did said =
     ended_so o end begun s sitting m m' first old mid new
@@ -237,7 +237,7 @@ session_cut o left count begun buffer s m m' first old between mid new so_far so
 -- ---- over an empty block
 
 pub says_empty :
-    {M : Type 0} (o : Turning M) (end : Ends) (s : Standing) (m : M) (text kept : List ℕ) (sitting : SittingFields) (m' : M)
+    {M : Type 0} (o : Turning M) (end : LineResult) (s : SessionPoint) (m : M) (text kept : List ℕ) (sitting : SittingFields) (m' : M)
     (block block' : List (List ℕ)) (old new : Seen)
     → block ≡ [] → block' ≡ [] → PieceSays o end s m text kept sitting m' (pending block old) (pending block' new)
     → PieceSays o end s m text kept sitting m' (pending [] old) (pending [] new)
@@ -246,10 +246,10 @@ says_empty o end s m text kept sitting m' block block' old new none none' says =
     (subst (λ b. PieceSays o end s m text kept sitting m' (pending b old) (pending block' new)) none says)
 
 pub end_empty :
-    {M : Type 0} (o : Turning M) (end : Ends) (s : Standing) (m : M) (lines : List (List ℕ)) (sitting : SittingFields) (m' : M)
+    {M : Type 0} (o : Turning M) (end : LineResult) (s : SessionPoint) (m : M) (lines : List (List ℕ)) (sitting : SittingFields) (m' : M)
     (block block' : List (List ℕ)) (old new : Seen)
-    → block ≡ [] → block' ≡ [] → EndSays o end s m lines sitting m' (pending block old) (pending block' new)
-    → EndSays o end s m lines sitting m' (pending [] old) (pending [] new)
+    → block ≡ [] → block' ≡ [] → LineContract o end s m lines sitting m' (pending block old) (pending block' new)
+    → LineContract o end s m lines sitting m' (pending [] old) (pending [] new)
 end_empty o end s m lines sitting m' block block' old new none none' says =
-    subst (λ b. EndSays o end s m lines sitting m' (pending [] old) (pending b new)) none'
-    (subst (λ b. EndSays o end s m lines sitting m' (pending b old) (pending block' new)) none says)
+    subst (λ b. LineContract o end s m lines sitting m' (pending [] old) (pending b new)) none'
+    (subst (λ b. LineContract o end s m lines sitting m' (pending b old) (pending block' new)) none says)

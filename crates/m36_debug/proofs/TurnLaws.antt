@@ -12,41 +12,41 @@ use Rattle.m36_step.specs.LinkNoteFields.{LinkNoteFields}
 use Rattle.m36_outside.specs.declared.sink.Put.{Put}
 use Rattle.m36_outside.specs.declared.sink.Put.TheVariants.{Done, Failed}
 use Rattle.m36_debug.specs.Putting.{Pending, PutsPieces}
-use Rattle.m36_step.specs.Answers.{IsService, IsStep, IsNotNext, IsRefused, Interrupts, is_service}
+use Rattle.m36_step.specs.Answers.{IsService, IsStep, IsHalted, IsRefused, PrecludesStep, is_service}
 use Rattle.m36_step.specs.declared.turns.Turn.{Turn}
 use Rattle.m36_step.specs.declared.turns.Turn.TheVariants as turns
 use Rattle.m36_model.specs.Registers.{RegsFields}
 use Rattle.m36_debug.specs.declared.commands.Break.{Break}
-use Rattle.m36_debug.specs.declared.commands.Command.{Command}
-use Rattle.m36_debug.specs.declared.commands.Command.TheVariants as commands
-use Rattle.m36_debug.specs.declared.commands.Run.{Run}
-use Rattle.m36_debug.specs.declared.commands.Further.{Further}
-use Rattle.m36_debug.specs.declared.commands.Further.TheVariants.{Runs, Waits, Starves}
+use Rattle.m36_debug.specs.declared.commands.TurnCommand.{TurnCommand}
+use Rattle.m36_debug.specs.declared.commands.TurnCommand.TheVariants as commands
+use Rattle.m36_debug.specs.declared.commands.RunningCommand.{RunningCommand}
+use Rattle.m36_debug.specs.declared.commands.AfterTurn.{AfterTurn}
+use Rattle.m36_debug.specs.declared.commands.AfterTurn.TheVariants.{Runs, Waits, Starves}
 use Rattle.m36_debug.specs.declared.turning.Came.{Came}
 use Rattle.m36_debug.specs.Commands.{run_of, wants, after_step, after_link, after_turn, is_at_break}
-use Rattle.m36_debug.specs.Parts.{Part, CutPart, CameSays, CameServed, CameCounts, CameInterrupted, CountsSteps, RunsCounts, Makes, came_of, told_turn}
-use Rattle.m36_debug.specs.Session.{Turning, Standing, standing, Running, Turned, doing_by, next_of, turn_says, command_says, onward, said}
-use Rattle.m36_debug.specs.Sitting.{SittingFields, sitting_after}
+use Rattle.m36_debug.specs.Parts.{SessionPart, CutPart, TurnContract, CameServed, CameCounts, CameInterrupted, CountsSteps, RunsCounts, Makes, came_of, turn_result}
+use Rattle.m36_debug.specs.Session.{Turning, SessionPoint, standing, Running, Turned, doing_by, next_of, turn_says, command_says, state_after, said}
+use Rattle.m36_debug.specs.SessionState.{SittingFields, sitting_after}
 use Rattle.m36_debug.proofs.PartLaws.{event_part, event_cut}
 
 -- a part that continues as the command does
 came_says :
-    {M : Type 0} (o : Turning M) (turn : Turn) (next : Further) (s : Standing) (m : M) (sitting : SittingFields) (m' : M) (old new : Pending)
-    → Part o s m [] (standing sitting (doing_by next)) m' Done old new
-    → CameSays o (came_of turn next) s m sitting m' old new
+    {M : Type 0} (o : Turning M) (turn : Turn) (next : AfterTurn) (s : SessionPoint) (m : M) (sitting : SittingFields) (m' : M) (old new : Pending)
+    → SessionPart o s m [] (standing sitting (doing_by next)) m' Done old new
+    → TurnContract o (came_of turn next) s m sitting m' old new
 came_says o turn (Runs run) s m sitting m' old new part = part
 came_says o turn Waits s m sitting m' old new part = part
 came_says o turn Starves s m sitting m' old new part = part
 
 turn_part :
-    {M : Type 0} (o : Turning M) (turn : Turn) (run : Run) (s : SittingFields) (m m' : M) (old new : Pending)
+    {M : Type 0} (o : Turning M) (turn : Turn) (run : RunningCommand) (s : SittingFields) (m m' : M) (old new : Pending)
     → o.next m turn m' → PutsPieces Done (turn_says (o.regs m') s run turn) old new
-    → Part o (standing s (Running run)) m [] (standing (sitting_after s turn) (doing_by (next_of (o.regs m') s run turn))) m' Done old new
-unfolding onward said
+    → SessionPart o (standing s (Running run)) m [] (standing (sitting_after s turn) (doing_by (next_of (o.regs m') s run turn))) m' Done old new
+unfolding state_after said
 turn_part o turn run s m m' old new next puts = event_part o (standing s (Running run)) m m' (Turned turn) old new next puts
 
 turn_cut :
-    {M : Type 0} (o : Turning M) (turn : Turn) (run : Run) (s : SittingFields) (m m' : M) (old new : Pending)
+    {M : Type 0} (o : Turning M) (turn : Turn) (run : RunningCommand) (s : SittingFields) (m m' : M) (old new : Pending)
     → o.next m turn m' → PutsPieces Failed (turn_says (o.regs m') s run turn) old new
     → CutPart o (standing s (Running run)) m [] m' old new
 unfolding said
@@ -54,9 +54,9 @@ turn_cut o turn run s m m' old new next puts = event_cut o (standing s (Running 
 
 -- a turn was taken, and what it says was put
 pub turn_came :
-    {M : Type 0} (o : Turning M) (put : Put) (turn : Turn) (run : Run) (s : SittingFields) (m m' : M) (old new : Pending)
+    {M : Type 0} (o : Turning M) (put : Put) (turn : Turn) (run : RunningCommand) (s : SittingFields) (m m' : M) (old new : Pending)
     → o.next m turn m' → PutsPieces put (turn_says (o.regs m') s run turn) old new
-    → CameSays o (told_turn put turn (next_of (o.regs m') s run turn)) (standing s (Running run)) m (sitting_after s turn) m' old new
+    → TurnContract o (turn_result put turn (next_of (o.regs m') s run turn)) (standing s (Running run)) m (sitting_after s turn) m' old new
 turn_came o Done turn run s m m' old new next puts =
     came_says o turn (next_of (o.regs m') s run turn) (standing s (Running run)) m (sitting_after s turn) m' old new (turn_part o turn run s m m' old new next puts)
 turn_came o Failed turn run s m m' old new next puts = turn_cut o turn run s m m' old new next puts
@@ -70,7 +70,7 @@ service_made o turns.Full m m' may is = absurd (false≢true is)
 service_made o turns.NoMemory m m' may is = absurd (false≢true is)
 
 came_served :
-    {M : Type 0} (o : Turning M) (turn : Turn) (next : Further) (m m' : M)
+    {M : Type 0} (o : Turning M) (turn : Turn) (next : AfterTurn) (m m' : M)
     → o.next m turn m' → CameServed o (came_of turn next) m m'
 came_served o turn (Runs run) m m' may = λ is. service_made o turn m m' may is
 came_served o turn Waits m m' may = tt
@@ -78,37 +78,37 @@ came_served o turn Starves m m' may = tt
 
 -- a service is one that the machine performed
 pub turn_served :
-    {M : Type 0} (o : Turning M) (put : Put) (turn : Turn) (next : Further) (m m' : M)
-    → o.next m turn m' → CameServed o (told_turn put turn next) m m'
+    {M : Type 0} (o : Turning M) (put : Put) (turn : Turn) (next : AfterTurn) (m m' : M)
+    → o.next m turn m' → CameServed o (turn_result put turn next) m m'
 turn_served o Done turn next m m' may = came_served o turn next m m' may
 turn_served o Failed turn next m m' may = tt
 
 -- ---- a turn with no steps left
 
-wants_none : (command : Command) (b : Bool) → wants command 0 b ≡ false
+wants_none : (command : TurnCommand) (b : Bool) → wants command 0 b ≡ false
 wants_none commands.Step b = refl
 wants_none commands.Go b = refl
 
 settled_interrupted :
-    {M : Type 0} (o : Turning M) (more : Bool) (command : Command) (left : ℕ) (b : Bool) (turn : Turn) (m m' : M)
+    {M : Type 0} (o : Turning M) (more : Bool) (command : TurnCommand) (left : ℕ) (b : Bool) (turn : Turn) (m m' : M)
     → wants command left b ≡ more → CameInterrupted o (came_of turn (if more then Runs (run_of command left) else Waits)) m m'
 settled_interrupted o true command left b turn m m' is =
     λ none. absurd (true≢false (sym is ∙ ap (λ (n : ℕ). wants command n b) none ∙ wants_none command b))
 settled_interrupted o false command left b turn m m' is = tt
 
 step_interrupted :
-    {M : Type 0} (o : Turning M) (outcome : Outcome) (command : Command) (left : ℕ) (b : Bool) (told : StepRecord) (m m' : M)
+    {M : Type 0} (o : Turning M) (outcome : Outcome) (command : TurnCommand) (left : ℕ) (b : Bool) (told : StepRecord) (m m' : M)
     → o.next m (turns.Stepped told) m' → told.outcome ≡ outcome
     → CameInterrupted o (came_of (turns.Stepped told) (after_step command left b outcome)) m m'
 step_interrupted o Next command left b told m m' may is =
     settled_interrupted o (wants command left b) command left b (turns.Stepped told) m m' refl
 step_interrupted o (Faulted fault) command left b told m m' may is =
-    λ none. record { turn = turns.Stepped told; next = may; kind = subst IsNotNext (sym is) tt }
+    λ none. record { turn = turns.Stepped told; next = may; kind = subst IsHalted (sym is) tt }
 step_interrupted o (Stopped stop) command left b told m m' may is =
-    λ none. record { turn = turns.Stepped told; next = may; kind = subst IsNotNext (sym is) tt }
+    λ none. record { turn = turns.Stepped told; next = may; kind = subst IsHalted (sym is) tt }
 
 stepped_interrupted :
-    {M : Type 0} (o : Turning M) (none : Bool) (run : Run) (b : Bool) (told : StepRecord) (m m' : M)
+    {M : Type 0} (o : Turning M) (none : Bool) (run : RunningCommand) (b : Bool) (told : StepRecord) (m m' : M)
     → o.next m (turns.Stepped told) m'
     → CameInterrupted o (came_of (turns.Stepped told) (if none then Waits else after_step run.command (run.left - 1) b told.outcome)) m m'
 stepped_interrupted o true run b told m m' may = tt
@@ -116,7 +116,7 @@ stepped_interrupted o false run b told m m' may =
     step_interrupted o told.outcome run.command (run.left - 1) b told m m' may refl
 
 link_interrupted :
-    {M : Type 0} (o : Turning M) (answer : Result Pair LinkCode) (run : Run) (b : Bool) (note : LinkNoteFields) (m m' : M)
+    {M : Type 0} (o : Turning M) (answer : Result Pair LinkCode) (run : RunningCommand) (b : Bool) (note : LinkNoteFields) (m m' : M)
     → o.next m (turns.Linked note) m' → note.answer ≡ answer
     → CameInterrupted o (came_of (turns.Linked note) (after_link run.command run.left b answer)) m m'
 link_interrupted o (Ok pair) run b note m m' may is =
@@ -125,7 +125,7 @@ link_interrupted o (Err code) run b note m m' may is =
     λ none. record { turn = turns.Linked note; next = may; kind = subst IsRefused (sym is) tt }
 
 pub came_interrupted :
-    {M : Type 0} (o : Turning M) (turn : Turn) (run : Run) (b : Bool) (m m' : M)
+    {M : Type 0} (o : Turning M) (turn : Turn) (run : RunningCommand) (b : Bool) (m m' : M)
     → o.next m turn m' → CameInterrupted o (came_of turn (after_turn run b turn)) m m'
 unfolding after_turn
 came_interrupted o (turns.Stepped told) run b m m' may = stepped_interrupted o (nat_eq run.left 0) run b told m m' may
@@ -137,8 +137,8 @@ came_interrupted o turns.Full run b m m' may = tt
 came_interrupted o turns.NoMemory run b m m' may = tt
 
 turn_interrupted :
-    {M : Type 0} (o : Turning M) (put : Put) (turn : Turn) (run : Run) (b : Bool) (m m' : M)
-    → o.next m turn m' → CameInterrupted o (told_turn put turn (after_turn run b turn)) m m'
+    {M : Type 0} (o : Turning M) (put : Put) (turn : Turn) (run : RunningCommand) (b : Bool) (m m' : M)
+    → o.next m turn m' → CameInterrupted o (turn_result put turn (after_turn run b turn)) m m'
 turn_interrupted o Done turn run b m m' may = came_interrupted o turn run b m m' may
 turn_interrupted o Failed turn run b m m' may = tt
 
@@ -156,20 +156,20 @@ steps_counted o turns.NoMemory s m m' may = inl refl
 -- ---- counts
 
 settled_step :
-    (more : Bool) (command : Command) (told : StepRecord) (n left before : ℕ)
+    (more : Bool) (command : TurnCommand) (told : StepRecord) (n left before : ℕ)
     → n < left → CameCounts (came_of (turns.Stepped told) (if more then Runs (run_of command n) else Waits)) left before (before + 1)
 settled_step true command told n left before below = (below, omega arith)
 settled_step false command told n left before below = omega arith
 
 step_counts :
-    (outcome : Outcome) (command : Command) (b : Bool) (told : StepRecord) (n left before : ℕ)
+    (outcome : Outcome) (command : TurnCommand) (b : Bool) (told : StepRecord) (n left before : ℕ)
     → n < left → CameCounts (came_of (turns.Stepped told) (after_step command n b outcome)) left before (before + 1)
 step_counts Next command b told n left before below = settled_step (wants command n b) command told n left before below
 step_counts (Faulted fault) command b told n left before below = (below, omega arith)
 step_counts (Stopped stop) command b told n left before below = (below, omega arith)
 
 stepped_counts :
-    (none : Bool) (run : Run) (b : Bool) (told : StepRecord) (before : ℕ)
+    (none : Bool) (run : RunningCommand) (b : Bool) (told : StepRecord) (before : ℕ)
     → nat_eq run.left 0 ≡ none
     → CameCounts (came_of (turns.Stepped told) (if none then Waits else after_step run.command (run.left - 1) b told.outcome)) run.left before (before + 1)
 stepped_counts true run b told before is = omega arith
@@ -178,25 +178,25 @@ stepped_counts false run b told before is =
     step_counts told.outcome run.command b told (run.left - 1) run.left before (omega (arith, some))
 
 settled_link :
-    (more : Bool) (command : Command) (note : LinkNoteFields) (left before : ℕ)
+    (more : Bool) (command : TurnCommand) (note : LinkNoteFields) (left before : ℕ)
     → CameCounts (came_of (turns.Linked note) (if more then Runs (run_of command left) else Waits)) left before before
 settled_link true command note left before = (refl, refl)
 settled_link false command note left before = omega arith
 
 link_counts :
-    (answer : Result Pair LinkCode) (run : Run) (b : Bool) (note : LinkNoteFields) (before : ℕ)
+    (answer : Result Pair LinkCode) (run : RunningCommand) (b : Bool) (note : LinkNoteFields) (before : ℕ)
     → CameCounts (came_of (turns.Linked note) (after_link run.command run.left b answer)) run.left before before
 link_counts (Ok pair) run b note before = settled_link (wants run.command run.left b) run.command note run.left before
 link_counts (Err code) run b note before = (refl, refl)
 
 settled_console :
-    (more : Bool) (command : Command) (text : List ℕ) (left before : ℕ)
+    (more : Bool) (command : TurnCommand) (text : List ℕ) (left before : ℕ)
     → CameCounts (came_of (turns.Console text) (if more then Runs (run_of command left) else Waits)) left before before
 settled_console true command text left before = (refl, refl)
 settled_console false command text left before = omega arith
 
 pub came_counts :
-    (turn : Turn) (run : Run) (b : Bool) (s : SittingFields)
+    (turn : Turn) (run : RunningCommand) (b : Bool) (s : SittingFields)
     → CameCounts (came_of turn (after_turn run b turn)) run.left s.taken (sitting_after s turn).taken
 unfolding after_turn sitting_after
 came_counts (turns.Stepped told) run b s = stepped_counts (nat_eq run.left 0) run b told s.taken refl
@@ -217,8 +217,8 @@ taken_after turns.NoMemory s = omega arith
 
 -- a step is one of those that were left, and a service counts 0
 pub turn_counts :
-    (put : Put) (turn : Turn) (run : Run) (b : Bool) (s : SittingFields)
-    → CameCounts (told_turn put turn (after_turn run b turn)) run.left s.taken (sitting_after s turn).taken
+    (put : Put) (turn : Turn) (run : RunningCommand) (b : Bool) (s : SittingFields)
+    → CameCounts (turn_result put turn (after_turn run b turn)) run.left s.taken (sitting_after s turn).taken
 turn_counts Done turn run b s = came_counts turn run b s
 turn_counts Failed turn run b s = taken_after turn s
 
@@ -235,7 +235,7 @@ breaks_stay turns.NoMemory s = refl
 -- ---- a turn, in the form of the equations that the code has
 
 further_same :
-    {M : Type 0} (o : Turning M) (turn : Turn) (run : Run) (next : Further) (g : RegsFields) (s s' : SittingFields) (m' : M)
+    {M : Type 0} (o : Turning M) (turn : Turn) (run : RunningCommand) (next : AfterTurn) (g : RegsFields) (s s' : SittingFields) (m' : M)
     → s' ≡ sitting_after s turn → g ≡ o.regs m' → next ≡ after_turn run (is_at_break g.ppr s'.breaks) turn
     → next ≡ next_of (o.regs m') s run turn
 further_same o turn run next g s s' m' noted regs further =
@@ -245,41 +245,41 @@ further_same o turn run next g s s' m' noted regs further =
     ∙ ap (λ (b : List Break). after_turn run (is_at_break (o.regs m').ppr b) turn) (breaks_stay turn s)
 
 pub took_turn :
-    {M : Type 0} (o : Turning M) (put : Put) (turn : Turn) (run : Run) (next : Further) (came : Came) (g : RegsFields) (s s' : SittingFields) (taken : ℕ) (m m' : M) (old new : Pending)
+    {M : Type 0} (o : Turning M) (put : Put) (turn : Turn) (run : RunningCommand) (next : AfterTurn) (came : Came) (g : RegsFields) (s s' : SittingFields) (taken : ℕ) (m m' : M) (old new : Pending)
     → taken ≡ s.taken → o.next m turn m' → s' ≡ sitting_after s turn → g ≡ o.regs m' → next ≡ after_turn run (is_at_break g.ppr s'.breaks) turn
-    → PutsPieces put (command_says run.command g taken s' turn next) old new → came ≡ told_turn put turn next
-    → CameSays o came (standing s (Running run)) m s' m' old new
+    → PutsPieces put (command_says run.command g taken s' turn next) old new → came ≡ turn_result put turn next
+    → TurnContract o came (standing s (Running run)) m s' m' old new
 took_turn o put turn run next came g s s' taken m m' old new counted may noted regs further puts comes =
     let same : next ≡ next_of (o.regs m') s run turn = further_same o turn run next g s s' m' noted regs further in
     let lines : command_says run.command g taken s' turn next ≡ turn_says (o.regs m') s run turn =
     ap (λ (h : RegsFields). command_says run.command h taken s' turn next) regs
     ∙ ap (λ (n : ℕ). command_says run.command (o.regs m') n s' turn next) counted
     ∙ ap (λ (t : SittingFields). command_says run.command (o.regs m') s.taken t turn next) noted
-    ∙ ap (λ (f : Further). command_says run.command (o.regs m') s.taken (sitting_after s turn) turn f) same in
-    let there : CameSays o (told_turn put turn (next_of (o.regs m') s run turn)) (standing s (Running run)) m (sitting_after s turn) m' old new =
+    ∙ ap (λ (f : AfterTurn). command_says run.command (o.regs m') s.taken (sitting_after s turn) turn f) same in
+    let there : TurnContract o (turn_result put turn (next_of (o.regs m') s run turn)) (standing s (Running run)) m (sitting_after s turn) m' old new =
     turn_came o put turn run s m m' old new may (subst (λ l. PutsPieces put l old new) lines puts) in
-    subst (λ (c : Came). CameSays o c (standing s (Running run)) m s' m' old new) (sym (comes ∙ ap (λ (f : Further). told_turn put turn f) same))
-    (subst (λ (t : SittingFields). CameSays o (told_turn put turn (next_of (o.regs m') s run turn)) (standing s (Running run)) m t m' old new) (sym noted) there)
+    subst (λ (c : Came). TurnContract o c (standing s (Running run)) m s' m' old new) (sym (comes ∙ ap (λ (f : AfterTurn). turn_result put turn f) same))
+    (subst (λ (t : SittingFields). TurnContract o (turn_result put turn (next_of (o.regs m') s run turn)) (standing s (Running run)) m t m' old new) (sym noted) there)
 
 pub took_served :
-    {M : Type 0} (o : Turning M) (put : Put) (turn : Turn) (next : Further) (came : Came) (m m' : M)
-    → o.next m turn m' → came ≡ told_turn put turn next → CameServed o came m m'
+    {M : Type 0} (o : Turning M) (put : Put) (turn : Turn) (next : AfterTurn) (came : Came) (m m' : M)
+    → o.next m turn m' → came ≡ turn_result put turn next → CameServed o came m m'
 took_served o put turn next came m m' may comes =
     subst (λ (c : Came). CameServed o c m m') (sym comes) (turn_served o put turn next m m' may)
 
 pub took_counts :
-    (put : Put) (turn : Turn) (run : Run) (b : Bool) (next : Further) (came : Came) (s s' : SittingFields)
-    → s' ≡ sitting_after s turn → next ≡ after_turn run b turn → came ≡ told_turn put turn next
+    (put : Put) (turn : Turn) (run : RunningCommand) (b : Bool) (next : AfterTurn) (came : Came) (s s' : SittingFields)
+    → s' ≡ sitting_after s turn → next ≡ after_turn run b turn → came ≡ turn_result put turn next
     → CameCounts came run.left s.taken s'.taken
 took_counts put turn run b next came s s' noted further comes =
-    subst (λ (c : Came). CameCounts c run.left s.taken s'.taken) (sym (comes ∙ ap (λ (f : Further). told_turn put turn f) further))
-    (subst (λ (t : SittingFields). CameCounts (told_turn put turn (after_turn run b turn)) run.left s.taken t.taken) (sym noted) (turn_counts put turn run b s))
+    subst (λ (c : Came). CameCounts c run.left s.taken s'.taken) (sym (comes ∙ ap (λ (f : AfterTurn). turn_result put turn f) further))
+    (subst (λ (t : SittingFields). CameCounts (turn_result put turn (after_turn run b turn)) run.left s.taken t.taken) (sym noted) (turn_counts put turn run b s))
 
 pub took_interrupted :
-    {M : Type 0} (o : Turning M) (put : Put) (turn : Turn) (run : Run) (b : Bool) (next : Further) (came : Came) (m m' : M)
-    → o.next m turn m' → next ≡ after_turn run b turn → came ≡ told_turn put turn next → CameInterrupted o came m m'
+    {M : Type 0} (o : Turning M) (put : Put) (turn : Turn) (run : RunningCommand) (b : Bool) (next : AfterTurn) (came : Came) (m m' : M)
+    → o.next m turn m' → next ≡ after_turn run b turn → came ≡ turn_result put turn next → CameInterrupted o came m m'
 took_interrupted o put turn run b next came m m' may further comes =
-    subst (λ (c : Came). CameInterrupted o c m m') (sym (comes ∙ ap (λ (f : Further). told_turn put turn f) further))
+    subst (λ (c : Came). CameInterrupted o c m m') (sym (comes ∙ ap (λ (f : AfterTurn). turn_result put turn f) further))
     (turn_interrupted o put turn run b m m' may)
 
 pub took_stepped :
@@ -298,14 +298,14 @@ pub record WasMade {M : Type 0} (o : Turning M) (Kind : Turn → Type 0) (m : M)
 pub none_served : {M : Type 0} (o : Turning M) (m : M) → false ≡ true → WasMade o IsService m
 none_served o m is = absurd (false≢true is)
 
-pub some_left : {M : Type 0} (o : Turning M) (m : M) (left : ℕ) → 0 < left → left ≡ 0 → WasMade o Interrupts m
+pub some_left : {M : Type 0} (o : Turning M) (m : M) (left : ℕ) → 0 < left → left ≡ 0 → WasMade o PrecludesStep m
 some_left o m left some none = absurd (omega (arith, some, none))
 
 -- with no steps left, none is taken
 pub within_left :
     {M : Type 0} (o : Turning M) (m m' : M) (left before after most : ℕ)
-    → ((first second third : M) (one two : Turn) → o.next first one second → o.next second two third → Interrupts one → IsStep two → ⊥)
-    → before + left ≤ most → after ≤ before + 1 → (left ≡ 0 → WasMade o Interrupts m) → CountsSteps o before after m m'
+    → ((first second third : M) (one two : Turn) → o.next first one second → o.next second two third → PrecludesStep one → IsStep two → ⊥)
+    → before + left ≤ most → after ≤ before + 1 → (left ≡ 0 → WasMade o PrecludesStep m) → CountsSteps o before after m m'
     → after ≤ most
 within_left o m m' left before after most interrupted within few was (inl same) = omega (arith, within, same)
 within_left o m m' zero before after most interrupted within few was (inr step) =

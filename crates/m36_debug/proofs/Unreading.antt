@@ -1,7 +1,7 @@
 -- A session reads no file.
 use Rattle.std.specs.Prelude.{⊤}
 use Rattle.std.proofs.Common.{◌≡◌, ℕ, zero, suc, List, [], ◌∷◌, ◌++◌, Result, sym, ap, subst, ◌∙◌, inl, inr}
-use Rattle.m36_world.specs.Did.{IsFileWrite, IsOutput, IsOutputFailed, IsInput, IsInputFailed}
+use Rattle.m36_world.specs.Happened.{IsFileWrite, IsOutput, IsOutputFailed, IsInput, IsInputFailed}
 use Rattle.m36_world.specs.Follow.{Follow}
 use Rattle.m36_world.specs.Seen.{Seen}
 use Rattle.m36_world.specs.declared.event.Event.{Event}
@@ -16,7 +16,7 @@ use Rattle.m36_debug.specs.Replies.{Reply, All, Quits, Breaks, IsReply, IsLast}
 use Rattle.m36_debug.specs.Session.{Turning, Waiting, standing}
 use Rattle.m36_debug.specs.SessionProgram.{Talk, too_long, starves, takes_within, on_reply, replies, at_end, by_piece, session_from, session}
 use Rattle.m36_debug.specs.SessionSays.{bytes_limit}
-use Rattle.m36_debug.specs.Sitting.{SittingFields, new_sitting}
+use Rattle.m36_debug.specs.SessionState.{SittingFields, new_sitting}
 
 -- ---- events
 

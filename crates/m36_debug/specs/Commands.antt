@@ -10,18 +10,18 @@ use Rattle.m36_model.specs.declared.outcome.Outcome.TheVariants.{Next, Faulted, 
 use Rattle.m36_step.specs.declared.turns.Turn.{Turn}
 use Rattle.m36_step.specs.declared.turns.Turn.TheVariants as turns
 use Rattle.m36_debug.specs.declared.commands.Break.{Break}
-use Rattle.m36_debug.specs.declared.commands.Command.{Command}
-use Rattle.m36_debug.specs.declared.commands.Command.TheVariants.{Step, Go}
-use Rattle.m36_debug.specs.declared.commands.Run.{Run}
-use Rattle.m36_debug.specs.declared.commands.Further.{Further}
-use Rattle.m36_debug.specs.declared.commands.Further.TheVariants.{Runs, Waits, Starves}
+use Rattle.m36_debug.specs.declared.commands.TurnCommand.{TurnCommand}
+use Rattle.m36_debug.specs.declared.commands.TurnCommand.TheVariants.{Step, Go}
+use Rattle.m36_debug.specs.declared.commands.RunningCommand.{RunningCommand}
+use Rattle.m36_debug.specs.declared.commands.AfterTurn.{AfterTurn}
+use Rattle.m36_debug.specs.declared.commands.AfterTurn.TheVariants.{Runs, Waits, Starves}
 
 -- the maximum number of steps of `go`
 abbrev pub go_limit : ℕ
 go_limit = 100000
 
 -- the command, with the number of steps that it may still take
-abbrev pub run_of : Command → ℕ → Run
+abbrev pub run_of : TurnCommand → ℕ → RunningCommand
 run_of command left = record { left = left; command = command }
 
 -- the next instruction is at a break
@@ -34,35 +34,35 @@ is_at_break p breaks = list_any (is_at p) breaks
 
 -- Whether a command that may take `left` more steps takes another one. `go` stops at a break, but
 -- takes at least one step.
-abbrev pub wants : Command → ℕ → Bool → Bool
+abbrev pub wants : TurnCommand → ℕ → Bool → Bool
 wants Step left at_break = nat_lt 0 left
 wants Go left at_break = nat_lt 0 left && (nat_eq left go_limit || not at_break)
 
 -- what a command does if no further turn has to follow
-abbrev pub settled : Command → ℕ → Bool → Further
-settled command left at_break =
+abbrev pub after_quiet_turn : TurnCommand → ℕ → Bool → AfterTurn
+after_quiet_turn command left at_break =
     if wants command left at_break then Runs (run_of command left) else Waits
 
 -- A step whose outcome is not Next is followed at once by its service or by the end of the run,
 -- and a refused link by the end of the run: by one more turn, even if no steps are left.
-abbrev pub after_step : Command → ℕ → Bool → Outcome → Further
-after_step command left at_break Next = settled command left at_break
+abbrev pub after_step : TurnCommand → ℕ → Bool → Outcome → AfterTurn
+after_step command left at_break Next = after_quiet_turn command left at_break
 after_step command left at_break (Faulted fault) = Runs (run_of command left)
 after_step command left at_break (Stopped stop) = Runs (run_of command left)
 
 -- what a command does after a link service
-abbrev pub after_link : Command → ℕ → Bool → Result Pair LinkCode → Further
-after_link command left at_break (Ok pair) = settled command left at_break
+abbrev pub after_link : TurnCommand → ℕ → Bool → Result Pair LinkCode → AfterTurn
+after_link command left at_break (Ok pair) = after_quiet_turn command left at_break
 after_link command left at_break (Err code) = Runs (run_of command left)
 
 -- what a command does after a turn
-unfoldable pub after_turn : Run → Bool → Turn → Further
+unfoldable pub after_turn : RunningCommand → Bool → Turn → AfterTurn
 after_turn run at_break (turns.Stepped told) =
     if nat_eq run.left 0 then Waits
     else after_step run.command (run.left - 1) at_break told.outcome
 after_turn run at_break (turns.Linked note) =
     after_link run.command run.left at_break note.answer
-after_turn run at_break (turns.Console text) = settled run.command run.left at_break
+after_turn run at_break (turns.Console text) = after_quiet_turn run.command run.left at_break
 after_turn run at_break (turns.Ended end) = Waits
 after_turn run at_break turns.Full = Waits
 after_turn run at_break turns.NoMemory = Starves

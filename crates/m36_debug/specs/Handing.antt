@@ -2,28 +2,28 @@
 use Rattle.std.specs.Prelude.{◌≡◌, []}
 use Rattle.m36_outside.specs.declared.sink.Put.{Put}
 use Rattle.m36_outside.specs.declared.sink.Put.TheVariants.{Done, Failed}
-use Rattle.m36_debug.specs.declared.turning.Ends.{Ends}
-use Rattle.m36_debug.specs.declared.turning.Ends.TheVariants as ends
+use Rattle.m36_debug.specs.declared.turning.LineResult.{LineResult}
+use Rattle.m36_debug.specs.declared.turning.LineResult.TheVariants as ends
 use Rattle.m36_debug.specs.Putting.{Pending, PutsPieces}
 
 -- how lines ended, given whether their answers could be put
-abbrev pub after_put : Put → Ends → Ends
+abbrev pub after_put : Put → LineResult → LineResult
 after_put Done end = end
 after_put Failed end = ends.Cut
 
 -- The lines that wait are handed over, and no line is added.
-pub record Handed (end result : Ends) (old new : Pending) : Type 0 where
+pub record Handed (end result : LineResult) (old new : Pending) : Type 0 where
   pub put : Put
   pub puts : PutsPieces put [] old new
   pub result_is : result ≡ after_put put end
 
 -- Nothing is put after the output has failed.
-pub record Unhanded (result : Ends) (old new : Pending) : Type 0 where
+pub record Unhanded (result : LineResult) (old new : Pending) : Type 0 where
   pub same : new.world ≡ old.world
   pub result_is : result ≡ ends.Cut
 
 -- by how the lines ended before
-abbrev pub HandsOver : Ends → Ends → Pending → Pending → Type 0
+abbrev pub HandsOver : LineResult → LineResult → Pending → Pending → Type 0
 HandsOver ends.Line result old new = Handed ends.Line result old new
 HandsOver ends.Quit result old new = Handed ends.Quit result old new
 HandsOver ends.Starved result old new = Handed ends.Starved result old new

@@ -1,7 +1,7 @@
 pub mod SessionLines
 pub mod SessionTexts
 pub mod Commands
-pub mod Sitting
+pub mod SessionState
 pub mod Session
 pub mod Putting
 pub mod Parts

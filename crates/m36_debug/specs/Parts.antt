@@ -1,58 +1,58 @@
 -- The contracts of the parts of a session: a turn, a command, a line and several lines.
 use Rattle.std.specs.Prelude.{ℕ, ◌≡◌, ◌+◌, ◌<◌, ◌≤◌, ◌⊎◌, Bool, true, false, List, [], ◌∷◌}
 use Rattle.std.specs.Prelude.{Option, Some, None}
-use Rattle.m36_step.specs.Answers.{IsService, IsStep, Interrupts, is_service}
+use Rattle.m36_step.specs.Answers.{IsService, IsStep, PrecludesStep, is_service}
 use Rattle.m36_model.specs.declared.endings.End.{End}
 use Rattle.m36_outside.specs.declared.sink.Put.{Put}
 use Rattle.m36_outside.specs.declared.sink.Put.TheVariants.{Done, Failed}
 use Rattle.m36_debug.specs.Putting.{Pending, PutsPieces}
 use Rattle.m36_step.specs.declared.turns.Turn.{Turn}
-use Rattle.m36_debug.specs.declared.commands.Run.{Run}
-use Rattle.m36_debug.specs.declared.commands.Further.{Further}
-use Rattle.m36_debug.specs.declared.commands.Further.TheVariants.{Runs, Waits, Starves}
+use Rattle.m36_debug.specs.declared.commands.RunningCommand.{RunningCommand}
+use Rattle.m36_debug.specs.declared.commands.AfterTurn.{AfterTurn}
+use Rattle.m36_debug.specs.declared.commands.AfterTurn.TheVariants.{Runs, Waits, Starves}
 use Rattle.m36_debug.specs.declared.turning.Came.{Came}
 use Rattle.m36_debug.specs.declared.turning.Came.TheVariants as comes
-use Rattle.m36_debug.specs.declared.turning.Ends.{Ends}
-use Rattle.m36_debug.specs.declared.turning.Ends.TheVariants as ends
-use Rattle.m36_debug.specs.Session.{Turning, Doing, Waiting, Running, Backing, Over, Starved}
-use Rattle.m36_debug.specs.Session.{Standing, Event, standing, Follow, lines_said, lines_in}
+use Rattle.m36_debug.specs.declared.turning.LineResult.{LineResult}
+use Rattle.m36_debug.specs.declared.turning.LineResult.TheVariants as ends
+use Rattle.m36_debug.specs.Session.{Turning, Activity, Waiting, Running, Backing, Over, Starved}
+use Rattle.m36_debug.specs.Session.{SessionPoint, SessionEvent, standing, Follow, texts_of, lines_in}
 use Rattle.m36_debug.specs.SessionTexts.{unknown_line, end_line}
-use Rattle.m36_debug.specs.Sitting.{SittingFields}
+use Rattle.m36_debug.specs.SessionState.{SittingFields}
 
 -- A part of a session: these lines were taken in it, and what its events say was put, or a prefix
 -- of it if the answer is Failed.
-pub record Part {M : Type 0} (o : Turning M) (s : Standing) (m : M) (lines : List (List ℕ))
-    (s' : Standing) (m' : M) (answer : Put) (old new : Pending) : Type 0 where
-  pub events : List (Event M)
+pub record SessionPart {M : Type 0} (o : Turning M) (s : SessionPoint) (m : M) (lines : List (List ℕ))
+    (s' : SessionPoint) (m' : M) (answer : Put) (old new : Pending) : Type 0 where
+  pub events : List (SessionEvent M)
   pub follow : Follow o s m events s' m'
   pub took : lines_in events ≡ lines
-  pub wrote : PutsPieces answer (lines_said o s events) old new
+  pub wrote : PutsPieces answer (texts_of o s events) old new
 
 -- A part in which the output failed. The session is in some state.
-pub record CutPart {M : Type 0} (o : Turning M) (s : Standing) (m : M) (lines : List (List ℕ))
+pub record CutPart {M : Type 0} (o : Turning M) (s : SessionPoint) (m : M) (lines : List (List ℕ))
     (m' : M) (old new : Pending) : Type 0 where
-  pub stands : Standing
-  pub part : Part o s m lines stands m' Failed old new
+  pub stands : SessionPoint
+  pub part : SessionPart o s m lines stands m' Failed old new
 
 -- ---- a turn
 
 -- what the session is doing after a turn of a command
-abbrev pub doing_came : Came → Doing
+abbrev pub doing_came : Came → Activity
 doing_came (comes.Runs run service) = Running run
 doing_came comes.Waits = Waiting
 doing_came comes.Starves = Starved
 doing_came comes.Cut = Waiting
 
 -- the result of a turn whose lines were put, by what the command does after it
-abbrev pub came_of : Turn → Further → Came
+abbrev pub came_of : Turn → AfterTurn → Came
 came_of turn (Runs run) = comes.Runs run (is_service turn)
 came_of turn Waits = comes.Waits
 came_of turn Starves = comes.Starves
 
 -- the result of a turn, given whether what it says could be put
-abbrev pub told_turn : Put → Turn → Further → Came
-told_turn Done turn next = came_of turn next
-told_turn Failed turn next = comes.Cut
+abbrev pub turn_result : Put → Turn → AfterTurn → Came
+turn_result Done turn next = came_of turn next
+turn_result Failed turn next = comes.Cut
 
 -- The steps that a command may still take, and the steps that the session has taken: a step is one
 -- of those that were left, and a service counts 0.
@@ -83,7 +83,7 @@ CameServed o comes.Cut m m' = Unit {0}
 
 -- With no steps left, a command takes another turn only if that turn cannot be a step.
 abbrev pub CameInterrupted : {M : Type 0} → Turning M → Came → M → M → Type 0
-CameInterrupted o (comes.Runs run service) m m' = run.left ≡ 0 → Makes o Interrupts m m'
+CameInterrupted o (comes.Runs run service) m m' = run.left ≡ 0 → Makes o PrecludesStep m m'
 CameInterrupted o comes.Waits m m' = Unit {0}
 CameInterrupted o comes.Starves m m' = Unit {0}
 CameInterrupted o comes.Cut m m' = Unit {0}
@@ -93,44 +93,44 @@ abbrev pub CountsSteps : {M : Type 0} → Turning M → ℕ → ℕ → M → M 
 CountsSteps o before after m m' = (after ≡ before) ⊎ Makes o IsStep m m'
 
 -- the result of a turn of a command
-abbrev pub CameSays :
-    {M : Type 0} → Turning M → Came → Standing → M → SittingFields → M → Pending → Pending
+abbrev pub TurnContract :
+    {M : Type 0} → Turning M → Came → SessionPoint → M → SittingFields → M → Pending → Pending
     → Type 0
-CameSays o comes.Cut s m sitting m' old new = CutPart o s m [] m' old new
-CameSays o came s m sitting m' old new =
-    Part o s m [] (standing sitting (doing_came came)) m' Done old new
+TurnContract o comes.Cut s m sitting m' old new = CutPart o s m [] m' old new
+TurnContract o came s m sitting m' old new =
+    SessionPart o s m [] (standing sitting (doing_came came)) m' Done old new
 
 -- ---- a command, a line, and several lines
 
 -- what the session is doing after a line
-abbrev pub doing_at : Ends → Doing
+abbrev pub doing_at : LineResult → Activity
 doing_at ends.Line = Waiting
 doing_at ends.Quit = Over
 doing_at ends.Starved = Starved
 doing_at ends.Cut = Waiting
 
 -- the contract of a command or of lines, by how they ended
-abbrev pub EndSays :
-    {M : Type 0} → Turning M → Ends → Standing → M → List (List ℕ) → SittingFields → M → Pending
+abbrev pub LineContract :
+    {M : Type 0} → Turning M → LineResult → SessionPoint → M → List (List ℕ) → SittingFields → M → Pending
     → Pending → Type 0
-EndSays o ends.Cut s m lines sitting m' old new = CutPart o s m lines m' old new
-EndSays o end s m lines sitting m' old new =
-    Part o s m lines (standing sitting (doing_at end)) m' Done old new
+LineContract o ends.Cut s m lines sitting m' old new = CutPart o s m lines m' old new
+LineContract o end s m lines sitting m' old new =
+    SessionPart o s m lines (standing sitting (doing_at end)) m' Done old new
 
 -- the end of a line whose answer is written at once
-abbrev pub told : Put → Ends
+abbrev pub told : Put → LineResult
 told Done = ends.Line
 told Failed = ends.Cut
 
 -- The answer to a line was put at once, whole, or a prefix of it if the output failed.
-abbrev pub EndPuts : Ends → Pending → Pending → List (List ℕ) → Type 0
+abbrev pub EndPuts : LineResult → Pending → Pending → List (List ℕ) → Type 0
 EndPuts ends.Line old new lines = PutsPieces Done lines old new
 EndPuts ends.Quit old new lines = ⊥
 EndPuts ends.Starved old new lines = ⊥
 EndPuts ends.Cut old new lines = PutsPieces Failed lines old new
 
 -- A line was answered at once: `lines` were put, and session and machine are unchanged.
-pub record IsTold {M : Type 0} (end : Ends) (lines : List (List ℕ)) (s : SittingFields) (m : M)
+pub record IsTold {M : Type 0} (end : LineResult) (lines : List (List ℕ)) (s : SittingFields) (m : M)
     (sitting : SittingFields) (m' : M) (old new : Pending) : Type 0 where
   pub puts : EndPuts end old new lines
   pub sitting_stays : sitting ≡ s
@@ -138,18 +138,18 @@ pub record IsTold {M : Type 0} (end : Ends) (lines : List (List ℕ)) (s : Sitti
 
 -- If the run has ended, a command writes the end line again; otherwise it takes its turns.
 abbrev pub CommandSays :
-    {M : Type 0} → Turning M → Ends → Option End → Run → SittingFields → M → SittingFields → M
+    {M : Type 0} → Turning M → LineResult → Option End → RunningCommand → SittingFields → M → SittingFields → M
     → Pending → Pending → Type 0
 CommandSays o answer (Some end) run s m sitting m' old new =
     IsTold answer (end_line end s.taken ∷ []) s m sitting m' old new
 CommandSays o answer None run s m sitting m' old new =
-    EndSays o answer (standing s (Running run)) m [] sitting m' old new
+    LineContract o answer (standing s (Running run)) m [] sitting m' old new
 
 -- The machine goes back if n steps were taken; otherwise the line is unknown.
 abbrev pub BackSays :
-    {M : Type 0} → Turning M → Ends → Bool → List ℕ → ℕ → SittingFields → M → SittingFields → M
+    {M : Type 0} → Turning M → LineResult → Bool → List ℕ → ℕ → SittingFields → M → SittingFields → M
     → Pending → Pending → Type 0
 BackSays o answer true line n s m sitting m' old new =
-    EndSays o answer (standing s (Backing n line)) m [] sitting m' old new
+    LineContract o answer (standing s (Backing n line)) m [] sitting m' old new
 BackSays o answer false line n s m sitting m' old new =
     IsTold answer (unknown_line line ∷ []) s m sitting m' old new

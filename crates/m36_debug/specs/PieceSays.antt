@@ -2,40 +2,40 @@
 use Rattle.std.specs.Prelude.{ℕ, List}
 use Rattle.m36_outside.specs.declared.sink.Put.TheVariants.{Done}
 use Rattle.m36_debug.specs.Putting.{Pending}
-use Rattle.m36_debug.specs.declared.turning.Ends.{Ends}
-use Rattle.m36_debug.specs.declared.turning.Ends.TheVariants as ends
+use Rattle.m36_debug.specs.declared.turning.LineResult.{LineResult}
+use Rattle.m36_debug.specs.declared.turning.LineResult.TheVariants as ends
 use Rattle.m36_debug.specs.LinesTaken.{IsLines, IsUnbroken}
-use Rattle.m36_debug.specs.Parts.{Part, CutPart}
-use Rattle.m36_debug.specs.Session.{Turning, Waiting, Over, Standing, standing}
-use Rattle.m36_debug.specs.Sitting.{SittingFields}
+use Rattle.m36_debug.specs.Parts.{SessionPart, CutPart}
+use Rattle.m36_debug.specs.Session.{Turning, Waiting, Over, SessionPoint, standing}
+use Rattle.m36_debug.specs.SessionState.{SittingFields}
 
 -- All whole lines of a text were answered, and the bytes after them are kept.
-pub record AnsweredAll {M : Type 0} (o : Turning M) (s : Standing) (m : M) (text kept : List ℕ)
+pub record AnsweredAll {M : Type 0} (o : Turning M) (s : SessionPoint) (m : M) (text kept : List ℕ)
     (sitting : SittingFields) (m' : M) (old new : Pending) : Type 0 where
   pub lines : List (List ℕ)
   pub is : IsLines text lines kept
   pub unbroken : IsUnbroken kept
-  pub part : Part o s m lines (standing sitting Waiting) m' Done old new
+  pub part : SessionPart o s m lines (standing sitting Waiting) m' Done old new
 
 -- The first lines of a text were answered; the last of these is `quit`.
-pub record AnsweredQuit {M : Type 0} (o : Turning M) (s : Standing) (m : M) (text : List ℕ)
+pub record AnsweredQuit {M : Type 0} (o : Turning M) (s : SessionPoint) (m : M) (text : List ℕ)
     (sitting : SittingFields) (m' : M) (old new : Pending) : Type 0 where
   pub lines : List (List ℕ)
   pub rest : List ℕ
   pub is : IsLines text lines rest
-  pub part : Part o s m lines (standing sitting Over) m' Done old new
+  pub part : SessionPart o s m lines (standing sitting Over) m' Done old new
 
 -- The first lines of a text were answered, and then memory ran out.
-pub record AnsweredSome {M : Type 0} (o : Turning M) (s : Standing) (m : M) (text : List ℕ)
+pub record AnsweredSome {M : Type 0} (o : Turning M) (s : SessionPoint) (m : M) (text : List ℕ)
     (m' : M) (old new : Pending) : Type 0 where
   pub lines : List (List ℕ)
   pub rest : List ℕ
   pub is : IsLines text lines rest
-  pub stands : Standing
-  pub part : Part o s m lines stands m' Done old new
+  pub stands : SessionPoint
+  pub part : SessionPart o s m lines stands m' Done old new
 
 -- The first lines of a text were answered, and then the output could not be written.
-pub record AnsweredCut {M : Type 0} (o : Turning M) (s : Standing) (m : M) (text : List ℕ)
+pub record AnsweredCut {M : Type 0} (o : Turning M) (s : SessionPoint) (m : M) (text : List ℕ)
     (m' : M) (old new : Pending) : Type 0 where
   pub lines : List (List ℕ)
   pub rest : List ℕ
@@ -44,7 +44,7 @@ pub record AnsweredCut {M : Type 0} (o : Turning M) (s : Standing) (m : M) (text
 
 -- what is answered to a text and which bytes are kept, by how the lines ended
 abbrev pub PieceSays :
-    {M : Type 0} → Turning M → Ends → Standing → M → List ℕ → List ℕ → SittingFields → M → Pending
+    {M : Type 0} → Turning M → LineResult → SessionPoint → M → List ℕ → List ℕ → SittingFields → M → Pending
     → Pending → Type 0
 PieceSays o ends.Line s m text kept sitting m' old new =
     AnsweredAll o s m text kept sitting m' old new

@@ -2,18 +2,18 @@
 use Rattle.std.specs.Prelude.{ℕ, ◌≡◌, List}
 use Rattle.m36_text.specs.Lines.{open_rest}
 use Rattle.m36_debug.specs.LinesTaken.{IsLines, IsUnbroken}
-use Rattle.m36_debug.specs.Session.{Turning, Standing, standing, Event, Waiting, Over}
-use Rattle.m36_debug.specs.Session.{Follow, lines_said, lines_in}
-use Rattle.m36_debug.specs.Sitting.{SittingFields}
+use Rattle.m36_debug.specs.Session.{Turning, SessionPoint, standing, SessionEvent, Waiting, Over}
+use Rattle.m36_debug.specs.Session.{Follow, texts_of, lines_in}
+use Rattle.m36_debug.specs.SessionState.{SittingFields}
 
 -- Some events of a session lead from one state of the session and the machine to another. In them
 -- `lines` are taken, and `written` is what is written for them.
-pub record Happens {M : Type 0} (o : Turning M) (s : Standing) (m : M)
-    (lines written : List (List ℕ)) (s' : Standing) (m' : M) : Type 0 where
-  pub events : List (Event M)
+pub record Happens {M : Type 0} (o : Turning M) (s : SessionPoint) (m : M)
+    (lines written : List (List ℕ)) (s' : SessionPoint) (m' : M) : Type 0 where
+  pub events : List (SessionEvent M)
   pub follow : Follow o s m events s' m'
   pub took : lines_in events ≡ lines
-  pub said : lines_said o s events ≡ written
+  pub said : texts_of o s events ≡ written
 
 -- the answers to some lines, and the state after them
 pub data Reply (M : Type 0) : Type 0 where
@@ -28,7 +28,7 @@ pub data Reply (M : Type 0) : Type 0 where
 -- ---- a piece of input
 
 -- All whole lines of a text are answered, and the bytes after them are kept.
-pub record RepliesAll {M : Type 0} (o : Turning M) (s : Standing) (m : M) (text : List ℕ)
+pub record RepliesAll {M : Type 0} (o : Turning M) (s : SessionPoint) (m : M) (text : List ℕ)
     (written : List (List ℕ)) (kept : List ℕ) (sitting : SittingFields) (m' : M) : Type 0 where
   pub lines : List (List ℕ)
   pub is : IsLines text lines kept
@@ -36,7 +36,7 @@ pub record RepliesAll {M : Type 0} (o : Turning M) (s : Standing) (m : M) (text 
   pub happens : Happens o s m lines written (standing sitting Waiting) m'
 
 -- The first lines of a text are answered; the last of these is `quit`.
-pub record RepliesQuit {M : Type 0} (o : Turning M) (s : Standing) (m : M) (text : List ℕ)
+pub record RepliesQuit {M : Type 0} (o : Turning M) (s : SessionPoint) (m : M) (text : List ℕ)
     (written : List (List ℕ)) : Type 0 where
   pub lines : List (List ℕ)
   pub rest : List ℕ
@@ -46,17 +46,17 @@ pub record RepliesQuit {M : Type 0} (o : Turning M) (s : Standing) (m : M) (text
   pub happens : Happens o s m lines written (standing sitting Over) machine
 
 -- The first lines of a text are answered, perhaps the last of them in part.
-pub record RepliesSome {M : Type 0} (o : Turning M) (s : Standing) (m : M) (text : List ℕ)
+pub record RepliesSome {M : Type 0} (o : Turning M) (s : SessionPoint) (m : M) (text : List ℕ)
     (written : List (List ℕ)) : Type 0 where
   pub lines : List (List ℕ)
   pub rest : List ℕ
   pub is : IsLines text lines rest
-  pub stands : Standing
+  pub stands : SessionPoint
   pub machine : M
   pub happens : Happens o s m lines written stands machine
 
 -- the answers to the whole lines of a text
-abbrev pub IsReply : {M : Type 0} → Turning M → Standing → M → List ℕ → Reply M → Type 0
+abbrev pub IsReply : {M : Type 0} → Turning M → SessionPoint → M → List ℕ → Reply M → Type 0
 IsReply o s m text (All written kept sitting m') =
     RepliesAll o s m text written kept sitting m'
 IsReply o s m text (Quits written) = RepliesQuit o s m text written
@@ -65,21 +65,21 @@ IsReply o s m text (Breaks written) = RepliesSome o s m text written
 -- ---- the end of the input
 
 -- The line that has begun is answered and is `quit`.
-pub record LastQuits {M : Type 0} (o : Turning M) (s : Standing) (m : M) (begun : List ℕ)
+pub record LastQuits {M : Type 0} (o : Turning M) (s : SessionPoint) (m : M) (begun : List ℕ)
     (written : List (List ℕ)) : Type 0 where
   pub sitting : SittingFields
   pub machine : M
   pub happens : Happens o s m (open_rest begun) written (standing sitting Over) machine
 
 -- The line that has begun is answered in part.
-pub record LastBreaks {M : Type 0} (o : Turning M) (s : Standing) (m : M) (begun : List ℕ)
+pub record LastBreaks {M : Type 0} (o : Turning M) (s : SessionPoint) (m : M) (begun : List ℕ)
     (written : List (List ℕ)) : Type 0 where
-  pub stands : Standing
+  pub stands : SessionPoint
   pub machine : M
   pub happens : Happens o s m (open_rest begun) written stands machine
 
 -- the answer to the line that has begun when the input ends, if it is not empty
-abbrev pub IsLast : {M : Type 0} → Turning M → Standing → M → List ℕ → Reply M → Type 0
+abbrev pub IsLast : {M : Type 0} → Turning M → SessionPoint → M → List ℕ → Reply M → Type 0
 IsLast o s m begun (All written kept sitting m') =
     Happens o s m (open_rest begun) written (standing sitting Waiting) m'
 IsLast o s m begun (Quits written) = LastQuits o s m begun written

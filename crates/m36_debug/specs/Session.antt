@@ -6,19 +6,19 @@ use Rattle.m36_model.specs.declared.endings.End.{End}
 use Rattle.m36_step.specs.declared.turns.Turn.{Turn}
 use Rattle.m36_step.specs.declared.turns.BackAnswer.{BackAnswer}
 use Rattle.m36_step.specs.declared.turns.BackAnswer.TheVariants as back
-use Rattle.m36_debug.specs.declared.commands.Command.{Command}
-use Rattle.m36_debug.specs.declared.commands.Command.TheVariants as commands
-use Rattle.m36_debug.specs.declared.commands.Run.{Run}
-use Rattle.m36_debug.specs.declared.commands.Further.{Further}
-use Rattle.m36_debug.specs.declared.commands.Further.TheVariants.{Runs, Waits, Starves}
+use Rattle.m36_debug.specs.declared.commands.TurnCommand.{TurnCommand}
+use Rattle.m36_debug.specs.declared.commands.TurnCommand.TheVariants as commands
+use Rattle.m36_debug.specs.declared.commands.RunningCommand.{RunningCommand}
+use Rattle.m36_debug.specs.declared.commands.AfterTurn.{AfterTurn}
+use Rattle.m36_debug.specs.declared.commands.AfterTurn.TheVariants.{Runs, Waits, Starves}
 use Rattle.m36_debug.specs.declared.session_line.SessionLine.{SessionLine}
 use Rattle.m36_debug.specs.declared.session_line.SessionLine.TheVariants as session
 use Rattle.m36_debug.specs.Commands.{run_of, go_limit, is_at_break, after_turn}
 use Rattle.m36_debug.specs.SessionLines.{session_line}
 use Rattle.m36_debug.specs.SessionTexts.{unknown_line, where_line, break_line, seg_line, regs_lines}
 use Rattle.m36_debug.specs.SessionTexts.{end_lines, end_or_where, turn_lines}
-use Rattle.m36_debug.specs.Sitting.{SittingFields, sitting_after, sitting_before, sitting_with}
-use Rattle.m36_debug.specs.Sitting.{has_taken, has_room}
+use Rattle.m36_debug.specs.SessionState.{SittingFields, sitting_after, sitting_before, sitting_with}
+use Rattle.m36_debug.specs.SessionState.{has_taken, has_room}
 
 -- what a session uses of a machine: its registers and words, which turns it may answer, and how it
 -- may go back
@@ -38,39 +38,39 @@ turning regs content next went =
 -- ---- the state of a session
 
 -- what the session is doing
-pub data Doing : Type 0 where
-  Waiting : Doing  -- the session waits for the next line
-  Running : Run → Doing  -- a command takes turns
-  Backing : ℕ → List ℕ → Doing  -- the machine has to go back n steps, as this line requires
-  Over : Doing  -- `quit` was taken
-  Starved : Doing  -- a turn, or going back, ran out of memory
+pub data Activity : Type 0 where
+  Waiting : Activity  -- the session waits for the next line
+  Running : RunningCommand → Activity  -- a command takes turns
+  Backing : ℕ → List ℕ → Activity  -- the machine has to go back n steps, as this line requires
+  Over : Activity  -- `quit` was taken
+  Starved : Activity  -- a turn, or going back, ran out of memory
 
 -- the state of a session: what it remembers, and what it is doing
-pub record Standing : Type 0 where
+pub record SessionPoint : Type 0 where
   pub sitting : SittingFields
-  pub doing : Doing
+  pub doing : Activity
 
 -- the state with these parts
-abbrev pub standing : SittingFields → Doing → Standing
+abbrev pub standing : SittingFields → Activity → SessionPoint
 standing s doing = record { sitting = s; doing = doing }
 
 -- ---- events
 
 -- the kinds of events
-pub data Happening : Type 0 where
-  Took : List ℕ → Happening  -- a line was taken
-  Turned : Turn → Happening  -- the machine made a turn
-  Went : BackAnswer → Happening  -- the machine was asked to go back
+pub data EventKind : Type 0 where
+  Took : List ℕ → EventKind  -- a line was taken
+  Turned : Turn → EventKind  -- the machine made a turn
+  Went : BackAnswer → EventKind  -- the machine was asked to go back
 
 -- an event, and the machine after it
-pub record Event (M : Type 0) : Type 0 where
-  pub happened : Happening
+pub record SessionEvent (M : Type 0) : Type 0 where
+  pub happened : EventKind
   pub after : M
 
 -- What may happen when: a line is taken if the session waits for one, a turn is made if a command
 -- runs, and the machine goes back if it has to. The turn, or going back, is one that the machine
 -- may answer.
-abbrev pub May : {M : Type 0} → Turning M → Doing → M → Happening → M → Type 0
+abbrev pub May : {M : Type 0} → Turning M → Activity → M → EventKind → M → Type 0
 May o Waiting m (Took line) m' = m' ≡ m
 May o (Running run) m (Turned turn) m' = o.next m turn m'
 May o (Backing n line) m (Went answer) m' = o.went m n answer m'
@@ -79,12 +79,12 @@ May o doing m happened m' = ⊥
 -- ---- a line is taken
 
 -- a command begins, if the run has not ended
-abbrev pub run_begun : Option End → Command → ℕ → Doing
+abbrev pub run_begun : Option End → TurnCommand → ℕ → Activity
 run_begun None command left = Running (run_of command left)
 run_begun (Some end) command left = Waiting
 
 -- what the session is doing after a line was taken
-abbrev pub begun : SittingFields → List ℕ → SessionLine → Doing
+abbrev pub begun : SittingFields → List ℕ → SessionLine → Activity
 begun s line (session.Step n) = run_begun s.ended commands.Step n
 begun s line session.Go = run_begun s.ended commands.Go go_limit
 begun s line (session.Break seg word) = Waiting
@@ -97,17 +97,17 @@ begun s line session.Empty = Waiting
 begun s line session.Unknown = Waiting
 
 -- what the session remembers after a line was taken
-abbrev pub remembered : SittingFields → SessionLine → SittingFields
-remembered s (session.Step n) = s
-remembered s session.Go = s
-remembered s (session.Break seg word) = sitting_with s seg word
-remembered s session.Regs = s
-remembered s (session.Seg seg word) = s
-remembered s session.Where = s
-remembered s (session.Back n) = s
-remembered s session.Quit = s
-remembered s session.Empty = s
-remembered s session.Unknown = s
+abbrev pub state_after_line : SittingFields → SessionLine → SittingFields
+state_after_line s (session.Step n) = s
+state_after_line s session.Go = s
+state_after_line s (session.Break seg word) = sitting_with s seg word
+state_after_line s session.Regs = s
+state_after_line s (session.Seg seg word) = s
+state_after_line s session.Where = s
+state_after_line s (session.Back n) = s
+state_after_line s session.Quit = s
+state_after_line s session.Empty = s
+state_after_line s session.Unknown = s
 
 -- a break is written if there is room for it; otherwise its line is answered as an unknown one
 abbrev pub break_says : SittingFields → List ℕ → ℕ → ℕ → List (List ℕ)
@@ -132,40 +132,40 @@ line_says g content s line session.Unknown = unknown_line line ∷ []
 -- ---- a command takes a turn
 
 -- what the session is doing after a turn
-abbrev pub doing_by : Further → Doing
+abbrev pub doing_by : AfterTurn → Activity
 doing_by (Runs run) = Running run
 doing_by Waits = Waiting
 doing_by Starves = Starved
 
 -- `go` writes nothing before it is complete
-abbrev pub go_says : RegsFields → SittingFields → Further → List (List ℕ)
+abbrev pub go_says : RegsFields → SittingFields → AfterTurn → List (List ℕ)
 go_says g s (Runs run) = []
 go_says g s Waits = end_or_where s.ended s.taken g.ppr ∷ []
 go_says g s Starves = []
 
 -- the lines that a command writes for a turn
 abbrev pub command_says :
-    Command → RegsFields → ℕ → SittingFields → Turn → Further → List (List ℕ)
+    TurnCommand → RegsFields → ℕ → SittingFields → Turn → AfterTurn → List (List ℕ)
 command_says commands.Step g taken after turn next = turn_lines taken turn
 command_says commands.Go g taken after turn next = go_says g after next
 
 -- what a command does after a turn that left these registers
-abbrev pub next_of : RegsFields → SittingFields → Run → Turn → Further
+abbrev pub next_of : RegsFields → SittingFields → RunningCommand → Turn → AfterTurn
 next_of g s run turn = after_turn run (is_at_break g.ppr s.breaks) turn
 
 -- the lines that are written for a turn
-abbrev pub turn_says : RegsFields → SittingFields → Run → Turn → List (List ℕ)
+abbrev pub turn_says : RegsFields → SittingFields → RunningCommand → Turn → List (List ℕ)
 turn_says g s run turn =
     command_says run.command g s.taken (sitting_after s turn) turn (next_of g s run turn)
 
 -- the state of the session after a turn
-abbrev pub turned : RegsFields → SittingFields → Run → Turn → Standing
+abbrev pub turned : RegsFields → SittingFields → RunningCommand → Turn → SessionPoint
 turned g s run turn = standing (sitting_after s turn) (doing_by (next_of g s run turn))
 
 -- ---- the machine was asked to go back
 
 -- the state of the session after the machine was asked to go back n steps
-abbrev pub went : SittingFields → ℕ → BackAnswer → Standing
+abbrev pub went : SittingFields → ℕ → BackAnswer → SessionPoint
 went s n back.Done = standing (sitting_before s n) Waiting
 went s n (back.Before taken) = standing s Waiting
 went s n back.Unable = standing s Waiting
@@ -182,20 +182,20 @@ back_says g line back.NoMemory = []
 -- ---- a session
 
 -- the state after an event, given the registers that the machine then has
-abbrev pub onward_by : RegsFields → SittingFields → Doing → Happening → Standing
-onward_by g s Waiting (Took line) =
-    standing (remembered s (session_line line)) (begun s line (session_line line))
-onward_by g s (Running run) (Turned turn) = turned g s run turn
-onward_by g s (Backing n line) (Went answer) = went s n answer
-onward_by g s doing happened = standing s doing
+abbrev pub state_after_by : RegsFields → SittingFields → Activity → EventKind → SessionPoint
+state_after_by g s Waiting (Took line) =
+    standing (state_after_line s (session_line line)) (begun s line (session_line line))
+state_after_by g s (Running run) (Turned turn) = turned g s run turn
+state_after_by g s (Backing n line) (Went answer) = went s n answer
+state_after_by g s doing happened = standing s doing
 
 -- the state of the session after an event
-unfoldable pub onward : RegsFields → Standing → Happening → Standing
-onward g s happened = onward_by g s.sitting s.doing happened
+unfoldable pub state_after : RegsFields → SessionPoint → EventKind → SessionPoint
+state_after g s happened = state_after_by g s.sitting s.doing happened
 
 -- as `said`, given what the session remembers and what it is doing
 abbrev pub said_by :
-    RegsFields → (ℕ → ℕ → Option ℕ) → SittingFields → Doing → Happening → List (List ℕ)
+    RegsFields → (ℕ → ℕ → Option ℕ) → SittingFields → Activity → EventKind → List (List ℕ)
 said_by g content s Waiting (Took line) = line_says g content s line (session_line line)
 said_by g content s (Running run) (Turned turn) = turn_says g s run turn
 said_by g content s (Backing n line) (Went answer) = back_says g line answer
@@ -203,31 +203,31 @@ said_by g content s doing happened = []
 
 -- the lines that are written for an event
 unfoldable pub said :
-    RegsFields → (ℕ → ℕ → Option ℕ) → Standing → Happening → List (List ℕ)
+    RegsFields → (ℕ → ℕ → Option ℕ) → SessionPoint → EventKind → List (List ℕ)
 said g content s happened = said_by g content s.sitting s.doing happened
 
 -- Events follow one another, from a state of the session and a machine to others.
 unfoldable pub Follow :
-    {M : Type 0} → Turning M → Standing → M → List (Event M) → Standing → M → Type 0
+    {M : Type 0} → Turning M → SessionPoint → M → List (SessionEvent M) → SessionPoint → M → Type 0
 Follow o s m [] s' m' = (s' ≡ s) × (m' ≡ m)
 Follow o s m (e ∷ events) s' m' =
     May o s.doing m e.happened e.after
-    × Follow o (onward (o.regs e.after) s e.happened) e.after events s' m'
+    × Follow o (state_after (o.regs e.after) s e.happened) e.after events s' m'
 
 -- the lines that are written for events
-unfoldable pub lines_said : {M : Type 0} → Turning M → Standing → List (Event M) → List (List ℕ)
-lines_said o s [] = []
-lines_said o s (e ∷ events) =
+unfoldable pub texts_of : {M : Type 0} → Turning M → SessionPoint → List (SessionEvent M) → List (List ℕ)
+texts_of o s [] = []
+texts_of o s (e ∷ events) =
     said (o.regs e.after) (o.content e.after) s e.happened
-    ++ lines_said o (onward (o.regs e.after) s e.happened) events
+    ++ texts_of o (state_after (o.regs e.after) s e.happened) events
 
 -- the line that is taken in an event, if there is one
-abbrev pub line_in : Happening → List (List ℕ)
+abbrev pub line_in : EventKind → List (List ℕ)
 line_in (Took line) = line ∷ []
 line_in (Turned turn) = []
 line_in (Went answer) = []
 
 -- the lines that are taken in events
-unfoldable pub lines_in : {M : Type 0} → List (Event M) → List (List ℕ)
+unfoldable pub lines_in : {M : Type 0} → List (SessionEvent M) → List (List ℕ)
 lines_in [] = []
 lines_in (e ∷ events) = line_in e.happened ++ lines_in events

@@ -50,14 +50,14 @@ two_words word n =
     else Unknown
 
 -- a line with a segment number and a word number, if both could be read
-abbrev pub placed : (ℕ → ℕ → SessionLine) → Option ℕ → Option ℕ → SessionLine
-placed line (Some seg) (Some word) = line seg word
-placed line (Some seg) None = Unknown
-placed line None word = Unknown
+abbrev pub line_with_place : (ℕ → ℕ → SessionLine) → Option ℕ → Option ℕ → SessionLine
+line_with_place line (Some seg) (Some word) = line seg word
+line_with_place line (Some seg) None = Unknown
+line_with_place line None word = Unknown
 
--- as `placed`, from the words that are the two numbers
+-- as `line_with_place`, from the words that are the two numbers
 abbrev pub placed_in : (ℕ → ℕ → SessionLine) → List ℕ → List ℕ → SessionLine
-placed_in line s w = placed line (segment_number_in s) (word_number_in w)
+placed_in line s w = line_with_place line (segment_number_in s) (word_number_in w)
 
 -- a line of three words
 abbrev pub three_words : List ℕ → List ℕ → List ℕ → SessionLine

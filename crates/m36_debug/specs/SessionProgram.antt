@@ -12,7 +12,7 @@ use Rattle.m36_debug.specs.declared.fault.SessionFault.TheVariants as fault
 use Rattle.m36_debug.specs.Replies.{Reply, All, Quits, Breaks, IsReply, IsLast}
 use Rattle.m36_debug.specs.Session.{Turning, Waiting, standing}
 use Rattle.m36_debug.specs.SessionSays.{bytes_limit}
-use Rattle.m36_debug.specs.Sitting.{SittingFields, new_sitting}
+use Rattle.m36_debug.specs.SessionState.{SittingFields, new_sitting}
 
 -- A session takes input, and writes no file.
 abbrev pub talking : May

@@ -13,14 +13,14 @@ use Rattle.m36_text.specs.Lines.{open_lines_of}
 use Rattle.m36_debug.specs.declared.fault.SessionFault.{SessionFault}
 use Rattle.m36_debug.specs.declared.fault.SessionFault.TheVariants as fault
 use Rattle.m36_debug.specs.declared.session_line.SessionLine.TheVariants.{Quit}
-use Rattle.m36_debug.specs.declared.turning.Ends.{Ends}
-use Rattle.m36_debug.specs.declared.turning.Ends.TheVariants as ends
+use Rattle.m36_debug.specs.declared.turning.LineResult.{LineResult}
+use Rattle.m36_debug.specs.declared.turning.LineResult.TheVariants as ends
 use Rattle.m36_debug.specs.LinesTaken.{whole_lines, IsFirstPart}
 use Rattle.m36_outside.specs.Putting.{PutsPieces}
-use Rattle.m36_debug.specs.Session.{Turning, Doing, Waiting, Over, Standing, Event, standing}
-use Rattle.m36_debug.specs.Session.{Follow, lines_said, lines_in}
+use Rattle.m36_debug.specs.Session.{Turning, Activity, Waiting, Over, SessionPoint, SessionEvent, standing}
+use Rattle.m36_debug.specs.Session.{Follow, texts_of, lines_in}
 use Rattle.m36_debug.specs.SessionLines.{session_line, IsNotQuit}
-use Rattle.m36_debug.specs.Sitting.{new_sitting}
+use Rattle.m36_debug.specs.SessionState.{new_sitting}
 use Rattle.m36_program.specs.Trail.{output_of}
 use Rattle.m36_world.specs.Seen.{Seen}
 
@@ -55,7 +55,7 @@ StopsAtEnd ([] ∷ pieces) old new = (pieces ≡ []) × (new ≡ old)
 StopsAtEnd ((byte ∷ piece) ∷ pieces) old new = StopsAtEnd pieces old new
 
 -- all lines were taken; the last may lack its line feed, since the input has ended
-pub record TookAll (pieces lines : List (List ℕ)) (doing : Doing) (new : LinesSeen) : Type 0 where
+pub record TookAll (pieces lines : List (List ℕ)) (doing : Activity) (new : LinesSeen) : Type 0 where
   pub waits : doing ≡ Waiting
   pub all : lines ≡ open_lines_of (joined pieces)
   pub ended : HasEnded pieces new
@@ -79,20 +79,20 @@ pub record EndInQuit (lines : List (List ℕ)) : Type 0 where
   pub quits : session_line last ≡ Quit
 
 -- the first lines were taken, the last of which is `quit`
-pub record TookQuit (pieces lines : List (List ℕ)) (doing : Doing) (new : LinesSeen) : Type 0 where
+pub record TookQuit (pieces lines : List (List ℕ)) (doing : Activity) (new : LinesSeen) : Type 0 where
   pub over : doing ≡ Over
   pub some : TookSome pieces lines new
   pub quit : EndInQuit lines
 
 -- all whole lines were taken, and none is `quit`
-pub record TookWhole (bytes : List ℕ) (lines : List (List ℕ)) (doing : Doing) : Type 0 where
+pub record TookWhole (bytes : List ℕ) (lines : List (List ℕ)) (doing : Activity) : Type 0 where
   pub waits : doing ≡ Waiting
   pub whole : lines ≡ whole_lines bytes
   pub none : All IsNotQuit lines
 
 -- which lines of the bytes in these pieces were taken, by the answer
 abbrev pub TookBy :
-    Result (Unit {0}) SessionFault → List (List ℕ) → List (List ℕ) → Doing → LinesSeen → Type 0
+    Result (Unit {0}) SessionFault → List (List ℕ) → List (List ℕ) → Activity → LinesSeen → Type 0
 TookBy (Ok done) pieces lines doing new =
     TookQuit pieces lines doing new ⊎ TookAll pieces lines doing new
 TookBy (Err fault.ReadFault) pieces lines doing new = TookWhole (joined pieces) lines doing
@@ -110,20 +110,20 @@ CountBy (Err fault.WriteFault) count = count ≤ bytes_limit
 CountBy (Err fault.NoMemory) count = count ≤ bytes_limit
 
 -- the result of the last put
-abbrev pub put_by : Result (Unit {0}) SessionFault → Put
-put_by (Ok done) = Done
-put_by (Err fault.ReadFault) = Done
-put_by (Err fault.TooLong) = Done
-put_by (Err fault.WriteFault) = Failed
-put_by (Err fault.NoMemory) = Done
+abbrev pub last_put_of : Result (Unit {0}) SessionFault → Put
+last_put_of (Ok done) = Done
+last_put_of (Err fault.ReadFault) = Done
+last_put_of (Err fault.TooLong) = Done
+last_put_of (Err fault.WriteFault) = Failed
+last_put_of (Err fault.NoMemory) = Done
 
 -- what was written
 abbrev pub WroteBy :
     Result (Unit {0}) SessionFault → SinkState → SinkState → List (List ℕ) → Type 0
-WroteBy result old new lines = PutsPieces (put_by result) lines old new
+WroteBy result old new lines = PutsPieces (last_put_of result) lines old new
 
 -- the result of a session, by how its last lines ended
-abbrev pub answer_of : Ends → Result (Unit {0}) SessionFault
+abbrev pub answer_of : LineResult → Result (Unit {0}) SessionFault
 answer_of ends.Line = Ok tt
 answer_of ends.Quit = Ok tt
 answer_of ends.Starved = Err fault.NoMemory
@@ -148,11 +148,11 @@ pub record IsSession {M : Type 0} (o : Turning M) (result : Result (Unit {0}) Se
   pub count : CountBy result (length (joined pieces))
   pub read_cause : ReadHasCause result before.faults after.faults
   pub stops : StopsAtEnd pieces before.faults after.faults
-  pub events : List (Event M)
-  pub stands : Standing
+  pub events : List (SessionEvent M)
+  pub stands : SessionPoint
   pub follow : Follow o (standing new_sitting Waiting) m events stands m'
   pub took : TookBy result pieces (lines_in events) stands.doing after
-  pub said : lines ≡ lines_said o (standing new_sitting Waiting) events
+  pub said : lines ≡ texts_of o (standing new_sitting Waiting) events
 
 -- A session was held, and what its events say was written, or a prefix of it.
 pub record SessionSays {M : Type 0} (o : Turning M) (result : Result (Unit {0}) SessionFault)

@@ -1,23 +1,23 @@
 -- The maximum number of steps of a command.
 use Rattle.std.specs.Prelude.{ℕ, ◌≡◌, ◌+◌, ◌<◌, ◌≤◌, List, [], ◌∷◌}
 use Rattle.m36_step.specs.Counting.{counted}
-use Rattle.m36_debug.specs.declared.commands.Run.{Run}
+use Rattle.m36_debug.specs.declared.commands.RunningCommand.{RunningCommand}
 use Rattle.m36_debug.specs.declared.session_line.SessionLine.{SessionLine}
 use Rattle.m36_debug.specs.declared.session_line.SessionLine.TheVariants as session
 use Rattle.m36_debug.specs.Commands.{go_limit}
-use Rattle.m36_debug.specs.Session.{Turning, Waiting, Running, Standing, standing, Event, Happening}
+use Rattle.m36_debug.specs.Session.{Turning, Waiting, Running, SessionPoint, standing, SessionEvent, EventKind}
 use Rattle.m36_debug.specs.Session.{Took, Turned, Went, Follow, lines_in}
 use Rattle.m36_debug.specs.SessionLines.{session_line}
-use Rattle.m36_debug.specs.Sitting.{SittingFields}
+use Rattle.m36_debug.specs.SessionState.{SittingFields}
 
 -- 1 for a step, and 0 for everything else
-abbrev pub step_in : Happening → ℕ
+abbrev pub step_in : EventKind → ℕ
 step_in (Took line) = 0
 step_in (Turned turn) = counted 0 turn
 step_in (Went answer) = 0
 
 -- the number of steps among events
-unfoldable pub steps_taken : {M : Type 0} → List (Event M) → ℕ
+unfoldable pub steps_taken : {M : Type 0} → List (SessionEvent M) → ℕ
 steps_taken [] = 0
 steps_taken (e ∷ events) = step_in e.happened + steps_taken events
 
@@ -39,12 +39,12 @@ most_of session.Unknown = 0
 -- left to it.
 pub record StepsWithin {M : Type 0} (o : Turning M) : Type 0 where
   pub line :
-      (text : List ℕ) (s : SittingFields) (m after : M) (events : List (Event M)) (s' : Standing)
+      (text : List ℕ) (s : SittingFields) (m after : M) (events : List (SessionEvent M)) (s' : SessionPoint)
       (m' : M)
       → Follow o (standing s Waiting) m (record { happened = Took text; after = after } ∷ events)
       s' m'
       → lines_in events ≡ [] → steps_taken events ≤ most_of (session_line text)
   pub within :
-      (run : Run) (s : SittingFields) (m : M) (events : List (Event M)) (s' : Standing) (m' : M)
+      (run : RunningCommand) (s : SittingFields) (m : M) (events : List (SessionEvent M)) (s' : SessionPoint) (m' : M)
       → 0 < run.left → Follow o (standing s (Running run)) m events s' m' → lines_in events ≡ []
       → steps_taken events ≤ run.left

@@ -2,7 +2,7 @@
 use Rattle.std.specs.Prelude.{ℕ, ◌≤◌, List, [], length, take}
 use Rattle.m36_outside.specs.declared.lines.Piece.{Piece}
 use Rattle.m36_outside.specs.declared.lines.Piece.TheVariants.{Got, End, Failed}
-use Rattle.m36_world.specs.Did.{IsInput, IsInputFailed}
+use Rattle.m36_world.specs.Happened.{IsInput, IsInputFailed}
 use Rattle.m36_world.specs.Seen.{Seen}
 
 -- A piece of `count` bytes was taken; it is the first bytes of the buffer.

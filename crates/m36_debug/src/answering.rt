@@ -1,41 +1,41 @@
 //! Answers the lines of a session.
 
 ghost use Rattle.std.specs.Prelude.{ℕ, ◌≡◌, ◌≤◌, ◌<◌, ◌+◌, ◌-◌, ◌^◌, [], ◌∷◌};
-ghost use Rattle.m36_debug.specs.Parts.{EndSays, CommandSays, BackSays, told};
+ghost use Rattle.m36_debug.specs.Parts.{LineContract, CommandSays, BackSays, told};
 ghost use Rattle.m36_step.specs.Counting.{most_taken};
 ghost use Rattle.m36_debug.specs.Putting.{pending, PutsPieces};
 ghost use Rattle.m36_debug.specs.Session.{Waiting, Backing, standing, turning, break_says};
 ghost use Rattle.m36_debug.specs.SessionLines.{most_steps};
-ghost use Rattle.m36_debug.specs.Sitting.{sitting_with, has_taken};
+ghost use Rattle.m36_debug.specs.SessionState.{sitting_with, has_taken};
 
-use crate::commands::{Command, GO_LIMIT, Run};
+use crate::commands::{GO_LIMIT, RunningCommand, TurnCommand};
 use crate::registers::put_regs;
 use crate::session_line::{SessionLine, session_line};
-use crate::sitting::Sitting;
+use crate::sitting::SessionState;
 use crate::texts::{put_break, put_end, put_seg, put_unknown, put_where};
-use crate::turning::{Ends, run_command};
+use crate::turning::{LineResult, run_command};
 use m36_outside::{Block, Put};
 use m36_step::{BackAnswer, Stepper};
 use m36_world::World;
 
 // How a line ends whose answer is written at once.
-fn told(put: Put) -> Ends
+fn told(put: Put) -> LineResult
     ensures { result ≡ told put }
 {
     match put {
-        Put::Done => Ends::Line,
-        Put::Failed => Ends::Cut,
+        Put::Done => LineResult::Line,
+        Put::Failed => LineResult::Cut,
     }
 }
 
 // Takes the turns of a command. If the run has ended, it writes the end line again instead.
 fn command<M: Stepper, W: World>(
     m: &mut M,
-    run: Run,
-    sitting: &mut Sitting,
+    run: RunningCommand,
+    sitting: &mut SessionState,
     block: &mut Block,
     world: &mut W,
-) -> Ends
+) -> LineResult
     requires some { 0 < run.left }
     requires room { sitting.old.taken + run.left < most_taken }
     ensures says { CommandSays (turning M.regs M.content M.next M.went) result sitting.old.ended run
@@ -55,7 +55,7 @@ fn add_break<W: World>(
     line: &[u8],
     seg: u16,
     word: u32,
-    sitting: &mut Sitting,
+    sitting: &mut SessionState,
     block: &mut Block,
     world: &mut W,
 ) -> Put
@@ -80,12 +80,12 @@ fn go_back<M: Stepper, W: World>(
     line: &[u8],
     n: u32,
     m: &mut M,
-    sitting: &mut Sitting,
+    sitting: &mut SessionState,
     block: &mut Block,
     world: &mut W,
-) -> Ends
+) -> LineResult
     requires { n ≤ sitting.old.taken }
-    ensures says { EndSays (turning M.regs M.content M.next M.went) result
+    ensures says { LineContract (turning M.regs M.content M.next M.went) result
         (standing sitting.old (Backing n line.now)) m.old [] sitting.new m.new
         (pending block.old (W.seen world.old))
         (pending block.new (W.seen world.new)) }
@@ -98,7 +98,7 @@ fn go_back<M: Stepper, W: World>(
         }
         BackAnswer::Before(_) => told(put_unknown(block, world, line)),
         BackAnswer::Unable => told(put_unknown(block, world, line)),
-        BackAnswer::NoMemory => Ends::Starved,
+        BackAnswer::NoMemory => LineResult::Starved,
     }
 }
 
@@ -107,10 +107,10 @@ fn back<M: Stepper, W: World>(
     line: &[u8],
     n: u32,
     m: &mut M,
-    sitting: &mut Sitting,
+    sitting: &mut SessionState,
     block: &mut Block,
     world: &mut W,
-) -> Ends
+) -> LineResult
     ensures says { BackSays (turning M.regs M.content M.next M.went) result
         (has_taken sitting.old n) line.now n
         sitting.old m.old sitting.new m.new
@@ -129,12 +129,12 @@ fn back<M: Stepper, W: World>(
 pub(crate) fn answer<M: Stepper, W: World>(
     line: &[u8],
     m: &mut M,
-    sitting: &mut Sitting,
+    sitting: &mut SessionState,
     block: &mut Block,
     world: &mut W,
-) -> Ends
+) -> LineResult
     requires { sitting.old.taken < 2 ^ 62 }
-    ensures says { EndSays (turning M.regs M.content M.next M.went) result
+    ensures says { LineContract (turning M.regs M.content M.next M.went) result
         (standing sitting.old Waiting) m.old (line.now ∷ []) sitting.new m.new
         (pending block.old (W.seen world.old))
         (pending block.new (W.seen world.new)) }
@@ -142,16 +142,16 @@ pub(crate) fn answer<M: Stepper, W: World>(
 {
     match session_line(line) {
         SessionLine::Step(left) => {
-            let command_run = Run {
+            let command_run = RunningCommand {
                 left,
-                command: Command::Step,
+                command: TurnCommand::Step,
             };
             command(m, command_run, sitting, block, world)
         }
         SessionLine::Go => {
-            let command_run = Run {
+            let command_run = RunningCommand {
                 left: GO_LIMIT,
-                command: Command::Go,
+                command: TurnCommand::Go,
             };
             command(m, command_run, sitting, block, world)
         }
@@ -160,8 +160,8 @@ pub(crate) fn answer<M: Stepper, W: World>(
         SessionLine::Seg(seg, word) => told(put_seg(block, world, seg, word, m.content(seg, word))),
         SessionLine::Where => told(put_where(block, world, m.regs())),
         SessionLine::Back(n) => back(line, n, m, sitting, block, world),
-        SessionLine::Quit => Ends::Quit,
-        SessionLine::Empty => Ends::Line,
+        SessionLine::Quit => LineResult::Quit,
+        SessionLine::Empty => LineResult::Line,
         SessionLine::Unknown => told(put_unknown(block, world, line)),
     }
 }

@@ -2,7 +2,7 @@
 
 ghost use Rattle.std.specs.Prelude.{ℕ, ◌≡◌, ◌<◌};
 ghost use Rattle.std.specs.List.{list_any};
-ghost use Rattle.m36_debug.specs.Commands.{is_at, is_at_break, wants, settled, after_step, after_link, after_turn};
+ghost use Rattle.m36_debug.specs.Commands.{is_at, is_at_break, wants, after_quiet_turn, after_step, after_link, after_turn};
 
 use m36_model::{LinkCode, Outcome, Ppr};
 use m36_step::Turn;
@@ -20,7 +20,7 @@ pub struct Break {
 
 /// A command that takes turns.
 #[derive(Clone, Copy, PartialEq, Eq)]
-pub enum Command {
+pub enum TurnCommand {
     /// `step`: writes each turn.
     Step,
     /// `go`: writes where it has stopped.
@@ -29,17 +29,17 @@ pub enum Command {
 
 /// A command that is running.
 #[derive(Clone, Copy, PartialEq, Eq)]
-pub struct Run {
+pub struct RunningCommand {
     /// The number of steps that it may still take.
     pub left: u32,
-    pub command: Command,
+    pub command: TurnCommand,
 }
 
 /// What a command does after a turn.
 #[derive(Clone, Copy, PartialEq, Eq)]
-pub enum Further {
+pub enum AfterTurn {
     /// It takes another turn.
-    Runs(Run),
+    Runs(RunningCommand),
     /// It is complete, and the session waits for the next line.
     Waits,
     /// The turn ran out of memory.
@@ -58,62 +58,65 @@ pub(crate) fn is_at_break(place: Ppr, breaks: &[Break]) -> bool
 
 // Whether a command that may take `left` more steps takes another one. `go` stops at a break, but
 // takes at least one step.
-fn wants(command: Command, left: u32, at_break: bool) -> bool
+fn wants(command: TurnCommand, left: u32, at_break: bool) -> bool
     ensures { result ≡ wants command left at_break }
 {
     match command {
-        Command::Step => left > 0,
-        Command::Go => left > 0 && (left == GO_LIMIT || !at_break),
+        TurnCommand::Step => left > 0,
+        TurnCommand::Go => left > 0 && (left == GO_LIMIT || !at_break),
     }
 }
 
 // What a command does if no further turn has to follow.
-fn settled(command: Command, left: u32, at_break: bool) -> Further
-    ensures { result ≡ settled command left at_break }
+fn after_quiet_turn(command: TurnCommand, left: u32, at_break: bool) -> AfterTurn
+    ensures { result ≡ after_quiet_turn command left at_break }
 {
     if wants(command, left, at_break) {
-        Further::Runs(Run { left, command })
+        AfterTurn::Runs(RunningCommand { left, command })
     } else {
-        Further::Waits
+        AfterTurn::Waits
     }
 }
 
-fn after_step(command: Command, left: u32, at_break: bool, outcome: Outcome) -> Further
+fn after_step(command: TurnCommand, left: u32, at_break: bool, outcome: Outcome) -> AfterTurn
     ensures { result ≡ after_step command left at_break outcome }
 {
     match outcome {
-        Outcome::Next => settled(command, left, at_break),
-        Outcome::Faulted(_) | Outcome::Stopped(_) => Further::Runs(Run { left, command }),
+        Outcome::Next => after_quiet_turn(command, left, at_break),
+        Outcome::Faulted(_) | Outcome::Stopped(_) => AfterTurn::Runs(RunningCommand {
+            left,
+            command,
+        }),
     }
 }
 
 fn after_link(
-    command: Command,
+    command: TurnCommand,
     left: u32,
     at_break: bool,
     answer: &Result<Pair, LinkCode>,
-) -> Further
+) -> AfterTurn
     ensures { result ≡ after_link command left at_break answer.now }
 {
     match answer {
-        Ok(_) => settled(command, left, at_break),
-        Err(_) => Further::Runs(Run { left, command }),
+        Ok(_) => after_quiet_turn(command, left, at_break),
+        Err(_) => AfterTurn::Runs(RunningCommand { left, command }),
     }
 }
 
 /// What a command does after a turn. `at_break` says whether the turn left the machine at a break.
 #[inline(always)]
 #[tactic(auto, unfolding(crate::specs::Commands::after_turn))]
-pub(crate) fn after_turn(run: Run, at_break: bool, turn: &Turn) -> Further
+pub(crate) fn after_turn(run: RunningCommand, at_break: bool, turn: &Turn) -> AfterTurn
     ensures { result ≡ after_turn run at_break turn.now }
 {
-    let Run { left, command } = run;
+    let RunningCommand { left, command } = run;
     match turn {
-        Turn::Stepped(_) if left == 0 => Further::Waits,
+        Turn::Stepped(_) if left == 0 => AfterTurn::Waits,
         Turn::Stepped(told) => after_step(command, left - 1, at_break, told.outcome),
         Turn::Linked(note) => after_link(command, left, at_break, &note.answer),
-        Turn::Console(_) => settled(command, left, at_break),
-        Turn::Ended(_) | Turn::Full => Further::Waits,
-        Turn::NoMemory => Further::Starves,
+        Turn::Console(_) => after_quiet_turn(command, left, at_break),
+        Turn::Ended(_) | Turn::Full => AfterTurn::Waits,
+        Turn::NoMemory => AfterTurn::Starves,
     }
 }

@@ -3,7 +3,7 @@
 ghost use Rattle.std.specs.Prelude.{ℕ, ◌≡◌, ◌≤◌, ◌<◌, ◌+◌, ◌*◌, ◌^◌, [], ◌∷◌, ◌++◌, length};
 ghost use Rattle.m36_text.specs.Lines.{open_rest};
 ghost use Rattle.m36_debug.specs.LinesTaken.{IsUnbroken};
-ghost use Rattle.m36_debug.specs.Parts.{EndSays};
+ghost use Rattle.m36_debug.specs.Parts.{LineContract};
 ghost use Rattle.m36_debug.specs.PieceSays.{PieceSays};
 ghost use Rattle.m36_debug.specs.Putting.{pending, PutsPieces};
 ghost use Rattle.m36_debug.specs.Session.{Waiting, standing, turning};
@@ -11,8 +11,8 @@ ghost use Rattle.m36_debug.specs.SessionLines.{most_steps};
 
 use crate::answering::answer;
 use crate::piece::cut_line;
-use crate::sitting::Sitting;
-use crate::turning::Ends;
+use crate::sitting::SessionState;
+use crate::turning::LineResult;
 use m36_outside::{Block, Text};
 use m36_step::Stepper;
 use m36_world::World;
@@ -25,10 +25,10 @@ pub(crate) fn answer_piece<M: Stepper, W: World>(
     piece: &[u8],
     begun: &mut Text,
     m: &mut M,
-    sitting: &mut Sitting,
+    sitting: &mut SessionState,
     block: &mut Block,
     world: &mut W,
-) -> Ends
+) -> LineResult
     requires unbroken { IsUnbroken begun.old }
     requires few { sitting.old.taken + most_steps * length piece.now < 2 ^ 62 }
     ensures says { PieceSays (turning M.regs M.content M.next M.went) result
@@ -42,20 +42,20 @@ pub(crate) fn answer_piece<M: Stepper, W: World>(
         let (end, behind) = parts;
         match begun.append(end) {
             Ok(()) => {}
-            Err(_) => return Ends::Starved,
+            Err(_) => return LineResult::Starved,
         }
         match answer(begun.bytes(), m, sitting, block, world) {
-            Ends::Line => {}
-            Ends::Quit => return Ends::Quit,
-            Ends::Starved => return Ends::Starved,
-            Ends::Cut => return Ends::Cut,
+            LineResult::Line => {}
+            LineResult::Quit => return LineResult::Quit,
+            LineResult::Starved => return LineResult::Starved,
+            LineResult::Cut => return LineResult::Cut,
         }
         *begun = Text::new(alloc);
         rest = behind;
     }
     match begun.append(rest) {
-        Ok(()) => Ends::Line,
-        Err(_) => Ends::Starved,
+        Ok(()) => LineResult::Line,
+        Err(_) => LineResult::Starved,
     }
 }
 
@@ -64,18 +64,18 @@ pub(crate) fn answer_piece<M: Stepper, W: World>(
 pub(crate) fn answer_last<M: Stepper, W: World>(
     begun: &Text,
     m: &mut M,
-    sitting: &mut Sitting,
+    sitting: &mut SessionState,
     block: &mut Block,
     world: &mut W,
-) -> Ends
+) -> LineResult
     requires { sitting.old.taken < 2 ^ 62 }
-    ensures { EndSays (turning M.regs M.content M.next M.went) result
+    ensures { LineContract (turning M.regs M.content M.next M.went) result
         (standing sitting.old Waiting) m.old (open_rest begun.now) sitting.new m.new
         (pending block.old (W.seen world.old))
         (pending block.new (W.seen world.new)) }
 {
     if begun.bytes().is_empty() {
-        return Ends::Line;
+        return LineResult::Line;
     }
     answer(begun.bytes(), m, sitting, block, world)
 }

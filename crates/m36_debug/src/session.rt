@@ -5,7 +5,7 @@ ghost use Rattle.m36_text.specs.Lines.{open_rest};
 ghost use Rattle.m36_program.specs.Performs.{Performs};
 ghost use Rattle.m36_debug.specs.LinesTaken.{IsUnbroken};
 ghost use Rattle.m36_debug.specs.Handing.{after_put, HandsOver};
-ghost use Rattle.m36_debug.specs.Parts.{EndSays};
+ghost use Rattle.m36_debug.specs.Parts.{LineContract};
 ghost use Rattle.m36_debug.specs.PieceSays.{PieceSays};
 ghost use Rattle.m36_debug.specs.Putting.{pending, PutsPieces};
 ghost use Rattle.m36_debug.specs.Session.{Waiting, standing, turning};
@@ -18,8 +18,8 @@ ghost use Rattle.m36_debug.specs.Taking.{TakesWithin};
 use crate::fault::SessionFault;
 use crate::laws::step_limit;
 use crate::reading::{answer_last, answer_piece};
-use crate::sitting::Sitting;
-use crate::turning::Ends;
+use crate::sitting::SessionState;
+use crate::turning::LineResult;
 use m36_outside::{Block, Piece, Put, Text};
 use m36_program::hand_over;
 use m36_step::Stepper;
@@ -33,13 +33,13 @@ const BYTES_LIMIT: usize = 1_048_576;
 const PIECE: usize = 4096;
 
 // The result of a session, by how its last lines ended.
-fn answer_of(ends: Ends) -> Result<(), SessionFault>
+fn answer_of(ends: LineResult) -> Result<(), SessionFault>
     ensures { result ≡ answer_of ends }
 {
     match ends {
-        Ends::Line | Ends::Quit => Ok(()),
-        Ends::Starved => Err(SessionFault::NoMemory),
-        Ends::Cut => Err(SessionFault::WriteFault),
+        LineResult::Line | LineResult::Quit => Ok(()),
+        LineResult::Starved => Err(SessionFault::NoMemory),
+        LineResult::Cut => Err(SessionFault::WriteFault),
     }
 }
 
@@ -68,29 +68,29 @@ fn put_waiting<W: World>(block: &mut Block, world: &mut W) -> Put
 }
 
 // How lines ended, given whether their answers could be put.
-fn after_put(put: Put, end: Ends) -> Ends
+fn after_put(put: Put, end: LineResult) -> LineResult
     ensures { result ≡ after_put put end }
 {
     match put {
         Put::Done => end,
-        Put::Failed => Ends::Cut,
+        Put::Failed => LineResult::Cut,
     }
 }
 
 // Puts the answers that wait in the block. If the output has failed, nothing is put. Leaves the
 // block empty.
-fn put_answers<W: World>(end: Ends, block: &mut Block, world: &mut W) -> Ends
+fn put_answers<W: World>(end: LineResult, block: &mut Block, world: &mut W) -> LineResult
     ensures says { HandsOver end result
         (pending block.old (W.seen world.old)) (pending block.new (W.seen world.new)) }
     ensures empty { block.new ≡ [] }
 {
     match end {
-        Ends::Line => after_put(put_waiting(block, world), Ends::Line),
-        Ends::Quit => after_put(put_waiting(block, world), Ends::Quit),
-        Ends::Starved => after_put(put_waiting(block, world), Ends::Starved),
-        Ends::Cut => {
+        LineResult::Line => after_put(put_waiting(block, world), LineResult::Line),
+        LineResult::Quit => after_put(put_waiting(block, world), LineResult::Quit),
+        LineResult::Starved => after_put(put_waiting(block, world), LineResult::Starved),
+        LineResult::Cut => {
             block.clear();
-            Ends::Cut
+            LineResult::Cut
         }
     }
 }
@@ -102,10 +102,10 @@ fn reply_piece<M: Stepper, W: World>(
     piece: &[u8],
     begun: &mut Text,
     m: &mut M,
-    sitting: &mut Sitting,
+    sitting: &mut SessionState,
     block: &mut Block,
     world: &mut W,
-) -> Ends
+) -> LineResult
     requires unbroken { IsUnbroken begun.old }
     requires few { sitting.old.taken + most_steps * length piece.now < 2 ^ 62 }
     ensures says { PieceSays (turning M.regs M.content M.next M.went) result
@@ -123,12 +123,12 @@ fn reply_piece<M: Stepper, W: World>(
 fn reply_last<M: Stepper, W: World>(
     begun: &Text,
     m: &mut M,
-    sitting: &mut Sitting,
+    sitting: &mut SessionState,
     block: &mut Block,
     world: &mut W,
-) -> Ends
+) -> LineResult
     requires { sitting.old.taken < 2 ^ 62 }
-    ensures says { EndSays (turning M.regs M.content M.next M.went) result
+    ensures says { LineContract (turning M.regs M.content M.next M.went) result
         (standing sitting.old Waiting) m.old (open_rest begun.now) sitting.new m.new
         (pending block.old (W.seen world.old)) (pending block.new (W.seen world.new)) }
     ensures empty { block.new ≡ [] }
@@ -154,7 +154,7 @@ pub fn debug<M: Stepper, W: World>(
     ensures limit { StepsWithin (turning M.regs M.content M.next M.went) }
 {
     step_limit::<M>();
-    let mut sitting = Sitting::new();
+    let mut sitting = SessionState::new();
     let mut begun = Text::new(alloc);
     let mut block = Block::new();
     let mut buffer = [0; PIECE];
@@ -175,10 +175,10 @@ pub fn debug<M: Stepper, W: World>(
                     &mut block,
                     world,
                 ) {
-                    Ends::Line => {}
-                    Ends::Quit => return Ok(()),
-                    Ends::Starved => return Err(SessionFault::NoMemory),
-                    Ends::Cut => return Err(SessionFault::WriteFault),
+                    LineResult::Line => {}
+                    LineResult::Quit => return Ok(()),
+                    LineResult::Starved => return Err(SessionFault::NoMemory),
+                    LineResult::Cut => return Err(SessionFault::WriteFault),
                 }
                 left -= count;
             }

@@ -3,9 +3,9 @@
 ghost use Rattle.std.specs.Prelude.{ℕ, ◌≡◌, ◌≤◌, ◌<◌, ◌-◌, ◌^◌};
 ghost use Rattle.m36_step.specs.Counting.{most_taken};
 ghost use Rattle.m36_debug.specs.Session.{next_of};
-ghost use Rattle.m36_debug.specs.Sitting.{new_sitting, sitting_after, sitting_before, sitting_with, has_taken, has_room};
+ghost use Rattle.m36_debug.specs.SessionState.{new_sitting, sitting_after, sitting_before, sitting_with, has_taken, has_room};
 
-use crate::commands::{Break, Further, Run, after_turn, is_at_break};
+use crate::commands::{AfterTurn, Break, RunningCommand, after_turn, is_at_break};
 use arrayvec::ArrayVec;
 use m36_model::{End, Regs};
 use m36_step::Turn;
@@ -14,15 +14,15 @@ use std::marker::Model;
 /// The count of steps that were taken and not taken back, how the run has ended, if it has, and
 /// the breaks of `go`.
 #[derive(Drop)]
-pub(crate) struct Sitting {
+pub(crate) struct SessionState {
     taken: u64,
     ended: Option<End>,
     breaks: ArrayVec<Break, 16>,
 }
 
-impl Model for Sitting {
+impl Model for SessionState {
     ghost use Rattle.std.specs.Prelude.{◌<◌, ◌^◌};
-    ghost use Rattle.m36_debug.specs.Sitting.{SittingFields};
+    ghost use Rattle.m36_debug.specs.SessionState.{SittingFields};
 
     ghost Value = { SittingFields };
 
@@ -31,12 +31,12 @@ impl Model for Sitting {
     ghost invariant = { λ s. s.taken < 2 ^ 64 };
 }
 
-impl Sitting {
+impl SessionState {
     /// The state at the start of a session.
-    pub(crate) fn new() -> Sitting
+    pub(crate) fn new() -> SessionState
         ensures { result ≡ new_sitting }
     {
-        Sitting {
+        SessionState {
             taken: 0,
             ended: None,
             breaks: ArrayVec::new(),
@@ -66,14 +66,14 @@ impl Sitting {
 
     /// What a command does after a turn that left these registers.
     #[inline(always)]
-    pub(crate) fn further(&self, run: Run, regs: &Regs, turn: &Turn) -> Further
+    pub(crate) fn further(&self, run: RunningCommand, regs: &Regs, turn: &Turn) -> AfterTurn
         ensures { result ≡ next_of regs.now self.now run turn.now }
     {
         after_turn(run, is_at_break(regs.ppr, self.breaks.as_slice()), turn)
     }
 
     /// Records a turn.
-    #[tactic(auto, unfolding(crate::specs::Sitting::sitting_after))]
+    #[tactic(auto, unfolding(crate::specs::SessionState::sitting_after))]
     pub(crate) fn note(&mut self, turn: &Turn)
         requires { self.old.taken < most_taken }
         ensures { self.new ≡ sitting_after self.old turn.now }

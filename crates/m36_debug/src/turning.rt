@@ -1,15 +1,15 @@
 //! Takes the turns of a command.
 
 ghost use Rattle.std.specs.Prelude.{ℕ, ◌≡◌, ◌≤◌, ◌<◌, ◌+◌, ◌-◌, ◌^◌, [], ◌∷◌};
-ghost use Rattle.m36_debug.specs.Parts.{CameSays, CameServed, CameCounts, CameInterrupted};
-ghost use Rattle.m36_debug.specs.Parts.{CountsSteps, EndSays, came_of, told_turn};
+ghost use Rattle.m36_debug.specs.Parts.{TurnContract, CameServed, CameCounts, CameInterrupted};
+ghost use Rattle.m36_debug.specs.Parts.{CountsSteps, LineContract, came_of, turn_result};
 ghost use Rattle.m36_step.specs.Answers.{is_service};
 ghost use Rattle.m36_step.specs.Counting.{most_taken};
 ghost use Rattle.m36_debug.specs.Putting.{pending, PutsPieces};
 ghost use Rattle.m36_debug.specs.Session.{Running, standing, turning, go_says, command_says};
 
-use crate::commands::{Command, Further, Run};
-use crate::sitting::Sitting;
+use crate::commands::{AfterTurn, RunningCommand, TurnCommand};
+use crate::sitting::SessionState;
 use crate::texts::{put_end, put_turn, put_where};
 use m36_model::Regs;
 use m36_outside::{Block, Put};
@@ -21,7 +21,7 @@ use m36_world::World;
 #[derive(Clone, Copy, PartialEq, Eq)]
 pub enum Came {
     /// The command takes another turn; the flag says that this turn was a service.
-    Runs(Run, bool),
+    Runs(RunningCommand, bool),
     /// The command is complete.
     Waits,
     /// The turn ran out of memory.
@@ -32,7 +32,7 @@ pub enum Came {
 
 /// How a command, a line or several lines ended. What they say is written, except for `Cut`.
 #[derive(Clone, Copy, PartialEq, Eq)]
-pub enum Ends {
+pub enum LineResult {
     /// The session waits for the next line.
     Line,
     /// The session is over.
@@ -50,16 +50,16 @@ fn put_go<W: World>(
     block: &mut Block,
     world: &mut W,
     regs: &Regs,
-    sitting: &Sitting,
-    next: Further,
+    sitting: &SessionState,
+    next: AfterTurn,
 ) -> Put
     ensures { PutsPieces result (go_says regs.now sitting.now next)
         (pending block.old (W.seen world.old))
         (pending block.new (W.seen world.new)) }
 {
     match next {
-        Further::Runs(_) | Further::Starves => Put::Done,
-        Further::Waits => match sitting.ended() {
+        AfterTurn::Runs(_) | AfterTurn::Starves => Put::Done,
+        AfterTurn::Waits => match sitting.ended() {
             Some(end) => put_end(block, world, end, sitting.taken()),
             None => put_where(block, world, regs),
         },
@@ -71,12 +71,12 @@ fn put_go<W: World>(
 fn put_command<W: World>(
     block: &mut Block,
     world: &mut W,
-    command: Command,
+    command: TurnCommand,
     taken: u64,
     regs: &Regs,
-    sitting: &Sitting,
+    sitting: &SessionState,
     turn: &Turn,
-    next: Further,
+    next: AfterTurn,
     text: &mut TraceText,
 ) -> Put
     requires { taken < most_taken }
@@ -85,8 +85,8 @@ fn put_command<W: World>(
         (pending block.new (W.seen world.new)) }
 {
     match command {
-        Command::Step => put_turn(block, world, taken, turn, text),
-        Command::Go => put_go(block, world, regs, sitting, next),
+        TurnCommand::Step => put_turn(block, world, taken, turn, text),
+        TurnCommand::Go => put_go(block, world, regs, sitting, next),
     }
 }
 
@@ -99,18 +99,18 @@ fn is_service(turn: &Turn) -> bool
     }
 }
 
-fn came_of(turn: &Turn, next: Further) -> Came
+fn came_of(turn: &Turn, next: AfterTurn) -> Came
     ensures { result ≡ came_of turn.now next }
 {
     match next {
-        Further::Runs(run) => Came::Runs(run, is_service(turn)),
-        Further::Waits => Came::Waits,
-        Further::Starves => Came::Starves,
+        AfterTurn::Runs(run) => Came::Runs(run, is_service(turn)),
+        AfterTurn::Waits => Came::Waits,
+        AfterTurn::Starves => Came::Starves,
     }
 }
 
-fn told_turn(put: Put, turn: &Turn, next: Further) -> Came
-    ensures { result ≡ told_turn put turn.now next }
+fn turn_result(put: Put, turn: &Turn, next: AfterTurn) -> Came
+    ensures { result ≡ turn_result put turn.now next }
 {
     match put {
         Put::Done => came_of(turn, next),
@@ -123,15 +123,15 @@ fn told_turn(put: Put, turn: &Turn, next: Further) -> Came
 /// formatted again.
 pub(crate) fn take_turn<M: Stepper, W: World>(
     m: &mut M,
-    run: Run,
-    sitting: &mut Sitting,
+    run: RunningCommand,
+    sitting: &mut SessionState,
     turn: &mut Turn,
     text: &mut TraceText,
     block: &mut Block,
     world: &mut W,
 ) -> Came
     requires { sitting.old.taken < most_taken }
-    ensures says { CameSays (turning M.regs M.content M.next M.went) result
+    ensures says { TurnContract (turning M.regs M.content M.next M.went) result
         (standing sitting.old (Running run)) m.old sitting.new m.new
         (pending block.old (W.seen world.old))
         (pending block.new (W.seen world.new)) }
@@ -158,20 +158,20 @@ pub(crate) fn take_turn<M: Stepper, W: World>(
         next,
         text,
     );
-    told_turn(put, turn, next)
+    turn_result(put, turn, next)
 }
 
 /// Takes the turns of a command, and writes their lines. It takes at most `first.left` steps.
 pub(crate) fn run_command<M: Stepper, W: World>(
     m: &mut M,
-    first: Run,
-    sitting: &mut Sitting,
+    first: RunningCommand,
+    sitting: &mut SessionState,
     block: &mut Block,
     world: &mut W,
-) -> Ends
+) -> LineResult
     requires some { 0 < first.left }
     requires room { sitting.old.taken + first.left < most_taken }
-    ensures says { EndSays (turning M.regs M.content M.next M.went) result
+    ensures says { LineContract (turning M.regs M.content M.next M.went) result
         (standing sitting.old (Running first)) m.old [] sitting.new m.new
         (pending block.old (W.seen world.old))
         (pending block.new (W.seen world.new)) }
@@ -187,9 +187,9 @@ pub(crate) fn run_command<M: Stepper, W: World>(
                 run = next;
                 served = service;
             }
-            Came::Waits => return Ends::Line,
-            Came::Starves => return Ends::Starved,
-            Came::Cut => return Ends::Cut,
+            Came::Waits => return LineResult::Line,
+            Came::Starves => return LineResult::Starved,
+            Came::Cut => return LineResult::Cut,
         }
     }
 }

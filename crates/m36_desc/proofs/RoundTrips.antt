@@ -6,7 +6,7 @@ use Rattle.m36_word.specs.Bits.{of_bit}
 use Rattle.m36_desc.specs.Fields.{SdwFields}
 use Rattle.m36_desc.specs.Widths.{IsSdw}
 use Rattle.m36_desc.specs.Descriptors.{sdw_of, sdw_even, sdw_odd, ptw_of, ptw_word, dbr_of, dbr_even, dbr_odd, ptr_of, ptr_even, ptr_odd, its_of, its_even, its_odd, itp_of, itp_even, itp_odd, packed_of, packed_word, unpacked_segment}
-use Rattle.m36_desc.specs.RoundTrips.{SdwComesBack, PtwComesBack, DbrComesBack, PtrComesBack, ItsComesBack, ItpComesBack, EvenTags, PackedComesBack}
+use Rattle.m36_desc.specs.RoundTrips.{SdwRoundTrip, PtwComesBack, DbrComesBack, PtrComesBack, ItsComesBack, ItpComesBack, EvenTags, PackedComesBack}
 
 pub bit_small : (b : Bool) → of_bit b ≤ 1
 bit_small true = omega arith
@@ -16,7 +16,7 @@ bit_back : (b : Bool) (n : ℕ) → n ≡ of_bit b → (n == 1) ≡ b
 bit_back true n e = rw e refl
 bit_back false n e = rw e refl
 
-pub sdw_back : SdwComesBack
+pub sdw_back : SdwRoundTrip
 sdw_back s h =
     let f_small = bit_small s.f in
     let readable_small = bit_small s.readable in

@@ -8,26 +8,26 @@ use Rattle.m36_desc.specs.Descriptors.{its_even, its_odd, its_tag, itp_of, itp_e
 use Rattle.m36_desc.specs.Descriptors.{tag_of, packed_of, packed_word}
 
 -- An SDW whose fields are within their widths is written to words and read back unchanged.
-abbrev pub SdwComesBack : Type 0
-SdwComesBack = (s : SdwFields) → IsSdw s → sdw_of (sdw_even s) (sdw_odd s) ≡ s
+abbrev pub SdwRoundTrip : Type 0
+SdwRoundTrip = (s : SdwFields) → IsSdw s → sdw_of (sdw_even s) (sdw_odd s) ≡ s
 
--- as `SdwComesBack`, for a PTW
+-- as `SdwRoundTrip`, for a PTW
 abbrev pub PtwComesBack : Type 0
 PtwComesBack = (p : PtwFields) → IsPtw p → ptw_of (ptw_word p) ≡ p
 
--- as `SdwComesBack`, for the DBR
+-- as `SdwRoundTrip`, for the DBR
 abbrev pub DbrComesBack : Type 0
 DbrComesBack = (d : DbrFields) → IsDbr d → dbr_of (dbr_even d) (dbr_odd d) ≡ d
 
--- as `SdwComesBack`, for a pointer register
+-- as `SdwRoundTrip`, for a pointer register
 abbrev pub PtrComesBack : Type 0
 PtrComesBack = (p : PtrFields) → IsPtr p → ptr_of (ptr_even p) (ptr_odd p) ≡ p
 
--- as `SdwComesBack`, for an ITS pair
+-- as `SdwRoundTrip`, for an ITS pair
 abbrev pub ItsComesBack : Type 0
 ItsComesBack = (p : ItsFields) → IsIts p → its_of (its_even p) (its_odd p) ≡ p
 
--- as `SdwComesBack`, for an ITP pair
+-- as `SdwRoundTrip`, for an ITP pair
 abbrev pub ItpComesBack : Type 0
 ItpComesBack = (p : ItpFields) → IsItp p → itp_of (itp_even p) (itp_odd p) ≡ p
 

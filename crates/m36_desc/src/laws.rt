@@ -1,6 +1,6 @@
 //! Theorems about all descriptors, stated as the contracts of functions with empty bodies.
 
-ghost use Rattle.m36_desc.specs.RoundTrips.{SdwComesBack, PtwComesBack, DbrComesBack, PtrComesBack};
+ghost use Rattle.m36_desc.specs.RoundTrips.{SdwRoundTrip, PtwComesBack, DbrComesBack, PtrComesBack};
 ghost use Rattle.m36_desc.specs.RoundTrips.{ItsComesBack, ItpComesBack, EvenTags, PackedComesBack};
 ghost use Rattle.m36_desc.specs.Widths.{SdwFits, PtwFits, DbrFits, PtrFits, ItsFits, ItpFits};
 ghost use Rattle.m36_desc.specs.Widths.{PackedFits, SdwWords, PtwWords, DbrWords, PtrWords};
@@ -10,7 +10,7 @@ ghost use Rattle.m36_desc.specs.Widths.{ItsWords, ItpWords};
 /// read back unchanged. So is a packed pointer to bit 0 of a word, for a segment number below 2^12
 /// - 1. The even word of an ITS or ITP pair has the tag of its kind.
 pub fn descriptor_laws()
-    ensures sdw { SdwComesBack }
+    ensures sdw { SdwRoundTrip }
     ensures ptw { PtwComesBack }
     ensures dbr { DbrComesBack }
     ensures ptr { PtrComesBack }

@@ -3,12 +3,12 @@ use Rattle.std.proofs.Common.{ℕ, ◌≡◌, ◌+◌, ◌<◌, ◌≤◌, Bool,
 use Rattle.std.specs.Prelude.{not, count_by}
 use Rattle.std.proofs.lemmas.Bool.{leb-false, not-false}
 use Rattle.std.proofs.lemmas.List.Sums.{sum_by-append, sum_by-cons}
-use Rattle.m36_text.specs.Lines.{first_met, first_told, last_of, those_read}
+use Rattle.m36_text.specs.Lines.{first_met, first_reported, last_of, those_read}
 use Rattle.m36_dir.specs.declared.boot_line.BootLine.{BootLine}
 use Rattle.m36_dir.specs.declared.boot_line.BootLine.TheVariants as line
 use Rattle.m36_dir.specs.declared.boot_code.BootCode.TheVariants.{D1, D2, D3, D4, D5}
-use Rattle.m36_dir.specs.BootOrder.{is_segment, is_library, is_in_order_behind, stands_twice, names_no_directory, has_wrong_brackets, is_too_many, code_of, code_at_end, codes_from, names_at_end, names_with, has_directory}
-use Rattle.m36_dir.specs.Catalog.{names_behind}
+use Rattle.m36_dir.specs.BootOrder.{is_segment, is_library, is_in_order_after, is_repeated, names_no_directory, has_wrong_brackets, is_too_many, code_of, code_at_end, codes_from, names_at_end, names_with, has_directory}
+use Rattle.m36_dir.specs.Catalog.{names_after}
 
 -- ---- none has a code
 
@@ -16,14 +16,14 @@ abbrev pub Clean : List BootLine → List BootLine → List BootLine → Type 0
 Clean all above [] = code_at_end (last_of above) ≡ None
 Clean all above (l ∷ lines) = (code_of all above l ≡ None) × Clean all (above ++ l ∷ []) lines
 
-told_none : {A : Type 0} (n : ℕ) (c : Option A) (cs : List (Option A)) → first_told n (c ∷ cs) ≡ None
-    → (c ≡ None) × (first_told (n + 1) cs ≡ None)
-unfolding first_told
+told_none : {A : Type 0} (n : ℕ) (c : Option A) (cs : List (Option A)) → first_reported n (c ∷ cs) ≡ None
+    → (c ≡ None) × (first_reported (n + 1) cs ≡ None)
+unfolding first_reported
 told_none n None cs e = (refl, e)
 told_none n (Some x) cs e = absurd (cc)
 
 pub clean_from : (all above : List BootLine) (given : List (Option BootLine)) (n : ℕ)
-    → first_told n (codes_from all above given) ≡ None → Clean all above (those_read given)
+    → first_reported n (codes_from all above given) ≡ None → Clean all above (those_read given)
 unfolding codes_from
 clean_from all above [] n e = (told_none n (code_at_end (last_of above)) [] e).0
 clean_from all above (None ∷ more) n e = let h = told_none n (Some D1) (codes_from all above more) e in absurd (cc)
@@ -50,10 +50,10 @@ met_none true false false false true h = absurd (cc)
 met_none true false false false false h = record { order = refl; once = refl; directory = refl; brackets = refl; few = refl }
 
 pub passed : (all above : List BootLine) (l : BootLine) → code_of all above l ≡ None
-    → Passed (is_in_order_behind (last_of above) l) (stands_twice above l) (names_no_directory all l) (has_wrong_brackets l) (is_too_many above l)
+    → Passed (is_in_order_after (last_of above) l) (is_repeated above l) (names_no_directory all l) (has_wrong_brackets l) (is_too_many above l)
 unfolding code_of
 passed all above l e =
-    met_none (is_in_order_behind (last_of above) l) (stands_twice above l) (names_no_directory all l) (has_wrong_brackets l) (is_too_many above l) e
+    met_none (is_in_order_after (last_of above) l) (is_repeated above l) (names_no_directory all l) (has_wrong_brackets l) (is_too_many above l) e
 
 -- ---- counts
 
@@ -117,8 +117,8 @@ names_snoc n [] l = refl
 names_snoc n (x ∷ above) l = names_snoc (names_with n x) above l
 
 pub names_few : (all above lines : List BootLine) → Clean all above lines → names_at_end 0 above ≤ 7
-    → names_at_end 0 above + length (names_behind lines) ≤ 7
-unfolding names_behind
+    → names_at_end 0 above + length (names_after lines) ≤ 7
+unfolding names_after
 names_few all above [] clean few = omega arith
 names_few all above (line.Name name ∷ lines) clean few =
     let room : names_at_end 0 above < 7 = leb-false 7 (names_at_end 0 above) (passed all above (line.Name name) clean.0).few in

@@ -10,9 +10,9 @@ use Rattle.m36_text.specs.Lines.{lines_of}
 use Rattle.m36_dir.specs.declared.boot_code.BootCode.{BootCode}
 use Rattle.m36_dir.specs.declared.boot_line.BootLine.{BootLine}
 use Rattle.m36_dir.specs.declared.boot_line.BootLine.TheVariants as line
-use Rattle.m36_dir.specs.Fields.{SegmentGiven}
-use Rattle.m36_dir.specs.BootOrder.{is_segment, is_library, is_in_directory, has_directory, brackets_in_order, is_no_gate, code_of, lines_given, all_lines, first_code}
-use Rattle.m36_dir.specs.Catalog.{CatalogFields, with_directory, with_directory_of, directories_from, number_in, names_behind, segment_with, segments_in, libraries_in, frames_of, work_of, catalog_in, catalog_by, catalog_of}
+use Rattle.m36_dir.specs.Fields.{SegmentLineFields}
+use Rattle.m36_dir.specs.BootOrder.{is_segment, is_library, is_in_directory, has_directory, brackets_in_order, is_no_gate, code_of, parsed_lines, all_lines, first_code}
+use Rattle.m36_dir.specs.Catalog.{CatalogFields, with_directory, with_directory_of, directories_from, number_in, names_after, segment_with, segments_in, libraries_in, frames_of, work_of, catalog_in, catalog_by, catalog_of}
 use Rattle.m36_dir.specs.IsCatalog.{IsSegment, IsCatalog, ReadsIntoCatalogs}
 use Rattle.m36_dir.proofs.CleanLines.{Clean, clean_from, passed, segments_counted, libraries_counted, names_snoc, names_few, count_cons, Begins, clean_begins}
 use Rattle.m36_dir.proofs.LineBounds.{EachLine, each_line}
@@ -85,7 +85,7 @@ each_in dirs (line.Name name ∷ lines) = (tt, each_in dirs lines)
 each_in dirs (line.Start start ∷ lines) = (tt, each_in dirs lines)
 
 -- a directory that a segment line has is among them
-has_in_at : (dir : List ℕ) (dirs : List (List ℕ)) (given : SegmentGiven) (lines : List BootLine) → is_text dir given.dir ≡ true
+has_in_at : (dir : List ℕ) (dirs : List (List ℕ)) (given : SegmentLineFields) (lines : List BootLine) → is_text dir given.dir ≡ true
     → list_any (is_text dir) (directories_from (with_directory dirs given.dir) lines) ≡ true
 has_in_at dir dirs given lines e =
     let same : given.dir ≡ dir = sym (same_text dir given.dir e) in
@@ -247,10 +247,10 @@ each_library all above (line.Start start ∷ lines) dirs clean inside = each_lib
 
 -- ---- segments
 
-is_segment_given : (all above lines : List BootLine) (dirs : List (List ℕ)) (given : SegmentGiven)
+is_segment_given : (all above lines : List BootLine) (dirs : List (List ℕ)) (given : SegmentLineFields)
     → code_of all above (line.Segment given) ≡ None → Clean all (above ++ line.Segment given ∷ []) lines
     → list_any (is_text given.dir) dirs ≡ true
-    → IsSegment (length dirs) (segment_with dirs given (names_behind lines))
+    → IsSegment (length dirs) (segment_with dirs given (names_after lines))
 is_segment_given all above lines dirs given none clean has =
     let right = or_parts (not (brackets_in_order given)) (is_no_gate given.kind given) (passed all above (line.Segment given) none).brackets in
     let order = and_parts (nat_le given.r1 given.r2) (nat_le given.r2 given.r3) (not-false (brackets_in_order given) right.0) in
@@ -269,7 +269,7 @@ each_segment : (all above lines : List BootLine) (dirs : List (List ℕ)) → Cl
 unfolding segments_in
 each_segment all above [] dirs clean has = All-nil (IsSegment (length dirs))
 each_segment all above (line.Segment given ∷ lines) dirs clean has =
-    All-cons (IsSegment (length dirs)) (segment_with dirs given (names_behind lines)) (segments_in dirs lines)
+    All-cons (IsSegment (length dirs)) (segment_with dirs given (names_after lines)) (segments_in dirs lines)
     (is_segment_given all above lines dirs given clean.0 clean.1 has.0)
     (each_segment all (above ++ line.Segment given ∷ []) lines dirs clean.1 has.1)
 each_segment all above (line.Frames n ∷ lines) dirs clean has = each_segment all (above ++ line.Frames n ∷ []) lines dirs clean.1 has.1
@@ -309,9 +309,9 @@ catalog_kept lines clean each =
     }
 
 pub kept : (text : List ℕ) → first_code text ≡ None → IsCatalog (catalog_in (all_lines text))
-unfolding first_code all_lines lines_given
+unfolding first_code all_lines parsed_lines
 kept text none =
-    catalog_kept (all_lines text) (clean_from (all_lines text) [] (lines_given text) 1 none) (each_line (lines_of text))
+    catalog_kept (all_lines text) (clean_from (all_lines text) [] (parsed_lines text) 1 none) (each_line (lines_of text))
 
 pub kept_as : (text : List ℕ) (lines : List BootLine) → lines ≡ all_lines text → first_code text ≡ None → IsCatalog (catalog_in lines)
 kept_as text lines all none =

@@ -1,6 +1,6 @@
 pub mod LineForms
 pub mod LineLoops
-pub mod NamesStand
+pub mod NamesAreThoseOfTheText
 pub mod NamesOnce
 pub mod Distinct
 pub mod TextLoops

@@ -6,7 +6,7 @@ use Rattle.std.specs.Result.{result_ok}
 use Rattle.std.proofs.lemmas.Bool.{leb-true}
 use Rattle.m36_text.specs.Texts.{is_text}
 use Rattle.m36_text.specs.Lines.{words_of, those_read}
-use Rattle.m36_text.specs.Reading.{number_read, judged, first_other, number_of}
+use Rattle.m36_text.specs.Reading.{number_read, parsed_number, first_non_digit, number_of}
 use Rattle.m36_text.specs.Numbers.{octal_in, decimal_in, at_least}
 use Rattle.m36_text.specs.declared.reading.NumberFault.{NumberFault}
 use Rattle.m36_text.specs.declared.reading.NumberFault.TheVariants.{T2}
@@ -15,7 +15,7 @@ use Rattle.m36_dir.specs.declared.segment.Mode.{Mode}
 use Rattle.m36_dir.specs.declared.boot_line.Brackets.{Brackets}
 use Rattle.m36_dir.specs.declared.boot_line.BootLine.{BootLine}
 use Rattle.m36_dir.specs.declared.boot_line.BootLine.TheVariants as line
-use Rattle.m36_dir.specs.BootLine.{line_given, line_of_words, frames_line, work_line, library_line, name_line, start_line, start_parts, start_read, segment_line, segment_read, brackets_of, brackets_read, directory_of, name_of, kind_of, mode_of}
+use Rattle.m36_dir.specs.BootLine.{parsed_line, line_of_words, frames_line, work_line, library_line, name_line, start_line, start_parts, start_read, segment_line, segment_read, brackets_of, brackets_read, directory_of, name_of, kind_of, mode_of}
 
 -- ---- numbers
 
@@ -27,7 +27,7 @@ chosen : {A : Type 0} (b : Bool) (x z : A) → cond b (Some x) None ≡ Some z �
 chosen true x z e = (refl, cc)
 chosen false x z e = absurd (cc)
 
-judged_within : (place : Option ℕ) (value max v : ℕ) → judged place value max ≡ Ok v → v ≤ max
+judged_within : (place : Option ℕ) (value max v : ℕ) → parsed_number place value max ≡ Ok v → v ≤ max
 judged_within (Some place) value max v e = absurd (cc)
 judged_within None value max v e =
     let fits = picked (nat_le value max) value v T2 e in
@@ -36,7 +36,7 @@ judged_within None value max v e =
 read_within : (base max v : ℕ) (text : List ℕ) → number_read base text max ≡ Ok v → v ≤ max
 unfolding number_read
 read_within base max v [] e = absurd (cc)
-read_within base max v (b ∷ text) e = judged_within (first_other base (b ∷ text)) (number_of base (b ∷ text)) max v e
+read_within base max v (b ∷ text) e = judged_within (first_non_digit base (b ∷ text)) (number_of base (b ∷ text)) max v e
 
 ok_only : (r : Result ℕ NumberFault) (v : ℕ) → result_ok r ≡ Some v → r ≡ Ok v
 ok_only (Ok x) v e = let same : x ≡ v = cc in ap (λ n. Ok n) same
@@ -193,8 +193,8 @@ words_in (word ∷ given) l e =
     named_in (is_text (codes "frames") word) (is_text (codes "work") word) (is_text (codes "library") word)
     (is_text (codes "segment") word) (is_text (codes "name") word) (is_text (codes "start") word) given l e
 
-given_in : (text : Option (List ℕ)) (l : BootLine) → line_given text ≡ Some l → IsLine l
-unfolding line_given
+given_in : (text : Option (List ℕ)) (l : BootLine) → parsed_line text ≡ Some l → IsLine l
+unfolding parsed_line
 given_in None l e = absurd (cc)
 given_in (Some text) l e = words_in (words_of text) l e
 
@@ -209,6 +209,6 @@ each_step : (given : Option BootLine) (more : List (Option BootLine)) → ((l : 
 each_step None more is rest = rest
 each_step (Some l) more is rest = (is l refl, rest)
 
-pub each_line : (texts : List (Option (List ℕ))) → EachLine (those_read (map line_given texts))
+pub each_line : (texts : List (Option (List ℕ))) → EachLine (those_read (map parsed_line texts))
 each_line [] = tt
-each_line (text ∷ texts) = each_step (line_given text) (map line_given texts) (λ l e. given_in text l e) (each_line texts)
+each_line (text ∷ texts) = each_step (parsed_line text) (map parsed_line texts) (λ l e. given_in text l e) (each_line texts)

@@ -8,8 +8,8 @@ use Rattle.std.proofs.lemmas.List.Folds.{list_any-append}
 use Rattle.m36_dir.specs.declared.boot_line.BootLine.{BootLine}
 use Rattle.m36_dir.specs.declared.boot_line.BootLine.TheVariants as line
 use Rattle.m36_dir.specs.Fields.{SegmentFields}
-use Rattle.m36_dir.specs.BootOrder.{directory_at_end, directory_behind, names_at_end, names_with, entries_from, entries_of_line, is_entry, Entry}
-use Rattle.m36_dir.specs.Catalog.{directories_from, with_directory_of, names_behind, segments_in, segment_of, libraries_in, library_of}
+use Rattle.m36_dir.specs.BootOrder.{directory_at_end, directory_after, names_at_end, names_with, entries_from, entries_of_line, is_entry, Entry}
+use Rattle.m36_dir.specs.Catalog.{directories_from, with_directory_of, names_after, segments_in, segment_of, libraries_in, library_of}
 
 -- A fold over a list, taken up at any step, gives the same result.
 gone_on :
@@ -25,15 +25,15 @@ gone_on {S} {X} go step law s next xs i x total lt is e so_far =
 -- ---- the directory of the last segment line
 
 directory_law : (dir : List ℕ) (l : BootLine) (lines : List BootLine)
-    → directory_at_end dir (l ∷ lines) ≡ directory_at_end (directory_behind dir l) lines
+    → directory_at_end dir (l ∷ lines) ≡ directory_at_end (directory_after dir l) lines
 unfolding directory_at_end
 directory_law dir l lines = refl
 
 pub directory_more : (dir next total : List ℕ) (lines : List BootLine) (i : ℕ) (l : BootLine)
-    → i < length lines → l ≡ get_or lines i l → next ≡ directory_behind dir l
+    → i < length lines → l ≡ get_or lines i l → next ≡ directory_after dir l
     → directory_at_end dir (drop i lines) ≡ total → directory_at_end next (drop (i + 1) lines) ≡ total
 directory_more dir next total lines i l lt is e so_far =
-    gone_on directory_at_end directory_behind directory_law dir next lines i l total lt is e so_far
+    gone_on directory_at_end directory_after directory_law dir next lines i l total lt is e so_far
 
 pub directory_all : (dir total : List ℕ) (lines : List BootLine) (i : ℕ) → length lines ≤ i
     → directory_at_end dir (drop i lines) ≡ total → dir ≡ total
@@ -63,15 +63,15 @@ names_all n total lines i le so_far =
 
 entry_law : (e : Entry) (dir : List ℕ) (l : BootLine) (lines : List BootLine)
     → list_any (is_entry e) (entries_from dir (l ∷ lines))
-    ≡ (list_any (is_entry e) (entries_of_line dir l) || list_any (is_entry e) (entries_from (directory_behind dir l) lines))
+    ≡ (list_any (is_entry e) (entries_of_line dir l) || list_any (is_entry e) (entries_from (directory_after dir l) lines))
 unfolding entries_from
 entry_law e dir l lines =
-    list_any-append (is_entry e) (entries_of_line dir l) (entries_from (directory_behind dir l) lines)
+    list_any-append (is_entry e) (entries_of_line dir l) (entries_from (directory_after dir l) lines)
 
 entry_here : (e : Entry) (dir : List ℕ) (lines : List BootLine) (i : ℕ) (l : BootLine)
     → i < length lines → l ≡ get_or lines i l
     → list_any (is_entry e) (entries_from dir (drop i lines))
-    ≡ (list_any (is_entry e) (entries_of_line dir l) || list_any (is_entry e) (entries_from (directory_behind dir l) (drop (i + 1) lines)))
+    ≡ (list_any (is_entry e) (entries_of_line dir l) || list_any (is_entry e) (entries_from (directory_after dir l) (drop (i + 1) lines)))
 entry_here e dir lines i l lt is =
     at_drop_more (λ (ls : List BootLine). list_any (is_entry e) (entries_from dir ls)) lines i l lt
     ∙ ap (λ (y : BootLine). list_any (is_entry e) (entries_from dir (y ∷ drop (i + 1) lines))) (sym is)
@@ -81,17 +81,17 @@ pub entry_found : (e : Entry) (dir : List ℕ) (total : Bool) (lines : List Boot
     → i < length lines → l ≡ get_or lines i l → true ≡ list_any (is_entry e) (entries_of_line dir l)
     → list_any (is_entry e) (entries_from dir (drop i lines)) ≡ total → true ≡ total
 entry_found e dir total lines i l lt is puts so_far =
-    ap (λ (b : Bool). (b || list_any (is_entry e) (entries_from (directory_behind dir l) (drop (i + 1) lines)))) puts
+    ap (λ (b : Bool). (b || list_any (is_entry e) (entries_from (directory_after dir l) (drop (i + 1) lines)))) puts
     ∙ sym (entry_here e dir lines i l lt is) ∙ so_far
 
 pub entry_more : (e : Entry) (dir next : List ℕ) (total : Bool) (lines : List BootLine) (i : ℕ) (l : BootLine)
     → i < length lines → l ≡ get_or lines i l → false ≡ list_any (is_entry e) (entries_of_line dir l)
-    → next ≡ directory_behind dir l
+    → next ≡ directory_after dir l
     → list_any (is_entry e) (entries_from dir (drop i lines)) ≡ total
     → list_any (is_entry e) (entries_from next (drop (i + 1) lines)) ≡ total
 entry_more e dir next total lines i l lt is puts behind so_far =
     ap (λ (d : List ℕ). list_any (is_entry e) (entries_from d (drop (i + 1) lines))) behind
-    ∙ ap (λ (b : Bool). (b || list_any (is_entry e) (entries_from (directory_behind dir l) (drop (i + 1) lines)))) puts
+    ∙ ap (λ (b : Bool). (b || list_any (is_entry e) (entries_from (directory_after dir l) (drop (i + 1) lines)))) puts
     ∙ sym (entry_here e dir lines i l lt is) ∙ so_far
 
 pub entry_all : (e : Entry) (dir : List ℕ) (total : Bool) (lines : List BootLine) (i : ℕ) → length lines ≤ i
@@ -123,22 +123,22 @@ directories_all dirs total lines i le so_far =
 
 pub further_more : (names next total : List (List ℕ)) (lines : List BootLine) (i : ℕ) (l : BootLine) (name : List ℕ)
     → i < length lines → l ≡ get_or lines i l → l ≡ line.Name name → next ≡ names ++ name ∷ []
-    → names ++ names_behind (drop i lines) ≡ total → next ++ names_behind (drop (i + 1) lines) ≡ total
-unfolding names_behind
+    → names ++ names_after (drop i lines) ≡ total → next ++ names_after (drop (i + 1) lines) ≡ total
+unfolding names_after
 further_more names next total lines i l name lt is named e so_far =
-    ap (λ (ns : List (List ℕ)). ns ++ names_behind (drop (i + 1) lines)) e
-    ∙ append_assoc names (name ∷ []) (names_behind (drop (i + 1) lines))
-    ∙ ap (λ (y : BootLine). names ++ names_behind (y ∷ drop (i + 1) lines)) (sym named ∙ is)
-    ∙ sym (at_drop_more (λ (ls : List BootLine). names ++ names_behind ls) lines i l lt) ∙ so_far
+    ap (λ (ns : List (List ℕ)). ns ++ names_after (drop (i + 1) lines)) e
+    ∙ append_assoc names (name ∷ []) (names_after (drop (i + 1) lines))
+    ∙ ap (λ (y : BootLine). names ++ names_after (y ∷ drop (i + 1) lines)) (sym named ∙ is)
+    ∙ sym (at_drop_more (λ (ls : List BootLine). names ++ names_after ls) lines i l lt) ∙ so_far
 
 pub further_all : (names total : List (List ℕ)) (lines : List BootLine) (i : ℕ) → length lines ≤ i
-    → names ++ names_behind (drop i lines) ≡ total → names ≡ total
-unfolding names_behind
+    → names ++ names_after (drop i lines) ≡ total → names ≡ total
+unfolding names_after
 further_all names total lines i le so_far =
-    sym (append-nil names) ∙ sym (at_drop_all (λ (ls : List BootLine). names ++ names_behind ls) lines i le) ∙ so_far
+    sym (append-nil names) ∙ sym (at_drop_all (λ (ls : List BootLine). names ++ names_after ls) lines i le) ∙ so_far
 
-none_behind : (l : BootLine) (lines : List BootLine) → ((name : List ℕ) → ¬ (l ≡ line.Name name)) → names_behind (l ∷ lines) ≡ []
-unfolding names_behind
+none_behind : (l : BootLine) (lines : List BootLine) → ((name : List ℕ) → ¬ (l ≡ line.Name name)) → names_after (l ∷ lines) ≡ []
+unfolding names_after
 none_behind (line.Frames n) lines other = refl
 none_behind (line.Work dir) lines other = refl
 none_behind (line.Library dir) lines other = refl
@@ -148,12 +148,12 @@ none_behind (line.Start start) lines other = refl
 
 pub further_none : (names total : List (List ℕ)) (lines : List BootLine) (i : ℕ) (l : BootLine)
     → i < length lines → l ≡ get_or lines i l → ((name : List ℕ) → ¬ (l ≡ line.Name name))
-    → names ++ names_behind (drop i lines) ≡ total → names ≡ total
+    → names ++ names_after (drop i lines) ≡ total → names ≡ total
 further_none names total lines i l lt is other so_far =
     sym (append-nil names)
     ∙ ap (λ (ns : List (List ℕ)). names ++ ns) (sym (none_behind l (drop (i + 1) lines) other))
-    ∙ ap (λ (y : BootLine). names ++ names_behind (y ∷ drop (i + 1) lines)) is
-    ∙ sym (at_drop_more (λ (ls : List BootLine). names ++ names_behind ls) lines i l lt) ∙ so_far
+    ∙ ap (λ (y : BootLine). names ++ names_after (y ∷ drop (i + 1) lines)) is
+    ∙ sym (at_drop_more (λ (ls : List BootLine). names ++ names_after ls) lines i l lt) ∙ so_far
 
 -- ---- segments
 
@@ -179,8 +179,8 @@ segments_all dirs segments total lines i le so_far =
     sym (append-nil segments) ∙ sym (at_drop_all (λ (ls : List BootLine). segments ++ segments_in dirs ls) lines i le) ∙ so_far
 
 -- the lines after one
-pub lines_behind : (lines : List BootLine) (i : ℕ) → take (length lines - i) (drop i lines) ≡ drop i lines
-lines_behind lines i = ap (λ n. take n (drop i lines)) (sym (length-drop i lines)) ∙ take-length (drop i lines)
+pub lines_after : (lines : List BootLine) (i : ℕ) → take (length lines - i) (drop i lines) ≡ drop i lines
+lines_after lines i = ap (λ n. take n (drop i lines)) (sym (length-drop i lines)) ∙ take-length (drop i lines)
 
 -- ---- libraries
 

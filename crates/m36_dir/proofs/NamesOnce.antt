@@ -4,12 +4,12 @@ use Rattle.std.proofs.lemmas.List.{append-nil}
 use Rattle.m36_text.specs.Once.{are_distinct_by}
 use Rattle.m36_dir.specs.declared.boot_line.BootLine.{BootLine}
 use Rattle.m36_dir.specs.declared.boot_line.BootLine.TheVariants as line
-use Rattle.m36_dir.specs.BootOrder.{Entry, entry, is_entry, directory_behind, directory_at_end, entries_of_line, entries_from, has_entry, code_of, lines_given, all_lines, first_code}
+use Rattle.m36_dir.specs.BootOrder.{Entry, entry, is_entry, directory_after, directory_at_end, entries_of_line, entries_from, has_entry, code_of, parsed_lines, all_lines, first_code}
 use Rattle.m36_dir.specs.Catalog.{catalog_in, catalog_of}
 use Rattle.m36_dir.specs.IsCatalog.{NamesOnce}
 use Rattle.m36_dir.proofs.CleanLines.{Clean, clean_from, passed}
 use Rattle.m36_dir.proofs.Kept.{read_by}
-use Rattle.m36_dir.proofs.NamesStand.{names_stand}
+use Rattle.m36_dir.proofs.NamesAreThoseOfTheText.{names_stand}
 use Rattle.m36_dir.proofs.Distinct.{distinct_more, entry_symm}
 
 -- what one line more puts into directories
@@ -18,8 +18,8 @@ entries_more : (dir : List ℕ) (above : List BootLine) (l : BootLine)
 unfolding entries_from directory_at_end
 entries_more dir [] l = append-nil (entries_of_line dir l)
 entries_more dir (x ∷ above) l =
-    ap (λ (es : List Entry). entries_of_line dir x ++ es) (entries_more (directory_behind dir x) above l)
-    ∙ sym (append_assoc (entries_of_line dir x) (entries_from (directory_behind dir x) above) (entries_of_line (directory_at_end (directory_behind dir x) above) l))
+    ap (λ (es : List Entry). entries_of_line dir x ++ es) (entries_more (directory_after dir x) above l)
+    ∙ sym (append_assoc (entries_of_line dir x) (entries_from (directory_after dir x) above) (entries_of_line (directory_at_end (directory_after dir x) above) l))
 
 -- no name occurs twice among those that lines put there
 abbrev AreOnce : List BootLine → Type 0
@@ -56,9 +56,9 @@ unfolding entries_from
 no_lines = refl
 
 once_of_text : (text : List ℕ) → first_code text ≡ None → AreOnce (all_lines text)
-unfolding first_code all_lines lines_given
+unfolding first_code all_lines parsed_lines
 once_of_text text none =
-    lines_more (all_lines text) [] (all_lines text) (clean_from (all_lines text) [] (lines_given text) 1 none) no_lines
+    lines_more (all_lines text) [] (all_lines text) (clean_from (all_lines text) [] (parsed_lines text) 1 none) no_lines
 
 pub names_once : NamesOnce
 unfolding catalog_of

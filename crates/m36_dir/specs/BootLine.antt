@@ -53,12 +53,12 @@ kind_of word =
     else None
 
 -- whether letters begin with a certain one (`stands`), and the letters that are left
-pub record Taken : Type 0 where
+pub record StrippedLetter : Type 0 where
   pub stands : Bool
   pub rest : List ℕ
 
 -- takes a letter from the beginning, if it is there
-abbrev pub taken : ℕ → List ℕ → Taken
+abbrev pub taken : ℕ → List ℕ → StrippedLetter
 taken letter [] = record { stands = false; rest = [] }
 taken letter (c ∷ letters) =
     if c == letter then record { stands = true; rest = letters }
@@ -187,5 +187,5 @@ abbrev pub line_of_words : List (List ℕ) → Option BootLine
 line_of_words words = by_first_word line_named words
 
 -- a line parsed by itself; None if it has no form or lacks its line feed
-unfoldable pub line_given : Option (List ℕ) → Option BootLine
-line_given line = by_words line_of_words None line
+unfoldable pub parsed_line : Option (List ℕ) → Option BootLine
+parsed_line line = by_words line_of_words None line

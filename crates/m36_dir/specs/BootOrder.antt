@@ -14,7 +14,7 @@ use Rattle.std.specs.Prelude.{if◌then◌else◌, List, [], ◌∷◌, ◌++◌
 use Rattle.std.specs.Prelude.{map, Option, Some, None, Result, Ok, Err}
 use Rattle.std.specs.List.{list_any}
 use Rattle.m36_text.specs.Texts.{is_text}
-use Rattle.m36_text.specs.Lines.{lines_of, those_read, last_of, first_met, first_told}
+use Rattle.m36_text.specs.Lines.{lines_of, those_read, last_of, first_met, first_reported}
 use Rattle.m36_desc.specs.Access.{are_in_order}
 use Rattle.m36_dir.specs.declared.segment.SegKind.{SegKind}
 use Rattle.m36_dir.specs.declared.segment.SegKind.TheVariants.{Gate}
@@ -22,8 +22,8 @@ use Rattle.m36_dir.specs.declared.boot_line.BootLine.{BootLine}
 use Rattle.m36_dir.specs.declared.boot_line.BootLine.TheVariants as line
 use Rattle.m36_dir.specs.declared.boot_code.BootCode.{BootCode}
 use Rattle.m36_dir.specs.declared.boot_code.BootCode.TheVariants.{D1, D2, D3, D4, D5, D6}
-use Rattle.m36_dir.specs.Fields.{SegmentGiven}
-use Rattle.m36_dir.specs.BootLine.{line_given}
+use Rattle.m36_dir.specs.Fields.{SegmentLineFields}
+use Rattle.m36_dir.specs.BootLine.{parsed_line}
 
 -- ---- kinds of lines
 
@@ -66,9 +66,9 @@ may_follow above (line.Name name) = is_segment_or_name above
 may_follow above (line.Start start) = is_work_or_library above || is_segment_or_name above
 
 -- The first line is `frames`. Each later line may follow the one above it.
-abbrev pub is_in_order_behind : Option BootLine → BootLine → Bool
-is_in_order_behind None next = is_frames next
-is_in_order_behind (Some above) next = may_follow above next
+abbrev pub is_in_order_after : Option BootLine → BootLine → Bool
+is_in_order_after None next = is_frames next
+is_in_order_after (Some above) next = may_follow above next
 
 -- ---- names: D2
 
@@ -86,14 +86,14 @@ abbrev pub is_entry : Entry → Entry → Bool
 is_entry a b = is_text a.dir b.dir && is_text a.name b.name
 
 -- A further name belongs to the directory of the last segment line.
-abbrev pub directory_behind : List ℕ → BootLine → List ℕ
-directory_behind dir (line.Segment given) = given.dir
-directory_behind dir _ = dir
+abbrev pub directory_after : List ℕ → BootLine → List ℕ
+directory_after dir (line.Segment given) = given.dir
+directory_after dir _ = dir
 
 -- the directory of the last segment line; `dir` if there is none
 unfoldable pub directory_at_end : List ℕ → List BootLine → List ℕ
 directory_at_end dir [] = dir
-directory_at_end dir (next ∷ lines) = directory_at_end (directory_behind dir next) lines
+directory_at_end dir (next ∷ lines) = directory_at_end (directory_after dir next) lines
 
 -- the name that a line puts into a directory; a name line uses `dir`
 abbrev pub entries_of_line : List ℕ → BootLine → List Entry
@@ -105,17 +105,17 @@ entries_of_line dir _ = []
 unfoldable pub entries_from : List ℕ → List BootLine → List Entry
 entries_from dir [] = []
 entries_from dir (next ∷ lines) =
-    entries_of_line dir next ++ entries_from (directory_behind dir next) lines
+    entries_of_line dir next ++ entries_from (directory_after dir next) lines
 
 -- whether lines put a name into a directory
 unfoldable pub has_entry : List BootLine → List ℕ → List ℕ → Bool
 has_entry lines dir name = list_any (is_entry (entry dir name)) (entries_from [] lines)
 
 -- whether a line puts a name into a directory that has it already
-abbrev pub stands_twice : List BootLine → BootLine → Bool
-stands_twice above (line.Segment given) = has_entry above given.dir given.name
-stands_twice above (line.Name name) = has_entry above (directory_at_end [] above) name
-stands_twice above _ = false
+abbrev pub is_repeated : List BootLine → BootLine → Bool
+is_repeated above (line.Segment given) = has_entry above given.dir given.name
+is_repeated above (line.Name name) = has_entry above (directory_at_end [] above) name
+is_repeated above _ = false
 
 -- ---- directories: D3
 
@@ -143,12 +143,12 @@ names_no_directory all _ = false
 
 -- whether a segment is said to be a gate and cannot be one: it is not executable, or no ring above
 -- R2 may call it
-abbrev pub is_no_gate : SegKind → SegmentGiven → Bool
+abbrev pub is_no_gate : SegKind → SegmentLineFields → Bool
 is_no_gate Gate given = not given.mode.executable || nat_eq given.r2 given.r3
 is_no_gate _ given = false
 
 -- whether R1, R2 and R3 do not decrease
-abbrev pub brackets_in_order : SegmentGiven → Bool
+abbrev pub brackets_in_order : SegmentLineFields → Bool
 brackets_in_order given = are_in_order given.r1 given.r2 given.r3
 
 -- whether the brackets of a segment line are refused
@@ -194,8 +194,8 @@ is_too_many above _ = false
 unfoldable pub code_of : List BootLine → List BootLine → BootLine → Option BootCode
 code_of all above next =
     first_met (
-    (not (is_in_order_behind (last_of above) next), D1)
-    ∷ (stands_twice above next, D2)
+    (not (is_in_order_after (last_of above) next), D1)
+    ∷ (is_repeated above next, D2)
     ∷ (names_no_directory all next, D3)
     ∷ (has_wrong_brackets next, D4)
     ∷ (is_too_many above next, D5)
@@ -227,10 +227,10 @@ code_of_rest above [] = code_at_end (last_of above)
 code_of_rest above (c ∷ rest) = Some D1
 
 -- The result is a line without a code, or the code of the line.
-abbrev pub Judges : List BootLine → List BootLine → Option BootLine → Result BootLine BootCode
+abbrev pub ChecksLine : List BootLine → List BootLine → Option BootLine → Result BootLine BootCode
     → Type 0
-Judges all above given (Ok next) = (given ≡ Some next) × (code_of all above next ≡ None)
-Judges all above given (Err code) = code_given all above given ≡ Some code
+ChecksLine all above given (Ok next) = (given ≡ Some next) × (code_of all above next ≡ None)
+ChecksLine all above given (Err code) = code_given all above given ≡ Some code
 
 -- the code of each line, if it has one, and at last that of the end of the text
 unfoldable pub codes_from : List BootLine → List BootLine → List (Option BootLine)
@@ -242,13 +242,13 @@ codes_from all above (next ∷ lines) =
 -- ---- the text
 
 -- each line parsed by itself
-unfoldable pub lines_given : List ℕ → List (Option BootLine)
-lines_given text = map line_given (lines_of text)
+unfoldable pub parsed_lines : List ℕ → List (Option BootLine)
+parsed_lines text = map parsed_line (lines_of text)
 
 -- the lines that have a form
 unfoldable pub all_lines : List ℕ → List BootLine
-all_lines text = those_read (lines_given text)
+all_lines text = those_read (parsed_lines text)
 
 -- the first line that has a code, counted from 1, with its code
 unfoldable pub first_code : List ℕ → Option (ℕ × BootCode)
-first_code text = first_told 1 (codes_from (all_lines text) [] (lines_given text))
+first_code text = first_reported 1 (codes_from (all_lines text) [] (parsed_lines text))

@@ -12,7 +12,7 @@ use Rattle.m36_dir.specs.declared.boot_line.BootLine.{BootLine}
 use Rattle.m36_dir.specs.declared.boot_line.BootLine.TheVariants as line
 use Rattle.m36_dir.specs.declared.boot_code.BootCode.{BootCode}
 use Rattle.m36_dir.specs.declared.boot_code.BootCode.TheVariants.{D1, D2, D3, D4, D5, D6}
-use Rattle.m36_dir.specs.Fields.{SegmentFields, SegmentGiven}
+use Rattle.m36_dir.specs.Fields.{SegmentFields, SegmentLineFields}
 use Rattle.m36_dir.specs.StartFields.{StartFields}
 use Rattle.m36_dir.specs.BootOrder.{all_lines, first_code}
 use Rattle.m36_text.specs.Lines.{last_of}
@@ -53,12 +53,12 @@ directory_in dirs segment = unwrap_or (slice_get dirs segment.dir) []
 -- ---- segments
 
 -- the further names in the `name` lines directly after a segment line
-unfoldable pub names_behind : List BootLine → List (List ℕ)
-names_behind (line.Name name ∷ lines) = name ∷ names_behind lines
-names_behind _ = []
+unfoldable pub names_after : List BootLine → List (List ℕ)
+names_after (line.Name name ∷ lines) = name ∷ names_after lines
+names_after _ = []
 
 -- the segment of a segment line, with these further names
-abbrev pub segment_with : List (List ℕ) → SegmentGiven → List (List ℕ) → SegmentFields
+abbrev pub segment_with : List (List ℕ) → SegmentLineFields → List (List ℕ) → SegmentFields
 segment_with dirs given names =
     record {
       names = given.name ∷ names;
@@ -73,7 +73,7 @@ segment_with dirs given names =
 
 -- the segment of a line, if it is a segment line; `behind` are the lines after it
 abbrev pub segment_of : List (List ℕ) → BootLine → List BootLine → List SegmentFields
-segment_of dirs (line.Segment given) behind = segment_with dirs given (names_behind behind) ∷ []
+segment_of dirs (line.Segment given) behind = segment_with dirs given (names_after behind) ∷ []
 segment_of dirs _ behind = []
 
 -- the segments of lines, in order
@@ -145,14 +145,14 @@ unfoldable pub catalog_of : List ℕ → Result CatalogFields CatalogFault
 catalog_of text = catalog_by (first_code text) (catalog_in (all_lines text))
 
 -- The result of reading a boot text. It may be NoMemory whatever the text is.
-abbrev pub Told : CatalogFault → Result CatalogFields CatalogFault → Type 0
-Told fault.NoMemory definition = Unit {0}
-Told told definition = definition ≡ Err told
+abbrev pub RefusesWith : CatalogFault → Result CatalogFields CatalogFault → Type 0
+RefusesWith fault.NoMemory definition = Unit {0}
+RefusesWith told definition = definition ≡ Err told
 
 -- The result of a call is that of the definition, or `NoMemory`.
-abbrev pub ReadSays : Result CatalogFields CatalogFault → Result CatalogFields CatalogFault → Type 0
-ReadSays (Ok catalog) definition = definition ≡ Ok catalog
-ReadSays (Err told) definition = Told told definition
+abbrev pub CatalogResult : Result CatalogFields CatalogFault → Result CatalogFields CatalogFault → Type 0
+CatalogResult (Ok catalog) definition = definition ≡ Ok catalog
+CatalogResult (Err told) definition = RefusesWith told definition
 
 -- ---- looking up, and rights
 
@@ -161,12 +161,12 @@ abbrev pub has_name : List ℕ → SegmentFields → Bool
 has_name name segment = list_any (is_text name) segment.names
 
 -- whether a segment has a name in a directory
-abbrev pub stands_as : ℕ → List ℕ → SegmentFields → Bool
-stands_as dir name segment = nat_eq segment.dir dir && has_name name segment
+abbrev pub has_entry_named : ℕ → List ℕ → SegmentFields → Bool
+has_entry_named dir name segment = nat_eq segment.dir dir && has_name name segment
 
 -- the number of the segment of a directory that has a name, if there is one
 unfoldable pub found : CatalogFields → ℕ → List ℕ → Option ℕ
-found catalog dir name = position (λ s. stands_as dir name s) catalog.segments
+found catalog dir name = position (λ s. has_entry_named dir name s) catalog.segments
 
 -- Sets the rights to read, execute and write a segment. Nothing else changes.
 abbrev pub with_rights : SegmentFields → Bool → Bool → Bool → SegmentFields

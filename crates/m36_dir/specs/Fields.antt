@@ -15,7 +15,7 @@ pub record SegmentFields : Type 0 where
   pub r3 : ℕ
 
 -- The fields of a segment line.
-pub record SegmentGiven : Type 0 where
+pub record SegmentLineFields : Type 0 where
   pub dir : List ℕ
   pub name : List ℕ
   pub file : List ℕ

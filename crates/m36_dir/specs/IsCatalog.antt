@@ -39,8 +39,8 @@ entries_in dirs segments =
     flat_map (λ (s : SegmentFields). map (entry (directory_in dirs s)) s.names) segments
 
 -- The names of a catalog that was read are those that the lines of the text put into directories.
-abbrev pub NamesStand : Type 0
-NamesStand =
+abbrev pub NamesAreThoseOfTheText : Type 0
+NamesAreThoseOfTheText =
     (text : List ℕ) (c : CatalogFields) → catalog_of text ≡ Ok c
     → entries_in c.directories c.segments ≡ entries_from [] (all_lines text)
 

@@ -21,9 +21,9 @@ pub(crate) struct SegmentLine {
 
 impl Model for SegmentLine {
     ghost use Rattle.std.specs.Prelude.{◌<◌};
-    ghost use Rattle.m36_dir.specs.Fields.{SegmentGiven};
+    ghost use Rattle.m36_dir.specs.Fields.{SegmentLineFields};
 
-    ghost Value = { SegmentGiven };
+    ghost Value = { SegmentLineFields };
 
     ghost view = { λ s. record { dir = s.dir; name = s.name; file = s.file; kind = s.kind; mode = s.mode; r1 = s.r1; r2 = s.r2; r3 = s.r3 } };
 

@@ -4,7 +4,7 @@ ghost use Rattle.std.specs.Prelude.{ℕ, ◌≡◌, ◌+◌, ◌≤◌, ◌<◌,
 ghost use Rattle.std.specs.List.{list_any, position};
 ghost use Rattle.m36_text.specs.Texts.{is_text};
 ghost use Rattle.m36_text.specs.Lines.{last_of};
-ghost use Rattle.m36_dir.specs.Catalog.{with_directory, with_directory_of, directories_from, number_in, names_behind, segment_with, segment_of, segments_in, library_of, libraries_in, frames_of, work_of, no_start, start_of};
+ghost use Rattle.m36_dir.specs.Catalog.{with_directory, with_directory_of, directories_from, number_in, names_after, segment_with, segment_of, segments_in, library_of, libraries_in, frames_of, work_of, no_start, start_of};
 ghost use Rattle.m36_dir.specs.BootOrder.{most_segments};
 
 use crate::boot_line::{BootLine, SegmentLine};
@@ -73,7 +73,7 @@ pub(crate) fn number_in(dirs: &[Directory], dir: &[u8]) -> u16
 
 // Adds the names of the `name` lines at the beginning of these lines, up to the first other line.
 fn add_names(names: &mut Names, lines: &[BootLine]) -> Result<(), NoMemory>
-    ensures { OnOk result (names.new ≡ names.old ++ names_behind lines.now) }
+    ensures { OnOk result (names.new ≡ names.old ++ names_after lines.now) }
 {
     for line in lines {
         match line {
@@ -92,7 +92,7 @@ fn segment_with(
     behind: &[BootLine],
 ) -> Result<Segment, NoMemory>
     requires { length dirs.now ≤ most_segments }
-    ensures { IfOk result (λ s. s ≡ segment_with dirs.now given.now (names_behind behind.now)) }
+    ensures { IfOk result (λ s. s ≡ segment_with dirs.now given.now (names_after behind.now)) }
 {
     let mut names = Names::new(alloc);
     names.push(given.name.copied())?;
@@ -130,8 +130,8 @@ fn add_segment(
     }
 }
 
-#[tactic(auto, using(crate::proofs::LineLoops::lines_behind))]
-fn lines_behind(lines: &[BootLine], i: usize) -> &[BootLine]
+#[tactic(auto, using(crate::proofs::LineLoops::lines_after))]
+fn lines_after(lines: &[BootLine], i: usize) -> &[BootLine]
     requires { i < length lines.now }
     ensures { result.now ≡ drop (i + 1) lines.now }
 {
@@ -149,7 +149,7 @@ pub(crate) fn segments_in(
 {
     let mut segments = Vec::new(alloc);
     for (i, line) in lines.iter().enumerate() {
-        add_segment(alloc, &mut segments, dirs, line, lines_behind(lines, i))?;
+        add_segment(alloc, &mut segments, dirs, line, lines_after(lines, i))?;
     }
     Ok(segments)
 }

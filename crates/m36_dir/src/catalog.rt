@@ -3,7 +3,7 @@
 ghost use Rattle.std.specs.Prelude.{ℕ, ◌≡◌, ◌<◌, ◌≤◌, ◌^◌, Bool, ◌&&◌, nat_eq, length, slice_get, Some, IfOk, IfSome, All};
 ghost use Rattle.std.specs.List.{list_any};
 ghost use Rattle.m36_text.specs.Texts.{is_text};
-ghost use Rattle.m36_dir.specs.Catalog.{catalog_in, catalog_of, ReadSays, has_name, stands_as, found, SetsRights};
+ghost use Rattle.m36_dir.specs.Catalog.{catalog_in, catalog_of, CatalogResult, has_name, has_entry_named, found, SetsRights};
 ghost use Rattle.m36_dir.specs.IsCatalog.{IsCatalog, IsSegment};
 ghost use Rattle.m36_dir.specs.BootLine.{most_frames};
 ghost use Rattle.m36_dir.specs.BootOrder.{most_segments, most_libraries};
@@ -82,7 +82,7 @@ fn has_name(name: &[u8], segment: &Segment) -> bool
 
 // Whether a segment is in a directory and has a name.
 fn is_at(segment: &Segment, dir: u16, name: &[u8]) -> bool
-    ensures { result ≡ stands_as dir name.now segment.now }
+    ensures { result ≡ has_entry_named dir name.now segment.now }
 {
     segment.dir == dir && has_name(name, segment)
 }
@@ -93,7 +93,7 @@ impl Catalog {
     #[tactic(auto, using(crate::proofs::TextLoops::read_catalog))]
     pub fn read(alloc: Global, text: &[u8]) -> Result<Catalog, CatalogFault>
         requires { length text.now < 2 ^ 32 }
-        ensures { ReadSays result (catalog_of text.now) }
+        ensures { CatalogResult result (catalog_of text.now) }
     {
         let lines = lines_of(alloc, text)?;
         Ok(catalog_in(alloc, HashSeed::of(text), &lines)?)

@@ -4,7 +4,7 @@
 ghost use Rattle.std.specs.Prelude.{ℕ, ◌≡◌, ◌+◌, ◌<◌, length, drop, Some, IfSome};
 ghost use Rattle.m36_text.specs.Lines.{words_of};
 ghost use Rattle.m36_text.specs.Numbers.{octal_in};
-ghost use Rattle.m36_dir.specs.BootLine.{frames_line, work_line, library_line, name_line, start_line, brackets_of, segment_line, line_named, line_given};
+ghost use Rattle.m36_dir.specs.BootLine.{frames_line, work_line, library_line, name_line, start_line, brackets_of, segment_line, line_named, parsed_line};
 
 use crate::boot_line::{BootLine, Brackets, SegmentLine};
 use crate::segment::Start;
@@ -138,9 +138,9 @@ fn line_named(word: &[u8], given: &[u8]) -> Option<BootLine>
 }
 
 /// Parses a line of a boot text.
-#[tactic(auto, unfolding(crate::specs::BootLine::line_given), using(crate::proofs::LineForms::no_words))]
+#[tactic(auto, unfolding(crate::specs::BootLine::parsed_line), using(crate::proofs::LineForms::no_words))]
 pub(crate) fn read_line(text: &[u8]) -> Option<BootLine>
-    ensures { result ≡ line_given (Some text.now) }
+    ensures { result ≡ parsed_line (Some text.now) }
 {
     let (word, rest) = first_word(text);
     line_named(word, rest?)

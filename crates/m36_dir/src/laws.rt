@@ -1,6 +1,6 @@
 //! Laws that hold for every boot text.
 
-ghost use Rattle.m36_dir.specs.IsCatalog.{ReadsIntoCatalogs, NamesStand, NamesOnce};
+ghost use Rattle.m36_dir.specs.IsCatalog.{ReadsIntoCatalogs, NamesAreThoseOfTheText, NamesOnce};
 
 /// A text that is parsed yields a catalog as `IsCatalog` defines it: 1 to 8,192 frames, 1 to 512
 /// segments, each with 1 to 8 names and its ring brackets in order, at most 16 libraries, and only
@@ -8,6 +8,6 @@ ghost use Rattle.m36_dir.specs.IsCatalog.{ReadsIntoCatalogs, NamesStand, NamesOn
 /// directories. No name occurs twice in a directory.
 pub fn catalog_laws()
     ensures catalogs { ReadsIntoCatalogs }
-    ensures names { NamesStand }
+    ensures names { NamesAreThoseOfTheText }
     ensures once { NamesOnce }
 {}

@@ -3,8 +3,8 @@
 
 ghost use Rattle.std.specs.Prelude.{ℕ, ◌≡◌, ◌+◌, ◌<◌, ◌≤◌, ◌^◌, [], Some, count_by};
 ghost use Rattle.std.specs.List.{list_any};
-ghost use Rattle.m36_dir.specs.BootLine.{line_given};
-ghost use Rattle.m36_dir.specs.BootOrder.{is_frames, is_start, is_library, is_segment, is_work_or_library, is_segment_or_name, may_follow, is_in_order_behind, is_entry, entry, directory_behind, directory_at_end, entries_of_line, entries_from, has_entry, stands_twice, is_in_directory, is_given_in_directory, has_directory, names_no_directory, is_no_gate, brackets_in_order, has_wrong_brackets, names_with, names_at_end, is_too_many, code_of, ends, lines_given, all_lines};
+ghost use Rattle.m36_dir.specs.BootLine.{parsed_line};
+ghost use Rattle.m36_dir.specs.BootOrder.{is_frames, is_start, is_library, is_segment, is_work_or_library, is_segment_or_name, may_follow, is_in_order_after, is_entry, entry, directory_after, directory_at_end, entries_of_line, entries_from, has_entry, is_repeated, is_in_directory, is_given_in_directory, has_directory, names_no_directory, is_no_gate, brackets_in_order, has_wrong_brackets, names_with, names_at_end, is_too_many, code_of, ends, parsed_lines, all_lines};
 ghost use Rattle.m36_text.specs.Lines.{those_read, last_of};
 
 use crate::boot_code::BootCode;
@@ -67,7 +67,7 @@ fn may_follow(above: &BootLine, line: &BootLine) -> bool
 
 // Whether a line may follow the lines above.
 fn is_in_order(above: &[BootLine], line: &BootLine) -> bool
-    ensures { result ≡ is_in_order_behind (last_of above.now) line.now }
+    ensures { result ≡ is_in_order_after (last_of above.now) line.now }
 {
     match above.last() {
         None => is_frames(line),
@@ -75,8 +75,8 @@ fn is_in_order(above: &[BootLine], line: &BootLine) -> bool
     }
 }
 
-fn directory_behind<'a>(dir: &'a [u8], line: &'a BootLine) -> &'a [u8]
-    ensures { result.now ≡ directory_behind dir.now line.now }
+fn directory_after<'a>(dir: &'a [u8], line: &'a BootLine) -> &'a [u8]
+    ensures { result.now ≡ directory_after dir.now line.now }
 {
     match line {
         BootLine::Segment(given) => given.dir.bytes(),
@@ -90,7 +90,7 @@ fn last_directory(lines: &[BootLine]) -> &[u8]
 {
     let mut dir: &[u8] = &[];
     for line in lines {
-        dir = directory_behind(dir, line);
+        dir = directory_after(dir, line);
     }
     dir
 }
@@ -118,13 +118,13 @@ fn has_entry(lines: &[BootLine], dir: &[u8], name: &[u8]) -> bool
         if puts(behind, line, dir, name) {
             return true;
         }
-        behind = directory_behind(behind, line);
+        behind = directory_after(behind, line);
     }
     false
 }
 
-fn stands_twice(above: &[BootLine], line: &BootLine) -> bool
-    ensures { result ≡ stands_twice above.now line.now }
+fn is_repeated(above: &[BootLine], line: &BootLine) -> bool
+    ensures { result ≡ is_repeated above.now line.now }
 {
     match line {
         BootLine::Segment(given) => has_entry(above, given.dir.bytes(), given.name.bytes()),
@@ -144,7 +144,7 @@ fn is_in_directory(dir: &[u8], line: &BootLine) -> bool
 
 // Whether a line is a segment line of a directory.
 fn is_line_in_directory(dir: &[u8], line: &[u8]) -> bool
-    ensures { result ≡ is_given_in_directory dir.now (line_given (Some line.now)) }
+    ensures { result ≡ is_given_in_directory dir.now (parsed_line (Some line.now)) }
 {
     match read_line(line) {
         Some(line) => is_in_directory(dir, &line),
@@ -257,7 +257,7 @@ pub(crate) fn code_of(text: &[u8], above: &[BootLine], line: &BootLine) -> Optio
     if !is_in_order(above, line) {
         return Some(BootCode::D1);
     }
-    if stands_twice(above, line) {
+    if is_repeated(above, line) {
         return Some(BootCode::D2);
     }
     if names_no_directory(text, line) {

@@ -1,9 +1,9 @@
 //! Parses the lines of a boot text in order, up to the first that has a code.
 
 ghost use Rattle.std.specs.Prelude.{◌≡◌, ◌<◌, ◌^◌, [], ◌∷◌, ◌++◌, length, Some, None, IfOk, IfErr, OnOk};
-ghost use Rattle.m36_dir.specs.BootLine.{line_given};
-ghost use Rattle.m36_dir.specs.BootOrder.{code_at_end, code_of_rest, Judges, all_lines, first_code};
-ghost use Rattle.m36_dir.specs.Catalog.{catalog_in, catalog_of, Told};
+ghost use Rattle.m36_dir.specs.BootLine.{parsed_line};
+ghost use Rattle.m36_dir.specs.BootOrder.{code_at_end, code_of_rest, ChecksLine, all_lines, first_code};
+ghost use Rattle.m36_dir.specs.Catalog.{catalog_in, catalog_of, RefusesWith};
 ghost use Rattle.m36_dir.specs.IsCatalog.{IsCatalog};
 
 use crate::boot_code::{BootCode, fault_at};
@@ -16,8 +16,8 @@ use m36_word::NoMemory;
 use std::alloc::Global;
 
 // The parsed line, or its code.
-fn judged(text: &[u8], above: &[BootLine], line: &[u8]) -> Result<BootLine, BootCode>
-    ensures { Judges (all_lines text.now) above.now (line_given (Some line.now)) result }
+fn check_line(text: &[u8], above: &[BootLine], line: &[u8]) -> Result<BootLine, BootCode>
+    ensures { ChecksLine (all_lines text.now) above.now (parsed_line (Some line.now)) result }
 {
     let Some(line) = read_line(line) else {
         return Err(BootCode::D1);
@@ -57,13 +57,13 @@ pub(crate) fn lines_of(alloc: Global, text: &[u8]) -> Result<Vec<BootLine>, Cata
     ensures lines { IfOk result (λ lines. lines.items ≡ all_lines text.now) }
     ensures none { IfOk result (λ lines. first_code text.now ≡ None) }
     ensures kept { IfOk result (λ lines. IsCatalog (catalog_in lines.items)) }
-    ensures told { IfErr result (λ told. Told told (catalog_of text.now)) }
+    ensures told { IfErr result (λ told. RefusesWith told (catalog_of text.now)) }
 {
     let mut above = Vec::new(alloc);
     let mut rest = text;
     let mut number: u32 = 1;
     while let Some((line, behind)) = first_line(rest) {
-        match judged(text, &above, line) {
+        match check_line(text, &above, line) {
             Ok(line) => add(&mut above, line)?,
             Err(code) => return Err(fault_at(number, code)),
         }

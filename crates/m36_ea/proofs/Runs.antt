@@ -3,7 +3,7 @@ use Rattle.std.proofs.Common.{ℕ, zero, suc, ◌≡◌, ◌+◌, ◌-◌, ◌%�
 use Rattle.m36_model.specs.Fields.{AtFields, FinalFields}
 use Rattle.m36_model.specs.Registers.{RegsFields}
 use Rattle.m36_model.specs.Act.{Indirect, Odd, Write, Request, Answer, Act, done, ask}
-use Rattle.m36_model.specs.Store.{Mid, Served, Ran, serve, run, with_odd}
+use Rattle.m36_model.specs.Store.{Midstep, Served, Ran, serve, run, with_odd}
 use Rattle.m36_model.specs.Core.{core_store}
 use Rattle.m36_model.specs.Modification.{Point, Move, Ends, Fails, Reads, Counts, at_point, final_at, move_of_point}
 use Rattle.m36_model.specs.Chain.{ChainEnd, Formation, Found, Plain, Its, Itp, found, indirect, plain_point, its_point, itp_point, after_word, after_tally, chain, chain_by, chain_exhausted, lockup}
@@ -33,11 +33,11 @@ odd_served g p word m refs refs' core w at e h joined =
     rw (e, one) at h
 
 -- a reference that is served continues by its reply
-pub run_ask : {A : Type 0} (g : RegsFields) (q : Request) (next : Result Answer Fault → Act A) (m : Mid (List ℕ)) (t : Served (List ℕ)) → serve core_store g m q ≡ t → run core_store g (ask q next) m ≡ run core_store g (next t.reply) t.mid
+pub run_ask : {A : Type 0} (g : RegsFields) (q : Request) (next : Result Answer Fault → Act A) (m : Midstep (List ℕ)) (t : Served (List ℕ)) → serve core_store g m q ≡ t → run core_store g (ask q next) m ≡ run core_store g (next t.reply) t.mid
 unfolding run
 run_ask g q next m t e = ap (λ (s : Served (List ℕ)). run core_store g (next s.reply) s.mid) e
 
-pub run_done : {A : Type 0} (g : RegsFields) (a : A) (m : Mid (List ℕ)) → run core_store g (done a) m ≡ record { value = a; mid = m }
+pub run_done : {A : Type 0} (g : RegsFields) (a : A) (m : Midstep (List ℕ)) → run core_store g (done a) m ≡ record { value = a; mid = m }
 unfolding run
 run_done g a m = refl
 
@@ -126,7 +126,7 @@ module _ (g : RegsFields) (p : Point) (m m' : Memory) (refs : List Reference) (n
           after_read false e ∙ run_ask g (indirect Write p p.y) _ (standing m'.core [] one_tally) _ (c g dbr [] one_tally []) ∙ run_done g _ _
 
 -- One step of a chain, by what the tag of its point does.
-module _ (g : RegsFields) (p : Point) (m : Mid (List ℕ)) where
+module _ (g : RegsFields) (p : Point) (m : Midstep (List ℕ)) where
   turn_of : (n : ℕ) (v : Move) (r : Ran (Result ChainEnd Halt) (List ℕ)) → v ≡ move_of_point g p → run core_store g (chain_exhausted p v) m ≡ r → ((k : ℕ) → run core_store g (chain_by (chain k g) g p v) m ≡ r) → run core_store g (chain n g p) m ≡ r
   unfolding chain
   turn_of zero v r e last more =

@@ -3,7 +3,7 @@ use Rattle.std.specs.Prelude.{ℕ, ◌≡◌, ◌<◌, List, [], ◌∷◌, ◌+
 use Rattle.m36_inst.specs.Fields.{InstFields}
 use Rattle.m36_model.specs.Fields.{FinalFields}
 use Rattle.m36_model.specs.Registers.{RegsFields}
-use Rattle.m36_model.specs.Store.{Mid, Ran, run}
+use Rattle.m36_model.specs.Store.{Midstep, Ran, run}
 use Rattle.m36_model.specs.Core.{core_store}
 use Rattle.m36_model.specs.Chain.{ChainEnd, chain_end_fields, claimed_by}
 use Rattle.m36_model.specs.Step.{formation}
@@ -21,7 +21,7 @@ abbrev pub formed_from :
 formed_from g i core refs = run core_store g (formation g i) (standing core [] refs)
 
 -- the state of a step that has claimed only the tally word of its address, if there is one
-abbrev pub formed_mid : List ℕ → Formed → List Reference → Mid (List ℕ)
+abbrev pub formed_mid : List ℕ → Formed → List Reference → Midstep (List ℕ)
 formed_mid core f refs = standing core (claimed_by f.tally f.place) refs
 
 -- How a result of the code ends that run: with the address, the place of the tally word, if there
@@ -41,7 +41,7 @@ EndsIn refs r = (before : List Reference) × (refs ≡ before ++ r ∷ [])
 
 -- The tally word has a place in core, and its Write is the last reference. Without a tally word
 -- the place is 0.
-abbrev pub TallyLies : Option Tally → ℕ → ℕ → List Reference → Type 0
-TallyLies None place size refs = place ≡ 0
-TallyLies (Some t) place size refs =
+abbrev pub HasTally : Option Tally → ℕ → ℕ → List Reference → Type 0
+HasTally None place size refs = place ≡ 0
+HasTally (Some t) place size refs =
     (place < size) × EndsIn refs (record { kind = reference.Write; at = t.at; count = 1 })

@@ -55,18 +55,18 @@ indirect_reference p word count =
 
 -- The answer to a reference to one word. If it succeeds, it returns the word and completes the
 -- reference; if it is refused, it completes nothing. The step has claimed no write.
-abbrev pub told_word :
+abbrev pub word_answer :
     SdwFields → List ℕ → List Reference → List Reference → Result ℕ Fault → Served (List ℕ)
-told_word d core answered refused (Ok w) =
+word_answer d core answered refused (Ok w) =
     record { reply = Ok (answer_of_words d [] (w ∷ [])); mid = standing core [] answered }
-told_word d core answered refused (Err f) = record { reply = Err f; mid = standing core [] refused }
+word_answer d core answered refused (Err f) = record { reply = Err f; mid = standing core [] refused }
 
 -- The result is the word of a point at a word number, whatever was referenced before it.
 abbrev pub ServesIndirect : RegsFields → Point → ℕ → Memory → List ℕ → Result ℕ Fault → Type 0
 ServesIndirect g p word m core' result =
     (refs : List Reference)
     → serve core_store g (standing m.core [] refs) (indirect Indirect p word)
-    ≡ told_word (sdw_in m p.seg) core' (refs ++ indirect_reference p word 1 ∷ []) refs result
+    ≡ word_answer (sdw_in m p.seg) core' (refs ++ indirect_reference p word 1 ∷ []) refs result
 
 -- The result is the odd word of a pair whose even word was referenced before it.
 abbrev pub ServesOdd :
@@ -75,7 +75,7 @@ abbrev pub ServesOdd :
 ServesOdd g p word m refs core' refs' result =
     serve core_store g (standing m.core [] (refs ++ indirect_reference p word 1 ∷ []))
     (indirect Odd p (word + 1))
-    ≡ told_word (sdw_in m p.seg) core' refs' refs' result
+    ≡ word_answer (sdw_in m p.seg) core' refs' refs' result
 
 -- continues at the next point, or ends with a fault
 abbrev pub goes_on : (Point → Formation) → Result Point Fault → Formation

@@ -6,7 +6,7 @@ ghost use Rattle.m36_model.specs.Step.{indirect_words};
 ghost use Rattle.m36_model.specs.Store.{changes};
 ghost use Rattle.m36_model.specs.declared.place.Reference.{Reference};
 ghost use Rattle.m36_walk.specs.Words.{pending_changes};
-ghost use Rattle.m36_ea.specs.Formed.{formed_from, ended, plain, TallyLies};
+ghost use Rattle.m36_ea.specs.Formed.{formed_from, ended, plain, HasTally};
 
 use crate::indirect::{count, follow, formed};
 use crate::modification::{Action, action_of, end_by_register, end_unmodified, fault};
@@ -39,7 +39,7 @@ pub fn effective(walk: &mut Walk, regs: &Regs, inst: &Inst, refs: &mut Refs) -> 
     ensures forms { formed_from regs.now inst.now walk.old.core refs.old.items
         ≡ ended walk.new.core refs.new.items result }
     ensures tally { IfOk result
-        (λ f. TallyLies f.tally f.place (length walk.new.core) refs.new.items) }
+        (λ f. HasTally f.tally f.place (length walk.new.core) refs.new.items) }
     ensures dbr { walk.new.dbr ≡ walk.old.dbr }
     ensures len { length walk.new.core ≡ length walk.old.core }
     ensures count { length refs.new.items ≤ length refs.old.items + (indirect_words + 1) }

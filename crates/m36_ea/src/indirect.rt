@@ -4,7 +4,7 @@ ghost use Rattle.std.specs.Prelude.{◌≡◌, ◌+◌, ◌<◌, ◌≤◌, ◌^
 ghost use Rattle.std.specs.Prelude.{length};
 ghost use Rattle.m36_model.specs.Chain.{found};
 ghost use Rattle.m36_walk.specs.Served.{sdw_in, ok_map};
-ghost use Rattle.m36_ea.specs.Formed.{plain, TallyLies};
+ghost use Rattle.m36_ea.specs.Formed.{plain, HasTally};
 ghost use Rattle.m36_ea.specs.Points.{found_is, FollowsEven, ServesIndirect, ServesOdd, Follows};
 ghost use Rattle.m36_ea.specs.Points.{CountsTally};
 
@@ -161,7 +161,7 @@ pub(crate) fn count(
     ensures counts { CountsTally regs.now tpr.now walk.old.core refs.old.items walk.new.core
         refs.new.items result }
     ensures lies { IfOk result
-        (λ f. TallyLies f.tally f.place (length walk.new.core) refs.new.items) }
+        (λ f. HasTally f.tally f.place (length walk.new.core) refs.new.items) }
     ensures dbr { walk.new.dbr ≡ walk.old.dbr }
     ensures len { length walk.new.core ≡ length walk.old.core }
     ensures count { length refs.new.items ≤ length refs.old.items + 2 }

@@ -38,7 +38,7 @@ pub struct Counting {
 
 /// Reads an indirect word. Returns it with the first ring bracket of its segment.
 #[inline(always)]
-fn word_in_front(walk: &mut Walk, regs: &Regs, tpr: &Tpr, word: u32) -> Option<(Word, u8)>
+fn word_from_front(walk: &mut Walk, regs: &Regs, tpr: &Tpr, word: u32) -> Option<(Word, u8)>
     requires dbr { walk.old.dbr ≡ regs.now.dbr }
     requires word { word < 2 ^ 18 }
     ensures serves { IfSome result (λ r. ServesIndirect regs.now tpr.now word walk.old walk.old.core
@@ -57,7 +57,7 @@ fn word_in_front(walk: &mut Walk, regs: &Regs, tpr: &Tpr, word: u32) -> Option<(
 
 /// Reads the odd word of a pair.
 #[inline(always)]
-fn odd_in_front(walk: &mut Walk, regs: &Regs, tpr: &Tpr, word: u32) -> Option<Word>
+fn odd_from_front(walk: &mut Walk, regs: &Regs, tpr: &Tpr, word: u32) -> Option<Word>
     requires dbr { walk.old.dbr ≡ regs.now.dbr }
     requires word { word + 1 < 2 ^ 18 }
     ensures serves { IfSome result (λ w. (refs : List Reference)
@@ -76,7 +76,7 @@ fn odd_in_front(walk: &mut Walk, regs: &Regs, tpr: &Tpr, word: u32) -> Option<Wo
 /// Reads the indirect word at word number `word`, or an ITS pair, and returns the next point and
 /// the number of words that were read.
 #[inline(always)]
-fn follow_in_front(
+fn follow_from_front(
     walk: &mut Walk,
     regs: &Regs,
     tpr: &Tpr,
@@ -91,7 +91,7 @@ fn follow_in_front(
         (refs ++ indirect_reference tpr.now word r.1 ∷ []) (Ok r.0)) }
     ensures same { walk.new ≡ walk.old }
 {
-    let (even, r1) = match word_in_front(walk, regs, tpr, word) {
+    let (even, r1) = match word_from_front(walk, regs, tpr, word) {
         Some(found) => found,
         None => return None,
     };
@@ -101,7 +101,7 @@ fn follow_in_front(
             Some((next, 1))
         }
         Format::Its => {
-            let odd = match odd_in_front(walk, regs, tpr, word) {
+            let odd = match odd_from_front(walk, regs, tpr, word) {
                 Some(odd) => odd,
                 None => return None,
             };
@@ -129,7 +129,7 @@ pub fn address_through(walk: &mut Walk, regs: &Regs, inst: &Inst) -> Option<Thro
         Some(read) => read,
         None => return None,
     };
-    let (next, count) = match follow_in_front(walk, regs, &tpr, word, held) {
+    let (next, count) = match follow_from_front(walk, regs, &tpr, word, held) {
         Some(followed) => followed,
         None => return None,
     };
@@ -160,7 +160,7 @@ pub fn address_counted(walk: &mut Walk, regs: &Regs, inst: &Inst) -> Option<Coun
         return None;
     }
     let y = tpr.y;
-    let (word, _) = match word_in_front(walk, regs, &tpr, y) {
+    let (word, _) = match word_from_front(walk, regs, &tpr, y) {
         Some(found) => found,
         None => return None,
     };

@@ -5,11 +5,11 @@ use Rattle.std.specs.Prelude.{IfSome}
 use Rattle.std.proofs.lemmas.List.{append-nil}
 use Rattle.m36_outside.specs.Counts.{Rose}
 use Rattle.m36_outside.specs.Files.{Files}
-use Rattle.m36_outside.specs.ReadAnswer.{ReadSays}
+use Rattle.m36_outside.specs.ReadAnswer.{ReadResult}
 use Rattle.m36_outside.specs.SinkState.{SinkState}
 use Rattle.m36_outside.specs.declared.folder.ReadAnswer.{ReadAnswer}
 use Rattle.m36_outside.specs.declared.folder.ReadAnswer.TheVariants as read
-use Rattle.m36_world.specs.Did.{IsFileRead}
+use Rattle.m36_world.specs.Happened.{IsFileRead}
 use Rattle.m36_world.specs.Follow.{Next, Follow, outputs}
 use Rattle.m36_world.specs.Seen.{Seen}
 use Rattle.m36_world.specs.declared.event.Event.{Event}
@@ -106,7 +106,7 @@ unfolding Follow
 reads_told [] old new files same alone follow = tt
 reads_told (FileRead name answer ∷ events) old new files same alone follow =
     let did : IsFileRead name answer old follow.between = follow.begins in (
-      record { told = subst (λ t. IfSome t (λ f. ReadSays answer (f name))) same did.content; limit = did.limit },
+      record { told = subst (λ t. IfSome t (λ f. ReadResult answer (f name))) same did.content; limit = did.limit },
       reads_told events follow.between new files (ap (λ s. s.files) did.rest ∙ same) alone follow.goes_on,
     )
 reads_told (FileWrite name content answer ∷ events) old new files same alone follow = absurd alone

@@ -6,16 +6,16 @@ use Rattle.std.proofs.lemmas.List.{append-nil, map-id}
 use Rattle.std.proofs.lemmas.List.FromFn.{map-range_with_len_more}
 use Rattle.std.proofs.lemmas.Grind.{flat_map-append}
 use Rattle.m36_gen.specs.declared.files.File.{File}
-use Rattle.m36_gen.specs.Draws.{behind_draws, draws_from, state_at}
+use Rattle.m36_gen.specs.Draws.{state_after_draws, draws_from, state_at}
 use Rattle.m36_gen.specs.Lines.{source_name}
 use Rattle.m36_gen.specs.Sources.{source_text, stop_text}
 use Rattle.m36_gen.specs.BootText.{program_line, program_lines}
 use Rattle.m36_gen.specs.Folder.{file, source_file, source_files, sources_of}
 
 -- the state of the generator after the draws of a program
-pub state_moved : (seed i state new : ℕ) → state ≡ state_at seed i → new ≡ behind_draws state → new ≡ state_at seed (i + 1)
+pub state_moved : (seed i state new : ℕ) → state ≡ state_at seed i → new ≡ state_after_draws state → new ≡ state_at seed (i + 1)
 unfolding state_at
-state_moved seed i state new is moved = moved ∙ ap behind_draws is ∙ rw add-one refl
+state_moved seed i state new is moved = moved ∙ ap state_after_draws is ∙ rw add-one refl
 
 -- the source of a program after those of the programs before it
 pub source_added : (seed i state : ℕ) (old new : List File) → old ≡ source_files seed i → state ≡ state_at seed i

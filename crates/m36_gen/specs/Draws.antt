@@ -7,12 +7,12 @@ unfoldable pub next : ℕ → ℕ
 next x = (6364136223846793005 * x + 1442695040888963407) % 2 ^ 64
 
 -- what is drawn by a state: its upper 31 bits
-abbrev pub drawn : ℕ → ℕ
-drawn x = x / 2 ^ 33
+abbrev pub draw_of : ℕ → ℕ
+draw_of x = x / 2 ^ 33
 
 -- the state after the three draws of a program
-abbrev pub behind_draws : ℕ → ℕ
-behind_draws x = next (next (next x))
+abbrev pub state_after_draws : ℕ → ℕ
+state_after_draws x = next (next (next x))
 
 -- each offset is below this
 abbrev pub offset_bound : ℕ
@@ -26,12 +26,12 @@ most_words = 200
 -- words in the data.
 unfoldable pub draws_from : ℕ → Draws
 draws_from x = record {
-  add = drawn (next x) % 1000;
-  count = 1 + drawn (next (next x)) % most_words;
-  offset = drawn (behind_draws x) % offset_bound;
+  add = draw_of (next x) % 1000;
+  count = 1 + draw_of (next (next x)) % most_words;
+  offset = draw_of (state_after_draws x) % offset_bound;
 }
 
 -- the state of the generator of a seed before the draws of program i
 unfoldable pub state_at : ℕ → ℕ → ℕ
 state_at seed zero = seed
-state_at seed (suc i) = behind_draws (state_at seed i)
+state_at seed (suc i) = state_after_draws (state_at seed i)

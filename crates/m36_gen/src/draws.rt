@@ -1,7 +1,7 @@
 //! The numbers that a seed draws.
 
 ghost use Rattle.std.specs.Prelude.{ℕ, ◌≡◌, ◌+◌, ◌*◌, ◌/◌, ◌%◌, ◌^◌, ◌<◌, ◌≤◌};
-ghost use Rattle.m36_gen.specs.Draws.{next, drawn, draws_from, behind_draws};
+ghost use Rattle.m36_gen.specs.Draws.{next, draw_of, draws_from, state_after_draws};
 
 /// The three numbers that are drawn for one program.
 #[derive(Clone, Copy, Debug, PartialEq, Eq)]
@@ -39,7 +39,7 @@ impl Sequence {
     /// One draw: below 2^31.
     fn draw(&mut self) -> u64
         ensures state { self.new.state ≡ next self.old.state }
-        ensures drawn { result ≡ drawn self.new.state }
+        ensures draw_of { result ≡ draw_of self.new.state }
     {
         self.state = next(self.state);
         self.state >> 33
@@ -48,7 +48,7 @@ impl Sequence {
     /// Three draws, for one program.
     #[tactic(auto, unfolding(crate::specs::Draws::draws_from))]
     pub fn draws(&mut self) -> Draws
-        ensures state { self.new.state ≡ behind_draws self.old.state }
+        ensures state { self.new.state ≡ state_after_draws self.old.state }
         ensures draws { result ≡ draws_from self.old.state }
     {
         let add = self.draw() % 1000;

@@ -58,7 +58,7 @@ pub const COMMANDS: [(&str, &str); 11] = [
 const USAGE: &str = "m36 COMMAND [FILE | NAME | USER | SEED] [OPTIONS]";
 
 /// The text after the options: how a call ends, and examples.
-const BEHIND: &str = "Statuses:
+const AFTER_OPTIONS: &str = "Statuses:
   0  Done         written whole; a run came to DIS, an audit alone passes
   1  Usage        the words are no command
   2  ReadFault    a file or the input can't be read
@@ -95,7 +95,7 @@ fn described(alloc: Global) -> Result<Command<'static>, AllocError> {
     let mut program = Command::new(alloc, "m36")
         .about("Simulate the Honeywell 6180 of Multics, in the current folder")
         .override_usage(USAGE)
-        .after_help(BEHIND)
+        .after_help(AFTER_OPTIONS)
         .disable_help_flag(true)
         .disable_help_subcommand(true);
     for (name, line) in COMMANDS {

@@ -20,7 +20,7 @@ use Rattle.std.specs.Result.{result_err, result_unwrap_or}
 use Rattle.m36_word.specs.declared.pair.Pair.{Pair}
 use Rattle.m36_word.specs.Field.{frames_reached}
 use Rattle.m36_text.specs.Texts.{is_text}
-use Rattle.m36_text.specs.Lines.{lines_of, line_at, first_told, by_words}
+use Rattle.m36_text.specs.Lines.{lines_of, line_at, first_reported, by_words}
 use Rattle.m36_text.specs.Numbers.{octal_in, octal_word_in, segment_number_in, word_number_in}
 use Rattle.m36_text.specs.Numbers.{core_address_in}
 use Rattle.m36_text.specs.Reading.{number_read}
@@ -119,8 +119,8 @@ at_by size is_above (Some p) =
     then Ok (p.first + length p.words) else Err I3
 
 -- the code of an `at` line, if it has one, given the addresses of the words of earlier lines
-abbrev pub at_code : ℕ → List ℕ → Option PlacedWords → Option ImageCode
-at_code size earlier line =
+abbrev pub code_if_absent : ℕ → List ℕ → Option PlacedWords → Option ImageCode
+code_if_absent size earlier line =
     result_err (at_by size (λ address. list_all (λ a. nat_lt a address) earlier) line)
 
 -- the addresses of the words of an `at` line
@@ -132,7 +132,7 @@ addresses (Some p) = range_with_len p.first (length p.words)
 unfoldable pub at_codes : ℕ → List ℕ → List (Option (List ℕ)) → List (Option ImageCode)
 at_codes size earlier [] = []
 at_codes size earlier (line ∷ lines) =
-    at_code size earlier (at_line line) ∷ at_codes size (earlier ++ addresses (at_line line)) lines
+    code_if_absent size earlier (at_line line) ∷ at_codes size (earlier ++ addresses (at_line line)) lines
 
 -- the number of lines before the `at` lines
 abbrev pub header_count : ℕ
@@ -187,4 +187,4 @@ image_by told image = unless (option_map refusal_of told) image
 
 -- the image that a file describes, or its refusal
 unfoldable pub image_of : List ℕ → Result Image Refusal
-image_of text = image_by (first_told 1 (line_codes (lines_of text))) (image_in (lines_of text))
+image_of text = image_by (first_reported 1 (line_codes (lines_of text))) (image_in (lines_of text))

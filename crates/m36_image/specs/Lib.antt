@@ -4,6 +4,6 @@ pub mod PlacedWords
 pub mod Several
 pub mod BareImage
 pub mod ImageState
-pub mod ImageSays
-pub mod InTurn
+pub mod ImageResult
+pub mod LineByLine
 pub mod HeaderFields

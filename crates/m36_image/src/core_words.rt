@@ -4,7 +4,7 @@ ghost use Rattle.std.specs.Prelude.{ℕ, ◌≡◌, ◌+◌, ◌<◌, ◌≤◌,
 ghost use Rattle.m36_text.specs.Lines.{lines_of, words_of};
 ghost use Rattle.m36_image.specs.BareImage.{at_words};
 ghost use Rattle.m36_image.specs.ImageState.{written_at};
-ghost use Rattle.m36_image.specs.InTurn.{at_end, with_placed, AtLinesSay};
+ghost use Rattle.m36_image.specs.LineByLine.{code_of_at_line, with_placed, AtLinesResult};
 
 use crate::placed::at_line;
 use crate::refusal::{ImageCode, Refusal};
@@ -28,7 +28,7 @@ fn put_words(core: &mut Core, first: u32, words: &[Word])
 /// Writes the words of an `at` line into core. If the line has a code, core is unchanged. The
 /// first address of the line must be at least `next`. Returns the address after its last word.
 pub fn put_line_into_core(core: &mut Core, next: u32, line: &[u8]) -> Result<u32, ImageCode>
-    ensures end { result ≡ at_end (length core.old) next (at_words (words_of line.now)) }
+    ensures end { result ≡ code_of_at_line (length core.old) next (at_words (words_of line.now)) }
     ensures core { OnOk result (core.new ≡ with_placed core.old (at_words (words_of line.now))) }
     ensures err { OnErr result (core.new ≡ core.old) }
     ensures len { length core.new ≡ length core.old }
@@ -49,7 +49,7 @@ pub fn put_line_into_core(core: &mut Core, next: u32, line: &[u8]) -> Result<u32
 #[tactic(auto, using(crate::proofs::Placing::placing, m36_text::proofs::Splitting::lining))]
 pub fn put_lines(core: &mut Core, text: &[u8]) -> Result<(), Refusal>
     requires { length text.now ≤ 2 ^ 31 }
-    ensures { AtLinesSay result core.old core.new (lines_of text.now) }
+    ensures { AtLinesResult result core.old core.new (lines_of text.now) }
 {
     let mut rest = text;
     let mut number: u32 = 4;

@@ -15,7 +15,7 @@ use m36_word::{Pair, Word};
 const MOST_FRAMES: u64 = 16384;
 
 /// The word with these twelve octal digits.
-pub fn word_of(text: &[u8]) -> Option<Word>
+pub fn octal_word(text: &[u8]) -> Option<Word>
     ensures { result ≡ octal_word_in text.now }
 {
     let value = octal_in(text, 12)?;
@@ -59,8 +59,8 @@ pub fn core_line(line: &[u8]) -> Result<u32, ImageCode>
 fn dbr_of(even: &[u8], odd: &[u8]) -> Option<Pair>
     ensures { result ≡ dbr_in even.now odd.now }
 {
-    let even = word_of(even)?;
-    let odd = word_of(odd)?;
+    let even = octal_word(even)?;
+    let odd = octal_word(odd)?;
     Some(Pair { even, odd })
 }
 

@@ -3,7 +3,7 @@
 ghost use Rattle.std.specs.Prelude.{ℕ, ◌≡◌, ◌≤◌, IfOk, length};
 ghost use Rattle.m36_text.specs.Lines.{lines_of};
 ghost use Rattle.m36_word.specs.Field.{frames_reached};
-ghost use Rattle.m36_image.specs.HeaderFields.{HeaderSays};
+ghost use Rattle.m36_image.specs.HeaderFields.{HeaderResult};
 
 use crate::forms::{core_line, dbr_line, start_line};
 use crate::refusal::{ImageCode, Refusal};
@@ -34,7 +34,7 @@ fn wrong(line: u32) -> Refusal
 
 /// Parses the first three lines. Returns their content and the text after them.
 pub fn read_header(text: &[u8]) -> Result<(Header, &[u8]), Refusal>
-    ensures says { HeaderSays result (lines_of text.now) }
+    ensures says { HeaderResult result (lines_of text.now) }
     ensures some { IfOk result (λ h. 1 ≤ h.0.frames) }
     ensures most { IfOk result (λ h. h.0.frames ≤ frames_reached) }
     ensures shorter { IfOk result (λ h. length h.1.now ≤ length text.now) }

@@ -2,7 +2,7 @@
 
 ghost use Rattle.std.specs.Prelude.{ℕ, ◌≡◌, ◌≤◌, ◌^◌, length};
 ghost use Rattle.m36_image.specs.ImageState.{regs_of, state_given};
-ghost use Rattle.m36_image.specs.ImageSays.{ImageSays};
+ghost use Rattle.m36_image.specs.ImageResult.{ImageResult};
 
 use crate::core_words::put_lines;
 use crate::header::read_header;
@@ -64,7 +64,7 @@ pub fn registers(dbr: Pair, start: Ppr) -> Regs
 #[tactic(auto, using(crate::proofs::Images::images))]
 pub fn read_image(alloc: Global, text: &[u8]) -> Result<Image, ImageFault>
     requires { length text.now ≤ 2 ^ 31 }
-    ensures { ImageSays result (state_given text.now) }
+    ensures { ImageResult result (state_given text.now) }
 {
     let (header, rest) = match read_header(text) {
         Ok(read) => read,

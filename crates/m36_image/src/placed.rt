@@ -6,7 +6,7 @@ ghost use Rattle.m36_text.specs.Lines.{words_of};
 ghost use Rattle.m36_text.specs.Numbers.{core_address_in};
 ghost use Rattle.m36_image.specs.BareImage.{words_given, at_read, at_words};
 
-use crate::forms::word_of;
+use crate::forms::octal_word;
 use arrayvec::ArrayVec;
 use m36_text::{first_word, is_text, octal_in};
 use m36_word::Word;
@@ -40,7 +40,7 @@ fn eight_words(line: &[u8]) -> Option<ArrayVec<Word, 8>>
     let mut rest = line;
     for _ in 0..8u32 {
         let (text, more) = first_word(rest);
-        words.push(word_of(text)?);
+        words.push(octal_word(text)?);
         match more {
             Some(texts) => rest = texts,
             None => return Some(words),

@@ -1,7 +1,7 @@
 -- Instructions and their words, both ways.
 use Rattle.std.proofs.Common.{◌≡◌, ℕ, ◌≤◌, ◌<◌, zero, suc, ◌/◌, ◌%◌, ◌==◌, ◌^◌, Bool, true, false, refl, arith}
 use Rattle.m36_word.specs.Bits.{of_bit}
-use Rattle.m36_inst.specs.Instruction.{inst_of, inst_word, InstComesBack, WordComesBack}
+use Rattle.m36_inst.specs.Instruction.{inst_of, inst_word, InstRoundTrip, WordRoundTrip}
 
 bit_small : (b : Bool) → of_bit b ≤ 1
 bit_small true = omega arith
@@ -11,7 +11,7 @@ bit_back : (b : Bool) (n : ℕ) → n ≡ of_bit b → (n == 1) ≡ b
 bit_back true n e = rw e refl
 bit_back false n e = rw e refl
 
-pub inst_back : InstComesBack
+pub inst_back : InstRoundTrip
 inst_back i h =
     let bit27_small = bit_small i.bit27 in
     let inhibit_small = bit_small i.inhibit in
@@ -31,7 +31,7 @@ bit_number zero h = refl
 bit_number (suc zero) h = refl
 bit_number (suc (suc n)) h = absurd (omega arith)
 
-pub word_back : WordComesBack
+pub word_back : WordRoundTrip
 word_back w h =
     let bit27 = bit_number (w / 2 ^ 8 % 2) (omega arith) in
     let inhibit = bit_number (w / 2 ^ 7 % 2) (omega arith) in

@@ -9,7 +9,7 @@ use Rattle.std.proofs.Math.ListN.{length-map}
 use Rattle.m36_inst.specs.Table.{Entry, table}
 use Rattle.m36_inst.specs.Lookup.{entry_at, name_at, code_named, same_bit, has_code}
 use Rattle.m36_inst.specs.Names.{key, key_at, code_at, bit27_at, HasRow, IsRising, IsIndex}
-use Rattle.m36_inst.specs.declared.names.Coded.{Coded}
+use Rattle.m36_inst.specs.declared.names.CodeOfName.{CodeOfName}
 use Rattle.m36_inst.specs.declared.names.TheConstants.{NAMES}
 use Rattle.m36_inst.proofs.Found.{found_sound}
 use Rattle.m36_inst.proofs.Halves.{paired, paired_from}
@@ -43,23 +43,23 @@ rising_at (x ∷ xs) zero (suc j) h order within = above x xs j h (omega arith)
 rising_at (x ∷ xs) (suc i) zero h order within = absurd (omega arith)
 rising_at (x ∷ xs) (suc i) (suc j) h order within = rising_at xs i j (behind x xs h) (omega arith) (omega arith)
 
-abbrev keys : List Coded → List ℕ
+abbrev keys : List CodeOfName → List ℕ
 keys rows = map (λ r. key r.name) rows
 
-rises : (rows : List Coded) → is_rising (keys rows) ≡ true → IsRising rows
+rises : (rows : List CodeOfName) → is_rising (keys rows) ≡ true → IsRising rows
 rises rows h i j order within = rising_at (keys rows) i j h order (simp length-map within)
 
 -- ---- each name has its code
 
 -- a row for an entry: its operation code with bit 27, and its name
-abbrev is_of : Entry → Coded → Bool
+abbrev is_of : Entry → CodeOfName → Bool
 is_of e r = (r.code == e.code) && (same_bit r.bit27 e.bit27 && key r.name == key e.name)
 
-abbrev all_there : List Coded → Bool
+abbrev all_there : List CodeOfName → Bool
 all_there rows = paired is_of table rows
 
 row_by :
-    (r : Coded) (rows : List Coded) (e : Entry) (b : Bool) → is_of e r ≡ b → (b || list_any (is_of e) rows) ≡ true
+    (r : CodeOfName) (rows : List CodeOfName) (e : Entry) (b : Bool) → is_of e r ≡ b → (b || list_any (is_of e) rows) ≡ true
     → (list_any (is_of e) rows ≡ true → HasRow rows e.code e.bit27 (key e.name)) → HasRow (r ∷ rows) e.code e.bit27 (key e.name)
 row_by r rows e true is any later =
     let a = and_parts (r.code == e.code) _ is in
@@ -82,16 +82,16 @@ row_by r rows e false is any later =
       bit27_is = next.bit27_is;
     }
 
-row_of_entry : (rows : List Coded) (e : Entry) → list_any (is_of e) rows ≡ true → HasRow rows e.code e.bit27 (key e.name)
+row_of_entry : (rows : List CodeOfName) (e : Entry) → list_any (is_of e) rows ≡ true → HasRow rows e.code e.bit27 (key e.name)
 row_of_entry [] e any = absurd cc
 row_of_entry (r ∷ rows) e any = row_by r rows e (is_of e r) refl any (row_of_entry rows e)
 
-there : (rows : List Coded) (code : ℕ) (bit27 : Bool) (e : Entry) → all_there rows ≡ true → entry_at code bit27 ≡ Some e → list_any (is_of e) rows ≡ true
+there : (rows : List CodeOfName) (code : ℕ) (bit27 : Bool) (e : Entry) → all_there rows ≡ true → entry_at code bit27 ≡ Some e → list_any (is_of e) rows ≡ true
 unfolding entry_at
 there rows code bit27 e all h = found_sound (has_code code bit27) (λ x. list_any (is_of x) rows) table e all h
 
 complete_by :
-    (rows : List Coded) (code : ℕ) (bit27 : Bool) (name : List ℕ) (o : Option Entry) → all_there rows ≡ true → entry_at code bit27 ≡ o
+    (rows : List CodeOfName) (code : ℕ) (bit27 : Bool) (name : List ℕ) (o : Option Entry) → all_there rows ≡ true → entry_at code bit27 ≡ o
     → option_map (λ e. e.name) o ≡ Some name → HasRow rows code bit27 (key name)
 complete_by rows code bit27 name None all h named = absurd cc
 complete_by rows code bit27 name (Some e) all h named =
@@ -106,7 +106,7 @@ complete_by rows code bit27 name (Some e) all h named =
       bit27_is = row.bit27_is ∙ f.same_bit27;
     }
 
-index_of : (rows : List Coded) → is_rising (keys rows) ≡ true → all_there rows ≡ true → IsIndex rows
+index_of : (rows : List CodeOfName) → is_rising (keys rows) ≡ true → all_there rows ≡ true → IsIndex rows
 index_of rows order all =
     record {
       rising = rises rows order;
@@ -117,7 +117,7 @@ in_order : is_rising (keys NAMES) ≡ true
 unfolding key
 in_order = refl
 
-abbrev coded_bit : ℕ → Coded → Bool
+abbrev coded_bit : ℕ → CodeOfName → Bool
 coded_bit n r = r.code / 2 ^ n % 2 == 1
 
 names_there : all_there NAMES ≡ true
@@ -129,20 +129,20 @@ is_index = index_of NAMES in_order names_there
 
 -- ---- the result of the search
 
-pub key_in : (rows : List Coded) (i : ℕ) (d : Coded) → i < length rows → key_at rows i ≡ key (get_or rows i d).name
+pub key_in : (rows : List CodeOfName) (i : ℕ) (d : CodeOfName) → i < length rows → key_at rows i ≡ key (get_or rows i d).name
 key_in rows i d within = get_or-map (λ r. key r.name) rows i d 0 within
 
-pub code_in : (rows : List Coded) (i : ℕ) (d : Coded) → i < length rows → code_at rows i ≡ (get_or rows i d).code
+pub code_in : (rows : List CodeOfName) (i : ℕ) (d : CodeOfName) → i < length rows → code_at rows i ≡ (get_or rows i d).code
 code_in rows i d within = get_or-map (λ r. r.code) rows i d 0 within
 
-pub bit27_in : (rows : List Coded) (i : ℕ) (d : Coded) → i < length rows → bit27_at rows i ≡ (get_or rows i d).bit27
+pub bit27_in : (rows : List CodeOfName) (i : ℕ) (d : CodeOfName) → i < length rows → bit27_at rows i ≡ (get_or rows i d).bit27
 bit27_in rows i d within = get_or-map (λ r. r.bit27) rows i d false within
 
 pub ruleset columns = (key_in, code_in, bit27_in)
 
 -- If no row has the number of a name, no instruction has this name.
 pub absent :
-    (rows : List Coded) (name : List ℕ) (wanted : ℕ) → IsIndex rows → wanted ≡ key name
+    (rows : List CodeOfName) (name : List ℕ) (wanted : ℕ) → IsIndex rows → wanted ≡ key name
     → ((i : ℕ) → i < length rows → key_at rows i ≡ wanted → ⊥) → code_named name ≡ None
 absent rows name wanted index same none =
     unnamed name
@@ -151,7 +151,7 @@ absent rows name wanted index same none =
     none row.place row.inside (row.key_is ∙ sym same))
 
 place_by :
-    (rows : List Coded) (i j : ℕ) (b c : Bool) → IsRising rows → i < length rows → j < length rows → key_at rows i ≡ key_at rows j
+    (rows : List CodeOfName) (i j : ℕ) (b c : Bool) → IsRising rows → i < length rows → j < length rows → key_at rows i ≡ key_at rows j
     → nat_lt i j ≡ b → nat_lt j i ≡ c → i ≡ j
 place_by rows i j true c rising within inside same up down =
     let less = rising i j (ltb-true i j up) inside in
@@ -164,13 +164,13 @@ place_by rows i j false false rising within inside same up down =
     let high = ltb-false j i down in
     omega arith
 
-one_place : (rows : List Coded) (i j : ℕ) → IsRising rows → i < length rows → j < length rows → key_at rows i ≡ key_at rows j → i ≡ j
+one_place : (rows : List CodeOfName) (i j : ℕ) → IsRising rows → i < length rows → j < length rows → key_at rows i ≡ key_at rows j → i ≡ j
 one_place rows i j rising within inside same =
     place_by rows i j (nat_lt i j) (nat_lt j i) rising within inside same refl refl
 
 -- If the only row with the number of a name has another name, no instruction has this name.
 pub other :
-    (rows : List Coded) (name : List ℕ) (i code : ℕ) (bit27 : Bool) → IsIndex rows → i < length rows → key_at rows i ≡ key name
+    (rows : List CodeOfName) (name : List ℕ) (i code : ℕ) (bit27 : Bool) → IsIndex rows → i < length rows → key_at rows i ≡ key name
     → code ≡ code_at rows i → bit27 ≡ bit27_at rows i → (name_at code bit27 ≡ Some name → ⊥) → code_named name ≡ None
 other rows name i code bit27 index within same code_is bit27_is unlike =
     unnamed name

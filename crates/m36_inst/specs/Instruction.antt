@@ -38,9 +38,9 @@ pr_offset i =
     if nat_lt offset offset_limit then offset else offset + 7 * 2 ^ 15
 
 -- An instruction whose fields are within their widths is read back unchanged from its word.
-abbrev pub InstComesBack : Type 0
-InstComesBack = (i : InstFields) → IsInst i → inst_of (inst_word i) ≡ i
+abbrev pub InstRoundTrip : Type 0
+InstRoundTrip = (i : InstFields) → IsInst i → inst_of (inst_word i) ≡ i
 
 -- A word is written back unchanged from the instruction that is read from it.
-abbrev pub WordComesBack : Type 0
-WordComesBack = (w : ℕ) → w < 2 ^ 36 → inst_word (inst_of w) ≡ w
+abbrev pub WordRoundTrip : Type 0
+WordRoundTrip = (w : ℕ) → w < 2 ^ 36 → inst_word (inst_of w) ≡ w

@@ -44,8 +44,8 @@ in_fours low high even odd stem effect =
     ∷ numbered (high + 2) even stem 6 effect ∷ numbered (high + 3) odd stem 7 effect ∷ []
 
 -- as `in_fours`, with bit 27 off for all
-abbrev pub two_fours : ℕ → ℕ → List ℕ → Effect → List Entry
-two_fours low high stem effect = in_fours low high false false stem effect
+abbrev pub entries_of_two_fours : ℕ → ℕ → List ℕ → Effect → List Entry
+entries_of_two_fours low high stem effect = in_fours low high false false stem effect
 
 -- as `in_fours`, with bit 27 off for even registers and on for odd ones
 abbrev pub even_off : ℕ → ℕ → List ℕ → Effect → List Entry
@@ -56,8 +56,8 @@ abbrev pub even_on : ℕ → ℕ → List ℕ → Effect → List Entry
 even_on low high stem effect = in_fours low high true false stem effect
 
 -- eight consecutive codes with bit 27 off, for registers 0 to 7
-abbrev pub eight : ℕ → List ℕ → Effect → List Entry
-eight code stem effect = two_fours code (code + 4) stem effect
+abbrev pub entries_of_eight : ℕ → List ℕ → Effect → List Entry
+entries_of_eight code stem effect = entries_of_two_fours code (code + 4) stem effect
 
 -- Data movement: load and store.
 abbrev pub data_movement : List Entry
@@ -65,23 +65,23 @@ data_movement =
     off 0o235 (codes "lda") effect.Lda
     ++ off 0o236 (codes "ldq") effect.Ldq
     ++ off 0o237 (codes "ldaq") effect.Ldaq
-    ++ eight 0o220 (codes "ldx") effect.LdxN
-    ++ eight 0o720 (codes "lxl") effect.LxlN
+    ++ entries_of_eight 0o220 (codes "ldx") effect.LdxN
+    ++ entries_of_eight 0o720 (codes "lxl") effect.LxlN
     ++ off 0o335 (codes "lca") effect.Lca
     ++ off 0o336 (codes "lcq") effect.Lcq
     ++ off 0o337 (codes "lcaq") effect.Lcaq
-    ++ eight 0o320 (codes "lcx") effect.LcxN
+    ++ entries_of_eight 0o320 (codes "lcx") effect.LcxN
     ++ off 0o034 (codes "ldac") effect.Ldac
     ++ off 0o032 (codes "ldqc") effect.Ldqc
     ++ off 0o635 (codes "eaa") effect.Eaa
     ++ off 0o636 (codes "eaq") effect.Eaq
-    ++ eight 0o620 (codes "eax") effect.EaxN
+    ++ entries_of_eight 0o620 (codes "eax") effect.EaxN
     ++ off 0o755 (codes "sta") effect.Sta
     ++ off 0o756 (codes "stq") effect.Stq
     ++ off 0o757 (codes "staq") effect.Staq
     ++ off 0o450 (codes "stz") effect.Stz
-    ++ eight 0o740 (codes "stx") effect.StxN
-    ++ eight 0o440 (codes "sxl") effect.SxlN
+    ++ entries_of_eight 0o740 (codes "stx") effect.StxN
+    ++ entries_of_eight 0o440 (codes "sxl") effect.SxlN
     ++ off 0o634 (codes "ldi") effect.Ldi
     ++ off 0o754 (codes "sti") effect.Sti
 
@@ -91,22 +91,22 @@ fixed_point =
     off 0o075 (codes "ada") effect.Ada
     ++ off 0o076 (codes "adq") effect.Adq
     ++ off 0o077 (codes "adaq") effect.Adaq
-    ++ eight 0o060 (codes "adx") effect.AdxN
+    ++ entries_of_eight 0o060 (codes "adx") effect.AdxN
     ++ off 0o033 (codes "adl") effect.Adl
     ++ off 0o035 (codes "adla") effect.Adla
     ++ off 0o036 (codes "adlq") effect.Adlq
     ++ off 0o037 (codes "adlaq") effect.Adlaq
-    ++ eight 0o020 (codes "adlx") effect.AdlxN
+    ++ entries_of_eight 0o020 (codes "adlx") effect.AdlxN
     ++ off 0o071 (codes "awca") effect.Awca
     ++ off 0o072 (codes "awcq") effect.Awcq
     ++ off 0o175 (codes "sba") effect.Sba
     ++ off 0o176 (codes "sbq") effect.Sbq
     ++ off 0o177 (codes "sbaq") effect.Sbaq
-    ++ eight 0o160 (codes "sbx") effect.SbxN
+    ++ entries_of_eight 0o160 (codes "sbx") effect.SbxN
     ++ off 0o135 (codes "sbla") effect.Sbla
     ++ off 0o136 (codes "sblq") effect.Sblq
     ++ off 0o137 (codes "sblaq") effect.Sblaq
-    ++ eight 0o120 (codes "sblx") effect.SblxN
+    ++ entries_of_eight 0o120 (codes "sblx") effect.SblxN
     ++ off 0o171 (codes "swca") effect.Swca
     ++ off 0o172 (codes "swcq") effect.Swcq
     ++ off 0o054 (codes "aos") effect.Aos
@@ -114,8 +114,8 @@ fixed_point =
     ++ off 0o056 (codes "asq") effect.Asq
     ++ off 0o155 (codes "ssa") effect.Ssa
     ++ off 0o156 (codes "ssq") effect.Ssq
-    ++ eight 0o040 (codes "asx") effect.AsxN
-    ++ eight 0o140 (codes "ssx") effect.SsxN
+    ++ entries_of_eight 0o040 (codes "asx") effect.AsxN
+    ++ entries_of_eight 0o140 (codes "ssx") effect.SsxN
     ++ off 0o531 (codes "neg") effect.Neg
     ++ off 0o533 (codes "negl") effect.Negl
     ++ off 0o402 (codes "mpy") effect.Mpy
@@ -123,7 +123,7 @@ fixed_point =
     ++ off 0o115 (codes "cmpa") effect.Cmpa
     ++ off 0o116 (codes "cmpq") effect.Cmpq
     ++ off 0o117 (codes "cmpaq") effect.Cmpaq
-    ++ eight 0o100 (codes "cmpx") effect.CmpxN
+    ++ entries_of_eight 0o100 (codes "cmpx") effect.CmpxN
     ++ off 0o234 (codes "szn") effect.Szn
     ++ off 0o214 (codes "sznc") effect.Sznc
     ++ off 0o211 (codes "cmk") effect.Cmk
@@ -134,11 +134,11 @@ boolean =
     off 0o315 (codes "cana") effect.Cana
     ++ off 0o316 (codes "canq") effect.Canq
     ++ off 0o317 (codes "canaq") effect.Canaq
-    ++ eight 0o300 (codes "canx") effect.CanxN
+    ++ entries_of_eight 0o300 (codes "canx") effect.CanxN
     ++ off 0o215 (codes "cnaa") effect.Cnaa
     ++ off 0o216 (codes "cnaq") effect.Cnaq
     ++ off 0o217 (codes "cnaaq") effect.Cnaaq
-    ++ eight 0o200 (codes "cnax") effect.CnaxN
+    ++ entries_of_eight 0o200 (codes "cnax") effect.CnaxN
     ++ off 0o375 (codes "ana") effect.Ana
     ++ off 0o376 (codes "anq") effect.Anq
     ++ off 0o275 (codes "ora") effect.Ora
@@ -148,18 +148,18 @@ boolean =
     ++ off 0o377 (codes "anaq") effect.Anaq
     ++ off 0o277 (codes "oraq") effect.Oraq
     ++ off 0o677 (codes "eraq") effect.Eraq
-    ++ eight 0o360 (codes "anx") effect.AnxN
-    ++ eight 0o260 (codes "orx") effect.OrxN
-    ++ eight 0o660 (codes "erx") effect.ErxN
+    ++ entries_of_eight 0o360 (codes "anx") effect.AnxN
+    ++ entries_of_eight 0o260 (codes "orx") effect.OrxN
+    ++ entries_of_eight 0o660 (codes "erx") effect.ErxN
     ++ off 0o355 (codes "ansa") effect.Ansa
     ++ off 0o356 (codes "ansq") effect.Ansq
     ++ off 0o255 (codes "orsa") effect.Orsa
     ++ off 0o256 (codes "orsq") effect.Orsq
     ++ off 0o655 (codes "ersa") effect.Ersa
     ++ off 0o656 (codes "ersq") effect.Ersq
-    ++ eight 0o340 (codes "ansx") effect.AnsxN
-    ++ eight 0o240 (codes "orsx") effect.OrsxN
-    ++ eight 0o640 (codes "ersx") effect.ErsxN
+    ++ entries_of_eight 0o340 (codes "ansx") effect.AnsxN
+    ++ entries_of_eight 0o240 (codes "orsx") effect.OrsxN
+    ++ entries_of_eight 0o640 (codes "ersx") effect.ErsxN
 
 -- Shifts and rotations of A, Q and AQ.
 abbrev pub shifts : List Entry
@@ -187,7 +187,7 @@ pointer_registers =
     ++ even_on 0o250 0o650 (codes "spbp") effect.SpbpN
     ++ off 0o254 (codes "spri") effect.Spri
     ++ off 0o173 (codes "lpri") effect.Lpri
-    ++ eight 0o760 (codes "lprp") effect.LprpN
+    ++ entries_of_eight 0o760 (codes "lprp") effect.LprpN
     ++ off 0o213 (codes "epaq") effect.Epaq
 
 -- Store of the control double word, and conditional stores.
@@ -211,8 +211,8 @@ transfers =
     ++ on 0o605 (codes "tpnz") effect.Tpnz
     ++ off 0o617 (codes "tov") effect.Tov
     ++ off 0o607 (codes "ttf") effect.Ttf
-    ++ eight 0o700 (codes "tsx") effect.TsxN
-    ++ two_fours 0o270 0o670 (codes "tsp") effect.TspN
+    ++ entries_of_eight 0o700 (codes "tsx") effect.TsxN
+    ++ entries_of_two_fours 0o270 0o670 (codes "tsp") effect.TspN
     ++ off 0o713 (codes "call6") effect.Call6
     ++ off 0o610 (codes "rtcd") effect.Rtcd
 

@@ -1,14 +1,14 @@
 //! Theorems about all instructions, stated as the contracts of functions with empty bodies.
 
-ghost use Rattle.m36_inst.specs.Instruction.{InstComesBack, WordComesBack};
+ghost use Rattle.m36_inst.specs.Instruction.{InstRoundTrip, WordRoundTrip};
 ghost use Rattle.m36_inst.specs.Lookup.{OneToOne, RowsHaveNames, RowsFit};
 
 /// An instruction whose fields are within their widths is written to a word and read back
 /// unchanged. A word is read as an instruction and written back unchanged.
 #[tactic(auto, using(crate::proofs::Instructions::comes_back))]
 pub fn instruction_laws()
-    ensures inst { InstComesBack }
-    ensures word { WordComesBack }
+    ensures inst { InstRoundTrip }
+    ensures word { WordRoundTrip }
 {}
 
 /// Names and operation codes with bit 27 correspond one to one over the whole table. A code has a

@@ -7,7 +7,7 @@ ghost use Rattle.m36_inst.specs.Names.{letter, key, key_at, code_at, bit27_at, I
 ghost use Rattle.m36_inst.specs.Named.{is_blank, text_of, IsPlain};
 
 use crate::codes::named;
-use crate::names::{Coded, names};
+use crate::names::{CodeOfName, names};
 use crate::rows::Row;
 use arrayvec::ArrayString;
 
@@ -54,7 +54,7 @@ pub fn by_name(n: &[u8]) -> Option<(u16, bool)>
 }
 
 // The index of the row whose key is `wanted`, by binary search.
-fn place_of(rows: &[Coded], wanted: u64) -> Option<usize>
+fn place_of(rows: &[CodeOfName], wanted: u64) -> Option<usize>
     requires { IsRising rows.now }
     ensures inside { IfSome result (λ i. i < length rows.now) }
     ensures key { IfSome result (λ i. key_at rows.now i ≡ wanted) }
@@ -100,7 +100,7 @@ fn letter(name: &[u8], i: usize) -> u64
 }
 
 #[tactic(auto, using(crate::proofs::NamesInOrder::columns))]
-fn key_at(rows: &[Coded], i: usize) -> u64
+fn key_at(rows: &[CodeOfName], i: usize) -> u64
     requires { i < length rows.now }
     ensures { result ≡ key_at rows.now i }
 {
@@ -108,7 +108,7 @@ fn key_at(rows: &[Coded], i: usize) -> u64
 }
 
 #[tactic(auto, using(crate::proofs::NamesInOrder::columns))]
-fn code_at(rows: &[Coded], i: usize) -> u16
+fn code_at(rows: &[CodeOfName], i: usize) -> u16
     requires { i < length rows.now }
     ensures { result ≡ code_at rows.now i }
 {
@@ -116,7 +116,7 @@ fn code_at(rows: &[Coded], i: usize) -> u16
 }
 
 #[tactic(auto, using(crate::proofs::NamesInOrder::columns))]
-fn bit27_at(rows: &[Coded], i: usize) -> bool
+fn bit27_at(rows: &[CodeOfName], i: usize) -> bool
     requires { i < length rows.now }
     ensures { result ≡ bit27_at rows.now i }
 {

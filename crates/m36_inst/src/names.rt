@@ -5,7 +5,7 @@ ghost use Rattle.m36_inst.specs.Names.{IsIndex};
 /// A name, padded with blanks to five characters, and the operation code and bit 27 of its
 /// instruction.
 #[derive(Clone, Copy)]
-pub(crate) struct Coded {
+pub(crate) struct CodeOfName {
     pub(crate) name: [u8; 5],
     pub(crate) code: u16,
     pub(crate) bit27: bool,
@@ -15,7 +15,7 @@ pub(crate) struct Coded {
 /// `off` for bit 27.
 macro_rules! coded {
     ($(($name:literal $code:literal $bit27:ident))*) => {
-        [$(Coded { name: *$name, code: $code, bit27: coded!(@$bit27) }),*]
+        [$(CodeOfName { name: *$name, code: $code, bit27: coded!(@$bit27) }),*]
     };
     (@on) => {
         true
@@ -25,7 +25,7 @@ macro_rules! coded {
     };
 }
 
-static NAMES: [Coded; 333] = coded![
+static NAMES: [CodeOfName; 333] = coded![
     (b"absa " 0o212 off)
     (b"ada  " 0o075 off)
     (b"adaq " 0o077 off)
@@ -362,7 +362,7 @@ static NAMES: [Coded; 333] = coded![
 ];
 
 /// All names, with their codes, in ascending order.
-pub(crate) fn names() -> &'static [Coded; 333]
+pub(crate) fn names() -> &'static [CodeOfName; 333]
     ensures { IsIndex result.now }
 {
     &NAMES

@@ -4,7 +4,7 @@ use Rattle.std.specs.Prelude.{ℕ, ◌≤◌, ◌==◌, ◌||◌, true, None, Re
 use Rattle.m36_desc.specs.Fields.{SdwFields}
 use Rattle.m36_model.specs.Registers.{RegsFields}
 use Rattle.m36_model.specs.Act.{RequestKind, Fetch, Indirect, Odd, Read, Write, Transfer, Call, Locate, Request, Answer}
-use Rattle.m36_model.specs.Store.{Spot, Store, Mid, denied}
+use Rattle.m36_model.specs.Store.{Spot, Store, Midstep, denied}
 use Rattle.m36_model.specs.StoreLaw.{Each, IsWord}
 use Rattle.m36_model.specs.declared.outcome.Refusal.{Refusal}
 use Rattle.m36_model.specs.declared.place.Kind.{Kind}
@@ -70,7 +70,7 @@ module _ {S : Type 0} (o : Store S) (Has : S → Type 0) (Lies : Spot → Type 0
     pub near : Near first now
 
   -- two steps, from the stores `first` and `other`, have made the same references and claims
-  pub record Alike (sdws : ℕ → Result SdwFields Refusal) (spots : SdwFields → ℕ → ℕ → Result Spot Refusal) (r : ℕ) (first other : S) (x y : Mid S) : Type 0 where
+  pub record Alike (sdws : ℕ → Result SdwFields Refusal) (spots : SdwFields → ℕ → ℕ → Result Spot Refusal) (r : ℕ) (first other : S) (x y : Midstep S) : Type 0 where
     pub kept : IsKept first x.store
     pub kept_other : IsKept other y.store
     pub claims : x.claims ≡ y.claims

@@ -7,7 +7,7 @@ use Rattle.m36_desc.specs.Access.{in_order}
 use Rattle.m36_model.specs.Fields.{AtFields}
 use Rattle.m36_model.specs.Registers.{RegsFields}
 use Rattle.m36_model.specs.Act.{RequestKind, Fetch, Indirect, Odd, Read, Write, Transfer, Call, Locate, Put, Request, Answer, Act, done, ask, and_then}
-use Rattle.m36_model.specs.Store.{Spot, Change, Store, Mid, Served, Ran, violation, fault_by, within, placed_next, placed_one, spots_of, places, bound_only, changes, change_of, denied, serve, serve_sdw, serve_rights, serve_places, with_reference, located, run}
+use Rattle.m36_model.specs.Store.{Spot, Change, Store, Midstep, Served, Ran, violation, fault_by, within, placed_next, placed_one, spots_of, places, bound_only, changes, change_of, denied, serve, serve_sdw, serve_rights, serve_places, with_reference, located, run}
 use Rattle.m36_model.specs.Isolation.{EachTwo}
 use Rattle.m36_model.specs.Residence.{absence}
 use Rattle.m36_model.specs.declared.outcome.Fault.{Fault}
@@ -109,14 +109,14 @@ pub record SameButPlace (a b : Answer) : Type 0 where
   pub first : a.first ≡ b.first
 
 -- two steps in related states; the second store has not changed
-pub record AreMids {S F : Type 0} (M : S → F → Type 0) (Pair : Spot → Spot → Type 0) (start : F) (x : Mid S) (y : Mid F) : Type 0 where
+pub record AreMids {S F : Type 0} (M : S → F → Type 0) (Pair : Spot → Spot → Type 0) (start : F) (x : Midstep S) (y : Midstep F) : Type 0 where
   pub mirrors : M x.store y.store
   pub still : y.store ≡ start
   pub claims : EachTwo Pair x.claims y.claims
   pub refs : x.refs ≡ y.refs
 
 -- one request to both
-pub data IsServed {S F : Type 0} (M : S → F → Type 0) (Pair : Spot → Spot → Type 0) (Lacks : ℕ → ℕ → Type 0) (start : F) (kind : RequestKind) (x : Mid S) (t : Served S) (u : Served F) : Type 0 where
+pub data IsServed {S F : Type 0} (M : S → F → Type 0) (Pair : Spot → Spot → Type 0) (Lacks : ℕ → ℕ → Type 0) (start : F) (kind : RequestKind) (x : Midstep S) (t : Served S) (u : Served F) : Type 0 where
   alike : t.reply ≡ u.reply → AreMids M Pair start t.mid u.mid → ((f : Fault) → t.reply ≡ Err f → f.number ≢ 17) → IsServed M Pair Lacks start kind x t u
   cut : (f : Fault) → t.reply ≡ Err f → f.number ≡ 17 → Lacks f.at.seg f.at.word → t.mid ≡ x → IsServed M Pair Lacks start kind x t u
   told_place : kind ≡ Locate → (a b : Answer) → t.reply ≡ Ok a → u.reply ≡ Ok b → SameButPlace a b → AreMids M Pair start t.mid u.mid → IsServed M Pair Lacks start kind x t u
@@ -126,7 +126,7 @@ abbrev pub asked : RequestKind → AtFields → ℕ → List Put → Request
 asked kind at count pending = record { kind = kind; at = at; count = count; pending = pending }
 
 -- the replies to a kind that reads, to a Write, and to a kind that leaves the store unchanged
-abbrev read_answer : {S : Type 0} → Store S → RegsFields → RequestKind → AtFields → List Put → SdwFields → Mid S → List Spot → List Reference → Served S
+abbrev read_answer : {S : Type 0} → Store S → RegsFields → RequestKind → AtFields → List Put → SdwFields → Midstep S → List Spot → List Reference → Served S
 read_answer o g kind at pending d m list refs =
     record {
       reply = Ok (record {
@@ -138,14 +138,14 @@ read_answer o g kind at pending d m list refs =
       mid = record { store = o.marked m.store g.dbr kind at.seg at.word; claims = m.claims; refs = refs };
     }
 
-abbrev write_answer : {S : Type 0} → Store S → RegsFields → AtFields → SdwFields → Mid S → List Spot → List Reference → Served S
+abbrev write_answer : {S : Type 0} → Store S → RegsFields → AtFields → SdwFields → Midstep S → List Spot → List Reference → Served S
 write_answer o g at d m list refs =
     record {
       reply = Ok (record { sdw = d; first = length m.claims; place = 0; words = [] });
       mid = record { store = o.marked m.store g.dbr Write at.seg at.word; claims = m.claims ++ list; refs = refs };
     }
 
-abbrev plain_answer : {S : Type 0} → SdwFields → ℕ → Mid S → Served S
+abbrev plain_answer : {S : Type 0} → SdwFields → ℕ → Midstep S → Served S
 plain_answer d place m =
     record { reply = Ok (record { sdw = d; first = length m.claims; place = place; words = [] }); mid = m }
 
@@ -154,10 +154,10 @@ abbrev pub one_more : RequestKind → AtFields → ℕ → List Put → List Ref
 one_more kind at count pending refs = with_reference kind (asked kind at count pending) refs
 
 module _ {S F : Type 0} (o : Store S) (o' : Store F) (g : RegsFields) (M : S → F → Type 0) (Pair : Spot → Spot → Type 0) (Lacks : ℕ → ℕ → Type 0) (L : Mirrors o o' g.dbr M Pair Lacks) (start : F) where
-  abbrev Stand : Mid S → Mid F → Type 0
+  abbrev Stand : Midstep S → Midstep F → Type 0
   Stand x y = AreMids M Pair start x y
 
-  abbrev Serves : RequestKind → Mid S → Served S → Served F → Type 0
+  abbrev Serves : RequestKind → Midstep S → Served S → Served F → Type 0
   Serves kind x t u = IsServed M Pair Lacks start kind x t u
 
   -- the words at paired spots are equal
@@ -171,11 +171,11 @@ module _ {S F : Type 0} (o : Store S) (o' : Store F) (g : RegsFields) (M : S →
       λ i. here i ∷ more i
 
   -- a refusal that is no page fault
-  refused_both : (kind : RequestKind) (f : Fault) (x : Mid S) (y : Mid F) → Stand x y → f.number ≢ 17 → Serves kind x (record { reply = Err f; mid = x }) (record { reply = Err f; mid = y })
+  refused_both : (kind : RequestKind) (f : Fault) (x : Midstep S) (y : Midstep F) → Stand x y → f.number ≢ 17 → Serves kind x (record { reply = Err f; mid = x }) (record { reply = Err f; mid = y })
   refused_both kind f x y k other =
       alike refl k (λ e h. let same : f ≡ e = cc in subst (λ (z : Fault). z.number ≢ 17) same other)
 
-  served_reading : (kind : RequestKind) (at : AtFields) (pending : List Put) (d : SdwFields) (x : Mid S) (y : Mid F) → Stand x y → o.sdw x.store g.dbr at.seg ≡ Ok d → within d at.word ≡ true → (ps qs : List Spot) → EachTwo Pair ps qs → (refs more : List Reference) → refs ≡ more → Serves kind x (read_answer o g kind at pending d x ps refs) (read_answer o' g kind at pending d y qs more)
+  served_reading : (kind : RequestKind) (at : AtFields) (pending : List Put) (d : SdwFields) (x : Midstep S) (y : Midstep F) → Stand x y → o.sdw x.store g.dbr at.seg ≡ Ok d → within d at.word ≡ true → (ps qs : List Spot) → EachTwo Pair ps qs → (refs more : List Reference) → refs ≡ more → Serves kind x (read_answer o g kind at pending d x ps refs) (read_answer o' g kind at pending d y qs more)
   served_reading kind at pending d x y k live inside ps qs pairs refs more same =
       let s = o.marked x.store g.dbr kind at.seg at.word in
       let f = o'.marked y.store g.dbr kind at.seg at.word in
@@ -185,18 +185,18 @@ module _ {S F : Type 0} (o : Store S) (o' : Store F) (g : RegsFields) (M : S →
       let number = two_lengths Pair x.claims y.claims k.claims in
       alike (λ i. Ok (record { sdw = d; words = read i; first = number i; place = 0 })) (record { mirrors = m; still = L.quiet y.store kind at.seg at.word ∙ k.still; claims = k.claims; refs = same }) (λ e h. cc)
 
-  served_writing : (at : AtFields) (d : SdwFields) (x : Mid S) (y : Mid F) → Stand x y → o.sdw x.store g.dbr at.seg ≡ Ok d → within d at.word ≡ true → (ps qs : List Spot) → EachTwo Pair ps qs → (refs more : List Reference) → refs ≡ more → Serves Write x (write_answer o g at d x ps refs) (write_answer o' g at d y qs more)
+  served_writing : (at : AtFields) (d : SdwFields) (x : Midstep S) (y : Midstep F) → Stand x y → o.sdw x.store g.dbr at.seg ≡ Ok d → within d at.word ≡ true → (ps qs : List Spot) → EachTwo Pair ps qs → (refs more : List Reference) → refs ≡ more → Serves Write x (write_answer o g at d x ps refs) (write_answer o' g at d y qs more)
   served_writing at d x y k live inside ps qs pairs refs more same =
       let m = L.marked x.store y.store k.mirrors Write at.seg at.word d live inside in
       let number = two_lengths Pair x.claims y.claims k.claims in
       alike (λ i. Ok (record { sdw = d; words = []; first = number i; place = 0 })) (record { mirrors = m; still = L.quiet y.store Write at.seg at.word ∙ k.still; claims = two_append Pair x.claims ps y.claims qs k.claims pairs; refs = same }) (λ e h. cc)
 
-  served_plain : (kind : RequestKind) (d : SdwFields) (place : ℕ) (x : Mid S) (y : Mid F) → Stand x y → Serves kind x (plain_answer d place x) (plain_answer d place y)
+  served_plain : (kind : RequestKind) (d : SdwFields) (place : ℕ) (x : Midstep S) (y : Midstep F) → Stand x y → Serves kind x (plain_answer d place x) (plain_answer d place y)
   served_plain kind d place x y k =
       let number = two_lengths Pair x.claims y.claims k.claims in
       alike (λ i. Ok (record { sdw = d; words = []; first = number i; place = place })) k (λ e h. cc)
 
-  served_place : (d : SdwFields) (x : Mid S) (y : Mid F) → Stand x y → (a b : ℕ) → Serves Locate x (plain_answer d a x) (plain_answer d b y)
+  served_place : (d : SdwFields) (x : Midstep S) (y : Midstep F) → Stand x y → (a b : ℕ) → Serves Locate x (plain_answer d a x) (plain_answer d b y)
   served_place d x y k a b =
       told_place refl _ _ refl refl (record { sdw = refl; words = refl; first = two_lengths Pair x.claims y.claims k.claims }) k
 
@@ -218,11 +218,11 @@ module _ {S F : Type 0} (o : Store S) (o' : Store F) (g : RegsFields) (M : S →
       by_test false x rest qs e = cc
 
   -- all words are found, or the first that is not is reported
-  abbrev serves_list : RequestKind → AtFields → ℕ → List Put → SdwFields → Mid S → Mid F → Result (List Spot) (ℕ × Refusal) → Result (List Spot) (ℕ × Refusal) → Type 0
+  abbrev serves_list : RequestKind → AtFields → ℕ → List Put → SdwFields → Midstep S → Midstep F → Result (List Spot) (ℕ × Refusal) → Result (List Spot) (ℕ × Refusal) → Type 0
   serves_list kind at count pending d x y v v' =
       Serves kind x (serve_places o g x (asked kind at count pending) d v) (serve_places o' g y (asked kind at count pending) d v')
 
-  lists_found : (kind : RequestKind) (at : AtFields) (count : ℕ) (pending : List Put) (d : SdwFields) (x : Mid S) (y : Mid F) → Stand x y → o.sdw x.store g.dbr at.seg ≡ Ok d → within d at.word ≡ true → (ps qs : List Spot) → EachTwo Pair ps qs → serves_list kind at count pending d x y (Ok ps) (Ok qs)
+  lists_found : (kind : RequestKind) (at : AtFields) (count : ℕ) (pending : List Put) (d : SdwFields) (x : Midstep S) (y : Midstep F) → Stand x y → o.sdw x.store g.dbr at.seg ≡ Ok d → within d at.word ≡ true → (ps qs : List Spot) → EachTwo Pair ps qs → serves_list kind at count pending d x y (Ok ps) (Ok qs)
   lists_found Fetch at count pending d x y k live inside ps qs pairs =
       served_reading Fetch at pending d x y k live inside ps qs pairs _ _ (ap (one_more Fetch at count pending) k.refs)
   lists_found Indirect at count pending d x y k live inside ps qs pairs =
@@ -238,7 +238,7 @@ module _ {S F : Type 0} (o : Store S) (o' : Store F) (g : RegsFields) (M : S →
   lists_found Locate at count pending d x y k live inside ps qs pairs =
       served_place d x y k (located Locate ps) (located Locate qs)
 
-  by_spots : (kind : RequestKind) (at : AtFields) (count : ℕ) (pending : List Put) (d : SdwFields) (x : Mid S) (y : Mid F) → Stand x y → o.sdw x.store g.dbr at.seg ≡ Ok d → (v v' : Result (List Spot) (ℕ × Refusal)) → ((ps : List Spot) → v ≡ Ok ps → within d at.word ≡ true) → AreSpotted Pair Lacks at.seg v v' → serves_list kind at count pending d x y v v'
+  by_spots : (kind : RequestKind) (at : AtFields) (count : ℕ) (pending : List Put) (d : SdwFields) (x : Midstep S) (y : Midstep F) → Stand x y → o.sdw x.store g.dbr at.seg ≡ Ok d → (v v' : Result (List Spot) (ℕ × Refusal)) → ((ps : List Spot) → v ≡ Ok ps → within d at.word ≡ true) → AreSpotted Pair Lacks at.seg v v' → serves_list kind at count pending d x y v v'
   by_spots kind at count pending d x y k live v v' inside (all_found ps qs e f pairs) =
       rw (e, f) (lists_found kind at count pending d x y k live (inside ps e) ps qs pairs)
   by_spots kind at count pending d x y k live v v' inside (refused_alike w why e f other) =
@@ -246,12 +246,12 @@ module _ {S F : Type 0} (o : Store S) (o' : Store F) (g : RegsFields) (M : S →
   by_spots kind at count pending d x y k live v v' inside (one_lacking w e lacks) =
       rw e (cut (fault_by absence (record { seg = at.seg; word = w; ring = at.ring })) refl refl lacks refl)
 
-  by_target : (kind : RequestKind) (at : AtFields) (count : ℕ) (pending : List Put) (d : SdwFields) (x : Mid S) (y : Mid F) → Stand x y → (b : Bool) → ((place : ℕ) → serves_list kind at count pending d x y (Ok []) (Ok [])) → serves_list kind at count pending d x y (bound_only b at.word) (bound_only b at.word)
+  by_target : (kind : RequestKind) (at : AtFields) (count : ℕ) (pending : List Put) (d : SdwFields) (x : Midstep S) (y : Midstep F) → Stand x y → (b : Bool) → ((place : ℕ) → serves_list kind at count pending d x y (Ok []) (Ok [])) → serves_list kind at count pending d x y (bound_only b at.word) (bound_only b at.word)
   by_target kind at count pending d x y k true found = found 0
   by_target kind at count pending d x y k false found =
       refused_both kind (fault_by (violation 15) at) x y k (other_number 20 refl)
 
-  by_places : (kind : RequestKind) (at : AtFields) (count : ℕ) (pending : List Put) → 1 ≤ count → (d : SdwFields) (x : Mid S) (y : Mid F) → Stand x y → o.sdw x.store g.dbr at.seg ≡ Ok d → in_order d ≡ true → serves_list kind at count pending d x y (places o x.store g.dbr d (asked kind at count pending)) (places o' y.store g.dbr d (asked kind at count pending))
+  by_places : (kind : RequestKind) (at : AtFields) (count : ℕ) (pending : List Put) → 1 ≤ count → (d : SdwFields) (x : Midstep S) (y : Midstep F) → Stand x y → o.sdw x.store g.dbr at.seg ≡ Ok d → in_order d ≡ true → serves_list kind at count pending d x y (places o x.store g.dbr d (asked kind at count pending)) (places o' y.store g.dbr d (asked kind at count pending))
   unfolding places
   by_places Transfer at count pending some d x y k live ordered =
       by_target Transfer at count pending d x y k (within d at.word) (λ place. served_plain Transfer d 0 x y k)
@@ -260,20 +260,20 @@ module _ {S F : Type 0} (o : Store S) (o' : Store F) (g : RegsFields) (M : S →
   by_places kind at count pending some d x y k live ordered =
       by_spots kind at count pending d x y k live _ _ (λ ps e. first_within x.store d at.seg at.word count some ps e) (spots_mirror x.store y.store k.mirrors d at.seg live ordered at.word count)
 
-  by_rights : (kind : RequestKind) (at : AtFields) (count : ℕ) (pending : List Put) → 1 ≤ count → (d : SdwFields) (x : Mid S) (y : Mid F) → Stand x y → o.sdw x.store g.dbr at.seg ≡ Ok d → (v : Option ℕ) → denied kind d at.ring g.ppr.prr (at.seg == g.ppr.psr) at.word ≡ v → Serves kind x (serve_rights o g x (asked kind at count pending) d v) (serve_rights o' g y (asked kind at count pending) d v)
+  by_rights : (kind : RequestKind) (at : AtFields) (count : ℕ) (pending : List Put) → 1 ≤ count → (d : SdwFields) (x : Midstep S) (y : Midstep F) → Stand x y → o.sdw x.store g.dbr at.seg ≡ Ok d → (v : Option ℕ) → denied kind d at.ring g.ppr.prr (at.seg == g.ppr.psr) at.word ≡ v → Serves kind x (serve_rights o g x (asked kind at count pending) d v) (serve_rights o' g y (asked kind at count pending) d v)
   by_rights kind at count pending some d x y k live (Some acv) e =
       refused_both kind (fault_by (violation acv) at) x y k (other_number 20 refl)
   by_rights kind at count pending some d x y k live None e =
       by_places kind at count pending some d x y k live (denied_order kind d at.ring g.ppr.prr (at.seg == g.ppr.psr) at.word e)
 
-  by_sdw : (kind : RequestKind) (at : AtFields) (count : ℕ) (pending : List Put) → 1 ≤ count → (x : Mid S) (y : Mid F) → Stand x y → (v : Result SdwFields Refusal) → o.sdw x.store g.dbr at.seg ≡ v → Serves kind x (serve_sdw o g x (asked kind at count pending) v) (serve_sdw o' g y (asked kind at count pending) v)
+  by_sdw : (kind : RequestKind) (at : AtFields) (count : ℕ) (pending : List Put) → 1 ≤ count → (x : Midstep S) (y : Midstep F) → Stand x y → (v : Result SdwFields Refusal) → o.sdw x.store g.dbr at.seg ≡ v → Serves kind x (serve_sdw o g x (asked kind at count pending) v) (serve_sdw o' g y (asked kind at count pending) v)
   by_sdw kind at count pending some x y k (Err why) e =
       refused_both kind (fault_by why at) x y k (L.dead x.store y.store k.mirrors at.seg why e)
   by_sdw kind at count pending some x y k (Ok d) e = by_rights kind at count pending some d x y k e _ refl
 
   -- One request has the same result over both stores, or the first store lacks a word, or both
   -- report a core address.
-  pub serve_mirrors : (x : Mid S) (y : Mid F) → Stand x y → (q : Request) → 1 ≤ q.count → Serves q.kind x (serve o g x q) (serve o' g y q)
+  pub serve_mirrors : (x : Midstep S) (y : Midstep F) → Stand x y → (q : Request) → 1 ≤ q.count → Serves q.kind x (serve o g x q) (serve o' g y q)
   unfolding serve
   serve_mirrors x y k q some =
       let there = L.sdw x.store y.store k.mirrors q.at.seg in
@@ -333,28 +333,28 @@ module _ {A S F : Type 0} (o : Store S) (o' : Store F) (g : RegsFields) (M : S �
   asks_reply q next h (Ok a) others = h.2 a
   asks_reply q next h (Err f) others = stopped (next (Err f)) f (h.1 f) (others f refl)
 
-  cut_run : (m : Act A) (f : Fault) → Stops stop f m → f.number ≡ 17 → Lacks f.at.seg f.at.word → (x : Mid S) (y : Ran A F) → M x.store start → Ends (run o g m x) y
+  cut_run : (m : Act A) (f : Fault) → Stops stop f m → f.number ≡ 17 → Lacks f.at.seg f.at.word → (x : Midstep S) (y : Ran A F) → M x.store start → Ends (run o g m x) y
   unfolding run
   cut_run (done a) f h is lacks x y mirrors = lacked f is lacks h mirrors
   cut_run (ask q next) f h is lacks x y mirrors = absurd h
 
-  two_run : (m n : Act A) → EndTwo R m n → (x : Mid S) (y : Mid F) → AreMids M Pair start x y → Ends (run o g m x) (run o' g n y)
+  two_run : (m n : Act A) → EndTwo R m n → (x : Midstep S) (y : Midstep F) → AreMids M Pair start x y → Ends (run o g m x) (run o' g n y)
   unfolding run
   two_run (done a) (done b) h x y k = placed_apart h k
   two_run (done a) (ask q next) h x y k = absurd h
   two_run (ask q next) n h x y k = absurd h
 
-  by_served : (q : Request) (next : Result Answer Fault → Act A) → Asks post stop R (ask q next) → (x : Mid S) → M x.store start → (t : Served S) (u : Served F) → IsServed M Pair Lacks start q.kind x t u → ((reply : Result Answer Fault) (a : Mid S) (b : Mid F) → Asks post stop R (next reply) → AreMids M Pair start a b → Ends (run o g (next reply) a) (run o' g (next reply) b)) → Ends (run o g (next t.reply) t.mid) (run o' g (next u.reply) u.mid)
+  by_served : (q : Request) (next : Result Answer Fault → Act A) → Asks post stop R (ask q next) → (x : Midstep S) → M x.store start → (t : Served S) (u : Served F) → IsServed M Pair Lacks start q.kind x t u → ((reply : Result Answer Fault) (a : Midstep S) (b : Midstep F) → Asks post stop R (next reply) → AreMids M Pair start a b → Ends (run o g (next reply) a) (run o' g (next reply) b)) → Ends (run o g (next t.reply) t.mid) (run o' g (next u.reply) u.mid)
   by_served q next h x mirrors t u (alike e mids others) rest =
       subst (λ (r : Result Answer Fault). Ends (run o g (next t.reply) t.mid) (run o' g (next r) u.mid)) e (rest t.reply t.mid u.mid (asks_reply q next h t.reply others) mids)
   by_served q next h x mirrors t u (cut f e is lacks mid) rest =
-      subst (λ (r : Result Answer Fault). Ends (run o g (next r) t.mid) (run o' g (next u.reply) u.mid)) (sym e) (cut_run (next (Err f)) f (h.1 f) is lacks t.mid _ (subst (λ (m : Mid S). M m.store start) (sym mid) mirrors))
+      subst (λ (r : Result Answer Fault). Ends (run o g (next r) t.mid) (run o' g (next u.reply) u.mid)) (sym e) (cut_run (next (Err f)) f (h.1 f) is lacks t.mid _ (subst (λ (m : Midstep S). M m.store start) (sym mid) mirrors))
   by_served q next h x mirrors t u (told_place kind a b e f near mids) rest =
       rw (e, f) (two_run (next (Ok a)) (next (Ok b)) (h.3 kind a b near) t.mid u.mid mids)
 
   -- A run has the same result over both stores, or ends at a word that the first lacks, or reports
   -- a core address.
-  pub run_mirrors : (m : Act A) (x : Mid S) (y : Mid F) → Asks post stop R m → AreMids M Pair start x y → Ends (run o g m x) (run o' g m y)
+  pub run_mirrors : (m : Act A) (x : Midstep S) (y : Midstep F) → Asks post stop R m → AreMids M Pair start x y → Ends (run o g m x) (run o' g m y)
   unfolding run
   run_mirrors (done a) x y h k = same refl k h
   run_mirrors (ask q next) x y h k =

@@ -4,7 +4,7 @@ use Rattle.std.proofs.Common.{◌≡◌, refl, sym, ◌∙◌, ap, subst, arith}
 use Rattle.std.specs.Prelude.{ℕ, zero, suc, ◌+◌, ◌/◌, ◌≢◌, ◌⊎◌, List, [], ◌∷◌, Option, Some, None}
 use Rattle.std.proofs.Common.{inl, inr}
 use Rattle.m36_model.specs.Registers.{RegsFields}
-use Rattle.m36_model.specs.Store.{Mid, State, run}
+use Rattle.m36_model.specs.Store.{Midstep, State, run}
 use Rattle.m36_model.specs.StoreLaw.{Each}
 use Rattle.m36_model.specs.Core.{core_store}
 use Rattle.m36_model.specs.Step.{Ending, program, record_of}
@@ -76,7 +76,7 @@ module _ (frames : ℕ) where
     laid : IsLaid s.memory.core frames
     reaches : ReachesState k s.regs s.memory.core
 
-  abbrev begin : {S : Type 0} → S → Mid S
+  abbrev begin : {S : Type 0} → S → Midstep S
   begin s = record { store = s; claims = []; refs = [] }
 
   -- the beginning of two steps over one flat memory

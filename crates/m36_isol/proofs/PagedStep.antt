@@ -4,7 +4,7 @@ use Rattle.std.specs.Prelude.{ℕ, ◌⊎◌, List, []}
 use Rattle.m36_desc.specs.Fields.{DbrFields}
 use Rattle.m36_model.specs.Registers.{RegsFields}
 use Rattle.m36_model.specs.Act.{Put}
-use Rattle.m36_model.specs.Store.{Spot, Mid, Ran, State, changes}
+use Rattle.m36_model.specs.Store.{Spot, Midstep, Ran, State, changes}
 use Rattle.m36_model.specs.Core.{core_store, core_put}
 use Rattle.m36_model.specs.Laws.{ExecutesLdbr}
 use Rattle.m36_model.specs.Step.{Ending, program, start, ran, step_record, stepped, record_of, state_after}
@@ -52,7 +52,7 @@ module _ (frames : ℕ) (kept : ℕ → ℕ → ℕ) (g : RegsFields) (core : Li
       }
 
   -- both steps write the same words
-  puts_alike : (x : Mid (List ℕ)) (y : Mid Flat) → AreMids M Pair there.store x y → (puts others : List Put) → puts ≡ others → M (core_put x.store (changes x.claims puts)) (flat_put y.store (changes y.claims others))
+  puts_alike : (x : Midstep (List ℕ)) (y : Midstep Flat) → AreMids M Pair there.store x y → (puts others : List Put) → puts ≡ others → M (core_put x.store (changes x.claims puts)) (flat_put y.store (changes y.claims others))
   puts_alike x y k puts others e =
       let pairs = paired_changes Pair x.claims y.claims k.claims puts in
       subst (λ (l : List Put). M (core_put x.store (changes x.claims puts)) (flat_put y.store (changes y.claims l))) e (mirrors.put x.store y.store k.mirrors (changes x.claims puts) (changes y.claims puts) pairs)

@@ -6,7 +6,7 @@ use Rattle.m36_desc.specs.Access.{in_order}
 use Rattle.m36_model.specs.Fields.{AtFields}
 use Rattle.m36_model.specs.Registers.{RegsFields}
 use Rattle.m36_model.specs.Act.{RequestKind, Fetch, Indirect, Odd, Read, Write, Transfer, Call, Locate, Request, Answer, Act, done, ask}
-use Rattle.m36_model.specs.Store.{Spot, Store, Mid, Served, violation, refused, within, placed_next, placed_one, spots_of, places_by, places, bound_only, is_target, touches, denied, serve, serve_sdw, serve_rights, serve_places, with_odd, with_reference, run}
+use Rattle.m36_model.specs.Store.{Spot, Store, Midstep, Served, violation, refused, within, placed_next, placed_one, spots_of, places_by, places, bound_only, is_target, touches, denied, serve, serve_sdw, serve_rights, serve_places, with_odd, with_reference, run}
 use Rattle.m36_model.specs.StoreLaw.{Each}
 use Rattle.m36_model.specs.Core.{core_store}
 use Rattle.m36_model.specs.Step.{record_of, start, program}
@@ -22,13 +22,13 @@ use Rattle.m36_isol.proofs.Plan.{adds, cost, last_by, FollowsEven, Follows, Plan
 
 module _ {S : Type 0} (o : Store S) (g : RegsFields) where
   -- why a request is refused
-  pub data IsCause (m : Mid S) (q : Request) (why : Refusal) (w : ℕ) : Type 0 where
+  pub data IsCause (m : Midstep S) (q : Request) (why : Refusal) (w : ℕ) : Type 0 where
     no_descriptor : o.sdw m.store g.dbr q.at.seg ≡ Err why → IsCause m q why w
     no_right : why.number ≡ 20 → IsCause m q why w
     no_place : (d : SdwFields) → places o m.store g.dbr d q ≡ Err (w, why) → IsCause m q why w
 
   -- a request is refused at one of its words and changes nothing, or its words have spots
-  pub data IsReplied (m : Mid S) (q : Request) (t : Served S) : Type 0 where
+  pub data IsReplied (m : Midstep S) (q : Request) (t : Served S) : Type 0 where
     is_refused : (why : Refusal) (w : ℕ) → t ≡ refused m q w why → q.at.word ≤ w → w < q.at.word + q.count → IsCause m q why w → IsReplied m q t
     is_answered : (a : Answer) → t.reply ≡ Ok a → t.mid.refs ≡ with_reference q.kind q m.refs → (d : SdwFields) → o.sdw m.store g.dbr q.at.seg ≡ Ok d → in_order d ≡ true → (spots : List Spot) → places o m.store g.dbr d q ≡ Ok spots → IsReplied m q t
 
@@ -67,24 +67,24 @@ module _ {S : Type 0} (o : Store S) (g : RegsFields) where
   unfolding places
   places_range s d q e some h = parts_range (is_target q.kind) s d q e some h
 
-  replied_places : (m : Mid S) (q : Request) (d : SdwFields) → 1 ≤ q.count → o.sdw m.store g.dbr q.at.seg ≡ Ok d → in_order d ≡ true → (v : Result (List Spot) (ℕ × Refusal)) → places o m.store g.dbr d q ≡ v → IsReplied m q (serve_places o g m q d v)
+  replied_places : (m : Midstep S) (q : Request) (d : SdwFields) → 1 ≤ q.count → o.sdw m.store g.dbr q.at.seg ≡ Ok d → in_order d ≡ true → (v : Result (List Spot) (ℕ × Refusal)) → places o m.store g.dbr d q ≡ v → IsReplied m q (serve_places o g m q d v)
   replied_places m q d some live ordered (Err e) h =
       let k = places_range m.store d q e some h in
       is_refused e.1 e.0 refl k.0 k.1 (no_place d h)
   replied_places m q d some live ordered (Ok spots) h = is_answered _ refl refl d live ordered spots h
 
-  replied_rights : (m : Mid S) (q : Request) (d : SdwFields) → 1 ≤ q.count → o.sdw m.store g.dbr q.at.seg ≡ Ok d → (v : Option ℕ) → denied q.kind d q.at.ring g.ppr.prr (q.at.seg == g.ppr.psr) q.at.word ≡ v → IsReplied m q (serve_rights o g m q d v)
+  replied_rights : (m : Midstep S) (q : Request) (d : SdwFields) → 1 ≤ q.count → o.sdw m.store g.dbr q.at.seg ≡ Ok d → (v : Option ℕ) → denied q.kind d q.at.ring g.ppr.prr (q.at.seg == g.ppr.psr) q.at.word ≡ v → IsReplied m q (serve_rights o g m q d v)
   replied_rights m q d some live (Some acv) h =
       is_refused (violation acv) q.at.word refl (omega arith) (omega arith) (no_right refl)
   replied_rights m q d some live None h =
       replied_places m q d some live (denied_order q.kind d q.at.ring g.ppr.prr (q.at.seg == g.ppr.psr) q.at.word h) _ refl
 
-  replied_sdw : (m : Mid S) (q : Request) → 1 ≤ q.count → (v : Result SdwFields Refusal) → o.sdw m.store g.dbr q.at.seg ≡ v → IsReplied m q (serve_sdw o g m q v)
+  replied_sdw : (m : Midstep S) (q : Request) → 1 ≤ q.count → (v : Result SdwFields Refusal) → o.sdw m.store g.dbr q.at.seg ≡ v → IsReplied m q (serve_sdw o g m q v)
   replied_sdw m q some (Err why) h =
       is_refused why q.at.word refl (omega arith) (omega arith) (no_descriptor h)
   replied_sdw m q some (Ok d) h = replied_rights m q d some h _ refl
 
-  pub serve_replied : (m : Mid S) (q : Request) → 1 ≤ q.count → IsReplied m q (serve o g m q)
+  pub serve_replied : (m : Midstep S) (q : Request) → 1 ≤ q.count → IsReplied m q (serve o g m q)
   unfolding serve
   serve_replied m q some = replied_sdw m q some (o.sdw m.store g.dbr q.at.seg) refl
 
@@ -130,7 +130,7 @@ module _ {S : Type 0} (o : Store S) (g : RegsFields) where
   other_number : (n : ℕ) → n ≡ 20 → n ≢ 17
   other_number n e h = omega arith
 
-  pub target_number : (m : Mid S) (q : Request) (why : Refusal) (w : ℕ) → ((why : Refusal) → o.sdw m.store g.dbr q.at.seg ≡ Err why → why.number ≢ 17) → is_target q.kind ≡ true → IsCause m q why w → why.number ≢ 17
+  pub target_number : (m : Midstep S) (q : Request) (why : Refusal) (w : ℕ) → ((why : Refusal) → o.sdw m.store g.dbr q.at.seg ≡ Err why → why.number ≢ 17) → is_target q.kind ≡ true → IsCause m q why w → why.number ≢ 17
   target_number m q why w dead target (no_descriptor e) = dead why e
   target_number m q why w dead target (no_right e) = other_number why.number e
   target_number m q why w dead target (no_place d e) =
@@ -172,7 +172,7 @@ cost_least true j k h = omega arith
 cost_least false j k h = h
 
 module _ {A S : Type 0} (o : Store S) (g : RegsFields) (post : ℕ → ℕ → A → Type 0) where
-  served_count : (m : Mid S) (q : Request) (j k : ℕ) → cost (adds q.kind) j ≤ k → (t : Served S) → IsReplied o g m q t → length t.mid.refs + j ≤ length m.refs + k
+  served_count : (m : Midstep S) (q : Request) (j k : ℕ) → cost (adds q.kind) j ≤ k → (t : Served S) → IsReplied o g m q t → length t.mid.refs + j ≤ length m.refs + k
   served_count m q j k h t (is_refused why w e low high cause) =
       let same : length t.mid.refs ≡ length m.refs = ap (λ (x : Served S). length x.mid.refs) e in
       let least = cost_least (adds q.kind) j k h in
@@ -183,7 +183,7 @@ module _ {A S : Type 0} (o : Store S) (g : RegsFields) (post : ℕ → ℕ → A
       omega arith
 
   -- a program that records at most k references records no more
-  pub references_few : (n k : ℕ) (last : Option AtFields) (p : Act A) (m : Mid S) → Plan post n k last p → length (run o g p m).mid.refs ≤ length m.refs + k
+  pub references_few : (n k : ℕ) (last : Option AtFields) (p : Act A) (m : Midstep S) → Plan post n k last p → length (run o g p m).mid.refs ≤ length m.refs + k
   unfolding run
   references_few n k last (done a) m h = omega arith
   references_few n k last (ask q next) m h =
@@ -294,13 +294,13 @@ module _ (K : ℕ → ℕ → Type 0) where
   all_known Locate q refs last follows here h = h
 
 module _ {A S : Type 0} (o : Store S) (g : RegsFields) (post : ℕ → ℕ → A → Type 0) (K : ℕ → ℕ → Type 0) where
-  known_served : (m : Mid S) (q : Request) (last : Option AtFields) → Follows q.kind last q.at → EndsAt m.refs last → (t : Served S) → IsReplied o g m q t → Each (On K) t.mid.refs → Each (On K) m.refs
+  known_served : (m : Midstep S) (q : Request) (last : Option AtFields) → Follows q.kind last q.at → EndsAt m.refs last → (t : Served S) → IsReplied o g m q t → Each (On K) t.mid.refs → Each (On K) m.refs
   known_served m q last follows ends t (is_refused why w e low high cause) h =
       subst (Each (On K)) (ap (λ (x : Served S). x.mid.refs) e) h
   known_served m q last follows ends t (is_answered a reply refs d live ordered spots found) h =
       (was_known K q.kind q m.refs last follows ends (subst (Each (On K)) refs h)).before
 
   -- a program that is done, or one that begins where its last reference was
-  abbrev pub Begins : Act A → Mid S → Option AtFields → Type 0
+  abbrev pub Begins : Act A → Midstep S → Option AtFields → Type 0
   Begins (done a) m last = Unit {0}
   Begins (ask q next) m last = EndsAt m.refs last

@@ -7,7 +7,7 @@ use Rattle.m36_desc.specs.Access.{in_order}
 use Rattle.m36_model.specs.Fields.{AtFields}
 use Rattle.m36_model.specs.Registers.{RegsFields}
 use Rattle.m36_model.specs.Act.{RequestKind, Fetch, Indirect, Odd, Read, Write, Transfer, Call, Locate, Request, Answer, Act, done, ask}
-use Rattle.m36_model.specs.Store.{Spot, Mid, Served, violation, fault_by, within, place, place_by, place_within, when_ordered, places, is_target, touches, with_reference, serve}
+use Rattle.m36_model.specs.Store.{Spot, Midstep, Served, violation, fault_by, within, place, place_by, place_within, when_ordered, places, is_target, touches, with_reference, serve}
 use Rattle.m36_model.specs.Core.{core_store}
 use Rattle.m36_model.specs.Place.{core_sdw, core_spot}
 use Rattle.m36_model.specs.Flat.{Flat, flat_store}
@@ -148,7 +148,7 @@ module _ (core : List ℕ) (frames : ℕ) (laid : IsLaid core frames) where
     abbrev Pair : Spot → Spot → Type 0
     Pair p q = IsPair core frames laid kept p q
 
-    abbrev pub Stand : Mid (List ℕ) → Mid Flat → Type 0
+    abbrev pub Stand : Midstep (List ℕ) → Midstep Flat → Type 0
     Stand x y = AreMids M Pair start x y
 
     mirrors : Mirrors core_store flat_store g.dbr M Pair (Lacks core)
@@ -156,7 +156,7 @@ module _ (core : List ℕ) (frames : ℕ) (laid : IsLaid core frames) where
         subst (λ (d : DbrFields). Mirrors core_store flat_store d M Pair (Lacks core)) (sym dbr) (booted_mirrors core frames laid kept)
 
     -- the page of an answered reference is in a frame
-    answered_holds : (x : Mid (List ℕ)) (y : Mid Flat) → Stand x y → (q : Request) → is_target q.kind ≡ false → 1 ≤ q.count → (d : SdwFields) → core_sdw x.store g.dbr q.at.seg ≡ Ok d → (spots : List Spot) → places core_store x.store g.dbr d q ≡ Ok spots → HoldsAt core q.at
+    answered_holds : (x : Midstep (List ℕ)) (y : Midstep Flat) → Stand x y → (q : Request) → is_target q.kind ≡ false → 1 ≤ q.count → (d : SdwFields) → core_sdw x.store g.dbr q.at.seg ≡ Ok d → (spots : List Spot) → places core_store x.store g.dbr d q ≡ Ok spots → HoldsAt core q.at
     answered_holds x y k q plain some d live spots found page absent =
         let p = places_placed core_store g x.store d q spots plain some found in
         let matching = k.mirrors.matching in
@@ -173,7 +173,7 @@ module _ (core : List ℕ) (frames : ℕ) (laid : IsLaid core frames) where
       pub seg : f.at.seg ≡ q.at.seg
       pub page : f.at.word / 1024 ≡ q.at.word / 1024
 
-    fault_place : (x : Mid (List ℕ)) (q : Request) → InPage q → (t : Served (List ℕ)) → IsReplied core_store g x q t → (f : Fault) → t.reply ≡ Err f → (f.at.seg ≡ q.at.seg) × (f.at.word / 1024 ≡ q.at.word / 1024)
+    fault_place : (x : Midstep (List ℕ)) (q : Request) → InPage q → (t : Served (List ℕ)) → IsReplied core_store g x q t → (f : Fault) → t.reply ≡ Err f → (f.at.seg ≡ q.at.seg) × (f.at.word / 1024 ≡ q.at.word / 1024)
     fault_place x q inside t (is_refused why w e low high cause) f h =
         let reply : t.reply ≡ Err (fault_by why (record { seg = q.at.seg; word = w; ring = q.at.ring })) = ap (λ (s : Served (List ℕ)). s.reply) e in
         let same : fault_by why (record { seg = q.at.seg; word = w; ring = q.at.ring }) ≡ f = cc in
@@ -182,7 +182,7 @@ module _ (core : List ℕ) (frames : ℕ) (laid : IsLaid core frames) where
         (sym (ap (λ (x : Fault). x.at.seg) same), omega arith)
     fault_place x q inside t (is_answered a reply refs d live ordered spots found) f h = cc
 
-    cut_here : (x : Mid (List ℕ)) (q : Request) → InPage q → (f : Fault) → (serve core_store g x q).reply ≡ Err f → Lacks core f.at.seg f.at.word → IsCutHere q f
+    cut_here : (x : Midstep (List ℕ)) (q : Request) → InPage q → (f : Fault) → (serve core_store g x q).reply ≡ Err f → Lacks core f.at.seg f.at.word → IsCutHere q f
     cut_here x q inside f h lacks =
         let at = fault_place x q inside (serve core_store g x q) (serve_replied core_store g x q inside.1) f h in
         let seg = at.0 in
@@ -195,18 +195,18 @@ module _ (core : List ℕ) (frames : ℕ) (laid : IsLaid core frames) where
         }
 
     -- a request of a step
-    pub data IsOn {A : Type 0} (x : Mid (List ℕ)) (y : Mid Flat) (q : Request) (next : Result Answer Fault → Act A) : Type 0 where
+    pub data IsOn {A : Type 0} (x : Midstep (List ℕ)) (y : Midstep Flat) (q : Request) (next : Result Answer Fault → Act A) : Type 0 where
       goes_on : (a : Answer) → (serve core_store g x q).reply ≡ Ok a → (serve flat_store g y q).reply ≡ Ok a → Stand (serve core_store g x q).mid (serve flat_store g y q).mid → (has_page q.kind ≡ true → touches q.kind ≡ true) → IsOn x y q next
       is_over : (v : Result Answer Fault) → (serve core_store g x q).reply ≡ v → IsOver (next v) → IsThere v → IsOn x y q next
       is_away : (f : Fault) → (serve core_store g x q).reply ≡ Err f → f.number ≡ 17 → IsOver (next (Err f)) → IsCutHere q f → IsOn x y q next
 
-    on_reply : {A : Type 0} (post : A → Type 0) (stop : Fault → A → Type 0) (R : A → A → Type 0) (x : Mid (List ℕ)) (y : Mid Flat) (q : Request) (next : Result Answer Fault → Act A) → Asks post stop R (ask q next) → (serve core_store g x q).reply ≡ (serve flat_store g y q).reply → Stand (serve core_store g x q).mid (serve flat_store g y q).mid → ((f : Fault) → (serve core_store g x q).reply ≡ Err f → f.number ≢ 17) → (v : Result Answer Fault) → (serve core_store g x q).reply ≡ v → IsOn x y q next
+    on_reply : {A : Type 0} (post : A → Type 0) (stop : Fault → A → Type 0) (R : A → A → Type 0) (x : Midstep (List ℕ)) (y : Midstep Flat) (q : Request) (next : Result Answer Fault → Act A) → Asks post stop R (ask q next) → (serve core_store g x q).reply ≡ (serve flat_store g y q).reply → Stand (serve core_store g x q).mid (serve flat_store g y q).mid → ((f : Fault) → (serve core_store g x q).reply ≡ Err f → f.number ≢ 17) → (v : Result Answer Fault) → (serve core_store g x q).reply ≡ v → IsOn x y q next
     on_reply post stop R x y q next asks both mids others (Ok a) e =
         ⊎_elim (λ seen. goes_on a e (sym both ∙ e) mids seen) (λ located. is_over (Ok a) e (two_over R (next (Ok a)) (asks.3 located a a (record { sdw = refl; words = refl; first = refl }))) tt) (seen_or_located q.kind)
     on_reply post stop R x y q next asks both mids others (Err f) e =
         is_over (Err f) e (stops_over stop f (next (Err f)) (asks.1 f)) (others f e)
 
-    on_served : {A : Type 0} (post : A → Type 0) (stop : Fault → A → Type 0) (R : A → A → Type 0) (x : Mid (List ℕ)) (y : Mid Flat) (q : Request) (next : Result Answer Fault → Act A) → Asks post stop R (ask q next) → InPage q → IsServed M Pair (Lacks core) start q.kind x (serve core_store g x q) (serve flat_store g y q) → IsOn x y q next
+    on_served : {A : Type 0} (post : A → Type 0) (stop : Fault → A → Type 0) (R : A → A → Type 0) (x : Midstep (List ℕ)) (y : Midstep Flat) (q : Request) (next : Result Answer Fault → Act A) → Asks post stop R (ask q next) → InPage q → IsServed M Pair (Lacks core) start q.kind x (serve core_store g x q) (serve flat_store g y q) → IsOn x y q next
     on_served post stop R x y q next asks inside (alike e mids others) =
         on_reply post stop R x y q next asks e mids others _ refl
     on_served post stop R x y q next asks inside (cut f e is lacks mid) =
@@ -214,28 +214,28 @@ module _ (core : List ℕ) (frames : ℕ) (laid : IsLaid core frames) where
     on_served post stop R x y q next asks inside (told_place located a b e f near mids) =
         is_over (Ok a) e (two_over R (next (Ok a)) (asks.3 located a a (record { sdw = refl; words = refl; first = refl }))) tt
 
-    pub one_request : {A : Type 0} (post : A → Type 0) (stop : Fault → A → Type 0) (R : A → A → Type 0) (x : Mid (List ℕ)) (y : Mid Flat) (q : Request) (next : Result Answer Fault → Act A) → Asks post stop R (ask q next) → InPage q → Stand x y → IsOn x y q next
+    pub one_request : {A : Type 0} (post : A → Type 0) (stop : Fault → A → Type 0) (R : A → A → Type 0) (x : Midstep (List ℕ)) (y : Midstep Flat) (q : Request) (next : Result Answer Fault → Act A) → Asks post stop R (ask q next) → InPage q → Stand x y → IsOn x y q next
     one_request post stop R x y q next asks inside k =
         on_served post stop R x y q next asks inside (serve_mirrors core_store flat_store g M Pair (Lacks core) mirrors start x y k q inside.1)
 
     -- a target has no page
-    target_by : (x : Mid (List ℕ)) (y : Mid Flat) → Stand x y → (q : Request) → is_target q.kind ≡ true → (t : Served (List ℕ)) → IsReplied core_store g x q t → (f : Fault) → t.reply ≡ Err f → f.number ≢ 17
+    target_by : (x : Midstep (List ℕ)) (y : Midstep Flat) → Stand x y → (q : Request) → is_target q.kind ≡ true → (t : Served (List ℕ)) → IsReplied core_store g x q t → (f : Fault) → t.reply ≡ Err f → f.number ≢ 17
     target_by x y k q target t (is_refused why w e low high cause) f h number =
         let reply : t.reply ≡ Err (fault_by why (record { seg = q.at.seg; word = w; ring = q.at.ring })) = ap (λ (s : Served (List ℕ)). s.reply) e in
         let same : fault_by why (record { seg = q.at.seg; word = w; ring = q.at.ring }) ≡ f = cc in
         target_number core_store g x q why w (λ other live. mirrors.dead x.store y.store k.mirrors q.at.seg other live) target cause (ap (λ (x : Fault). x.number) same ∙ number)
     target_by x y k q target t (is_answered a reply refs d live ordered spots found) f h number = cc
 
-    pub target_there : (x : Mid (List ℕ)) (y : Mid Flat) → Stand x y → (q : Request) → InPage q → is_target q.kind ≡ true → (f : Fault) → (serve core_store g x q).reply ≡ Err f → f.number ≢ 17
+    pub target_there : (x : Midstep (List ℕ)) (y : Midstep Flat) → Stand x y → (q : Request) → InPage q → is_target q.kind ≡ true → (f : Fault) → (serve core_store g x q).reply ≡ Err f → f.number ≢ 17
     target_there x y k q inside target f h =
         target_by x y k q target (serve core_store g x q) (serve_replied core_store g x q inside.1) f h
 
     -- the reference that an answered request records, and its page
-    pub record IsRead (x : Mid (List ℕ)) (q : Request) : Type 0 where
+    pub record IsRead (x : Midstep (List ℕ)) (q : Request) : Type 0 where
       pub refs : (serve core_store g x q).mid.refs ≡ with_reference q.kind q x.refs
       pub holds : has_page q.kind ≡ true → HoldsAt core q.at
 
-    read_by : (x : Mid (List ℕ)) (y : Mid Flat) → Stand x y → (q : Request) → InPage q → IsReplied core_store g x q (serve core_store g x q) → (a : Answer) → (serve core_store g x q).reply ≡ Ok a → IsRead x q
+    read_by : (x : Midstep (List ℕ)) (y : Midstep Flat) → Stand x y → (q : Request) → InPage q → IsReplied core_store g x q (serve core_store g x q) → (a : Answer) → (serve core_store g x q).reply ≡ Ok a → IsRead x q
     read_by x y k q inside (is_refused why w e low high cause) a h =
         let reply = ap (λ (s : Served (List ℕ)). s.reply) e in
         absurd (not_answered _ _ a reply h)
@@ -245,7 +245,7 @@ module _ (core : List ℕ) (frames : ℕ) (laid : IsLaid core frames) where
     read_by x y k q inside (is_answered b reply refs d live ordered spots found) a h =
         record { refs = refs; holds = λ page. answered_holds x y k q (target_page q.kind page) inside.1 d live spots found }
 
-    pub was_read : (x : Mid (List ℕ)) (y : Mid Flat) → Stand x y → (q : Request) → InPage q → (a : Answer) → (serve core_store g x q).reply ≡ Ok a → IsRead x q
+    pub was_read : (x : Midstep (List ℕ)) (y : Midstep Flat) → Stand x y → (q : Request) → InPage q → (a : Answer) → (serve core_store g x q).reply ≡ Ok a → IsRead x q
     was_read x y k q inside a h = read_by x y k q inside (serve_replied core_store g x q inside.1) a h
 
     -- a reference to the page of the reference before
@@ -259,12 +259,12 @@ module _ (core : List ℕ) (frames : ℕ) (laid : IsLaid core frames) where
         let same = and_parts (last.seg == at.seg) (last.word / 1024 == at.word / 1024) (not-false (same_page last at) h) in
         subst (λ (n : ℕ). Holds core n (at.word / 1024)) (eqb-true last.seg at.seg same.0) (subst (λ (n : ℕ). Holds core last.seg n) (eqb-true (last.word / 1024) (at.word / 1024) same.1) holds)
 
-    stale_page : (b : Bool) (x : Mid (List ℕ)) (y : Mid Flat) → Stand x y → (q : Request) (last : Option AtFields) → InPage q → has_page q.kind ≡ b → fresh last q ≡ false → HoldsLast core last → (f : Fault) → (serve core_store g x q).reply ≡ Err f → f.number ≡ 17 → IsCutHere q f → ⊥
+    stale_page : (b : Bool) (x : Midstep (List ℕ)) (y : Midstep Flat) → Stand x y → (q : Request) (last : Option AtFields) → InPage q → has_page q.kind ≡ b → fresh last q ≡ false → HoldsLast core last → (f : Fault) → (serve core_store g x q).reply ≡ Err f → f.number ≡ 17 → IsCutHere q f → ⊥
     stale_page true x y k q last inside page h holds f e number here =
         stale_by last q.at (and_false (has_page q.kind) (fresh_by last q.at) page h) holds here.absent.page_is here.absent.word
     stale_page false x y k q last inside page h holds f e number here =
         target_there x y k q inside (page_target q.kind page) f e number
 
-    pub stale : (x : Mid (List ℕ)) (y : Mid Flat) → Stand x y → (q : Request) (last : Option AtFields) → InPage q → fresh last q ≡ false → HoldsLast core last → (f : Fault) → (serve core_store g x q).reply ≡ Err f → f.number ≡ 17 → IsCutHere q f → ⊥
+    pub stale : (x : Midstep (List ℕ)) (y : Midstep Flat) → Stand x y → (q : Request) (last : Option AtFields) → InPage q → fresh last q ≡ false → HoldsLast core last → (f : Fault) → (serve core_store g x q).reply ≡ Err f → f.number ≡ 17 → IsCutHere q f → ⊥
     stale x y k q last inside h holds f e number here =
         stale_page (has_page q.kind) x y k q last inside refl h holds f e number here

@@ -9,7 +9,7 @@ use Rattle.m36_desc.specs.Access.{in_order}
 use Rattle.m36_model.specs.Fields.{AtFields}
 use Rattle.m36_model.specs.Registers.{RegsFields}
 use Rattle.m36_model.specs.Act.{RequestKind, Fetch, Indirect, Odd, Read, Write, Transfer, Call, Locate, Put, Request, Answer}
-use Rattle.m36_model.specs.Store.{Spot, Change, Store, Mid, Served, spots_of, places, changes, denied, serve, serve_sdw, serve_rights, serve_places, with_odd, located}
+use Rattle.m36_model.specs.Store.{Spot, Change, Store, Midstep, Served, spots_of, places, changes, denied, serve, serve_sdw, serve_rights, serve_places, with_odd, located}
 use Rattle.m36_model.specs.StoreLaw.{Each, IsWord, IsSpot, Lawful, overlay}
 use Rattle.m36_model.specs.declared.outcome.Fault.{Fault}
 use Rattle.m36_model.specs.declared.outcome.Refusal.{Refusal}
@@ -22,7 +22,7 @@ use Rattle.m36_isol.proofs.Alike.{Sees, Reaches, IsReached, IsAllowedReference, 
 use Rattle.m36_isol.proofs.Spots.{AreWords, same_spots, are_words, begins, each_append, each_change, each_map}
 
 module _ {S : Type 0} (o : Store S) (g : RegsFields) (Has : S → Type 0) (Lies : Spot → Type 0) (Near : S → S → Type 0) (L : Lawful o g.dbr Has Lies Near) (r : ℕ) (low : r ≤ g.ppr.prr) (first other : S) (equal : SeeEqual o L.sdws L.spots r first other) where
-  abbrev Stand : Mid S → Mid S → Type 0
+  abbrev Stand : Midstep S → Midstep S → Type 0
   Stand = Alike o Has Lies Near L.sdws L.spots r first other
 
   abbrev Serves : Request → Served S → Served S → Type 0
@@ -76,7 +76,7 @@ module _ {S : Type 0} (o : Store S) (g : RegsFields) (Has : S → Type 0) (Lies 
   Allows kind at d = denied kind d at.ring g.ppr.prr (at.seg == g.ppr.psr) at.word ≡ None
 
   -- the replies to a kind that reads, to a Write, and to a kind that leaves the store unchanged
-  abbrev read_answer : RequestKind → AtFields → List Put → SdwFields → Mid S → List Spot → List Reference → Served S
+  abbrev read_answer : RequestKind → AtFields → List Put → SdwFields → Midstep S → List Spot → List Reference → Served S
   read_answer kind at pending d m list refs =
       record {
         reply = Ok (record {
@@ -93,7 +93,7 @@ module _ {S : Type 0} (o : Store S) (g : RegsFields) (Has : S → Type 0) (Lies 
       let same : b ≡ a = cc in
       subst (λ (c : Answer). Known L.sdws g q c) same (record { live = live; allowed = allowed })
 
-  served_reading : (kind : RequestKind) (at : AtFields) (count : ℕ) (pending : List Put) (d : SdwFields) → L.sdws at.seg ≡ Ok d → Allows kind at d → Sees L.sdws r at.seg → (x y : Mid S) → Stand x y → (list : List Spot) (p : Spot) → IsWord L.sdws L.spots at.seg at.word p → AreWords L.sdws L.spots at.seg at.word list → (refs more : List Reference) → refs ≡ more → Each (IsAllowedReference L.sdws r) refs → Serves (asked kind at count pending) (read_answer kind at pending d x list refs) (read_answer kind at pending d y list more)
+  served_reading : (kind : RequestKind) (at : AtFields) (count : ℕ) (pending : List Put) (d : SdwFields) → L.sdws at.seg ≡ Ok d → Allows kind at d → Sees L.sdws r at.seg → (x y : Midstep S) → Stand x y → (list : List Spot) (p : Spot) → IsWord L.sdws L.spots at.seg at.word p → AreWords L.sdws L.spots at.seg at.word list → (refs more : List Reference) → refs ≡ more → Each (IsAllowedReference L.sdws r) refs → Serves (asked kind at count pending) (read_answer kind at pending d x list refs) (read_answer kind at pending d y list more)
   served_reading kind at count pending d live allowed sees x y k list p word words refs more same each =
       let s = o.marked x.store g.dbr kind at.seg at.word in
       let t = o.marked y.store g.dbr kind at.seg at.word in
@@ -109,14 +109,14 @@ module _ {S : Type 0} (o : Store S) (g : RegsFields) (Has : S → Type 0) (Lies 
         known = known_answer _ _ live allowed _ refl;
       }
 
-  abbrev write_answer : AtFields → SdwFields → Mid S → List Spot → List Reference → Served S
+  abbrev write_answer : AtFields → SdwFields → Midstep S → List Spot → List Reference → Served S
   write_answer at d m list refs =
       record {
         reply = Ok (record { sdw = d; first = length m.claims; place = 0; words = [] });
         mid = record { store = o.marked m.store g.dbr Write at.seg at.word; claims = m.claims ++ list; refs = refs };
       }
 
-  served_writing : (at : AtFields) (count : ℕ) (pending : List Put) (d : SdwFields) → L.sdws at.seg ≡ Ok d → Allows Write at d → Reaches L.sdws r at.seg → (x y : Mid S) → Stand x y → (list : List Spot) (p : Spot) → IsWord L.sdws L.spots at.seg at.word p → AreWords L.sdws L.spots at.seg at.word list → (refs more : List Reference) → refs ≡ more → Each (IsAllowedReference L.sdws r) refs → Serves (asked Write at count pending) (write_answer at d x list refs) (write_answer at d y list more)
+  served_writing : (at : AtFields) (count : ℕ) (pending : List Put) (d : SdwFields) → L.sdws at.seg ≡ Ok d → Allows Write at d → Reaches L.sdws r at.seg → (x y : Midstep S) → Stand x y → (list : List Spot) (p : Spot) → IsWord L.sdws L.spots at.seg at.word p → AreWords L.sdws L.spots at.seg at.word list → (refs more : List Reference) → refs ≡ more → Each (IsAllowedReference L.sdws r) refs → Serves (asked Write at count pending) (write_answer at d x list refs) (write_answer at d y list more)
   served_writing at count pending d live allowed reaches x y k list p word words refs more same each =
       let number : length x.claims ≡ length y.claims = ap length k.claims in
       record {
@@ -132,11 +132,11 @@ module _ {S : Type 0} (o : Store S) (g : RegsFields) (Has : S → Type 0) (Lies 
         known = known_answer _ _ live allowed _ refl;
       }
 
-  abbrev plain_answer : SdwFields → ℕ → Mid S → Served S
+  abbrev plain_answer : SdwFields → ℕ → Midstep S → Served S
   plain_answer d place m =
       record { reply = Ok (record { sdw = d; first = length m.claims; place = place; words = [] }); mid = m }
 
-  served_plain : (q : Request) (d : SdwFields) (place : ℕ) → L.sdws q.at.seg ≡ Ok d → Allows q.kind q.at d → (x y : Mid S) → Stand x y → Serves q (plain_answer d place x) (plain_answer d place y)
+  served_plain : (q : Request) (d : SdwFields) (place : ℕ) → L.sdws q.at.seg ≡ Ok d → Allows q.kind q.at d → (x y : Midstep S) → Stand x y → Serves q (plain_answer d place x) (plain_answer d place y)
   served_plain q d place live allowed x y k =
       let number : length x.claims ≡ length y.claims = ap length k.claims in
       record {
@@ -146,7 +146,7 @@ module _ {S : Type 0} (o : Store S) (g : RegsFields) (Has : S → Type 0) (Lies 
       }
 
   -- a refusal changes nothing
-  served_refused : (q : Request) (f : Fault) (x y : Mid S) → Stand x y → Serves q (record { reply = Err f; mid = x }) (record { reply = Err f; mid = y })
+  served_refused : (q : Request) (f : Fault) (x y : Midstep S) → Stand x y → Serves q (record { reply = Err f; mid = x }) (record { reply = Err f; mid = y })
   served_refused q f x y k = record { reply = refl; mid = k; known = λ a e. cc }
 
   each_odd : (q : Request) → Sees L.sdws r q.at.seg → (refs : List Reference) → Each (IsAllowedReference L.sdws r) refs → Each (IsAllowedReference L.sdws r) (with_odd q refs)
@@ -154,7 +154,7 @@ module _ {S : Type 0} (o : Store S) (g : RegsFields) (Has : S → Type 0) (Lies 
   each_odd q sees (e ∷ []) h = (sees, tt)
   each_odd q sees (e ∷ f ∷ refs) h = (h.0, each_odd q sees (f ∷ refs) h.1)
 
-  found_reading : (kind : RequestKind) (at : AtFields) (count : ℕ) (pending : List Put) → 1 ≤ count → (d : SdwFields) → L.sdws at.seg ≡ Ok d → Allows kind at d → Sees L.sdws r at.seg → (x y : Mid S) → Stand x y → (list : List Spot) → spots_of o x.store g.dbr d at.seg at.word count ≡ Ok list → (refs more : List Reference) → refs ≡ more → Each (IsAllowedReference L.sdws r) refs → Serves (asked kind at count pending) (read_answer kind at pending d x list refs) (read_answer kind at pending d y list more)
+  found_reading : (kind : RequestKind) (at : AtFields) (count : ℕ) (pending : List Put) → 1 ≤ count → (d : SdwFields) → L.sdws at.seg ≡ Ok d → Allows kind at d → Sees L.sdws r at.seg → (x y : Midstep S) → Stand x y → (list : List Spot) → spots_of o x.store g.dbr d at.seg at.word count ≡ Ok list → (refs more : List Reference) → refs ≡ more → Each (IsAllowedReference L.sdws r) refs → Serves (asked kind at count pending) (read_answer kind at pending d x list refs) (read_answer kind at pending d y list more)
   found_reading kind at count pending some d live allowed sees x y k list found refs more same each =
       let ordered = denied_order kind d at.ring g.ppr.prr (at.seg == g.ppr.psr) at.word allowed in
       let b = begins o g.dbr Has Lies Near L at.seg d live ordered x.store k.kept.has at.word count list some found in
@@ -162,7 +162,7 @@ module _ {S : Type 0} (o : Store S) (g : RegsFields) (Has : S → Type 0) (Lies 
       served_reading kind at count pending d live allowed sees x y k list b.spot b.word words refs more same each
 
   -- after the places were found
-  by_list : (kind : RequestKind) (at : AtFields) (count : ℕ) (pending : List Put) → 1 ≤ count → MayRing L.sdws r g kind at.ring → (d : SdwFields) → L.sdws at.seg ≡ Ok d → Allows kind at d → (x y : Mid S) → Stand x y → (v : Result (List Spot) (ℕ × Refusal)) → places o x.store g.dbr d (asked kind at count pending) ≡ v → Serves (asked kind at count pending) (serve_places o g x (asked kind at count pending) d v) (serve_places o g y (asked kind at count pending) d v)
+  by_list : (kind : RequestKind) (at : AtFields) (count : ℕ) (pending : List Put) → 1 ≤ count → MayRing L.sdws r g kind at.ring → (d : SdwFields) → L.sdws at.seg ≡ Ok d → Allows kind at d → (x y : Midstep S) → Stand x y → (v : Result (List Spot) (ℕ × Refusal)) → places o x.store g.dbr d (asked kind at count pending) ≡ v → Serves (asked kind at count pending) (serve_places o g x (asked kind at count pending) d v) (serve_places o g y (asked kind at count pending) d v)
   unfolding places
   by_list kind at count pending some ring d live allowed x y k (Err e) found = served_refused _ _ x y k
   by_list Transfer at count pending some ring d live allowed x y k (Ok list) found = served_plain (asked Transfer at count pending) d 0 live allowed x y k
@@ -197,23 +197,23 @@ module _ {S : Type 0} (o : Store S) (g : RegsFields) (Has : S → Type 0) (Lies 
   same_places kind at count pending d live ordered s t h l =
       same_spots o g.dbr Has Lies Near L at.seg d live ordered s t h l at.word count
 
-  by_places : (q : Request) → May L.sdws r g q → (d : SdwFields) → L.sdws q.at.seg ≡ Ok d → Allows q.kind q.at d → (x y : Mid S) → Stand x y → Serves q (serve_places o g x q d (places o x.store g.dbr d q)) (serve_places o g y q d (places o y.store g.dbr d q))
+  by_places : (q : Request) → May L.sdws r g q → (d : SdwFields) → L.sdws q.at.seg ≡ Ok d → Allows q.kind q.at d → (x y : Midstep S) → Stand x y → Serves q (serve_places o g x q d (places o x.store g.dbr d q)) (serve_places o g y q d (places o y.store g.dbr d q))
   by_places q may d live allowed x y k =
       let ordered = denied_order q.kind d q.at.ring g.ppr.prr (q.at.seg == g.ppr.psr) q.at.word allowed in
       let same = same_places q.kind q.at q.count q.pending d live ordered x.store y.store k.kept.has k.kept_other.has in
       subst (λ (v : Result (List Spot) (ℕ × Refusal)). Serves q (serve_places o g x q d (places o x.store g.dbr d q)) (serve_places o g y q d v)) same (by_list q.kind q.at q.count q.pending may.some may.ring d live allowed x y k (places o x.store g.dbr d q) refl)
 
-  by_rights : (q : Request) → May L.sdws r g q → (d : SdwFields) → L.sdws q.at.seg ≡ Ok d → (v : Option ℕ) → denied q.kind d q.at.ring g.ppr.prr (q.at.seg == g.ppr.psr) q.at.word ≡ v → (x y : Mid S) → Stand x y → Serves q (serve_rights o g x q d v) (serve_rights o g y q d v)
+  by_rights : (q : Request) → May L.sdws r g q → (d : SdwFields) → L.sdws q.at.seg ≡ Ok d → (v : Option ℕ) → denied q.kind d q.at.ring g.ppr.prr (q.at.seg == g.ppr.psr) q.at.word ≡ v → (x y : Midstep S) → Stand x y → Serves q (serve_rights o g x q d v) (serve_rights o g y q d v)
   by_rights q may d live (Some acv) e x y k = served_refused q _ x y k
   by_rights q may d live None e x y k = by_places q may d live e x y k
 
-  by_sdw : (q : Request) → May L.sdws r g q → (v : Result SdwFields Refusal) → L.sdws q.at.seg ≡ v → (x y : Mid S) → Stand x y → Serves q (serve_sdw o g x q v) (serve_sdw o g y q v)
+  by_sdw : (q : Request) → May L.sdws r g q → (v : Result SdwFields Refusal) → L.sdws q.at.seg ≡ v → (x y : Midstep S) → Stand x y → Serves q (serve_sdw o g x q v) (serve_sdw o g y q v)
   by_sdw q may (Err why) e x y k = served_refused q _ x y k
   by_sdw q may (Ok d) e x y k =
       by_rights q may d e (denied q.kind d q.at.ring g.ppr.prr (q.at.seg == g.ppr.psr) q.at.word) refl x y k
 
   -- A request that may be made has equal replies from both stores.
-  pub serve_alike : (x y : Mid S) (q : Request) → May L.sdws r g q → Stand x y → Serves q (serve o g x q) (serve o g y q)
+  pub serve_alike : (x y : Midstep S) (q : Request) → May L.sdws r g q → Stand x y → Serves q (serve o g x q) (serve o g y q)
   unfolding serve
   serve_alike x y q may k =
       let here = L.sdw_is x.store k.kept.has q.at.seg in

@@ -126,7 +126,7 @@ pub fn law_window()
 {}
 
 /// A step in any ring preserves the audit conditions, unless it executes LDBR.
-pub fn law_kept()
+pub fn law_audit_preserved()
     ensures { KeptLaw }
 {}
 

@@ -7,15 +7,15 @@ use Rattle.std.proofs.lemmas.List.Folds.{find-append}
 use Rattle.m36_link.specs.Fields.{LaidFields, LayFields, KnownFields}
 use Rattle.m36_link.specs.Known.{is_laid_of, laid_in}
 use Rattle.m36_link.specs.Accepted.{laid_of, with_laid, MayBeLaid}
-use Rattle.m36_link.specs.Apart.{AreApart}
+use Rattle.m36_link.specs.Apart.{AreEachFound}
 
 -- the section at an index is that of its segment in its ring
-pub found_there : (laid : List LaidFields) (i ring seg : ℕ) (l : LaidFields) → AreApart laid → slice_get laid i ≡ Some l → l.ring ≡ ring → l.seg ≡ seg
+pub found_there : (laid : List LaidFields) (i ring seg : ℕ) (l : LaidFields) → AreEachFound laid → slice_get laid i ≡ Some l → l.ring ≡ ring → l.seg ≡ seg
     → laid_in laid ring seg ≡ Some l
 found_there laid i ring seg l apart at of same =
     ap (λ (r : ℕ). laid_in laid r seg) (sym of) ∙ ap (λ (s : ℕ). laid_in laid l.ring s) (sym same) ∙ apart.found i l at
 
-pub none_apart : AreApart []
+pub none_apart : AreEachFound []
 none_apart = record { found = λ (i : ℕ) (l : LaidFields) (at : slice_get [] i ≡ Some l). absurd cc }
 
 -- ---- one more
@@ -41,7 +41,7 @@ at_either [] n l (suc i) at = absurd cc
 at_either (first ∷ laid) n l zero at = inl at
 at_either (first ∷ laid) n l (suc i) at = at_either laid n l i at
 
-apart_more : (laid : List LaidFields) (n : LaidFields) → AreApart laid → laid_in laid n.ring n.seg ≡ None → AreApart (laid ++ n ∷ [])
+apart_more : (laid : List LaidFields) (n : LaidFields) → AreEachFound laid → laid_in laid n.ring n.seg ≡ None → AreEachFound (laid ++ n ∷ [])
 apart_more laid n apart none = record { found = found }
   where
     by : (l : LaidFields) (i : ℕ) → (slice_get laid i ≡ Some l) ⊎ (n ≡ l) → laid_in (laid ++ n ∷ []) l.ring l.seg ≡ Some l
@@ -54,8 +54,8 @@ apart_more laid n apart none = record { found = found }
 
 -- a section that may be laid is not of the same segment and ring as another
 pub apart_laid : (known : KnownFields) (before laid : List LaidFields) (lay : Option LayFields) → known.laid ≡ before → laid ≡ with_laid before lay
-    → AreApart before → MayBeLaid known lay → AreApart laid
+    → AreEachFound before → MayBeLaid known lay → AreEachFound laid
 unfolding with_laid
-apart_laid known before laid None same is apart may = subst AreApart (sym is) apart
+apart_laid known before laid None same is apart may = subst AreEachFound (sym is) apart
 apart_laid known before laid (Some l) same is apart may =
-    subst AreApart (sym is) (apart_more before (laid_of l) apart (ap (λ (x : List LaidFields). laid_in x l.ring l.seg) (sym same) ∙ may.absent))
+    subst AreEachFound (sym is) (apart_more before (laid_of l) apart (ap (λ (x : List LaidFields). laid_in x l.ring l.seg) (sym same) ∙ may.absent))

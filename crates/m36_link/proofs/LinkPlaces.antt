@@ -5,7 +5,7 @@ use Rattle.std.proofs.lemmas.List.{get_or-append-add, get_or-append_right}
 use Rattle.obj36_parts.specs.Fields.{LinkFields}
 use Rattle.obj36_parts.specs.PartsFields.{PartsFields}
 use Rattle.obj36_parts.specs.Halves.{joined}
-use Rattle.obj36_parts.specs.ObjectSegment.{inner_statics, expressions_behind, link_head, link_words, links_behind, word_of_link, linkage_part, linkage_section, first_link}
+use Rattle.obj36_parts.specs.ObjectSegment.{inner_statics, first_expression_at, link_head, link_words, first_link_at, word_of_link, linkage_part, linkage_section, first_link}
 use Rattle.m36_link.specs.Fields.{LaidFields}
 use Rattle.m36_link.specs.Known.{object_in}
 use Rattle.m36_link.specs.Links.{link_from, link_in}
@@ -52,10 +52,10 @@ head_among (l ∷ ls) at expression (suc i) lt =
     ∙ ap link_head place
 
 head_in : (statics : List ℕ) (ls : List LinkFields) (expressions i : ℕ) → i < length ls
-    → get_or (linkage_part statics ls expressions) (word_of_link (links_behind (length statics)) i) 0 ≡ link_head (word_of_link (links_behind (length statics)) i)
+    → get_or (linkage_part statics ls expressions) (word_of_link (first_link_at (length statics)) i) 0 ≡ link_head (word_of_link (first_link_at (length statics)) i)
 unfolding linkage_part
 head_in statics ls expressions i lt =
-    let first : ℕ = links_behind (length statics) in
+    let first : ℕ = first_link_at (length statics) in
     let ahead : List ℕ = 0 ∷ joined first (length ls) ∷ 0 ∷ 0 ∷ 0 ∷ 0 ∷ 0 ∷ 0 ∷ [] in
     let links : List ℕ = link_words ls first expressions in
     let past : first + 2 * i - 8 ≡ length statics + 2 * i = omega arith in
@@ -67,7 +67,7 @@ head_in statics ls expressions i lt =
 head_stands : (o : PartsFields) (i : ℕ) → i < length o.links
     → slice_index (linkage_section o) (word_of_link (first_link o) i) ≡ link_head (word_of_link (first_link o) i)
 unfolding linkage_section
-head_stands o i lt = head_in (inner_statics o) o.links (expressions_behind (length o.definitions)) i lt
+head_stands o i lt = head_in (inner_statics o) o.links (first_expression_at (length o.definitions)) i lt
 
 pub links_found : LinksFound
 links_found = record { link = link_found; head = head_stands }

@@ -1,4 +1,4 @@
--- An answer may be accepted, and accepting it keeps `IsMade`.
+-- An answer may be accepted, and accepting it keeps `IsConsistent`.
 use Rattle.std.proofs.Common.{ℕ, ◌≡◌, ◌<◌, ◌≤◌, ◌+◌, ◌-◌, ◌%◌, ◌^◌, Bool, true, false, cond, eqb, leb, List, [], ◌∷◌, ◌++◌, length, slice_get, option_and_then, is_some, All, Option, Some, None, Result, Ok, Err, refl, sym, ap, ◌∙◌, subst, arith}
 use Rattle.std.specs.Result.{result_ok}
 use Rattle.std.proofs.lemmas.Bool.{cond-true, le-leb, leb-true}
@@ -15,14 +15,14 @@ use Rattle.obj36_parts.specs.ObjectSegment.{evened, has_name, has_entry}
 use Rattle.obj36.specs.ObjectOf.{object_of}
 use Rattle.obj36.specs.declared.fault.ObjectFault.{ObjectFault}
 use Rattle.m36_link.specs.Fields.{RingNameFields, LaidFields, LandingFields, LayFields, KnownFields, SnapFields}
-use Rattle.m36_link.specs.Known.{first_segment, lot_words, place_of, segment_of, file_of, object_in, initiated, section_ring, laid_in, behind, base_behind, next_base, base_of, laid_words}
+use Rattle.m36_link.specs.Known.{first_segment, lot_words, place_of, segment_of, file_of, object_in, initiated, section_ring, laid_in, behind, next_base_after, next_base, base_of, laid_words}
 use Rattle.m36_link.specs.Search.{searched}
 use Rattle.m36_link.specs.Links.{link_in, section_at}
-use Rattle.m36_link.specs.Landing.{point_of, pair_to, new_home, home_by, home_of, own_by, own_landing, may_not_use, is_plain, plain_landing, landing_in, landing_at, object_landing, landing_by, target_landing}
+use Rattle.m36_link.specs.Target.{point_of, pair_to, new_home, placement_by, home_of, own_by, own_landing, may_not_use, is_plain, plain_landing, landing_in, landing_at, object_landing, landing_by, target_landing}
 use Rattle.m36_link.specs.Snap.{found_landing, candidate_landing, outer_landing, directory_of, landing_of, words_laid, lay_of, snap_by, snap_for, snap_in, snap_of, outer_snap}
 use Rattle.m36_link.specs.Accepted.{with_laid, with_initiated, accepted, MayBeLaid}
-use Rattle.m36_link.specs.Laws.{NumbersStand, IsOfCatalog, IsWhole, IsMade, MayBeAccepted, MayBeAcceptedFrom, KeepsMade, KeepsMadeFrom}
-use Rattle.m36_link.specs.declared.points.Point.{Point}
+use Rattle.m36_link.specs.Laws.{NumbersAgree, IsOfCatalog, IsWholeSection, IsConsistent, MayBeAccepted, MayBeAcceptedFrom, KeepsConsistent, KeepsMadeFrom}
+use Rattle.m36_link.specs.declared.points.ObjectPlace.{ObjectPlace}
 
 -- A section that has to be laid: its segment has none yet, it begins after the others, and it is whole.
 record IsFresh (laid : List LaidFields) (files : List (List ℕ)) (seg : ℕ) (l : LaidFields) : Type 0 where
@@ -44,7 +44,7 @@ Sound laid files seg (Ok landing) = (landing.target ≡ seg) × Fresh laid files
 
 -- ---- the target of a link
 
-own_sound : (laid : List LaidFields) (files : List (List ℕ)) (ring : ℕ) (l : LaidFields) (o : PartsFields) (link : LinkFields) (p : Result Point LinkCode)
+own_sound : (laid : List LaidFields) (files : List (List ℕ)) (ring : ℕ) (l : LaidFields) (o : PartsFields) (link : LinkFields) (p : Result ObjectPlace LinkCode)
     → Sound laid files l.seg (own_by ring l o link p)
 own_sound laid files ring l o link (Ok point) = (refl, tt)
 own_sound laid files ring l o link (Err code) = tt
@@ -57,7 +57,7 @@ plain_sound laid files ring seg link = by (has_entry link.kind)
     by true = tt
     by false = (refl, tt)
 
-new_sound : (laid : List LaidFields) (files : List (List ℕ)) (ring e seg base size : ℕ) (o : PartsFields) (link : LinkFields) (point : Point)
+new_sound : (laid : List LaidFields) (files : List (List ℕ)) (ring e seg base size : ℕ) (o : PartsFields) (link : LinkFields) (point : ObjectPlace)
     → laid_in laid e seg ≡ None → base ≡ base_of laid e → object_in files seg ≡ Some o → size ≡ length (laid_words o)
     → Sound laid files seg (landing_in ring seg o link point (new_home e seg base size))
 new_sound laid files ring e seg base size o link point absent at read sized = by (leb (base + size) (2 ^ 18)) refl
@@ -67,14 +67,14 @@ new_sound laid files ring e seg base size o link point absent at read sized = by
     by true fits = (refl, record { absent = absent; base = at; segment = refl; object = o; read = read; size = sized; end = leb-true _ _ fits })
     by false fits = tt
 
-home_sound : (laid : List LaidFields) (files : List (List ℕ)) (ring e seg : ℕ) (o : PartsFields) (link : LinkFields) (point : Point) (found : Option LaidFields)
+home_sound : (laid : List LaidFields) (files : List (List ℕ)) (ring e seg : ℕ) (o : PartsFields) (link : LinkFields) (point : ObjectPlace) (found : Option LaidFields)
     → laid_in laid e seg ≡ found → object_in files seg ≡ Some o
-    → Sound laid files seg (landing_in ring seg o link point (home_by found laid e seg o))
+    → Sound laid files seg (landing_in ring seg o link point (placement_by found laid e seg o))
 home_sound laid files ring e seg o link point (Some l) is read = (refl, tt)
 home_sound laid files ring e seg o link point None is read =
     new_sound laid files ring e seg (base_of laid e) (length (laid_words o)) o link point is refl read refl
 
-object_sound : (laid : List LaidFields) (files : List (List ℕ)) (ring e seg : ℕ) (o : PartsFields) (link : LinkFields) (p : Result Point LinkCode)
+object_sound : (laid : List LaidFields) (files : List (List ℕ)) (ring e seg : ℕ) (o : PartsFields) (link : LinkFields) (p : Result ObjectPlace LinkCode)
     → object_in files seg ≡ Some o → Sound laid files seg (landing_at laid ring e seg o link p)
 unfolding home_of
 object_sound laid files ring e seg o link (Err code) read = tt
@@ -116,7 +116,7 @@ Good laid catalog files outer (Err code) = Unit {0}
 Good laid catalog files outer (Ok landing) =
     FreshIn laid catalog files landing.lay × (outer ≡ true → IsOfCatalog catalog landing.target)
 
-pub numbers_stand : NumbersStand
+pub numbers_stand : NumbersAgree
 unfolding place_of
 numbers_stand i =
     let same : first_segment + i - first_segment ≡ i = omega arith in
@@ -168,7 +168,7 @@ candidate_good known catalog files ring link (Some seg) = by (segment_of catalog
         good_of known.laid catalog files seg (found_landing known.laid ring seg (Some s) (file_of files seg) link) (of_place catalog seg s is)
         (found_sound known files ring seg (Some s) (file_of files seg) link refl)
 
-own_good : (laid : List LaidFields) (catalog : CatalogFields) (files : List (List ℕ)) (ring : ℕ) (l : LaidFields) (o : PartsFields) (link : LinkFields) (p : Result Point LinkCode)
+own_good : (laid : List LaidFields) (catalog : CatalogFields) (files : List (List ℕ)) (ring : ℕ) (l : LaidFields) (o : PartsFields) (link : LinkFields) (p : Result ObjectPlace LinkCode)
     → Good laid catalog files false (own_by ring l o link p)
 own_good laid catalog files ring l o link (Ok point) = (tt, λ outer. absurd cc)
 own_good laid catalog files ring l o link (Err code) = tt
@@ -265,17 +265,17 @@ even_step false at l even = even
 even_next : (ring at : ℕ) (laid : List LaidFields) → at % 2 ≡ 0 → next_base ring at laid % 2 ≡ 0
 unfolding next_base
 even_next ring at [] even = even
-even_next ring at (l ∷ laid) even = even_next ring (base_behind ring at l) laid (even_step (eqb l.ring ring) at l even)
+even_next ring at (l ∷ laid) even = even_next ring (next_base_after ring at l) laid (even_step (eqb l.ring ring) at l even)
 
 laid_kept : (known : KnownFields) (catalog : CatalogFields) (files : List (List ℕ)) (lay : Option LaidFields) → FreshIn known.laid catalog files lay
-    → All (IsWhole catalog files) known.laid → All (IsWhole catalog files) (with_laid known.laid (lay_of files lay))
+    → All (IsWholeSection catalog files) known.laid → All (IsWholeSection catalog files) (with_laid known.laid (lay_of files lay))
 unfolding with_laid
 laid_kept known catalog files None fresh all = all
 laid_kept known catalog files (Some l) fresh all =
     let f = fresh.0 in
     let long : length (words_laid (object_in files l.seg)) ≡ l.size = ap length (words_are files l.seg f.object f.read) ∙ sym f.size in
     let end = f.end in
-    All-push (IsWhole catalog files) known.laid (record { ring = l.ring; seg = l.seg; base = l.base; size = length (words_laid (object_in files l.seg)) }) all
+    All-push (IsWholeSection catalog files) known.laid (record { ring = l.ring; seg = l.seg; base = l.base; size = length (words_laid (object_in files l.seg)) }) all
     (record {
       segment = fresh.1;
       object = f.object;
@@ -297,11 +297,11 @@ names_kept catalog names ring link target of all = by (has_name link.kind) (is_s
     by true false of = All-push (λ e. IsOfCatalog catalog e.1) names (record { ring = ring; name = link.name }, target) all (of refl)
     by false c of = all
 
-made_by : (known : KnownFields) (catalog : CatalogFields) (files : List (List ℕ)) (s : SnapFields) → IsMade catalog files known → IsGiven known catalog files s
-    → IsMade catalog files (accepted known s)
+made_by : (known : KnownFields) (catalog : CatalogFields) (files : List (List ℕ)) (s : SnapFields) → IsConsistent catalog files known → IsGiven known catalog files s
+    → IsConsistent catalog files (accepted known s)
 unfolding accepted
 made_by known catalog files s made g =
-    let P : Option LayFields → Type 0 = λ lay. All (IsWhole catalog files) (with_laid known.laid lay) in
+    let P : Option LayFields → Type 0 = λ lay. All (IsWholeSection catalog files) (with_laid known.laid lay) in
     record {
       names = names_kept catalog known.names s.ring s.link s.target g.target made.names;
       laid = subst P (sym g.laid) (laid_kept known catalog files g.lay g.fresh made.laid);
@@ -315,7 +315,7 @@ may_be_accepted known catalog files at s e = accepted_by known catalog files s (
 pub may_be_accepted_from : MayBeAcceptedFrom
 may_be_accepted_from known catalog files ring link from s e = accepted_by known catalog files s (given_from known catalog files ring link from s e)
 
-pub keeps_made : KeepsMade
+pub keeps_made : KeepsConsistent
 keeps_made known catalog files at s made e = made_by known catalog files s made (given known catalog files at s e)
 
 pub keeps_made_from : KeepsMadeFrom

@@ -25,11 +25,11 @@ use Rattle.m36_link.specs.Fields.{LaidFields, LandingFields, KnownFields, SnapFi
 use Rattle.m36_link.specs.Known.{linkage_segment, segment_of, file_of, object_in, section_ring}
 use Rattle.m36_link.specs.Search.{searched}
 use Rattle.m36_link.specs.Links.{link_from, link_in, holds_link, section_at}
-use Rattle.m36_link.specs.Landing.{point_of, pair_to, pair_from, pair_of, home_of, own_by, own_landing, may_not_use, is_plain, plain_landing, landing_in, landing_at, object_landing, landing_by, target_landing}
+use Rattle.m36_link.specs.Target.{point_of, pair_to, pair_from, pair_of, home_of, own_by, own_landing, may_not_use, is_plain, plain_landing, landing_in, landing_at, object_landing, landing_by, target_landing}
 use Rattle.m36_link.specs.Snap.{found_landing, candidate_landing, outer_landing, directory_of, landing_of, lay_of, snap_by, snap_for, snap_in, snap_of}
-use Rattle.m36_link.specs.Laws.{IsWhole, PairsStand}
-use Rattle.m36_link.specs.declared.points.Point.{Point}
-use Rattle.m36_link.specs.declared.sections.Home.{Home}
+use Rattle.m36_link.specs.Laws.{IsWholeSection, PairsAreRead}
+use Rattle.m36_link.specs.declared.points.ObjectPlace.{ObjectPlace}
+use Rattle.m36_link.specs.declared.sections.Placement.{Placement}
 use Rattle.m36_link.proofs.LinkPlaces.{object_links}
 use Rattle.m36_link.proofs.Sizes.{formed_in}
 
@@ -48,7 +48,7 @@ tag_from Linkage value ring l linkage link = tag_to (linkage_segment l.ring) rin
 tag_from Symbol value ring l linkage link = tag_to l.seg ring (value + link.expr) link
 tag_from Static value ring l linkage link = tag_to (linkage_segment l.ring) ring (l.base + linkage + value + link.expr) link
 
-tag_at : (point : Point) (ring : ℕ) (l : LaidFields) (linkage : ℕ) (link : LinkFields) → tag_of (pair_of point ring l linkage link).even ≡ its_tag
+tag_at : (point : ObjectPlace) (ring : ℕ) (l : LaidFields) (linkage : ℕ) (link : LinkFields) → tag_of (pair_of point ring l linkage link).even ≡ its_tag
 unfolding pair_of
 tag_at point ring l linkage link = tag_from point.section point.value ring l linkage link
 
@@ -56,7 +56,7 @@ abbrev HasTag : Result LandingFields LinkCode → Type 0
 HasTag (Err code) = Unit {0}
 HasTag (Ok landing) = tag_of landing.pair.even ≡ its_tag
 
-own_tag : (ring : ℕ) (l : LaidFields) (o : PartsFields) (link : LinkFields) (p : Result Point LinkCode) → HasTag (own_by ring l o link p)
+own_tag : (ring : ℕ) (l : LaidFields) (o : PartsFields) (link : LinkFields) (p : Result ObjectPlace LinkCode) → HasTag (own_by ring l o link p)
 own_tag ring l o link (Ok point) = tag_at point ring l (length (linkage_section o)) link
 own_tag ring l o link (Err code) = tt
 
@@ -68,11 +68,11 @@ plain_tag ring seg link = by (has_entry link.kind)
     by true = tt
     by false = tag_to seg ring link.expr link
 
-home_tag : (ring seg : ℕ) (o : PartsFields) (link : LinkFields) (point : Point) (home : Result Home LinkCode) → HasTag (landing_in ring seg o link point home)
+home_tag : (ring seg : ℕ) (o : PartsFields) (link : LinkFields) (point : ObjectPlace) (home : Result Placement LinkCode) → HasTag (landing_in ring seg o link point home)
 home_tag ring seg o link point (Ok home) = tag_at point ring home.section (length (linkage_section o)) link
 home_tag ring seg o link point (Err code) = tt
 
-point_tag : (laid : List LaidFields) (ring e seg : ℕ) (o : PartsFields) (link : LinkFields) (p : Result Point LinkCode) → HasTag (landing_at laid ring e seg o link p)
+point_tag : (laid : List LaidFields) (ring e seg : ℕ) (o : PartsFields) (link : LinkFields) (p : Result ObjectPlace LinkCode) → HasTag (landing_at laid ring e seg o link p)
 point_tag laid ring e seg o link (Ok point) = home_tag ring seg o link point (home_of laid e seg o)
 point_tag laid ring e seg o link (Err code) = tt
 
@@ -183,12 +183,12 @@ answer_stands known catalog files at l (Some o) (Some link) s even read is e =
 answer_stands known catalog files at l (Some o) None s even read is e = absurd cc
 answer_stands known catalog files at l None link s even read is e = absurd cc
 
-pub pairs_stand : PairsStand
+pub pairs_stand : PairsAreRead
 unfolding snap_of
 pairs_stand known catalog files at s made e = by (section_at known.laid files at) refl e
   where
     by : (v : Option LaidFields) → section_at known.laid files at ≡ v → snap_in known catalog files at v ≡ Ok s → found at.word s.pair.even ≡ Its
     by None is e = absurd cc
     by (Some l) is e =
-        let whole : IsWhole catalog files l = section_holds known.laid files at l (IsWhole catalog files) is made.laid in
+        let whole : IsWholeSection catalog files l = section_holds known.laid files at l (IsWholeSection catalog files) is made.laid in
         answer_stands known catalog files at l (object_in files l.seg) (link_in files at.word l) s whole.even refl refl e

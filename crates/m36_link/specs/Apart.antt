@@ -4,6 +4,6 @@ use Rattle.m36_link.specs.Fields.{LaidFields}
 use Rattle.m36_link.specs.Known.{laid_in}
 
 -- each section is the one that is found for its ring and segment
-pub record AreApart (laid : List LaidFields) : Type 0 where
+pub record AreEachFound (laid : List LaidFields) : Type 0 where
   pub found :
       (i : ℕ) (l : LaidFields) → slice_get laid i ≡ Some l → laid_in laid l.ring l.seg ≡ Some l

@@ -95,13 +95,13 @@ unfoldable pub behind : LaidFields → ℕ
 behind l = evened (l.base + l.size)
 
 -- the word number of the next section of a ring after section `l`, if it was `at` before
-abbrev pub base_behind : ℕ → ℕ → LaidFields → ℕ
-base_behind ring at l = if nat_eq l.ring ring then behind l else at
+abbrev pub next_base_after : ℕ → ℕ → LaidFields → ℕ
+next_base_after ring at l = if nat_eq l.ring ring then behind l else at
 
 -- the word number of the next section of a ring after these sections, if it was `at` before them
 unfoldable pub next_base : ℕ → ℕ → List LaidFields → ℕ
 next_base ring at [] = at
-next_base ring at (l ∷ laid) = next_base ring (base_behind ring at l) laid
+next_base ring at (l ∷ laid) = next_base ring (next_base_after ring at l) laid
 
 -- the word number at which the next section of a ring is laid
 abbrev pub base_of : List LaidFields → ℕ → ℕ

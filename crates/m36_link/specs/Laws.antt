@@ -37,8 +37,8 @@ pub record LinksFound : Type 0 where
       ≡ link_head (word_of_link (first_link o) i)
 
 -- The number of a segment of the catalog leads back to its index.
-abbrev pub NumbersStand : Type 0
-NumbersStand = (i : ℕ) → place_of (catalog_number i) ≡ Some i
+abbrev pub NumbersAgree : Type 0
+NumbersAgree = (i : ℕ) → place_of (catalog_number i) ≡ Some i
 
 -- the number of a catalog segment
 pub record IsOfCatalog (catalog : CatalogFields) (seg : ℕ) : Type 0 where
@@ -47,7 +47,7 @@ pub record IsOfCatalog (catalog : CatalogFields) (seg : ℕ) : Type 0 where
 
 -- A laid section is the whole section of an object of the catalog, begins at an even word, and is
 -- within the linkage segment.
-pub record IsWhole (catalog : CatalogFields) (files : List (List ℕ)) (l : LaidFields) : Type 0 where
+pub record IsWholeSection (catalog : CatalogFields) (files : List (List ℕ)) (l : LaidFields) : Type 0 where
   pub segment : IsOfCatalog catalog l.seg
   pub object : PartsFields
   pub read : object_in files l.seg ≡ Some object
@@ -56,17 +56,17 @@ pub record IsWhole (catalog : CatalogFields) (files : List (List ℕ)) (l : Laid
   pub end : l.base + l.size ≤ segment_limit
 
 -- the invariant of what link services make known
-pub record IsMade (catalog : CatalogFields) (files : List (List ℕ))
+pub record IsConsistent (catalog : CatalogFields) (files : List (List ℕ))
     (known : KnownFields) : Type 0 where
   pub names : All (λ e. IsOfCatalog catalog e.1) known.names
-  pub laid : All (IsWhole catalog files) known.laid
+  pub laid : All (IsWholeSection catalog files) known.laid
 
 -- The pair that replaces a link is at an even word and has the tag of its kind: an address that
 -- reaches it reads it as an ITS pair.
-abbrev pub PairsStand : Type 0
-PairsStand =
+abbrev pub PairsAreRead : Type 0
+PairsAreRead =
     (known : KnownFields) (catalog : CatalogFields) (files : List (List ℕ)) (at : AtFields)
-    (s : SnapFields) → IsMade catalog files known → snap_of known catalog files at ≡ Ok s
+    (s : SnapFields) → IsConsistent catalog files known → snap_of known catalog files at ≡ Ok s
     → found at.word s.pair.even ≡ Its
 
 -- An answer to the link at a place may be accepted.
@@ -82,17 +82,17 @@ MayBeAcceptedFrom =
     (link : LinkFields) (from : ℕ) (s : SnapFields)
     → outer_snap known catalog files ring link from ≡ Ok s → MayBeLaid known s.lay
 
--- Accepting an answer to the link at a place keeps `IsMade`.
-abbrev pub KeepsMade : Type 0
-KeepsMade =
+-- Accepting an answer to the link at a place keeps `IsConsistent`.
+abbrev pub KeepsConsistent : Type 0
+KeepsConsistent =
     (known : KnownFields) (catalog : CatalogFields) (files : List (List ℕ)) (at : AtFields)
-    (s : SnapFields) → IsMade catalog files known → snap_of known catalog files at ≡ Ok s
-    → IsMade catalog files (accepted known s)
+    (s : SnapFields) → IsConsistent catalog files known → snap_of known catalog files at ≡ Ok s
+    → IsConsistent catalog files (accepted known s)
 
--- Accepting an answer to a link that is searched from a directory keeps `IsMade`.
+-- Accepting an answer to a link that is searched from a directory keeps `IsConsistent`.
 abbrev pub KeepsMadeFrom : Type 0
 KeepsMadeFrom =
     (known : KnownFields) (catalog : CatalogFields) (files : List (List ℕ)) (ring : ℕ)
     (link : LinkFields) (from : ℕ) (s : SnapFields)
-    → IsMade catalog files known → outer_snap known catalog files ring link from ≡ Ok s
-    → IsMade catalog files (accepted known s)
+    → IsConsistent catalog files known → outer_snap known catalog files ring link from ≡ Ok s
+    → IsConsistent catalog files (accepted known s)

@@ -3,7 +3,7 @@ pub mod Names
 pub mod Known
 pub mod Search
 pub mod Links
-pub mod Landing
+pub mod Target
 pub mod Snap
 pub mod Accepted
 pub mod Apart

@@ -12,7 +12,7 @@ use Rattle.m36_link.specs.Fields.{LaidFields, LandingFields, LayFields, KnownFie
 use Rattle.m36_link.specs.Known.{segment_of, file_of, object_in, laid_words}
 use Rattle.m36_link.specs.Search.{searched}
 use Rattle.m36_link.specs.Links.{link_in, section_at}
-use Rattle.m36_link.specs.Landing.{own_landing, target_landing}
+use Rattle.m36_link.specs.Target.{own_landing, target_landing}
 use Rattle.m36_link.specs.declared.snap.LinkFault.{LinkFault}
 use Rattle.m36_link.specs.declared.snap.LinkFault.TheVariants.{Refused, NoMemory}
 
@@ -117,8 +117,8 @@ unfoldable pub snap_of : KnownFields → CatalogFields → List (List ℕ) → A
 snap_of known catalog files at = snap_in known catalog files at (section_at known.laid files at)
 
 -- The result of the code: this answer, or NoMemory.
-abbrev pub SnapSays : Result SnapFields LinkFault → Result SnapFields RefusedFields → Type 0
-SnapSays (Ok snap) definition = definition ≡ Ok snap
-SnapSays (Err (Refused code link)) definition =
+abbrev pub SnapResult : Result SnapFields LinkFault → Result SnapFields RefusedFields → Type 0
+SnapResult (Ok snap) definition = definition ≡ Ok snap
+SnapResult (Err (Refused code link)) definition =
     definition ≡ Err (record { code = code; link = link })
-SnapSays (Err NoMemory) definition = Unit {0}
+SnapResult (Err NoMemory) definition = Unit {0}

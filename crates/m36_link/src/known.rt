@@ -9,9 +9,9 @@ ghost use Rattle.m36_link.specs.Search.{searched};
 ghost use Rattle.m36_link.specs.Accepted.{accepted, with_initiated, with_laid, MayBeLaid};
 ghost use Rattle.obj36_parts.specs.ObjectSegment.{segment_limit};
 
-use crate::laid::{Laid, Lay};
+use crate::laid::{NewSection, PlacedSection};
 use crate::names::RingName;
-use crate::places::{Sections, no_places, note_place};
+use crate::places::{PlacedSections, no_places, store_index};
 use crate::search::{initiated, searched_in_directories};
 use crate::snap::Snap;
 use indexmap::IndexMap;
@@ -28,7 +28,7 @@ use std::marker::Model;
 #[derive(Drop)]
 pub struct Known {
     names: IndexMap<RingName, u16, HashSeed>,
-    laid: Vec<Laid>,
+    laid: Vec<PlacedSection>,
     // The index of each section in `laid`.
     places: Vec<u16>,
 }
@@ -37,13 +37,13 @@ impl Model for Known {
     ghost use Rattle.std.specs.Prelude.{◌≤◌, ◌<◌, ◌^◌, length};
     ghost use Rattle.m36_link.specs.Fields.{KnownFields};
     ghost use Rattle.m36_link.specs.Names.{AreNames};
-    ghost use Rattle.m36_link.specs.Apart.{AreApart};
+    ghost use Rattle.m36_link.specs.Apart.{AreEachFound};
 
     ghost Value = { KnownFields };
 
     ghost view = { λ k. record { names = k.names.entries; laid = k.laid.items } };
 
-    ghost invariant = { λ k. (AreNames k.names.entries) × (AreApart k.laid.items) };
+    ghost invariant = { λ k. (AreNames k.names.entries) × (AreEachFound k.laid.items) };
 }
 
 // Adds a name that is not yet initiated. If memory runs out, nothing changes.
@@ -98,19 +98,19 @@ fn add_name(
 
 // Adds a section; there is room for it.
 #[tactic(auto, unfolding(crate::specs::Accepted::with_laid))]
-fn add_section(laid: &mut Vec<Laid>, places: &mut Vec<u16>, lay: &Option<Lay>)
+fn add_section(laid: &mut Vec<PlacedSection>, places: &mut Vec<u16>, lay: &Option<NewSection>)
     requires room { vec_len laid.old < vec_capacity laid.old }
     requires fits { IfSome lay.now (λ l. l.base + length l.words ≤ segment_limit) }
     ensures { laid.new.items ≡ with_laid laid.old.items lay.now }
 {
     if let Some(lay) = lay {
-        let section = Laid {
+        let section = PlacedSection {
             base: lay.base,
             size: lay.words.slice().len() as u32,
             seg: lay.seg,
             ring: lay.ring,
         };
-        note_place(places, lay.ring, lay.seg, laid.len());
+        store_index(places, lay.ring, lay.seg, laid.len());
         match laid.push(section) {
             Ok(()) => {}
             Err(_) => unreachable!(),
@@ -132,17 +132,17 @@ impl Known {
     }
 
     /// The sections that are laid, in the order in which they were laid.
-    pub fn laid(&self) -> &[Laid]
+    pub fn laid(&self) -> &[PlacedSection]
         ensures { result.now ≡ self.now.laid }
     {
         self.laid.as_slice()
     }
 
     // The sections that are laid, with the table of their indexes.
-    pub(crate) fn sections(&self) -> Sections<'_>
+    pub(crate) fn sections(&self) -> PlacedSections<'_>
         ensures { result ≡ self.now.laid }
     {
-        Sections {
+        PlacedSections {
             items: self.laid.as_slice(),
             places: self.places.as_slice(),
         }

@@ -14,7 +14,7 @@ pub const LOT_WORDS: u32 = 1024;
 
 /// A linkage section that is laid in the linkage segment of a ring. The model is its fields.
 #[derive(Clone, Copy, PartialEq, Eq)]
-pub struct Laid {
+pub struct PlacedSection {
     /// The word number of its first word; 18 bits.
     pub base: u32,
     /// The number of its words; it ends at most at 2^18.
@@ -25,7 +25,7 @@ pub struct Laid {
     pub ring: u8,
 }
 
-impl Model for Laid {
+impl Model for PlacedSection {
     ghost use Rattle.std.specs.Prelude.{◌<◌, ◌≤◌, ◌+◌, ◌^◌};
     ghost use Rattle.obj36_parts.specs.ObjectSegment.{segment_limit};
     ghost use Rattle.m36_link.specs.Fields.{LaidFields};
@@ -42,7 +42,7 @@ impl Model for Laid {
 
 /// A linkage section that has to be laid, with its words. The model is its fields.
 #[derive(Drop)]
-pub struct Lay {
+pub struct NewSection {
     /// The words of the linkage section, and after them those of the static section.
     pub words: Words,
     /// The word number of the first word; 18 bits, even.
@@ -53,7 +53,7 @@ pub struct Lay {
     pub ring: u8,
 }
 
-impl Model for Lay {
+impl Model for NewSection {
     ghost use Rattle.std.specs.Prelude.{◌<◌, ◌^◌};
     ghost use Rattle.m36_link.specs.Fields.{LayFields};
 
@@ -64,7 +64,7 @@ impl Model for Lay {
     ghost invariant = { λ l. (l.ring < 8) × (l.seg < 2 ^ 15) × (l.base < 2 ^ 18) };
 }
 
-impl Lay {
+impl NewSection {
     /// The word of the ring's linkage offset table for the segment: a packed pointer to the
     /// section.
     #[tactic(auto, unfolding(crate::specs::Known::lot_word))]

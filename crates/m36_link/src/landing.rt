@@ -2,12 +2,12 @@
 
 ghost use Rattle.std.specs.Prelude.{◌≡◌, ◌<◌, ◌≤◌, ◌^◌, length};
 ghost use Rattle.m36_link.specs.Known.{section_ring, laid_words};
-ghost use Rattle.m36_link.specs.Landing.{own_landing, may_not_use, fault_number, plain_landing, lay_if, object_landing, target_landing};
+ghost use Rattle.m36_link.specs.Target.{own_landing, may_not_use, fault_number, plain_landing, lay_if, object_landing, target_landing};
 ghost use Rattle.obj36_parts.specs.ObjectSegment.{segment_limit};
 
 use crate::file::File;
-use crate::laid::Laid;
-use crate::places::Sections;
+use crate::laid::PlacedSection;
+use crate::places::PlacedSections;
 use crate::points::{pair_of, pair_to, point_of};
 use crate::sections::{home_of, linkage_size};
 use m36_dir::{SegKind, Segment};
@@ -20,14 +20,14 @@ use std::marker::Model;
 /// The target of a link: the pair, the number of the segment, and the section that has to be laid,
 /// if any.
 #[derive(Clone, Copy)]
-pub(crate) struct Landing {
+pub(crate) struct Target {
     pub(crate) pair: Pair,
-    pub(crate) lay: Option<Laid>,
+    pub(crate) lay: Option<PlacedSection>,
     /// The number of the segment; 15 bits.
     pub(crate) target: u16,
 }
 
-impl Model for Landing {
+impl Model for Target {
     ghost use Rattle.std.specs.Prelude.{◌<◌, ◌^◌};
     ghost use Rattle.m36_link.specs.Fields.{LandingFields};
 
@@ -41,19 +41,19 @@ impl Model for Landing {
 }
 
 /// The target of a link of type 1 or 5, to its own object, whose section is laid.
-#[tactic(auto, unfolding(crate::specs::Landing::own_landing))]
+#[tactic(auto, unfolding(crate::specs::Target::own_landing))]
 pub(crate) fn own_landing(
     ring: u8,
-    section: Laid,
+    section: PlacedSection,
     object: &Object,
     link: &Link,
-) -> Result<Landing, LinkCode>
+) -> Result<Target, LinkCode>
     requires ring { ring < 8 }
     requires size { length (laid_words object.now) ≤ segment_limit }
     ensures { result ≡ own_landing ring section object.now link.now }
 {
     let point = point_of(link, object)?;
-    Ok(Landing {
+    Ok(Target {
         pair: pair_of(point, ring, section, linkage_size(object), link),
         lay: None,
         target: section.seg,
@@ -90,8 +90,8 @@ fn fault_number(fault: ObjectFault) -> u8
     }
 }
 
-#[tactic(auto, unfolding(crate::specs::Landing::plain_landing))]
-fn plain_landing(ring: u8, seg: u16, link: &Link) -> Result<Landing, LinkCode>
+#[tactic(auto, unfolding(crate::specs::Target::plain_landing))]
+fn plain_landing(ring: u8, seg: u16, link: &Link) -> Result<Target, LinkCode>
     requires ring { ring < 8 }
     requires seg { seg < 2 ^ 15 }
     ensures { result ≡ plain_landing ring seg link.now }
@@ -99,28 +99,28 @@ fn plain_landing(ring: u8, seg: u16, link: &Link) -> Result<Landing, LinkCode>
     if has_its_entry(link.kind as u64) {
         return Err(LinkCode::L3);
     }
-    Ok(Landing {
+    Ok(Target {
         pair: pair_to(seg, ring, link.expr, link),
         lay: None,
         target: seg,
     })
 }
 
-fn lay_if(is_new: bool, section: Laid) -> Option<Laid>
+fn lay_if(is_new: bool, section: PlacedSection) -> Option<PlacedSection>
     ensures { result ≡ lay_if is_new section }
 {
     if is_new { Some(section) } else { None }
 }
 
-#[tactic(auto, unfolding(crate::specs::Landing::object_landing))]
+#[tactic(auto, unfolding(crate::specs::Target::object_landing))]
 fn object_landing(
-    laid: &Sections<'_>,
+    laid: &PlacedSections<'_>,
     ring: u8,
     section_ring: u8,
     seg: u16,
     object: &Object,
     link: &Link,
-) -> Result<Landing, LinkCode>
+) -> Result<Target, LinkCode>
     requires ring { ring < 8 }
     requires section_ring { section_ring < 8 }
     requires seg { seg < 2 ^ 15 }
@@ -129,7 +129,7 @@ fn object_landing(
 {
     let point = point_of(link, object)?;
     let home = home_of(laid, section_ring, seg, object)?;
-    Ok(Landing {
+    Ok(Target {
         pair: pair_of(point, ring, home.section, linkage_size(object), link),
         lay: lay_if(home.is_new, home.section),
         target: seg,
@@ -137,15 +137,15 @@ fn object_landing(
 }
 
 /// The target of a link of type 3 or 4, to a segment that was found.
-#[tactic(auto, unfolding(crate::specs::Landing::target_landing))]
+#[tactic(auto, unfolding(crate::specs::Target::target_landing))]
 pub(crate) fn target_landing(
-    laid: &Sections<'_>,
+    laid: &PlacedSections<'_>,
     ring: u8,
     seg: u16,
     segment: &Segment,
     file: &File,
     link: &Link,
-) -> Result<Landing, LinkCode>
+) -> Result<Target, LinkCode>
     requires ring { ring < 8 }
     requires seg { seg < 2 ^ 15 }
     ensures { result ≡ target_landing laid.now ring seg segment.now file.now link.now }

@@ -1,11 +1,11 @@
 //! Laws of links, of the search and of laying.
 
-ghost use Rattle.m36_link.specs.Laws.{LinksFault, LinksFound, NumbersStand, MayBeAccepted, MayBeAcceptedFrom, KeepsMade, KeepsMadeFrom, PairsStand};
+ghost use Rattle.m36_link.specs.Laws.{LinksFault, LinksFound, NumbersAgree, MayBeAccepted, MayBeAcceptedFrom, KeepsConsistent, KeepsMadeFrom, PairsAreRead};
 
 /// Laws of links.
 ///
 /// - `accepted`, `accepted_from`: an answer may be accepted.
-/// - `made`, `made_from`: accepting an answer keeps `IsMade`: each name is that of a catalog
+/// - `made`, `made_from`: accepting an answer keeps `IsConsistent`: each name is that of a catalog
 ///   segment; each laid section is the whole section of an object of the catalog, begins at an
 ///   even word and is within its linkage segment.
 /// - `pairs`: an address that reaches the place of the link reads the pair there as an ITS pair.
@@ -17,10 +17,10 @@ ghost use Rattle.m36_link.specs.Laws.{LinksFault, LinksFound, NumbersStand, MayB
 pub fn link_laws()
     ensures fault { LinksFault }
     ensures links { LinksFound }
-    ensures numbers { NumbersStand }
+    ensures numbers { NumbersAgree }
     ensures accepted { MayBeAccepted }
     ensures accepted_from { MayBeAcceptedFrom }
-    ensures made { KeepsMade }
+    ensures made { KeepsConsistent }
     ensures made_from { KeepsMadeFrom }
-    ensures pairs { PairsStand }
+    ensures pairs { PairsAreRead }
 {}

@@ -33,7 +33,7 @@ pub mod snap;
 
 pub use file::{FIRST_SEGMENT, File, object_in};
 pub use known::Known;
-pub use laid::{FIRST_LINKAGE, LOT_WORDS, Laid, Lay};
+pub use laid::{FIRST_LINKAGE, LOT_WORDS, NewSection, PlacedSection};
 pub use laws::link_laws;
 pub use resolving::segment_of;
 pub use snap::{LinkFault, Snap};

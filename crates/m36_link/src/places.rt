@@ -2,7 +2,7 @@
 
 ghost use Rattle.std.specs.Prelude.{◌<◌};
 
-use crate::laid::Laid;
+use crate::laid::PlacedSection;
 use m36_word::NoMemory;
 use std::alloc::Global;
 use std::marker::Model;
@@ -15,23 +15,23 @@ const RINGS: usize = 8;
 /// The sections that are laid, at most one for each segment and ring, with a table of their
 /// indexes in the list. The model is the list.
 #[derive(Drop)]
-pub(crate) struct Sections<'a> {
-    pub(crate) items: &'a [Laid],
+pub(crate) struct PlacedSections<'a> {
+    pub(crate) items: &'a [PlacedSection],
     /// An index for each ring and segment. It may be wrong, so the section at that index is
     /// compared before it is used.
     pub(crate) places: &'a [u16],
 }
 
-impl<'a> Model for Sections<'a> {
+impl<'a> Model for PlacedSections<'a> {
     ghost use Rattle.std.specs.Prelude.{List};
     ghost use Rattle.m36_link.specs.Fields.{LaidFields};
-    ghost use Rattle.m36_link.specs.Apart.{AreApart};
+    ghost use Rattle.m36_link.specs.Apart.{AreEachFound};
 
     ghost Value = { List LaidFields };
 
     ghost view = { λ s. s.items.now };
 
-    ghost invariant = { λ s. AreApart s.items.now };
+    ghost invariant = { λ s. AreEachFound s.items.now };
 }
 
 // The slot of a segment in a ring. No two segments of a catalog share one.
@@ -47,7 +47,7 @@ pub(crate) fn no_places(alloc: Global) -> Result<Vec<u16>, NoMemory> {
 }
 
 /// The index in the slot of a segment in a ring; arbitrary if its section is not laid.
-pub(crate) fn place_noted(places: &[u16], ring: u8, seg: u16) -> usize {
+pub(crate) fn stored_index(places: &[u16], ring: u8, seg: u16) -> usize {
     match places.get(slot(ring, seg)) {
         Some(place) => *place as usize,
         None => 0,
@@ -55,7 +55,7 @@ pub(crate) fn place_noted(places: &[u16], ring: u8, seg: u16) -> usize {
 }
 
 /// Stores the index of the section of a segment in a ring.
-pub(crate) fn note_place(places: &mut Vec<u16>, ring: u8, seg: u16, place: usize) {
+pub(crate) fn store_index(places: &mut Vec<u16>, ring: u8, seg: u16, place: usize) {
     let i = slot(ring, seg);
     if i < places.len() {
         places[i] = (place % (1 << 16)) as u16;

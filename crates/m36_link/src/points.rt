@@ -1,10 +1,10 @@
 //! The place in an object that a link names, and the pair to it.
 
 ghost use Rattle.std.specs.Prelude.{◌≡◌, ◌+◌, ◌<◌, ◌≤◌, ◌^◌, IfOk};
-ghost use Rattle.m36_link.specs.Landing.{section_of, point_of, pair_to, pair_of};
+ghost use Rattle.m36_link.specs.Target.{section_of, point_of, pair_to, pair_of};
 ghost use Rattle.obj36_parts.specs.ObjectSegment.{segment_limit};
 
-use crate::laid::{FIRST_LINKAGE, Laid};
+use crate::laid::{FIRST_LINKAGE, PlacedSection};
 use m36_desc::Its;
 use m36_model::LinkCode;
 use m36_word::Pair;
@@ -14,7 +14,7 @@ use obj36_parts::sections::later_section;
 
 /// A place of an object: a word number in a section.
 #[derive(Clone, Copy)]
-pub(crate) struct Point {
+pub(crate) struct ObjectPlace {
     pub(crate) value: u32,
     pub(crate) section: Section,
 }
@@ -30,17 +30,17 @@ fn section_of(link: &Link) -> Section
 }
 
 /// The place that a link names in its target object; L3 if the object does not define its entry.
-#[tactic(auto, unfolding(crate::specs::Landing::point_of))]
-pub(crate) fn point_of(link: &Link, object: &Object) -> Result<Point, LinkCode>
+#[tactic(auto, unfolding(crate::specs::Target::point_of))]
+pub(crate) fn point_of(link: &Link, object: &Object) -> Result<ObjectPlace, LinkCode>
     ensures value { result ≡ point_of link.now object.now }
     ensures bound { IfOk result (λ point. point.value < 2 ^ 18) }
 {
     let section = section_of(link);
     if !has_its_entry(link.kind as u64) {
-        return Ok(Point { value: 0, section });
+        return Ok(ObjectPlace { value: 0, section });
     }
     match object.find(link.entry.bytes()) {
-        Some(def) => Ok(Point {
+        Some(def) => Ok(ObjectPlace {
             value: def.value,
             section: later_section(section, def.section),
         }),
@@ -49,7 +49,7 @@ pub(crate) fn point_of(link: &Link, object: &Object) -> Result<Point, LinkCode>
 }
 
 /// The pair to a word of a segment; the word number is taken modulo 2^18.
-#[tactic(auto, unfolding(crate::specs::Landing::pair_to))]
+#[tactic(auto, unfolding(crate::specs::Target::pair_to))]
 pub(crate) fn pair_to(seg: u16, ring: u8, word: u32, link: &Link) -> Pair
     requires seg { seg < 2 ^ 15 }
     requires ring { ring < 8 }
@@ -66,8 +66,14 @@ pub(crate) fn pair_to(seg: u16, ring: u8, word: u32, link: &Link) -> Pair
 }
 
 /// The pair to a place of an object whose section is laid.
-#[tactic(auto, unfolding(crate::specs::Landing::pair_of))]
-pub(crate) fn pair_of(point: Point, ring: u8, laid: Laid, linkage: u32, link: &Link) -> Pair
+#[tactic(auto, unfolding(crate::specs::Target::pair_of))]
+pub(crate) fn pair_of(
+    point: ObjectPlace,
+    ring: u8,
+    laid: PlacedSection,
+    linkage: u32,
+    link: &Link,
+) -> Pair
     requires point { point.value < 2 ^ 18 }
     requires ring { ring < 8 }
     requires linkage { linkage ≤ segment_limit }

@@ -3,13 +3,13 @@
 ghost use Rattle.std.specs.Prelude.{◌≡◌, ◌<◌, ◌≤◌, find, length, option_copied, IfOk};
 ghost use Rattle.m36_link.specs.Known.{segment_of, object_in, laid_words};
 ghost use Rattle.m36_link.specs.Links.{link_from, link_in, holds_link, section_at};
-ghost use Rattle.m36_link.specs.Snap.{outer_landing, directory_of, landing_of, words_laid, lay_of, snap_by, outer_snap, snap_of, SnapSays};
+ghost use Rattle.m36_link.specs.Snap.{outer_landing, directory_of, landing_of, words_laid, lay_of, snap_by, outer_snap, snap_of, SnapResult};
 ghost use Rattle.obj36_parts.specs.ObjectSegment.{segment_limit};
 
 use crate::file::{File, file_of, object_in, place_of};
 use crate::known::Known;
-use crate::laid::{FIRST_LINKAGE, Laid, Lay};
-use crate::landing::{Landing, own_landing, target_landing};
+use crate::laid::{FIRST_LINKAGE, NewSection, PlacedSection};
+use crate::landing::{Target, own_landing, target_landing};
 use crate::snap::{LinkFault, Snap};
 use m36_dir::{Catalog, Segment};
 use m36_model::{At, LinkCode};
@@ -35,7 +35,7 @@ fn link_from(first: u64, word: u64, links: &[Link]) -> Option<&Link>
 
 // The link of a laid section whose even word is word `word` of the linkage segment.
 #[tactic(auto, unfolding(crate::specs::Links::link_in))]
-fn link_in(files: &[File], word: u32, section: Laid) -> Option<&Link>
+fn link_in(files: &[File], word: u32, section: PlacedSection) -> Option<&Link>
     ensures { option_copied result ≡ link_in files.now word section }
 {
     match object_in(files, section.seg) {
@@ -48,14 +48,19 @@ fn link_in(files: &[File], word: u32, section: Laid) -> Option<&Link>
     }
 }
 
-fn holds_link(files: &[File], ring: u8, word: u32, section: Laid) -> bool
+fn holds_link(files: &[File], ring: u8, word: u32, section: PlacedSection) -> bool
     ensures { result ≡ holds_link files.now ring word section }
 {
     section.ring == ring && link_in(files, word, section).is_some()
 }
 
 // The section of a ring that has a link at a word.
-fn section_with(laid: &[Laid], files: &[File], ring: u8, word: u32) -> Option<Laid>
+fn section_with(
+    laid: &[PlacedSection],
+    files: &[File],
+    ring: u8,
+    word: u32,
+) -> Option<PlacedSection>
     ensures { result ≡ find (holds_link files.now ring word) laid.now }
 {
     laid.iter()
@@ -65,7 +70,7 @@ fn section_with(laid: &[Laid], files: &[File], ring: u8, word: u32) -> Option<La
 
 // The section that has the link at a place.
 #[tactic(auto, unfolding(crate::specs::Links::section_at))]
-fn section_at(laid: &[Laid], files: &[File], at: At) -> Option<Laid>
+fn section_at(laid: &[PlacedSection], files: &[File], at: At) -> Option<PlacedSection>
     ensures { result ≡ section_at laid.now files.now at }
 {
     if at.seg == FIRST_LINKAGE + at.ring as u16 {
@@ -107,7 +112,7 @@ fn outer_landing(
     ring: u8,
     link: &Link,
     from: u16,
-) -> Result<Landing, LinkCode>
+) -> Result<Target, LinkCode>
     requires { ring < 8 }
     ensures { result ≡ outer_landing known.now catalog.now files.now ring link.now from }
 {
@@ -130,10 +135,10 @@ fn landing_of(
     catalog: &Catalog,
     files: &[File],
     ring: u8,
-    section: Laid,
+    section: PlacedSection,
     object: &Object,
     link: &Link,
-) -> Result<Landing, LinkCode>
+) -> Result<Target, LinkCode>
     requires ring { ring < 8 }
     requires size { length (laid_words object.now) ≤ segment_limit }
     ensures { result ≡ landing_of known.now catalog.now files.now ring section object.now link.now }
@@ -170,13 +175,17 @@ fn words_laid(alloc: Global, files: &[File], seg: u16) -> Result<Words, NoMemory
 }
 
 // The section that has to be laid, with its words.
-fn lay_of(alloc: Global, files: &[File], lay: Option<Laid>) -> Result<Option<Lay>, NoMemory>
+fn lay_of(
+    alloc: Global,
+    files: &[File],
+    lay: Option<PlacedSection>,
+) -> Result<Option<NewSection>, NoMemory>
     ensures { IfOk result (λ lays. lays ≡ lay_of files.now lay) }
 {
     match lay {
         Some(section) => {
             let words = words_laid(alloc, files, section.seg)?;
-            Ok(Some(Lay {
+            Ok(Some(NewSection {
                 words,
                 base: section.base,
                 seg: section.seg,
@@ -193,10 +202,10 @@ fn snap_by(
     files: &[File],
     ring: u8,
     link: &Link,
-    landing: Result<Landing, LinkCode>,
+    landing: Result<Target, LinkCode>,
 ) -> Result<Snap, LinkFault>
     requires { ring < 8 }
-    ensures { SnapSays result (snap_by files.now ring link.now landing) }
+    ensures { SnapResult result (snap_by files.now ring link.now landing) }
 {
     match landing {
         Ok(landing) => Ok(Snap {
@@ -224,7 +233,7 @@ impl Known {
         from: u16,
     ) -> Result<Snap, LinkFault>
         requires { ring < 8 }
-        ensures { SnapSays result (outer_snap self.now catalog.now files.now ring link.now from) }
+        ensures { SnapResult result (outer_snap self.now catalog.now files.now ring link.now from) }
     {
         let landing = outer_landing(self, catalog, files, ring, link, from);
         snap_by(alloc, files, ring, link, landing)
@@ -247,7 +256,7 @@ impl Known {
         files: &[File],
         at: At,
     ) -> Result<Snap, LinkFault>
-        ensures { SnapSays result (snap_of self.now catalog.now files.now at) }
+        ensures { SnapResult result (snap_of self.now catalog.now files.now at) }
     {
         let Some(section) = section_at(self.laid(), files, at) else {
             return Err(LinkFault::Refused(LinkCode::L1, None));

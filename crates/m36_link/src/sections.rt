@@ -2,20 +2,20 @@
 
 ghost use Rattle.std.specs.Prelude.{◌≡◌, ◌+◌, ◌<◌, ◌≤◌, ◌^◌, ◌&&◌, find, length, Some, IfSome};
 ghost use Rattle.obj36_parts.specs.ObjectSegment.{linkage_section, segment_limit, head_words};
-ghost use Rattle.m36_link.specs.Known.{laid_in, behind, base_behind, base_of, laid_words};
-ghost use Rattle.m36_link.specs.Landing.{home_of};
-ghost use Rattle.m36_link.specs.Apart.{AreApart};
+ghost use Rattle.m36_link.specs.Known.{laid_in, behind, next_base_after, base_of, laid_words};
+ghost use Rattle.m36_link.specs.Target.{home_of};
+ghost use Rattle.m36_link.specs.Apart.{AreEachFound};
 
-use crate::laid::{LOT_WORDS, Laid};
-use crate::places::{Sections, place_noted};
+use crate::laid::{LOT_WORDS, PlacedSection};
+use crate::places::{PlacedSections, stored_index};
 use m36_model::LinkCode;
 use obj36::{Object, Section};
 use obj36_parts::sections::SEGMENT_LIMIT;
 
 /// The section of a segment in a ring, and whether it still has to be laid.
 #[derive(Clone, Copy)]
-pub(crate) struct Home {
-    pub(crate) section: Laid,
+pub(crate) struct Placement {
+    pub(crate) section: PlacedSection,
     pub(crate) is_new: bool,
 }
 
@@ -42,8 +42,13 @@ fn laid_size(object: &Object) -> u32
 
 // The section at an index of the list, if it is that of the segment in the ring.
 #[tactic(auto, using(crate::proofs::Apart::found_there))]
-fn section_noted(laid: &[Laid], place: usize, ring: u8, seg: u16) -> Option<Laid>
-    requires { AreApart laid.now }
+fn section_at_index(
+    laid: &[PlacedSection],
+    place: usize,
+    ring: u8,
+    seg: u16,
+) -> Option<PlacedSection>
+    requires { AreEachFound laid.now }
     ensures { IfSome result (λ l. laid_in laid.now ring seg ≡ Some l) }
 {
     match laid.get(place) {
@@ -54,7 +59,7 @@ fn section_noted(laid: &[Laid], place: usize, ring: u8, seg: u16) -> Option<Laid
 
 // The section of a segment that is laid in a ring, found by a search of the list.
 #[tactic(auto, unfolding(crate::specs::Known::laid_in))]
-fn section_sought(laid: &[Laid], ring: u8, seg: u16) -> Option<Laid>
+fn find_section(laid: &[PlacedSection], ring: u8, seg: u16) -> Option<PlacedSection>
     ensures { result ≡ laid_in laid.now ring seg }
 {
     laid.iter()
@@ -64,18 +69,18 @@ fn section_sought(laid: &[Laid], ring: u8, seg: u16) -> Option<Laid>
 
 // The section of a segment that is laid in a ring: at the index in the table, or found by a
 // search.
-pub(crate) fn laid_in(laid: &Sections<'_>, ring: u8, seg: u16) -> Option<Laid>
+pub(crate) fn laid_in(laid: &PlacedSections<'_>, ring: u8, seg: u16) -> Option<PlacedSection>
     ensures { result ≡ laid_in laid.now ring seg }
 {
-    match section_noted(laid.items, place_noted(laid.places, ring, seg), ring, seg) {
+    match section_at_index(laid.items, stored_index(laid.places, ring, seg), ring, seg) {
         Some(section) => Some(section),
-        None => section_sought(laid.items, ring, seg),
+        None => find_section(laid.items, ring, seg),
     }
 }
 
 // The even word after a section.
 #[tactic(auto, unfolding(crate::specs::Known::behind))]
-fn behind(section: &Laid) -> u32
+fn behind(section: &PlacedSection) -> u32
     ensures value { result ≡ behind section.now }
     ensures bound { result ≤ segment_limit }
 {
@@ -84,9 +89,9 @@ fn behind(section: &Laid) -> u32
 }
 
 // The word number of the next section of a ring after `section`, if it was `base` before.
-fn base_behind(ring: u8, base: u32, section: &Laid) -> u32
+fn next_base_after(ring: u8, base: u32, section: &PlacedSection) -> u32
     requires { base ≤ segment_limit }
-    ensures value { result ≡ base_behind ring base section.now }
+    ensures value { result ≡ next_base_after ring base section.now }
     ensures bound { result ≤ segment_limit }
 {
     if section.ring == ring {
@@ -98,14 +103,14 @@ fn base_behind(ring: u8, base: u32, section: &Laid) -> u32
 
 // The word number at which the next section of a ring is laid.
 #[tactic(auto, unfolding(crate::specs::Known::next_base))]
-fn base_of(laid: &[Laid], ring: u8) -> u32
+fn base_of(laid: &[PlacedSection], ring: u8) -> u32
     ensures value { result ≡ base_of laid.now ring }
     ensures bound { result ≤ segment_limit }
 {
     let mut base = LOT_WORDS;
     let mut rest = laid;
     while let [section, others @ ..] = rest {
-        base = base_behind(ring, base, section);
+        base = next_base_after(ring, base, section);
         rest = others;
     }
     base
@@ -113,20 +118,20 @@ fn base_of(laid: &[Laid], ring: u8) -> u32
 
 /// The section of an object in a ring, laid already or to be laid; L6 if it would end past the
 /// segment.
-#[tactic(auto, unfolding(crate::specs::Landing::home_of))]
+#[tactic(auto, unfolding(crate::specs::Target::home_of))]
 pub(crate) fn home_of(
-    laid: &Sections<'_>,
+    laid: &PlacedSections<'_>,
     ring: u8,
     seg: u16,
     object: &Object,
-) -> Result<Home, LinkCode>
+) -> Result<Placement, LinkCode>
     requires ring { ring < 8 }
     requires seg { seg < 2 ^ 15 }
     requires size { length (laid_words object.now) ≤ segment_limit }
     ensures { result ≡ home_of laid.now ring seg object.now }
 {
     if let Some(section) = laid_in(laid, ring, seg) {
-        return Ok(Home {
+        return Ok(Placement {
             section,
             is_new: false,
         });
@@ -136,8 +141,8 @@ pub(crate) fn home_of(
     if base + size > SEGMENT_LIMIT as u32 {
         return Err(LinkCode::L6(base, size));
     }
-    Ok(Home {
-        section: Laid {
+    Ok(Placement {
+        section: PlacedSection {
             base,
             size,
             seg,

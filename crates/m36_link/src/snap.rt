@@ -2,7 +2,7 @@
 
 ghost use Rattle.std.specs.Prelude.{◌≡◌};
 
-use crate::laid::Lay;
+use crate::laid::NewSection;
 use m36_model::LinkCode;
 use m36_word::{NoMemory, Pair};
 use obj36::Link;
@@ -13,7 +13,7 @@ use std::marker::Model;
 #[derive(Drop)]
 pub struct Snap {
     /// The section that has to be laid, if any.
-    pub lay: Option<Lay>,
+    pub lay: Option<NewSection>,
     /// The link, as its object has it.
     pub link: Link,
     /// The pair that replaces the link.

@@ -16,15 +16,15 @@ use Rattle.alm_parse.specs.declared.args.Arg.TheVariants.{Number}
 use Rattle.alm_parse.specs.declared.line.Line36.{Line36}
 use Rattle.alm_tokens.specs.declared.numerals.Numeral.TheVariants as numeral
 use Rattle.alm_parse.specs.declared.operation.Operation.TheVariants.{Instruction, Octal}
-use Rattle.alm_tokens.specs.declared.pieces.Parter.TheVariants.{Comma}
+use Rattle.alm_tokens.specs.declared.pieces.Separator.TheVariants.{Comma}
 use Rattle.alm_tokens.specs.Tokens.{slice_of, span_at}
 use Rattle.alm_tokens.specs.Pieces.{parts, pieces_of}
-use Rattle.alm_parse.specs.Members.{numbers_given}
+use Rattle.alm_parse.specs.Members.{parse_numbers}
 use Rattle.alm_tokens.specs.Lists.{members, place_out}
 use Rattle.alm_parse.specs.Operations.{operation_of, directive}
 use Rattle.alm_tokens.specs.Rows.{row_at}
-use Rattle.alm_parse.specs.Lines.{line_given}
-use Rattle.alm_lines.specs.SpotFields.{Spot}
+use Rattle.alm_parse.specs.Lines.{parse_line}
+use Rattle.alm_lines.specs.SpotFields.{LocationCounter}
 use Rattle.alm_asm.specs.declared.tables.Tables.{Tables}
 use Rattle.alm_parse.specs.Deeds.{deed_named}
 use Rattle.alm_asm.specs.Words.{words_by}
@@ -47,8 +47,8 @@ use Rattle.m36_list.proofs.LineRead.{line_read}
 -- word.
 pub record IsWord (w number : ℕ) (before text after : List ℕ) : Type 0 where
   pub line : Line36
-  pub given : line_given (before ++ (text ++ after)) (row_at number (length before) (length before + length text)) ≡ Ok line
-  pub places : (tables : Tables) (spot : Spot) → words_by (before ++ (text ++ after)) tables spot line.args line.deed ≡ w ∷ []
+  pub given : parse_line (before ++ (text ++ after)) (row_at number (length before) (length before + length text)) ≡ Ok line
+  pub places : (tables : Tables) (spot : LocationCounter) → words_by (before ++ (text ++ after)) tables spot line.args line.deed ≡ w ∷ []
   pub alone : assembled record { text = before ++ (text ++ after); lines = line ∷ [] } ≡ Ok (object_of_word w)
 
 some_of : (name : List ℕ) → bytes_eq name [] ≡ false → 0 < length name
@@ -114,8 +114,8 @@ octal_operation = refl
 no_comma : (d : ℕ) → d < 10 → (48 + d == 44) ≡ false
 no_comma d small = ne_eqb (48 + d) 44 (λ e. absurd (omega arith))
 
-octal_said : (source : List ℕ) (from to w : ℕ) → w < 2 ^ 36 → slice_of source (span_at from to) ≡ octal_text 12 w → to ≡ from + 12 → numbers_given numeral.Octal source (span_at from to) ≡ Ok (Number w ∷ [])
-unfolding numbers_given members pieces_of place_out
+octal_said : (source : List ℕ) (from to w : ℕ) → w < 2 ^ 36 → slice_of source (span_at from to) ≡ octal_text 12 w → to ≡ from + 12 → parse_numbers numeral.Octal source (span_at from to) ≡ Ok (Number w ∷ [])
+unfolding parse_numbers members pieces_of place_out
 octal_said source from to w fits slice stop =
     let digits = octal_text 12 w in
     let long : length digits ≡ 12 = length_octal 12 w in

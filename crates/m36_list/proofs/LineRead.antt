@@ -11,7 +11,7 @@ use Rattle.alm_parse.specs.declared.operation.Operation.{Operation}
 use Rattle.alm_parse.specs.declared.args.Arg.{Arg}
 use Rattle.alm_parse.specs.Operations.{operation_of}
 use Rattle.alm_parse.specs.Deeds.{deed_named}
-use Rattle.alm_parse.specs.Lines.{line_given, label_refusal, args_of, args_with, operand_for}
+use Rattle.alm_parse.specs.Lines.{parse_line, label_refusal, args_of, args_with, operand_for}
 use Rattle.alm_tokens.specs.Rows.{row_at}
 use Rattle.alm_tokens.specs.Heads.{head_from, head_of, operand_start, end_from, operand_in}
 use Rattle.m36_list.proofs.Characters.{is_ending, is_parting}
@@ -80,7 +80,7 @@ operation_at_name source before name rest after from to whole begin end = slice_
 pub record IsLine (number : ℕ) (before text after name : List ℕ) (arguments : List Arg) : Type 0 where
   pub op : Span
   pub named : slice_of (before ++ (text ++ after)) op ≡ name
-  pub given : line_given (before ++ (text ++ after)) (row_at number (length before) (length before + length text)) ≡ Ok (line_of number (length before) op (deed_named name) arguments)
+  pub given : parse_line (before ++ (text ++ after)) (row_at number (length before) (length before + length text)) ≡ Ok (line_of number (length before) op (deed_named name) arguments)
 
 pub line_read : (number : ℕ) (text before name operand after : List ℕ) (operation : Operation) (arguments : List Arg)
     → text ≡ name ++ 32 ∷ operand → list_any is_parting name ≡ false → 0 < length name → list_any is_ending operand ≡ false → 0 < length operand
@@ -88,7 +88,7 @@ pub line_read : (number : ℕ) (text before name operand after : List ℕ) (oper
     → ((source : List ℕ) (rest : Span) → operand_for operation source rest ≡ operand_in source rest)
     → args_with operation (before ++ (text ++ after)) (span_at (length before + length name + 1) (length before + length text)) ≡ Ok arguments
     → IsLine number before text after name arguments
-unfolding line_given label_refusal args_of
+unfolding parse_line label_refusal args_of
 line_read number text before name operand after operation arguments shape plain some closed more known taken said =
     let source = before ++ (text ++ after) in
     let from = length before in

@@ -3,12 +3,12 @@ use Rattle.std.proofs.Common.{ℕ, ◌≡◌, ◌+◌, ◌^◌, ◌<◌, ◌≤�
 use Rattle.std.proofs.lemmas.List.{at_drop_more, at_drop_all, append-nil, length-take, length-drop}
 use Rattle.alm_parse.specs.declared.line.Line36.{Line36}
 use Rattle.obj36_parts.specs.declared.section.Section.{Section}
-use Rattle.alm_lines.specs.SpotFields.{Spot}
+use Rattle.alm_lines.specs.SpotFields.{LocationCounter}
 use Rattle.alm_lines.specs.Spots.{start, below}
 use Rattle.m36_list.specs.Listing.{placed_lines, size_in, section_words}
 
 -- one more line
-pub line_listed : (old next all name : List ℕ) (section : Section) (text left here later : List ℕ) (at size : ℕ) (spot under : Spot) (lines : List Line36) (i : ℕ) (row : Line36)
+pub line_listed : (old next all name : List ℕ) (section : Section) (text left here later : List ℕ) (at size : ℕ) (spot under : LocationCounter) (lines : List Line36) (i : ℕ) (row : Line36)
     → i < length lines → row ≡ get_or lines i row → size ≡ size_in section text spot row → here ≡ take size left → later ≡ drop size left → under ≡ below text spot row
     → next ≡ old ++ placed_lines name row.line at here
     → old ++ section_words name section text at left spot (drop i lines) ≡ all
@@ -27,7 +27,7 @@ still_fits at size left here later first rest fits =
     omega arith
 
 -- and all
-pub all_listed : (new old name : List ℕ) (section : Section) (text own left words : List ℕ) (at first : ℕ) (spot : Spot) (lines rows : List Line36) (i : ℕ)
+pub all_listed : (new old name : List ℕ) (section : Section) (text own left words : List ℕ) (at first : ℕ) (spot : LocationCounter) (lines rows : List Line36) (i : ℕ)
     → length lines ≤ i → text ≡ own → lines ≡ rows
     → new ++ section_words name section text at left spot (drop i lines) ≡ old ++ section_words name section text first words start lines
     → new ≡ old ++ section_words name section own first words start rows

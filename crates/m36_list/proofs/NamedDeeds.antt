@@ -4,15 +4,15 @@ use Rattle.std.specs.Prelude.{codes}
 use Rattle.m36_inst.specs.Lookup.{name_at, code_named}
 use Rattle.m36_inst.proofs.OneToOne.{named_code}
 use Rattle.alm_parse.specs.declared.operation.Operation.{Operation}
-use Rattle.alm_parse.specs.declared.deed.Deed.{Deed}
+use Rattle.alm_parse.specs.declared.deed.LineEffect.{LineEffect}
 use Rattle.alm_parse.specs.Operations.{directive}
-use Rattle.alm_parse.specs.declared.deed.Deed.TheVariants as deed
+use Rattle.alm_parse.specs.declared.deed.LineEffect.TheVariants as deed
 use Rattle.alm_parse.specs.Deeds.{instruction_of, deed_by, deed_named}
 
 -- a name that is not a directive is that of an instruction, or of nothing
 undirected : (name : List ℕ) → directive name ≡ None → deed_named name ≡ instruction_of (code_named name)
 unfolding deed_named
-undirected name none = ap (λ (d : Option (Operation × Deed)). deed_by d name) none
+undirected name none = ap (λ (d : Option (Operation × LineEffect)). deed_by d name) none
 
 -- a name of the table places its instruction, and `oct` its numbers
 pub instruction_deed : (code : ℕ) (bit27 : Bool) (name : List ℕ) → name_at code bit27 ≡ Some name → directive name ≡ None → deed_named name ≡ deed.Instruction code bit27

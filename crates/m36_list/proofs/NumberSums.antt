@@ -7,7 +7,7 @@ use Rattle.alm_tokens.specs.declared.expression.Atom.TheVariants.{Number}
 use Rattle.alm_tokens.specs.declared.expression.Term.{Term}
 use Rattle.alm_lines.specs.declared.sum.Sum.{Sum}
 use Rattle.alm_lines.specs.declared.sum.Kind.TheVariants.{Absolute}
-use Rattle.alm_lines.specs.SpotFields.{Spot}
+use Rattle.alm_lines.specs.SpotFields.{LocationCounter}
 use Rattle.alm_lines.specs.Sums.{balance, nothing, half_of, offset_of, absolute, sum_plus, sum_turned, kind_of}
 use Rattle.alm_lines.specs.Expressions.{term_sum, added, sum_of, is_undefined, place_undefined}
 use Rattle.alm_lines.specs.Refusals.{has_room}
@@ -22,7 +22,7 @@ abbrev pub number_sum : Bool → ℕ → Sum
 number_sum false v = absolute v
 number_sum true v = record { value = balance 0 v; text = nothing; inner = nothing; outer = nothing; unknown = false }
 
-pub sum_is : (text : List ℕ) (symbols : List (List ℕ × Sum)) (spot : Spot) (minus : Bool) (v : ℕ) (span : Span) → sum_of text symbols spot (number_term minus v span ∷ []) ≡ number_sum minus v
+pub sum_is : (text : List ℕ) (symbols : List (List ℕ × Sum)) (spot : LocationCounter) (minus : Bool) (v : ℕ) (span : Span) → sum_of text symbols spot (number_term minus v span ∷ []) ≡ number_sum minus v
 unfolding added term_sum sum_plus sum_turned
 sum_is text symbols spot false v span =
     let same : 0 + v ≡ v = omega arith in

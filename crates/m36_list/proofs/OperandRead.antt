@@ -4,7 +4,7 @@ use Rattle.std.specs.Prelude.{codes}
 use Rattle.std.proofs.lemmas.Bool.{ltb-true, ltb-false, ne_eqb, eqb-true}
 use Rattle.std.proofs.lemmas.List.{append-nil}
 use Rattle.m36_text.specs.Digits.{decimal_text}
-use Rattle.m36_text.specs.Reading.{first_other, number_of, number_read}
+use Rattle.m36_text.specs.Reading.{first_non_digit, number_of, number_read}
 use Rattle.m36_text.specs.Numbers.{octal_in}
 use Rattle.m36_inst.specs.Fields.{InstFields}
 use Rattle.alm_tokens.specs.declared.span.Span.{Span}
@@ -14,7 +14,7 @@ use Rattle.alm_tokens.specs.Modifiers.{pr_number, tag_of}
 use Rattle.alm_tokens.specs.Pieces.{piece_at}
 use Rattle.alm_tokens.specs.Expressions.{expression_pieces}
 use Rattle.alm_parse.specs.Bodies.{place_of, body_of, body_pieces}
-use Rattle.alm_parse.specs.Operands.{operand_given, operand_by}
+use Rattle.alm_parse.specs.Operands.{parse_operand, operand_by}
 use Rattle.m36_list.specs.Disassembly.{signed_text, address_text}
 use Rattle.m36_list.proofs.Characters.{decimal_passes_none, PassesNone, pointer_text, pointer_passes_none, address_passes_none}
 use Rattle.m36_list.proofs.Spans.{slice_at, place_behind, place_none}
@@ -37,7 +37,7 @@ comma_passes_none = record { digit = no_digit_below 44 (omega arith); minus = re
 
 -- a pointer register
 pointer_back : (n : ℕ) → n < 8 → pr_number (pointer_text n) ≡ Some n
-unfolding pr_number octal_in number_read first_other number_of
+unfolding pr_number octal_in number_read first_non_digit number_of
 pointer_back zero small = refl
 pointer_back (suc zero) small = refl
 pointer_back (suc (suc zero)) small = refl
@@ -151,7 +151,7 @@ pub record IsOperandAt (source : List ℕ) (from to : ℕ) (i : InstFields) : Ty
   pub minus : Bool
   pub v : ℕ
   pub span : Span
-  pub says : operand_given source (span_at from to) ≡ Ok (Operand pr None None (number_term minus v span ∷ []) i.tag ∷ [])
+  pub says : parse_operand source (span_at from to) ≡ Ok (Operand pr None None (number_term minus v span ∷ []) i.tag ∷ [])
   pub address : GivesAddress pr minus v i
 
 record IsTagged (c : ℕ) (text : List ℕ) (tag : ℕ) : Type 0 where
@@ -165,7 +165,7 @@ comma_and_tag c text tag false e h = absurd (cc)
 operand_at_by : (source before after : List ℕ) (from to : ℕ) (i : InstFields) (text : List ℕ) → i.y < 2 ^ 18 → tag_read text ≡ Some i.tag
     → source ≡ before ++ ((address_text i ++ text) ++ after) → from ≡ length before → to ≡ from + length (address_text i ++ text)
     → IsOperandAt source from to i
-unfolding operand_given
+unfolding parse_operand
 operand_at_by source before after from to i [] fits tagged whole begin end =
     let address = address_text i in
     let same : address ++ [] ≡ address = append-nil address in

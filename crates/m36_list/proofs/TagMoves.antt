@@ -3,7 +3,7 @@ use Rattle.std.proofs.Common.{ℕ, zero, suc, ◌≡◌, ◌+◌, ◌/◌, ◌%�
 use Rattle.std.specs.Prelude.{codes, option_map, slice_index}
 use Rattle.std.proofs.lemmas.Bool.{eqb-true}
 use Rattle.m36_text.specs.Digits.{character}
-use Rattle.m36_text.specs.Reading.{first_other, number_of, number_read}
+use Rattle.m36_text.specs.Reading.{first_non_digit, number_of, number_read}
 use Rattle.m36_text.specs.Numbers.{octal_in}
 use Rattle.m36_model.specs.Registers.{RegsFields}
 use Rattle.m36_model.specs.Tally.{is_tally_tag}
@@ -15,7 +15,7 @@ use Rattle.m36_list.specs.Tags.{value_named, RegistersMean, TagsMean}
 -- ---- names of registers
 
 indexed : (g : RegsFields) (n : ℕ) → n < 8 → value_named g (codes "x" ++ character n ∷ []) ≡ Some (slice_index g.x n)
-unfolding register_of index_of octal_in number_read first_other number_of
+unfolding register_of index_of octal_in number_read first_non_digit number_of
 indexed g zero low = refl
 indexed g (suc zero) low = refl
 indexed g (suc (suc zero)) low = refl
@@ -27,7 +27,7 @@ indexed g (suc (suc (suc (suc (suc (suc (suc zero))))))) low = refl
 indexed g (suc (suc (suc (suc (suc (suc (suc (suc n)))))))) low = absurd (omega arith)
 
 pub registers_mean : RegistersMean
-unfolding register_of index_of octal_in number_read first_other number_of
+unfolding register_of index_of octal_in number_read first_non_digit number_of
 registers_mean =
     record {
       none = λ g. refl;

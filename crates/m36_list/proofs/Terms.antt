@@ -8,13 +8,13 @@ use Rattle.std.proofs.lemmas.Slice.Eq.{bytes_eq-Decides}
 use Rattle.m36_text.specs.Digits.{decimal_text}
 use Rattle.m36_text.proofs.NumeralLaws.{reads_decimal, has_no_leading_zero}
 use Rattle.alm_tokens.specs.declared.span.Span.{Span}
-use Rattle.alm_tokens.specs.declared.pieces.Parter.{Parter}
-use Rattle.alm_tokens.specs.declared.pieces.Parter.TheVariants.{Sign}
-use Rattle.alm_tokens.specs.declared.pieces.Piece.{Piece}
+use Rattle.alm_tokens.specs.declared.pieces.Separator.{Separator}
+use Rattle.alm_tokens.specs.declared.pieces.Separator.TheVariants.{Sign}
+use Rattle.alm_tokens.specs.declared.pieces.TextPiece.{TextPiece}
 use Rattle.alm_tokens.specs.declared.expression.Atom.TheVariants.{Number}
 use Rattle.alm_tokens.specs.Tokens.{slice_of, is_text, small_read, has_no_leading_zero as starts_well, span_at}
 use Rattle.alm_tokens.specs.Numerals.{is_number}
-use Rattle.alm_tokens.specs.Pieces.{parts, piece_at, cut, pieces_of}
+use Rattle.alm_tokens.specs.Pieces.{parts, piece_at, split_at, pieces_of}
 use Rattle.alm_tokens.specs.Expressions.{is_here, is_term, is_term_at, signed_start, expression_pieces, atom_of, term_of}
 use Rattle.alm_tokens.specs.Lists.{place_out}
 use Rattle.alm_tokens.specs.declared.numerals.Numeral.TheVariants.{Small}
@@ -66,8 +66,8 @@ unfolding atom_of
 atom v fits = rw (not_here v, number v fits, read v fits) refl
 
 -- a text without a separator is one piece
-pub one_piece : (parter : Parter) (minus : Bool) (from at : ℕ) (bytes : List ℕ) → list_any (parts parter) bytes ≡ false → cut parter minus from at bytes ≡ piece_at minus from (at + length bytes) ∷ []
-unfolding cut
+pub one_piece : (parter : Separator) (minus : Bool) (from at : ℕ) (bytes : List ℕ) → list_any (parts parter) bytes ≡ false → split_at parter minus from at bytes ≡ piece_at minus from (at + length bytes) ∷ []
+unfolding split_at
 one_piece parter minus from at [] none =
     let end : at ≡ at + 0 = omega arith in
     ap (λ (to : ℕ). piece_at minus from to ∷ []) end
@@ -94,7 +94,7 @@ no_minus : (d : ℕ) → d < 10 → (48 + d == 45) ≡ false
 no_minus d small = ne_eqb (48 + d) 45 (λ e. absurd (omega arith))
 
 -- the term in a piece that holds a decimal number
-pub record IsNumberAt (source : List ℕ) (pieces : List Piece) (minus : Bool) (v : ℕ) : Type 0 where
+pub record IsNumberAt (source : List ℕ) (pieces : List TextPiece) (minus : Bool) (v : ℕ) : Type 0 where
   pub span : Span
   pub one : pieces ≡ record { span = span; minus = minus } ∷ []
   pub terms : list_all (is_term_at source) pieces ≡ true

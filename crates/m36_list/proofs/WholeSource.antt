@@ -9,7 +9,7 @@ use Rattle.m36_inst.specs.Lookup.{name_at}
 use Rattle.alm_parse.specs.declared.line.Line36.{Line36}
 use Rattle.alm_tokens.specs.declared.rows.Row.{Row}
 use Rattle.alm_tokens.specs.Rows.{row_at, rows_from, rows_of}
-use Rattle.alm_parse.specs.Lines.{line_given}
+use Rattle.alm_parse.specs.Lines.{parse_line}
 use Rattle.alm_parse.specs.Sources.{names_end, read_lines, with_text, parsed}
 use Rattle.m36_list.specs.Modifiers.{modifier_text}
 use Rattle.m36_list.specs.Disassembly.{disassembly, by_fields, by_parts, octal_constant, address_text}
@@ -62,7 +62,7 @@ last : (text : List ℕ) (line : Line36) (w : ℕ) (ended : Bool) → assembled 
 last text line w true h = h
 last text line w false h = h
 
-row_read : (text : List ℕ) (row : Row) (line : Line36) (w : ℕ) → line_given text row ≡ Ok line → assembled record { text = text; lines = line ∷ [] } ≡ Ok (object_of_word w)
+row_read : (text : List ℕ) (row : Row) (line : Line36) (w : ℕ) → parse_line text row ≡ Ok line → assembled record { text = text; lines = line ∷ [] } ≡ Ok (object_of_word w)
     → object_of (with_text text (read_lines text [] (row ∷ []))) ≡ Ok (object_of_word w)
 unfolding read_lines
 row_read text row line w given alone = rw given (last text line w (names_end text line.op) alone)

@@ -9,21 +9,21 @@ use Rattle.alm_parse.specs.SourceFields.{Source}
 use Rattle.m36_inst.specs.Instruction.{inst_word}
 use Rattle.obj36_parts.specs.ObjectSegment.{definition_part, definition_section, linkage_part, linkage_section, symbol_part, symbol_section, map_part, map_words, words_of, definition_names, are_distinct, are_rising, is_well_formed, all_link_names, definition_words, expression_words, link_words, relocation_words}
 use Rattle.obj36_parts.specs.Names.{with_names, all_name_words}
-use Rattle.alm_lines.specs.SpotFields.{Spot}
+use Rattle.alm_lines.specs.SpotFields.{LocationCounter}
 use Rattle.alm_asm.specs.declared.tables.Tables.{Tables}
-use Rattle.alm_parse.specs.declared.deed.Deed.{Deed}
-use Rattle.alm_parse.specs.declared.deed.Deed.TheVariants as deed
-use Rattle.alm_lines.specs.declared.refusal.Refusal.{Refusal}
+use Rattle.alm_parse.specs.declared.deed.LineEffect.{LineEffect}
+use Rattle.alm_parse.specs.declared.deed.LineEffect.TheVariants as deed
+use Rattle.alm_lines.specs.declared.refusal.AlmRefusal.{AlmRefusal}
 use Rattle.alm_lines.specs.declared.sum.Sum.{Sum}
 use Rattle.alm_lines.specs.Sums.{half_of, offset_of}
 use Rattle.alm_lines.specs.Expressions.{expression_place}
-use Rattle.alm_lines.specs.Refusals.{sooner, has_room, is_said, expression_refusal}
+use Rattle.alm_lines.specs.Refusals.{sooner, has_room, is_expressible, expression_refusal}
 use Rattle.alm_lines.specs.Arguments.{words_of_args}
 use Rattle.alm_lines.specs.Spots.{start, below, end_of}
 use Rattle.alm_lines.specs.Layout.{labels_refused, refused_with, over, refused_after, layout_refusal}
 use Rattle.alm_asm.specs.Links.{links_after, links_from}
 use Rattle.alm_asm.specs.Words.{own_inst, instruction_word, words_by, words_of_line, words_from}
-use Rattle.alm_asm.specs.Marks.{marks_after, marks_from}
+use Rattle.alm_asm.specs.Relocations.{marks_after, marks_from}
 use Rattle.alm_asm.specs.Definitions.{definitions_after, definitions_from}
 use Rattle.alm_asm.specs.LineRefusals.{own_room, line_refusal, lines_refusal}
 use Rattle.alm_asm.specs.Growth.{at_first, with_marks, grown_by, is_over, growth_refusal}
@@ -32,10 +32,10 @@ use Rattle.m36_list.specs.Assembled.{object_of_word}
 use Rattle.m36_list.proofs.NumberSums.{number_term, number_sum, sum_is, kind_is, known_is, none_missing}
 
 -- such a line alone
-abbrev pub line_of : ℕ → ℕ → Span → Deed → List Arg → Line36
+abbrev pub line_of : ℕ → ℕ → Span → LineEffect → List Arg → Line36
 line_of number at op d arguments = record { labels = []; args = arguments; op = Some op; deed = d; start = at; line = number }
 
-abbrev pub source_of : List ℕ → ℕ → ℕ → Span → Deed → List Arg → Source
+abbrev pub source_of : List ℕ → ℕ → ℕ → Span → LineEffect → List Arg → Source
 source_of text number at op d arguments = record { text = text; lines = line_of number at op d arguments ∷ [] }
 
 abbrev pub operand_of : Option ℕ → Bool → ℕ → Span → ℕ → List Arg
@@ -50,32 +50,32 @@ by_parts : (source : Source) (w : ℕ) → refusal_of source ≡ None → parts_
 unfolding assembled
 by_parts source w none parts = rw (none, parts, formed w) refl
 
-neither : (a b : Option Refusal) → a ≡ None → b ≡ None → sooner a b ≡ None
+neither : (a b : Option AlmRefusal) → a ≡ None → b ≡ None → sooner a b ≡ None
 neither a b first second = rw (first, second) refl
 
 -- the refusals of the lines of a source, apart from those for the lengths of sections
-abbrev lines_of : Source → Option Refusal
+abbrev lines_of : Source → Option AlmRefusal
 lines_of source =
     sooner (layout_refusal source.text None [] start source.lines) (lines_refusal source.text (tables_of source.text source.lines) [] start source.lines)
 
 -- ---- an octal constant
 
-pub constant_placed : (text : List ℕ) (tables : Tables) (spot : Spot) (op : Span) (d : Deed) (w : ℕ) → d ≡ deed.Words
+pub constant_placed : (text : List ℕ) (tables : Tables) (spot : LocationCounter) (op : Span) (d : LineEffect) (w : ℕ) → d ≡ deed.Words
     → words_by text tables spot (Number w ∷ []) d ≡ w ∷ []
 unfolding words_of_args
 constant_placed text tables spot op d w does = rw (does) refl
 
-constant_lines : (text : List ℕ) (number at : ℕ) (op : Span) (d : Deed) (w : ℕ) → d ≡ deed.Words
+constant_lines : (text : List ℕ) (number at : ℕ) (op : Span) (d : LineEffect) (w : ℕ) → d ≡ deed.Words
     → lines_of (source_of text number at op d (Number w ∷ [])) ≡ None
 unfolding lines_refusal line_refusal layout_refusal refused_after labels_refused refused_with over below words_of_args
 constant_lines text number at op d w does = rw (does) refl
 
-constant_short : (text : List ℕ) (symbols : List (List ℕ × Sum)) (number at : ℕ) (op : Span) (d : Deed) (w : ℕ) → d ≡ deed.Words
+constant_short : (text : List ℕ) (symbols : List (List ℕ × Sum)) (number at : ℕ) (op : Span) (d : LineEffect) (w : ℕ) → d ≡ deed.Words
     → growth_refusal text symbols at_first start (line_of number at op d (Number w ∷ []) ∷ []) ≡ None
 unfolding growth_refusal grown_by with_marks is_over below words_of_args
 constant_short text symbols number at op d w does = rw (does) refl
 
-constant_unrefused : (text : List ℕ) (number at : ℕ) (op : Span) (d : Deed) (w : ℕ) → d ≡ deed.Words
+constant_unrefused : (text : List ℕ) (number at : ℕ) (op : Span) (d : LineEffect) (w : ℕ) → d ≡ deed.Words
     → refusal_of (source_of text number at op d (Number w ∷ [])) ≡ None
 unfolding refusal_of
 constant_unrefused text number at op d w does =
@@ -83,12 +83,12 @@ constant_unrefused text number at op d w does =
     let symbols = (tables_of text source.lines).symbols in
     neither (lines_of source) (growth_refusal text symbols at_first start source.lines) (constant_lines text number at op d w does) (constant_short text symbols number at op d w does)
 
-constant_parts : (text : List ℕ) (number at : ℕ) (op : Span) (d : Deed) (w : ℕ) → d ≡ deed.Words
+constant_parts : (text : List ℕ) (number at : ℕ) (op : Span) (d : LineEffect) (w : ℕ) → d ≡ deed.Words
     → parts_of (source_of text number at op d (Number w ∷ [])) ≡ object_of_word w
 unfolding parts_with tables_of words_from words_of_line definitions_from definitions_after links_from links_after marks_from marks_after bound_from end_of below words_of_args
 constant_parts text number at op d w does = rw (does) refl
 
-pub constant_alone : (text : List ℕ) (number at : ℕ) (op : Span) (d : Deed) (w : ℕ) → d ≡ deed.Words
+pub constant_alone : (text : List ℕ) (number at : ℕ) (op : Span) (d : LineEffect) (w : ℕ) → d ≡ deed.Words
     → assembled (source_of text number at op d (Number w ∷ [])) ≡ Ok (object_of_word w)
 constant_alone text number at op d w does =
     by_parts (source_of text number at op d (Number w ∷ [])) w (constant_unrefused text number at op d w does) (constant_parts text number at op d w does)
@@ -100,18 +100,18 @@ abbrev pub gives : Option ℕ → Bool → ℕ → ℕ → ℕ → Bool → ℕ
 gives pr minus v tag code bit27 =
     inst_word (own_inst code bit27 pr (half_of (number_sum minus v).value) (offset_of (number_sum minus v).value) tag)
 
-pub instruction_placed : (text : List ℕ) (tables : Tables) (spot : Spot) (op : Span) (d : Deed) (code : ℕ) (bit27 : Bool) (pr : Option ℕ) (minus : Bool) (v : ℕ) (span : Span) (tag : ℕ) → d ≡ deed.Instruction code bit27
+pub instruction_placed : (text : List ℕ) (tables : Tables) (spot : LocationCounter) (op : Span) (d : LineEffect) (code : ℕ) (bit27 : Bool) (pr : Option ℕ) (minus : Bool) (v : ℕ) (span : Span) (tag : ℕ) → d ≡ deed.Instruction code bit27
     → words_by text tables spot (operand_of pr minus v span tag) d ≡ gives pr minus v tag code bit27 ∷ []
 unfolding instruction_word
 instruction_placed text tables spot op d code bit27 pr minus v span tag does = rw (does, sum_is text tables.symbols spot minus v span) refl
 
-expression_unrefused : (text : List ℕ) (symbols : List (List ℕ × Sum)) (spot : Spot) (line : Line36) (pr : Option ℕ) (minus : Bool) (v : ℕ) (span : Span) (place : ℕ) → has_room (own_room pr) (number_sum minus v).value ≡ true
+expression_unrefused : (text : List ℕ) (symbols : List (List ℕ × Sum)) (spot : LocationCounter) (line : Line36) (pr : Option ℕ) (minus : Bool) (v : ℕ) (span : Span) (place : ℕ) → has_room (own_room pr) (number_sum minus v).value ≡ true
     → expression_refusal text symbols spot line (number_term minus v span ∷ []) place (own_room pr) true ≡ None
-unfolding expression_refusal is_said
+unfolding expression_refusal is_expressible
 expression_unrefused text symbols spot line pr minus v span place room =
     rw (none_missing text symbols minus v span, sum_is text symbols spot minus v span, known_is minus v, room, kind_is minus v) refl
 
-instruction_lines : (text : List ℕ) (number at : ℕ) (op : Span) (d : Deed) (code : ℕ) (bit27 : Bool) (pr : Option ℕ) (minus : Bool) (v : ℕ) (span : Span) (tag : ℕ) → d ≡ deed.Instruction code bit27
+instruction_lines : (text : List ℕ) (number at : ℕ) (op : Span) (d : LineEffect) (code : ℕ) (bit27 : Bool) (pr : Option ℕ) (minus : Bool) (v : ℕ) (span : Span) (tag : ℕ) → d ≡ deed.Instruction code bit27
     → has_room (own_room pr) (number_sum minus v).value ≡ true
     → lines_of (source_of text number at op d (operand_of pr minus v span tag)) ≡ None
 unfolding lines_refusal line_refusal layout_refusal refused_after labels_refused refused_with over below
@@ -119,15 +119,15 @@ instruction_lines text number at op d code bit27 pr minus v span tag does room =
     let arguments = operand_of pr minus v span tag in
     let line = line_of number at op d arguments in
     let symbols = (tables_of text (line ∷ [])).symbols in
-    rw does (ap (λ (r : Option Refusal). option_or r None) (expression_unrefused text symbols start line pr minus v span (expression_place (number_term minus v span ∷ [])) room))
+    rw does (ap (λ (r : Option AlmRefusal). option_or r None) (expression_unrefused text symbols start line pr minus v span (expression_place (number_term minus v span ∷ [])) room))
 
-instruction_short : (text : List ℕ) (symbols : List (List ℕ × Sum)) (number at : ℕ) (op : Span) (d : Deed) (code : ℕ) (bit27 : Bool) (pr : Option ℕ) (minus : Bool) (v : ℕ) (span : Span) (tag : ℕ) → d ≡ deed.Instruction code bit27
+instruction_short : (text : List ℕ) (symbols : List (List ℕ × Sum)) (number at : ℕ) (op : Span) (d : LineEffect) (code : ℕ) (bit27 : Bool) (pr : Option ℕ) (minus : Bool) (v : ℕ) (span : Span) (tag : ℕ) → d ≡ deed.Instruction code bit27
     → growth_refusal text symbols at_first start (line_of number at op d (operand_of pr minus v span tag) ∷ []) ≡ None
 unfolding growth_refusal grown_by with_marks is_over below
 instruction_short text symbols number at op d code bit27 pr minus v span tag does =
     rw (does, sum_is, kind_is minus v) refl
 
-instruction_unrefused : (text : List ℕ) (number at : ℕ) (op : Span) (d : Deed) (code : ℕ) (bit27 : Bool) (pr : Option ℕ) (minus : Bool) (v : ℕ) (span : Span) (tag : ℕ) → d ≡ deed.Instruction code bit27
+instruction_unrefused : (text : List ℕ) (number at : ℕ) (op : Span) (d : LineEffect) (code : ℕ) (bit27 : Bool) (pr : Option ℕ) (minus : Bool) (v : ℕ) (span : Span) (tag : ℕ) → d ≡ deed.Instruction code bit27
     → has_room (own_room pr) (number_sum minus v).value ≡ true
     → refusal_of (source_of text number at op d (operand_of pr minus v span tag)) ≡ None
 unfolding refusal_of
@@ -138,14 +138,14 @@ instruction_unrefused text number at op d code bit27 pr minus v span tag does ro
     (instruction_lines text number at op d code bit27 pr minus v span tag does room)
     (instruction_short text symbols number at op d code bit27 pr minus v span tag does)
 
-instruction_parts : (text : List ℕ) (number at : ℕ) (op : Span) (d : Deed) (code : ℕ) (bit27 : Bool) (pr : Option ℕ) (minus : Bool) (v : ℕ) (span : Span) (tag w : ℕ) → d ≡ deed.Instruction code bit27
+instruction_parts : (text : List ℕ) (number at : ℕ) (op : Span) (d : LineEffect) (code : ℕ) (bit27 : Bool) (pr : Option ℕ) (minus : Bool) (v : ℕ) (span : Span) (tag w : ℕ) → d ≡ deed.Instruction code bit27
     → gives pr minus v tag code bit27 ≡ w
     → parts_of (source_of text number at op d (operand_of pr minus v span tag)) ≡ object_of_word w
 unfolding parts_with tables_of words_from words_of_line definitions_from definitions_after links_from links_after marks_from marks_after bound_from end_of below instruction_word
 instruction_parts text number at op d code bit27 pr minus v span tag w does word =
     rw (does, sum_is, kind_is minus v, word) refl
 
-pub instruction_alone : (text : List ℕ) (number at : ℕ) (op : Span) (d : Deed) (code : ℕ) (bit27 : Bool) (pr : Option ℕ) (minus : Bool) (v : ℕ) (span : Span) (tag w : ℕ) → d ≡ deed.Instruction code bit27
+pub instruction_alone : (text : List ℕ) (number at : ℕ) (op : Span) (d : LineEffect) (code : ℕ) (bit27 : Bool) (pr : Option ℕ) (minus : Bool) (v : ℕ) (span : Span) (tag w : ℕ) → d ≡ deed.Instruction code bit27
     → has_room (own_room pr) (number_sum minus v).value ≡ true → gives pr minus v tag code bit27 ≡ w
     → assembled (source_of text number at op d (operand_of pr minus v span tag)) ≡ Ok (object_of_word w)
 instruction_alone text number at op d code bit27 pr minus v span tag w does room word =

@@ -4,15 +4,15 @@ use Rattle.std.specs.Prelude.{Some, None, Result, Ok, Err}
 use Rattle.m36_text.specs.Lines.{as_line}
 use Rattle.m36_text.specs.Results.{and_then}
 use Rattle.alm_parse.specs.declared.line.Line36.{Line36}
-use Rattle.alm_parse.specs.declared.refusal.Refusal.{Refusal}
+use Rattle.alm_parse.specs.declared.refusal.ParseRefusal.{ParseRefusal}
 use Rattle.alm_parse.specs.declared.fault.AlmFault.{AlmFault}
 use Rattle.alm_tokens.specs.Rows.{row_at}
-use Rattle.alm_parse.specs.Lines.{line_given}
+use Rattle.alm_parse.specs.Lines.{parse_line}
 use Rattle.alm_parse.specs.SourceFields.{Source}
 use Rattle.alm_parse.specs.Sources.{parsed}
 use Rattle.obj36_parts.specs.PartsFields.{PartsFields}
 use Rattle.obj36_parts.specs.ObjectSegment.{version_of}
-use Rattle.alm_lines.specs.SpotFields.{Spot}
+use Rattle.alm_lines.specs.SpotFields.{LocationCounter}
 use Rattle.alm_asm.specs.declared.tables.Tables.{Tables}
 use Rattle.alm_asm.specs.Words.{words_by}
 use Rattle.alm_asm.specs.Assembly.{assembled}
@@ -21,24 +21,24 @@ use Rattle.m36_list.specs.Disassembly.{disassembly}
 -- ---- a line anywhere in a source
 
 -- the words that a line places, if it was parsed
-abbrev pub words_given : List ℕ → Tables → Spot → Result Line36 Refusal → Option (List ℕ)
-words_given source tables spot (Ok line) = Some (words_by source tables spot line.args line.deed)
-words_given source tables spot (Err refusal) = None
+abbrev pub words_if_parsed : List ℕ → Tables → LocationCounter → Result Line36 ParseRefusal → Option (List ℕ)
+words_if_parsed source tables spot (Ok line) = Some (words_by source tables spot line.args line.deed)
+words_if_parsed source tables spot (Err refusal) = None
 
 -- The words that a line with this text and this number places, in a source where `before` precedes
 -- the line and `after` follows it.
-abbrev pub words_between : ℕ → List ℕ → List ℕ → List ℕ → Tables → Spot → Option (List ℕ)
+abbrev pub words_between : ℕ → List ℕ → List ℕ → List ℕ → Tables → LocationCounter → Option (List ℕ)
 words_between number before text after tables spot =
     let source = before ++ (text ++ after) in
-    words_given source tables spot
-    (line_given source (row_at number (length before) (length before + length text)))
+    words_if_parsed source tables spot
+    (parse_line source (row_at number (length before) (length before + length text)))
 
 -- The text of any word is parsed as a line anywhere in a source, and the line places that word and
 -- no other. It has no symbol and no segment, so the symbols and links of the source and the place
 -- of the line do not matter.
 abbrev pub PlacesItself : Type 0
 PlacesItself =
-    (w number : ℕ) (before after : List ℕ) (tables : Tables) (spot : Spot) → w < 2 ^ 36
+    (w number : ℕ) (before after : List ℕ) (tables : Tables) (spot : LocationCounter) → w < 2 ^ 36
     → words_between number before (disassembly w) after tables spot ≡ Some (w ∷ [])
 
 -- ---- a whole source

@@ -9,7 +9,7 @@ use Rattle.obj36_parts.specs.declared.section.Section.TheVariants.{Text, Linkage
 use Rattle.obj36_parts.specs.PartsFields.{PartsFields}
 use Rattle.obj36_parts.specs.Sections.{section_name, same_section}
 use Rattle.obj36_parts.specs.ObjectSegment.{inner_statics, outer_statics}
-use Rattle.alm_lines.specs.SpotFields.{Spot}
+use Rattle.alm_lines.specs.SpotFields.{LocationCounter}
 use Rattle.alm_lines.specs.Spots.{start, place_in, place, size_of, below}
 use Rattle.m36_list.specs.Print.{line, print_of}
 
@@ -26,12 +26,12 @@ placed_lines name number at (w ∷ ws) =
     placed_line name number at w ++ placed_lines name number (at + 1) ws
 
 -- the number of words that a line places in a section
-unfoldable pub size_in : Section → List ℕ → Spot → Line36 → ℕ
+unfoldable pub size_in : Section → List ℕ → LocationCounter → Line36 → ℕ
 size_in section text spot row =
     if same_section spot.section section then size_of row.deed row.args (place spot) else 0
 
 -- the words of a section from an offset on, each with the line that places it
-unfoldable pub section_words : List ℕ → Section → List ℕ → ℕ → List ℕ → Spot → List Line36 → List ℕ
+unfoldable pub section_words : List ℕ → Section → List ℕ → ℕ → List ℕ → LocationCounter → List Line36 → List ℕ
 section_words name section text at words spot [] = []
 section_words name section text at words spot (row ∷ lines) =
     let here = take (size_in section text spot row) words in

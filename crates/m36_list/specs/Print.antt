@@ -8,7 +8,7 @@ use Rattle.obj36_parts.specs.Fields.{LinkFields}
 use Rattle.obj36_parts.specs.PartsFields.{PartsFields}
 use Rattle.obj36_parts.specs.ObjectSegment.{is_newer, outer_statics, first_link, words_of}
 use Rattle.obj36_parts.specs.ObjectSegment.{definition_section, linkage_section, symbol_section}
-use Rattle.obj36_parts.specs.ObjectSegment.{linkage_behind, statics_behind, symbol_behind}
+use Rattle.obj36_parts.specs.ObjectSegment.{linkage_at, statics_at, symbol_at}
 use Rattle.obj36_parts.specs.declared.section.Section.{Section}
 use Rattle.obj36_parts.specs.declared.section.Section.TheVariants.{Text, Linkage, Symbol, Static}
 use Rattle.obj36_parts.specs.declared.definition.Named.{Named}
@@ -36,17 +36,17 @@ section_line name at len = line (name ∷ half_text at ∷ half_text len ∷ [])
 
 -- the offset of the linkage section in the object
 abbrev pub linkage_at : PartsFields → ℕ
-linkage_at p = linkage_behind (length p.text) (length (definition_section p))
+linkage_at p = linkage_at (length p.text) (length (definition_section p))
 
 -- the offset of the static section
 abbrev pub statics_at : PartsFields → ℕ
 statics_at p =
-    statics_behind (length p.text) (length (definition_section p)) (length (linkage_section p))
+    statics_at (length p.text) (length (definition_section p)) (length (linkage_section p))
 
 -- the offset of the symbol section
 abbrev pub symbol_at : PartsFields → ℕ
 symbol_at p =
-    symbol_behind (length p.text) (length (definition_section p)) (length (linkage_section p))
+    symbol_at (length p.text) (length (definition_section p)) (length (linkage_section p))
     (length (outer_statics p))
 
 -- the static section, which only version 2 has

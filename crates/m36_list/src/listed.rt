@@ -10,7 +10,7 @@ use crate::counts::{Counts, counted};
 use crate::placed::put_all_placed;
 use crate::printing::put_print;
 use alm_asm::links::same_section;
-use alm_asm::spot::{Spot, below, size_of};
+use alm_asm::spot::{LocationCounter, below, size_of};
 use alm_parse::{Line36, Lines36};
 use m36_outside::Text;
 use m36_word::{NoMemory, Word};
@@ -25,7 +25,7 @@ fn size_in(
     alloc: Global,
     section: Section,
     text: &[u8],
-    spot: Spot,
+    spot: LocationCounter,
     line: &Line36,
 ) -> Result<u64, NoMemory>
     ensures { IfOk result (λ size. size ≡ size_in section text.now spot line.now) }
@@ -55,7 +55,7 @@ fn put_section_words(
         ++ section_words name.now section source.now.text first words.now start source.now.lines) }
 {
     let text = source.text();
-    let mut spot = Spot::start();
+    let mut spot = LocationCounter::start();
     let mut at = first;
     let mut left = words;
     for line in source.lines() {

@@ -11,7 +11,7 @@ use m36_word::{NoMemory, Word};
 
 /// Adds the line of a word that a line of the source places.
 #[tactic(auto, unfolding(crate::specs::Listing::placed_line), using(crate::proofs::LineFields::lines))]
-fn put_placed(
+fn add_placed_word(
     text: &mut Text,
     section: &[u8],
     line: u32,
@@ -40,7 +40,7 @@ pub fn put_all_placed(
     ensures { OnOk result (text.new ≡ text.old ++ placed_lines section.now line first words.now) }
 {
     for (i, word) in words.iter().enumerate() {
-        put_placed(text, section, line, first + i as u64, *word)?;
+        add_placed_word(text, section, line, first + i as u64, *word)?;
     }
     Ok(())
 }

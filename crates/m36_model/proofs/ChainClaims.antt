@@ -4,7 +4,7 @@ use Rattle.std.proofs.Common.{ℕ, zero, suc, ◌≡◌, ◌+◌, refl, ap, ◌�
 use Rattle.m36_desc.specs.Fields.{SdwFields}
 use Rattle.m36_model.specs.Registers.{RegsFields}
 use Rattle.m36_model.specs.Act.{RequestKind, Fetch, Indirect, Odd, Read, Write, Transfer, Call, Locate, Whole, Request, Answer, Act, done, ask, and_then, answered}
-use Rattle.m36_model.specs.Store.{Spot, Store, Mid, Served, Ran, serve, serve_sdw, serve_rights, serve_places, denied, places, run}
+use Rattle.m36_model.specs.Store.{Spot, Store, Midstep, Served, Ran, serve, serve_sdw, serve_rights, serve_places, denied, places, run}
 use Rattle.m36_model.specs.Modification.{Point, Move, Ends, Fails, Reads, Counts, move_of_point}
 use Rattle.m36_model.specs.Tally.{tally, indirect_only}
 use Rattle.m36_model.specs.Chain.{ChainEnd, Found, Its, Itp, Plain, found, indirect, its_point, itp_point, tally_end, chain, chain_by, chain_exhausted, after_word, after_tally}
@@ -15,14 +15,14 @@ use Rattle.m36_model.specs.declared.outcome.Refusal.{Refusal}
 use Rattle.m36_model.specs.declared.outcome.Halt.{Halt}
 
 -- a run of one program after another
-pub run_then : {A B S : Type 0} (o : Store S) (g : RegsFields) (act : Act A) (k : A → Act B) (m : Mid S) → run o g (and_then act k) m ≡ run o g (k (run o g act m).value) (run o g act m).mid
+pub run_then : {A B S : Type 0} (o : Store S) (g : RegsFields) (act : Act A) (k : A → Act B) (m : Midstep S) → run o g (and_then act k) m ≡ run o g (k (run o g act m).value) (run o g act m).mid
 unfolding run and_then
 run_then o g (done a) k m = refl
 run_then o g (ask q next) k m = let t = serve o g m q in run_then o g (next t.reply) k t.mid
 
 -- a request that writes nothing claims nothing
-module _ {S : Type 0} (o : Store S) (g : RegsFields) (m : Mid S) where
-  abbrev pub Same : Mid S → Type 0
+module _ {S : Type 0} (o : Store S) (g : RegsFields) (m : Midstep S) where
+  abbrev pub Same : Midstep S → Type 0
   Same x = x.claims ≡ m.claims
 
   same_by_places : (q : Request) (k : RequestKind) → q.kind ≡ k → (k ≡ Write → ⊥) → (d : SdwFields) (r : Result (List Spot) (ℕ × Refusal)) → Same (serve_places o g m q d r).mid
@@ -59,20 +59,20 @@ one_spot (x ∷ []) e = (x, refl)
 one_spot (x ∷ y ∷ spots) e = absurd (omega arith)
 
 -- A chain that ends has claimed the spot of its tally word, or nothing.
-abbrev pub PostOf : {S : Type 0} → Result ChainEnd Halt → Mid S → Type 0
+abbrev pub PostOf : {S : Type 0} → Result ChainEnd Halt → Midstep S → Type 0
 PostOf (Ok c) m = IsTallied c m.claims
 PostOf (Err h) m = Unit {0}
 
 abbrev pub Post : {S : Type 0} → Ran (Result ChainEnd Halt) S → Type 0
 Post x = PostOf x.value x.mid
 
-module _ {S : Type 0} (o : Store S) (g : RegsFields) (next : Point → Act (Result ChainEnd Halt)) (more : (p : Point) (m : Mid S) → m.claims ≡ [] → Post (run o g (next p) m)) (p : Point) where
-  post_odd : (to : ℕ → Point) (m : Mid S) (reply : Result Answer Fault) → m.claims ≡ [] → Post (run o g (answered (λ b. next (to (slice_index b.words 0))) reply) m)
+module _ {S : Type 0} (o : Store S) (g : RegsFields) (next : Point → Act (Result ChainEnd Halt)) (more : (p : Point) (m : Midstep S) → m.claims ≡ [] → Post (run o g (next p) m)) (p : Point) where
+  post_odd : (to : ℕ → Point) (m : Midstep S) (reply : Result Answer Fault) → m.claims ≡ [] → Post (run o g (answered (λ b. next (to (slice_index b.words 0))) reply) m)
   unfolding run
   post_odd to m (Ok b) e = more (to (slice_index b.words 0)) m e
   post_odd to m (Err f) e = tt
 
-  post_found : (word : ℕ) (held : Option ℕ) (a : Answer) (m : Mid S) (f : Found) → m.claims ≡ [] → Post (run o g (after_word next g p word held a f) m)
+  post_found : (word : ℕ) (held : Option ℕ) (a : Answer) (m : Midstep S) (f : Found) → m.claims ≡ [] → Post (run o g (after_word next g p word held a f) m)
   unfolding run
   post_found word held a m Plain e = more _ m e
   post_found word held a m Its e =
@@ -84,12 +84,12 @@ module _ {S : Type 0} (o : Store S) (g : RegsFields) (next : Point → Act (Resu
       let t = serve o g m q in
       post_odd (λ odd. itp_point g p word held (slice_index a.words 0) odd a.sdw.r1) t.mid t.reply (same_claims o g m q (λ x. cc) ∙ e)
 
-  post_even : (word : ℕ) (held : Option ℕ) (m : Mid S) (reply : Result Answer Fault) → m.claims ≡ [] → Post (run o g (answered (λ a. after_word next g p word held a (found word (slice_index a.words 0))) reply) m)
+  post_even : (word : ℕ) (held : Option ℕ) (m : Midstep S) (reply : Result Answer Fault) → m.claims ≡ [] → Post (run o g (answered (λ a. after_word next g p word held a (found word (slice_index a.words 0))) reply) m)
   unfolding run
   post_even word held m (Ok a) e = post_found word held a m (found word (slice_index a.words 0)) e
   post_even word held m (Err f) e = tt
 
-  post_claimed : (a : Answer) (m : Mid S) (reply : Result Answer Fault) → m.claims ≡ [] → (serve o g m (indirect Write p p.y)).reply ≡ reply → Post (run o g (answered (λ b. done (Ok (tally_end p b.first (tally (p.tag % 16) (slice_index a.words 0))))) reply) (serve o g m (indirect Write p p.y)).mid)
+  post_claimed : (a : Answer) (m : Midstep S) (reply : Result Answer Fault) → m.claims ≡ [] → (serve o g m (indirect Write p p.y)).reply ≡ reply → Post (run o g (answered (λ b. done (Ok (tally_end p b.first (tally (p.tag % 16) (slice_index a.words 0))))) reply) (serve o g m (indirect Write p p.y)).mid)
   unfolding run
   post_claimed a m (Err f) e r = tt
   post_claimed a m (Ok b) e r =
@@ -101,17 +101,17 @@ module _ {S : Type 0} (o : Store S) (g : RegsFields) (next : Point → Act (Resu
       let claims : t.mid.claims ≡ one.0 ∷ [] = u.claims ∙ ap (λ (c : List Spot). c ++ u.spots) e ∙ one.1 in
       tallied_at one.0 _ (ap (λ (n : ℕ). record { claim = n; part = Whole; value = (tally (p.tag % 16) (slice_index a.words 0)).word } ∷ []) first) claims
 
-  post_tally_by : (a : Answer) (m : Mid S) (i : Bool) → m.claims ≡ [] → Post (run o g (after_tally p (p.tag % 16) a i) m)
+  post_tally_by : (a : Answer) (m : Midstep S) (i : Bool) → m.claims ≡ [] → Post (run o g (after_tally p (p.tag % 16) a i) m)
   unfolding run
   post_tally_by a m true e = no_tally refl e
   post_tally_by a m false e = post_claimed a m (serve o g m (indirect Write p p.y)).reply e refl
 
-  post_tally : (m : Mid S) (reply : Result Answer Fault) → m.claims ≡ [] → Post (run o g (answered (λ a. after_tally p (p.tag % 16) a (p.tag % 16 == indirect_only)) reply) m)
+  post_tally : (m : Midstep S) (reply : Result Answer Fault) → m.claims ≡ [] → Post (run o g (answered (λ a. after_tally p (p.tag % 16) a (p.tag % 16 == indirect_only)) reply) m)
   unfolding run
   post_tally m (Ok a) e = post_tally_by a m (p.tag % 16 == indirect_only) e
   post_tally m (Err f) e = tt
 
-  post_move : (v : Move) (m : Mid S) → m.claims ≡ [] → Post (run o g (chain_by next g p v) m)
+  post_move : (v : Move) (m : Midstep S) → m.claims ≡ [] → Post (run o g (chain_by next g p v) m)
   unfolding run
   post_move (Ends last) m e = no_tally refl e
   post_move (Fails h) m e = tt
@@ -123,14 +123,14 @@ module _ {S : Type 0} (o : Store S) (g : RegsFields) (next : Point → Act (Resu
       let q = indirect Indirect p p.y in
       let t = serve o g m q in post_tally t.mid t.reply (same_claims o g m q (λ x. cc) ∙ e)
 
-post_exhausted : {S : Type 0} (o : Store S) (g : RegsFields) (p : Point) (v : Move) (m : Mid S) → m.claims ≡ [] → Post (run o g (chain_exhausted p v) m)
+post_exhausted : {S : Type 0} (o : Store S) (g : RegsFields) (p : Point) (v : Move) (m : Midstep S) → m.claims ≡ [] → Post (run o g (chain_exhausted p v) m)
 unfolding run
 post_exhausted o g p (Ends last) m e = no_tally refl e
 post_exhausted o g p (Fails h) m e = tt
 post_exhausted o g p (Reads word held) m e = tt
 post_exhausted o g p Counts m e = tt
 
-pub chain_claims : {S : Type 0} (o : Store S) (g : RegsFields) (n : ℕ) (p : Point) (m : Mid S) → m.claims ≡ [] → Post (run o g (chain n g p) m)
+pub chain_claims : {S : Type 0} (o : Store S) (g : RegsFields) (n : ℕ) (p : Point) (m : Midstep S) → m.claims ≡ [] → Post (run o g (chain n g p) m)
 unfolding chain
 chain_claims o g zero p m e = post_exhausted o g p (move_of_point g p) m e
 chain_claims o g (suc n) p m e =

@@ -2,7 +2,7 @@
 use Rattle.std.proofs.Common.{ℕ, zero, suc, ◌≡◌, ◌+◌, ◌≤◌, refl, sym, ◌∙◌, subst, Bool, true, false, ◌==◌, ◌%◌, nat_lt, List, [], ◌∷◌, length, Option, Result, Ok, Err, slice_index, arith}
 use Rattle.m36_model.specs.Registers.{RegsFields}
 use Rattle.m36_model.specs.Act.{Indirect, Odd, Write, Answer, done, answered}
-use Rattle.m36_model.specs.Store.{Store, Mid, Ran, serve, run}
+use Rattle.m36_model.specs.Store.{Store, Midstep, Ran, serve, run}
 use Rattle.m36_model.specs.Core.{core_store}
 use Rattle.m36_model.specs.Modification.{Point, Move, Ends, Fails, Reads, Counts, move_of_point}
 use Rattle.m36_model.specs.Tally.{tally, indirect_only}
@@ -19,12 +19,12 @@ module _ {S : Type 0} (o : Store S) (g : RegsFields) (k : ℕ) (s : Stage S) whe
   Agrees x (Goes b) = (b.count ≡ s.count + 1) × (x ≡ run o g (chain k g b.point) b.mid)
   Agrees x (Closes r) = x ≡ r
 
-  agree_odd : (next : ℕ → Point) (m : Mid S) (reply : Result Answer Fault) → Agrees (run o g (answered (λ b. chain k g (next (slice_index b.words 0))) reply) m) (turn_odd s next m reply)
+  agree_odd : (next : ℕ → Point) (m : Midstep S) (reply : Result Answer Fault) → Agrees (run o g (answered (λ b. chain k g (next (slice_index b.words 0))) reply) m) (turn_odd s next m reply)
   unfolding run
   agree_odd next m (Ok b) = (refl, refl)
   agree_odd next m (Err f) = refl
 
-  agree_found : (word : ℕ) (held : Option ℕ) (a : Answer) (m : Mid S) (f : Found) → Agrees (run o g (after_word (chain k g) g s.point word held a f) m) (turn_found o g s word held a m f)
+  agree_found : (word : ℕ) (held : Option ℕ) (a : Answer) (m : Midstep S) (f : Found) → Agrees (run o g (after_word (chain k g) g s.point word held a f) m) (turn_found o g s word held a m f)
   unfolding run
   agree_found word held a m Plain = (refl, refl)
   agree_found word held a m Its =
@@ -32,23 +32,23 @@ module _ {S : Type 0} (o : Store S) (g : RegsFields) (k : ℕ) (s : Stage S) whe
   agree_found word held a m Itp =
       agree_odd (λ odd. itp_point g s.point word held (slice_index a.words 0) odd a.sdw.r1) (serve o g m (indirect Odd s.point (word + 1))).mid (serve o g m (indirect Odd s.point (word + 1))).reply
 
-  agree_even : (word : ℕ) (held : Option ℕ) (m : Mid S) (reply : Result Answer Fault) → Agrees (run o g (answered (λ a. after_word (chain k g) g s.point word held a (found word (slice_index a.words 0))) reply) m) (turn_even o g s word held m reply)
+  agree_even : (word : ℕ) (held : Option ℕ) (m : Midstep S) (reply : Result Answer Fault) → Agrees (run o g (answered (λ a. after_word (chain k g) g s.point word held a (found word (slice_index a.words 0))) reply) m) (turn_even o g s word held m reply)
   unfolding run
   agree_even word held m (Ok a) = agree_found word held a m (found word (slice_index a.words 0))
   agree_even word held m (Err f) = refl
 
-  agree_claimed : (a : Answer) (m : Mid S) (reply : Result Answer Fault) → Agrees (run o g (answered (λ b. done (Ok (tally_end s.point b.first (tally (s.point.tag % 16) (slice_index a.words 0))))) reply) m) (turn_claimed s a m reply)
+  agree_claimed : (a : Answer) (m : Midstep S) (reply : Result Answer Fault) → Agrees (run o g (answered (λ b. done (Ok (tally_end s.point b.first (tally (s.point.tag % 16) (slice_index a.words 0))))) reply) m) (turn_claimed s a m reply)
   unfolding run
   agree_claimed a m (Ok b) = refl
   agree_claimed a m (Err f) = refl
 
-  agree_tally_by : (a : Answer) (m : Mid S) (i : Bool) → Agrees (run o g (after_tally s.point (s.point.tag % 16) a i) m) (turn_tally_by o g s a m i)
+  agree_tally_by : (a : Answer) (m : Midstep S) (i : Bool) → Agrees (run o g (after_tally s.point (s.point.tag % 16) a i) m) (turn_tally_by o g s a m i)
   unfolding run
   agree_tally_by a m true = refl
   agree_tally_by a m false =
       agree_claimed a (serve o g m (indirect Write s.point s.point.y)).mid (serve o g m (indirect Write s.point s.point.y)).reply
 
-  agree_tally : (m : Mid S) (reply : Result Answer Fault) → Agrees (run o g (answered (λ a. after_tally s.point (s.point.tag % 16) a (s.point.tag % 16 == indirect_only)) reply) m) (turn_tally o g s m reply)
+  agree_tally : (m : Midstep S) (reply : Result Answer Fault) → Agrees (run o g (answered (λ a. after_tally s.point (s.point.tag % 16) a (s.point.tag % 16 == indirect_only)) reply) m) (turn_tally o g s m reply)
   unfolding run
   agree_tally m (Ok a) = agree_tally_by a m (s.point.tag % 16 == indirect_only)
   agree_tally m (Err f) = refl
@@ -144,7 +144,7 @@ module _ {S : Type 0} (o : Store S) (g : RegsFields) where
   one_from (suc n) s e =
       by_turn n s (turn o g s) refl (agree o g n s (below s.count n e)) (λ b c. one_from n b (let h = c in omega arith))
 
-  one_chain_over : (p : Point) (m : Mid S) → IsOneChain o g p m
+  one_chain_over : (p : Point) (m : Midstep S) → IsOneChain o g p m
   one_chain_over p m =
       let u = one_from 16 (first_stage p m) refl in
       record {

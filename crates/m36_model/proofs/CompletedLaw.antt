@@ -3,7 +3,7 @@ use Rattle.std.proofs.Common.{ℕ, ◌≡◌, refl, sym, ap, ◌∙◌, ◌==◌
 use Rattle.m36_desc.specs.Fields.{SdwFields, DbrFields}
 use Rattle.m36_model.specs.Registers.{RegsFields}
 use Rattle.m36_model.specs.Act.{RequestKind, Fetch, Indirect, Odd, Read, Write, Transfer, Call, Locate, Request, Act, done, ask}
-use Rattle.m36_model.specs.Store.{Spot, Store, Mid, Served, serve, serve_sdw, serve_rights, serve_places, denied, places, run, with_reference}
+use Rattle.m36_model.specs.Store.{Spot, Store, Midstep, Served, serve, serve_sdw, serve_rights, serve_places, denied, places, run, with_reference}
 use Rattle.m36_model.specs.Core.{core_store}
 use Rattle.m36_model.specs.Step.{program, start}
 use Rattle.m36_model.specs.Completed.{completed_by, completed, with_marks_of, references_of, MarksOfCompletedReferences}
@@ -21,11 +21,11 @@ more_references refs [] ys = refl
 more_references refs (x ∷ xs) ys = more_references (with_reference x.kind x refs) xs ys
 
 -- how one request changes the store and the references
-record Does {S : Type 0} (o : Store S) (g : RegsFields) (m : Mid S) (q : Request) (t : Served S) : Type 0 where
+record Does {S : Type 0} (o : Store S) (g : RegsFields) (m : Midstep S) (q : Request) (t : Served S) : Type 0 where
   marks : t.mid.store ≡ with_marks_of o g.dbr m.store (completed_by q t.reply)
   references : t.mid.refs ≡ references_of m.refs (completed_by q t.reply)
 
-module _ {S : Type 0} (o : Store S) (g : RegsFields) (m : Mid S) where
+module _ {S : Type 0} (o : Store S) (g : RegsFields) (m : Midstep S) where
   by_places : (q : Request) (k : RequestKind) → q.kind ≡ k → (d : SdwFields) (r : Result (List Spot) (ℕ × Refusal)) → Does o g m q (serve_places o g m q d r)
   unfolding with_marks_of references_of
   by_places q k e d (Err f) = record { marks = refl; references = refl }
@@ -54,11 +54,11 @@ module _ {S : Type 0} (o : Store S) (g : RegsFields) (m : Mid S) where
   does q = by_sdw q (o.sdw m.store g.dbr q.at.seg)
 
 -- how a run changes them
-record DoesAll {A S : Type 0} (o : Store S) (g : RegsFields) (act : Act A) (m : Mid S) : Type 0 where
+record DoesAll {A S : Type 0} (o : Store S) (g : RegsFields) (act : Act A) (m : Midstep S) : Type 0 where
   marks : (run o g act m).mid.store ≡ with_marks_of o g.dbr m.store (completed o g act m)
   references : (run o g act m).mid.refs ≡ references_of m.refs (completed o g act m)
 
-does_all : {A S : Type 0} (o : Store S) (g : RegsFields) (act : Act A) (m : Mid S) → DoesAll o g act m
+does_all : {A S : Type 0} (o : Store S) (g : RegsFields) (act : Act A) (m : Midstep S) → DoesAll o g act m
 unfolding run completed with_marks_of references_of
 does_all o g (done a) m = record { marks = refl; references = refl }
 does_all {A} {S} o g (ask q next) m =

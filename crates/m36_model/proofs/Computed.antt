@@ -27,7 +27,7 @@ use Rattle.m36_model.specs.Stores.{store, store_zero, indicators_half, store_ind
 use Rattle.m36_model.specs.Sums.{into_register, into_register_logical, into_operand, add, add_logical, add_with_carry, sign_extended, subtract, subtract_logical, subtract_with_carry, add_one_to_storage, add_to_storage, subtract_stored, negate}
 use Rattle.m36_model.specs.Tally.{tally}
 use Rattle.m36_model.specs.Transfers.{is_taken, gone_to, transfer_where, transfer_on_overflow, transfer_and_set_index, transfer_and_set_pointer}
-use Rattle.m36_model.specs.WorkedAddresses.{LoadReadsItsWord, StopFollows, LastWordOfTheBoundIsRead, WordPastTheBoundIsNot, PairTakesTheBracketOfItsSegment, SeventeenthIndirectWordLocksUp, SixteenIndirectWordsAreServed, IndexIsHeldOverTheIndirectWord, TallyWordsCount, LoadSeesTheNewTallyWord, StoreComesAfterTheTallyWord, RefusedTallyWordChangesNothing, DirectOperandIsTheAddress, DirectOperandsAreRefused, TagsOfTheInstruction, FaultTagTakesTheBracketOfItsSegment}
+use Rattle.m36_model.specs.WorkedAddresses.{LoadReadsItsWord, StopFollows, LastWordOfTheBoundIsRead, WordPastTheBoundIsNot, PairTakesTheBracketOfItsSegment, SeventeenthIndirectWordLocksUp, SixteenIndirectWordsAreServed, HeldIndexIsAddedAtTheEnd, TallyWordsCount, LoadSeesTheNewTallyWord, StoreComesAfterTheTallyWord, RefusedTallyWordChangesNothing, DirectOperandIsTheAddress, DirectOperandsAreRefused, TagsOfTheInstruction, FaultTagTakesTheBracketOfItsSegment}
 use Rattle.m36_model.specs.WorkedCalls.{CallThroughAGate, CallPastTheLimiter, CallFromAboveTheBracket, OutwardCall, CallWithRaisedRing, CallWithinTheRing, ReturnTakesThePairsRing, ReturnTakesTheGreatestRing, PackedPointerWithAWrongBitNumber, OneTakesTheLock}
 use Rattle.m36_model.specs.WorkedEffects.{ComparisonIsSigned, OverflowStoresAndFaults, MaskedOverflowGoesOn, LeastNumberHasNoNegative, SquareOfTheLeastNumber, QuotientIsCutTowardZero, DivisionByZeroIsRefused, LeftShiftSetsCarry, RightShiftCopiesTheSign, RotationComesRound, TransferSetsTheIndex, BooleansGoBitByBit, LongShiftsCrossTheWords, SignIsExtended, IndicatorsAreLoaded, IndicatorsAreStored}
 
@@ -63,7 +63,7 @@ pub sixteen_indirect_words_are_served : SixteenIndirectWordsAreServed
 unfolding everything
 sixteen_indirect_words_are_served = (refl, refl)
 
-pub index_is_held_over_the_indirect_word : IndexIsHeldOverTheIndirectWord
+pub index_is_held_over_the_indirect_word : HeldIndexIsAddedAtTheEnd
 unfolding everything
 index_is_held_over_the_indirect_word = refl
 

@@ -1,7 +1,7 @@
 -- Indicators that are stored are loaded back.
 use Rattle.std.proofs.Common.{◌≡◌, Bool, true, false, refl}
 use Rattle.m36_model.specs.Loads.{indicators_of}
-use Rattle.m36_model.specs.Stores.{indicators_half, IndicatorsComeBack}
+use Rattle.m36_model.specs.Stores.{indicators_half, IndicatorsRoundTrip}
 use Rattle.m36_model.specs.declared.registers.Ind.{Ind}
 
 abbrev six : (zero negative carry overflow mask tally : Bool) → Ind
@@ -74,5 +74,5 @@ by_bits false false false false true false = refl
 by_bits false false false false false true = refl
 by_bits false false false false false false = refl
 
-pub indicators_come_back : IndicatorsComeBack
+pub indicators_come_back : IndicatorsRoundTrip
 indicators_come_back i = by_bits i.zero i.negative i.carry i.overflow i.mask i.tally

@@ -9,7 +9,7 @@ use Rattle.m36_inst.specs.declared.operand.Operand.TheVariants as kind
 use Rattle.m36_model.specs.Fields.{FinalFields}
 use Rattle.m36_model.specs.Registers.{RegsFields}
 use Rattle.m36_model.specs.Act.{Read, Write, Transfer, Call, Locate, Part, Whole, Left, Right, Request, Answer, answered, refer, either}
-use Rattle.m36_model.specs.Store.{Spot, Store, Mid, Served, Ran, State, run, changes}
+use Rattle.m36_model.specs.Store.{Spot, Store, Midstep, Served, Ran, State, run, changes}
 use Rattle.m36_model.specs.Core.{core_store}
 use Rattle.m36_model.specs.Modification.{here, fault_at}
 use Rattle.m36_model.specs.FirstPoint.{first_point}
@@ -18,7 +18,7 @@ use Rattle.m36_model.specs.Results.{OperandFields, EffectFields, words_only}
 use Rattle.m36_model.specs.Transfers.{is_taken}
 use Rattle.m36_model.specs.Effect.{exec, is_absa}
 use Rattle.m36_model.specs.Step.{Performed, performed, puts_from, tallied, perform, no_operand, request_at, got_word, got_words, got_place, got_nothing, got_ring, direct_word, addressing, transferring, by_kind, by_direct, operate_on, operate, Ending, outcome_of, halted, completed, operated, addressed, at_once, no_address, started, admitted, decoded, fetched, indirect_words, decode, fetch_request, program, start, step_record, stepped, ran, record_of, state_after}
-use Rattle.m36_model.specs.StepCases.{HasLeft, IsFetched, IsAdmitted, IsFormed, Reached, IsUnreferenced, IsReferenced, IsClaimed, IsChanged, IsAddressed, IsTargeted, IsOperandOf, IsOperand, at_spots, HasEffect, StepCase, fetch_refused, no_instruction, privilege_refused, no_address as no_address_case, address_refused, operation_refused, effected, CaseIsTheStep}
+use Rattle.m36_model.specs.StepCases.{ChangedOnlyMarks, IsFetched, IsAdmitted, IsFormed, Reached, IsUnreferenced, IsReferenced, IsClaimed, IsChanged, IsAddressed, IsTargeted, IsOperandOf, IsOperand, at_spots, HasEffect, StepCase, fetch_refused, no_instruction, privilege_refused, no_address as no_address_case, address_refused, operation_refused, effected, CaseIsTheStep}
 use Rattle.m36_model.proofs.PutLaw.{IsTallied, all_changes}
 use Rattle.m36_model.proofs.OperandWordsLaw.{written_words}
 use Rattle.m36_model.specs.declared.outcome.Halt.{Halt}
@@ -35,7 +35,7 @@ parts_alike a b first (w ∷ words) e = absurd (omega arith)
 
 -- An operation whose operand was referenced performs the effect, and puts its words at the spots
 -- that were claimed for them.
-module _ {S : Type 0} (o : Store S) (g : RegsFields) (e : Effect) (n : ℕ) (c : ChainEnd) (m : Mid S) (u : Reached S) (x : EffectFields) where
+module _ {S : Type 0} (o : Store S) (g : RegsFields) (e : Effect) (n : ℕ) (c : ChainEnd) (m : Midstep S) (u : Reached S) (x : EffectFields) where
   pub record Performs (r : Ran (Result Performed Halt) S) : Type 0 where
     pub first : ℕ
     pub claims : u.mid.claims ≡ m.claims ++ u.spots
@@ -48,17 +48,17 @@ module _ {S : Type 0} (o : Store S) (g : RegsFields) (e : Effect) (n : ℕ) (c :
   abbrev Fits : Type 0
   Fits = length u.spots ≡ length x.put
 
-  done_by : (part : Part) (first : ℕ) (got : OperandFields) → u.operand ≡ got → Effects → (m' : Mid S) → run o g (perform e n g c part first got) m' ≡ record { value = Ok (record { regs = x.regs; puts = c.pending ++ puts_from part first x.put; overflow = x.overflow }); mid = m' }
+  done_by : (part : Part) (first : ℕ) (got : OperandFields) → u.operand ≡ got → Effects → (m' : Midstep S) → run o g (perform e n g c part first got) m' ≡ record { value = Ok (record { regs = x.regs; puts = c.pending ++ puts_from part first x.put; overflow = x.overflow }); mid = m' }
   unfolding run
   done_by part first got operand h m' =
       let known : exec e n (tallied g c) c.last got ≡ Ok x = subst (λ (y : OperandFields). exec e n (tallied g c) c.last y ≡ Ok x) operand h in
       λ i. record { value = performed g c part first (known i); mid = m' }
 
-  without_words : (m' : Mid S) → u.mid ≡ m' → m'.claims ≡ m.claims → u.spots ≡ [] → (got : OperandFields) → u.operand ≡ got → Effects → Fits → Performs (run o g (perform e n g c Whole 0 got) m')
+  without_words : (m' : Midstep S) → u.mid ≡ m' → m'.claims ≡ m.claims → u.spots ≡ [] → (got : OperandFields) → u.operand ≡ got → Effects → Fits → Performs (run o g (perform e n g c Whole 0 got) m')
   without_words m' mid same none got operand h b =
       let parts : puts_from Whole 0 x.put ≡ puts_from u.part 0 x.put = parts_alike Whole u.part 0 x.put (rw none at b) in
       let back : m' ≡ u.mid = sym mid in
-      let claims : u.mid.claims ≡ m.claims = ap (λ (y : Mid S). y.claims) mid ∙ same in
+      let claims : u.mid.claims ≡ m.claims = ap (λ (y : Midstep S). y.claims) mid ∙ same in
       record {
         first = 0;
         claims = claims ∙ sym (append-nil m.claims) ∙ ap (λ (y : List Spot). m.claims ++ y) (sym none);
@@ -75,7 +75,7 @@ module _ {S : Type 0} (o : Store S) (g : RegsFields) (e : Effect) (n : ℕ) (c :
       let same : u.mid.claims ≡ m.claims = ap (λ (v : Served S). v.mid.claims) (sym p.served) ∙ same_claims o g m q no_write in
       subst (λ (v : Served S). Performs (run o g (answered (λ a. perform e n g c Whole 0 (gives a)) v.reply) v.mid)) (sym p.served) (without_words u.mid refl same p.nothing (gives p.answer) p.operand h b)
 
-  claimed : (m' : Mid S) → m'.claims ≡ m.claims → (count : ℕ) (part : Part) (got : OperandFields) → IsClaimed o g (request_at Write c count) part got m' u → Effects → Performs (run o g (refer (request_at Write c count) (λ a. perform e n g c part a.first got)) m')
+  claimed : (m' : Midstep S) → m'.claims ≡ m.claims → (count : ℕ) (part : Part) (got : OperandFields) → IsClaimed o g (request_at Write c count) part got m' u → Effects → Performs (run o g (refer (request_at Write c count) (λ a. perform e n g c part a.first got)) m')
   unfolding run
   claimed m' same count part got p h =
       let q = request_at Write c count in
@@ -135,13 +135,13 @@ module _ {S : Type 0} (o : Store S) (quiet : (x : S) → o.put x [] ≡ x) (s : 
   abbrev Tells : Ran Ending S → Type 0
   Tells x = (e ≡ step_record s.regs x) × (t ≡ stepped o x)
 
-  halts : (m : Mid S) (word : Option ℕ) (at : Option FinalFields) (h : Halt) → HasLeft s e t m word at (outcome_of h) → Tells (run o s.regs (halted s.regs word at h) m)
+  halts : (m : Midstep S) (word : Option ℕ) (at : Option FinalFields) (h : Halt) → ChangedOnlyMarks s e t m word at (outcome_of h) → Tells (run o s.regs (halted s.regs word at h) m)
   unfolding run changes
   halts m word at h l =
       let nothing : m.store ≡ o.put m.store [] = sym (quiet m.store) in
       (l.told, l.left ∙ (λ i. record { regs = s.regs; store = nothing i }))
 
-  on_fetched : (w : ℕ) (right : Bool) (m : Mid S) → IsFetched o s w right m → Tells (run o s.regs (decoded s.regs w right (decode w)) m) → Tells (ran o s)
+  on_fetched : (w : ℕ) (right : Bool) (m : Midstep S) → IsFetched o s w right m → Tells (run o s.regs (decoded s.regs w right (decode w)) m) → Tells (ran o s)
   unfolding program run
   on_fetched w right m f told =
       let got = slice_index f.answer.words 0 in
@@ -149,38 +149,38 @@ module _ {S : Type 0} (o : Store S) (quiet : (x : S) → o.put x [] ≡ x) (s : 
       let by_right = subst (λ (b : Bool). Tells (run o s.regs (decoded s.regs got b (decode got)) m)) (sym f.right_is) by_word in
       subst (λ (v : Served S). Tells (run o s.regs (fetched s.regs v.reply) v.mid)) (sym f.served) by_right
 
-  on_decoded : (w : ℕ) (right : Bool) (m : Mid S) → IsFetched o s w right m → (d : Option (Effect × ℕ)) → decode w ≡ d → Tells (run o s.regs (decoded s.regs w right d) m) → Tells (ran o s)
+  on_decoded : (w : ℕ) (right : Bool) (m : Midstep S) → IsFetched o s w right m → (d : Option (Effect × ℕ)) → decode w ≡ d → Tells (run o s.regs (decoded s.regs w right d) m) → Tells (ran o s)
   on_decoded w right m f d known told =
       on_fetched w right m f (subst (λ (y : Option (Effect × ℕ)). Tells (run o s.regs (decoded s.regs w right y) m)) (sym known) told)
 
-  on_admitted : (w : ℕ) (i : Effect) (n : ℕ) (m : Mid S) → IsAdmitted o s w i n m → Tells (run o s.regs (started i n s.regs w (operand_of i)) m) → Tells (ran o s)
+  on_admitted : (w : ℕ) (i : Effect) (n : ℕ) (m : Midstep S) → IsAdmitted o s w i n m → Tells (run o s.regs (started i n s.regs w (operand_of i)) m) → Tells (ran o s)
   on_admitted w i n m a told =
       on_decoded w a.right m a.fetched (Some (i, n)) a.decoded (subst (λ (b : Bool). Tells (run o s.regs (admitted i n s.regs w b) m)) (sym a.allowed) told)
 
-  at_once_tells : (i : Effect) (w : ℕ) (m : Mid S) → HasLeft s e t m (Some w) None (outcome_of (at_once i s.regs)) → Tells (run o s.regs (no_address i s.regs w) m)
+  at_once_tells : (i : Effect) (w : ℕ) (m : Midstep S) → ChangedOnlyMarks s e t m (Some w) None (outcome_of (at_once i s.regs)) → Tells (run o s.regs (no_address i s.regs w) m)
   at_once_tells effect.Mme w m l = halts m (Some w) None (fault_at 2 (here s.regs)) l
   at_once_tells effect.Drl w m l = halts m (Some w) None (fault_at 6 (here s.regs)) l
   at_once_tells _ w m l = halts m (Some w) None (halt.Stop stop.Dis) l
 
-  starts : (i : Effect) (n w : ℕ) (m : Mid S) (k : Operand) → forms_address k ≡ true → Tells (run o s.regs (addressed i n s.regs w) m) → Tells (run o s.regs (started i n s.regs w k) m)
+  starts : (i : Effect) (n w : ℕ) (m : Midstep S) (k : Operand) → forms_address k ≡ true → Tells (run o s.regs (addressed i n s.regs w) m) → Tells (run o s.regs (started i n s.regs w k) m)
   starts i n w m kind.N f told = cc
   starts i n w m _ f told = told
 
-  on_address : (w : ℕ) (i : Effect) (n : ℕ) (before : Mid S) → IsAdmitted o s w i n before → forms_address (operand_of i) ≡ true → (v : Result ChainEnd Halt) (m : Mid S) → run o s.regs (chain indirect_words s.regs (first_point s.regs (inst_of w))) before ≡ record { value = v; mid = m } → Tells (run o s.regs (either (operated i n s.regs w) (halted s.regs (Some w) None) v) m) → Tells (ran o s)
+  on_address : (w : ℕ) (i : Effect) (n : ℕ) (before : Midstep S) → IsAdmitted o s w i n before → forms_address (operand_of i) ≡ true → (v : Result ChainEnd Halt) (m : Midstep S) → run o s.regs (chain indirect_words s.regs (first_point s.regs (inst_of w))) before ≡ record { value = v; mid = m } → Tells (run o s.regs (either (operated i n s.regs w) (halted s.regs (Some w) None) v) m) → Tells (ran o s)
   on_address w i n before a f v m known told =
       let act = chain indirect_words s.regs (first_point s.regs (inst_of w)) in
       let k = either (operated i n s.regs w) (halted s.regs (Some w) None) in
       let ends = subst (λ (y : Ran (Result ChainEnd Halt) S). Tells (run o s.regs (k y.value) y.mid)) (sym known) told in
       on_admitted w i n before a (starts i n w before (operand_of i) f (subst Tells (sym (run_then o s.regs act k before)) ends))
 
-  on_operation : (w : ℕ) (i : Effect) (n : ℕ) (c : ChainEnd) (m : Mid S) → IsFormed o s w i n c m → (r : Ran (Result Performed Halt) S) → run o s.regs (operate i n s.regs c) m ≡ r → Tells (run o s.regs (either (completed s.regs w c.last) (halted s.regs (Some w) (Some c.last)) r.value) r.mid) → Tells (ran o s)
+  on_operation : (w : ℕ) (i : Effect) (n : ℕ) (c : ChainEnd) (m : Midstep S) → IsFormed o s w i n c m → (r : Ran (Result Performed Halt) S) → run o s.regs (operate i n s.regs c) m ≡ r → Tells (run o s.regs (either (completed s.regs w c.last) (halted s.regs (Some w) (Some c.last)) r.value) r.mid) → Tells (ran o s)
   on_operation w i n c m f r known told =
       let k = either (completed s.regs w c.last) (halted s.regs (Some w) (Some c.last)) in
       let ends = subst (λ (y : Ran (Result Performed Halt) S). Tells (run o s.regs (k y.value) y.mid)) (sym known) told in
       on_address w i n f.before f.admitted f.forms (Ok c) m f.formed (subst Tells (sym (run_then o s.regs (operate i n s.regs c) k m)) ends)
 
   -- what the chain has claimed
-  tallies : (w : ℕ) (i : Effect) (n : ℕ) (c : ChainEnd) (m : Mid S) → IsFormed o s w i n c m → IsTallied c m.claims
+  tallies : (w : ℕ) (i : Effect) (n : ℕ) (c : ChainEnd) (m : Midstep S) → IsFormed o s w i n c m → IsTallied c m.claims
   tallies w i n c m f =
       let fetch = f.admitted.fetched in
       let none : f.before.claims ≡ [] = ap (λ (v : Served S). v.mid.claims) (sym fetch.served) ∙ same_claims o s.regs (start s) (fetch_request s.regs) (λ x. cc) in

@@ -3,7 +3,7 @@ use Rattle.std.proofs.Common.{ℕ, zero, suc, ◌≡◌, ◌+◌, ◌<◌, refl,
 use Rattle.m36_desc.specs.Fields.{SdwFields, DbrFields}
 use Rattle.m36_model.specs.Registers.{RegsFields}
 use Rattle.m36_model.specs.Act.{RequestKind, Read, Write, Request, Answer}
-use Rattle.m36_model.specs.Store.{Spot, Store, Mid, Served, serve, serve_sdw, serve_rights, serve_places, denied, places, placed_one, spots_of, changes, within, reads, after_marks, located, with_claims, places_by, bound_only, is_target}
+use Rattle.m36_model.specs.Store.{Spot, Store, Midstep, Served, serve, serve_sdw, serve_rights, serve_places, denied, places, placed_one, spots_of, changes, within, reads, after_marks, located, with_claims, places_by, bound_only, is_target}
 use Rattle.m36_model.specs.Core.{core_store}
 use Rattle.m36_model.specs.OperandWords.{ArePlaces, AreReadWords, AreWrittenWords, ReadsWordsInOrder, WritesWordsInOrder}
 use Rattle.m36_model.specs.declared.outcome.Refusal.{Refusal}
@@ -63,7 +63,7 @@ module _ {S : Type 0} (o : Store S) (s : S) (dbr : DbrFields) (d : SdwFields) (s
       }
 
 -- an answered request
-pub record IsAnswered {S : Type 0} (o : Store S) (g : RegsFields) (m : Mid S) (q : Request) (a : Answer) (after : Mid S) : Type 0 where
+pub record IsAnswered {S : Type 0} (o : Store S) (g : RegsFields) (m : Midstep S) (q : Request) (a : Answer) (after : Midstep S) : Type 0 where
   pub spots : List Spot
   pub found : o.sdw m.store g.dbr q.at.seg ≡ Ok a.sdw
   pub placed : places o m.store g.dbr a.sdw q ≡ Ok spots
@@ -71,7 +71,7 @@ pub record IsAnswered {S : Type 0} (o : Store S) (g : RegsFields) (m : Mid S) (q
   pub first : a.first ≡ length m.claims
   pub claims : after.claims ≡ with_claims q.kind spots m.claims
 
-module _ {S : Type 0} (o : Store S) (g : RegsFields) (m : Mid S) (q : Request) (a : Answer) (after : Mid S) where
+module _ {S : Type 0} (o : Store S) (g : RegsFields) (m : Midstep S) (q : Request) (a : Answer) (after : Midstep S) where
   by_places : (d : SdwFields) (r : Result (List Spot) (ℕ × Refusal)) → o.sdw m.store g.dbr q.at.seg ≡ Ok d → places o m.store g.dbr d q ≡ r → serve_places o g m q d r ≡ record { reply = Ok a; mid = after } → IsAnswered o g m q a after
   by_places d (Err x) e p h = let no_reply = ap (λ (t : Served S). t.reply) h in cc
   by_places d (Ok spots) e p h =
@@ -87,14 +87,14 @@ module _ {S : Type 0} (o : Store S) (g : RegsFields) (m : Mid S) (q : Request) (
       } in
       let same : given ≡ a = cc in
       let sdw_is : d ≡ a.sdw = ap (λ (x : Answer). x.sdw) same in
-      let store_is : s ≡ after.store = ap (λ (x : Mid S). x.store) mid in
+      let store_is : s ≡ after.store = ap (λ (x : Midstep S). x.store) mid in
       record {
         spots = spots;
         found = rw (← sdw_is) e;
         placed = rw (← sdw_is) p;
         words = rw (← store_is) (sym (ap (λ (x : Answer). x.words) same));
         first = sym (ap (λ (x : Answer). x.first) same);
-        claims = sym (ap (λ (x : Mid S). x.claims) mid);
+        claims = sym (ap (λ (x : Midstep S). x.claims) mid);
       }
 
   by_rights : (d : SdwFields) (r : Option ℕ) → o.sdw m.store g.dbr q.at.seg ≡ Ok d → serve_rights o g m q d r ≡ record { reply = Ok a; mid = after } → IsAnswered o g m q a after
@@ -125,7 +125,7 @@ are_places o s g q d spots e h =
     let u = are_spots o s g.dbr d q.at.seg q.count q.at.word spots (placed_words o s g.dbr d q spots e h) in
     record { count = u.count; inside = u.inside; each = u.each }
 
-pub read_words : {S : Type 0} (o : Store S) (g : RegsFields) (m after : Mid S) (q : Request) (a : Answer) → q.kind ≡ Read → serve o g m q ≡ record { reply = Ok a; mid = after } → AreReadWords o g m q a after
+pub read_words : {S : Type 0} (o : Store S) (g : RegsFields) (m after : Midstep S) (q : Request) (a : Answer) → q.kind ≡ Read → serve o g m q ≡ record { reply = Ok a; mid = after } → AreReadWords o g m q a after
 read_words o g m after q a e h =
     let u = is_answered o g m q a after h in
     record {
@@ -135,7 +135,7 @@ read_words o g m after q a e h =
       words = subst (λ (k : RequestKind). a.words ≡ (if reads k then map (o.word (o.put after.store (changes m.claims q.pending))) u.spots else [])) e u.words;
     }
 
-pub written_words : {S : Type 0} (o : Store S) (g : RegsFields) (m after : Mid S) (q : Request) (a : Answer) → q.kind ≡ Write → serve o g m q ≡ record { reply = Ok a; mid = after } → AreWrittenWords o g m q a after
+pub written_words : {S : Type 0} (o : Store S) (g : RegsFields) (m after : Midstep S) (q : Request) (a : Answer) → q.kind ≡ Write → serve o g m q ≡ record { reply = Ok a; mid = after } → AreWrittenWords o g m q a after
 written_words o g m after q a e h =
     let u = is_answered o g m q a after h in
     record {

@@ -7,7 +7,7 @@ use Rattle.m36_inst.specs.declared.operand.Operand.{Operand}
 use Rattle.m36_inst.specs.declared.operand.Operand.TheVariants as kind
 use Rattle.m36_model.specs.Registers.{RegsFields}
 use Rattle.m36_model.specs.Act.{Read, Write, Transfer, Call, Locate, Part, Whole, Left, Right, Request, Answer, answered, refer}
-use Rattle.m36_model.specs.Store.{Spot, Store, Mid, Ran, serve, run}
+use Rattle.m36_model.specs.Store.{Spot, Store, Midstep, Ran, serve, run}
 use Rattle.m36_model.specs.Modification.{here, fault_at}
 use Rattle.m36_model.specs.Chain.{ChainEnd}
 use Rattle.m36_model.specs.Results.{OperandFields, EffectFields, words_only}
@@ -24,11 +24,11 @@ use Rattle.m36_model.specs.declared.outcome.Halt.TheVariants as halt
 use Rattle.m36_model.proofs.ChainClaims.{same_claims, served_as}
 
 -- How an operation ends: it is refused, or is performed with its operand.
-pub data OperationCase {S : Type 0} (g : RegsFields) (e : Effect) (n : ℕ) (c : ChainEnd) (P : Reached S → Type 0) (m : Mid S) (r : Ran (Result Performed Halt) S) : Type 0 where
+pub data OperationCase {S : Type 0} (g : RegsFields) (e : Effect) (n : ℕ) (c : ChainEnd) (P : Reached S → Type 0) (m : Midstep S) (r : Ran (Result Performed Halt) S) : Type 0 where
   refused : (h : Halt) → r.value ≡ Err h → OperationCase g e n c P m r
   performed_with : (u : Reached S) (first : ℕ) (x : EffectFields) → P u → exec e n (tallied g c) c.last u.operand ≡ Ok x → u.mid.claims ≡ m.claims ++ u.spots → length u.spots ≡ length x.put → (u.spots ≡ []) ⊎ (first ≡ length m.claims) → r ≡ record { value = Ok (record { regs = x.regs; puts = c.pending ++ puts_from u.part first x.put; overflow = x.overflow }); mid = u.mid } → OperationCase g e n c P m r
 
-module _ {S : Type 0} (o : Store S) (g : RegsFields) (e : Effect) (n : ℕ) (c : ChainEnd) (m : Mid S) where
+module _ {S : Type 0} (o : Store S) (g : RegsFields) (e : Effect) (n : ℕ) (c : ChainEnd) (m : Midstep S) where
   abbrev Puts : ℕ → Type 0
   Puts w = (x : OperandFields) → PutsSo w (exec e n (tallied g c) c.last x)
 
@@ -42,7 +42,7 @@ module _ {S : Type 0} (o : Store S) (g : RegsFields) (e : Effect) (n : ℕ) (c :
       by_exec P u first p a f (exec e n (tallied g c) c.last u.operand) refl (b u.operand)
 
   -- nothing more is claimed
-  performs_here : (P : Reached S → Type 0) (m' : Mid S) → m'.claims ≡ m.claims → (got : OperandFields) → P (record { operand = got; part = Whole; spots = []; mid = m' }) → Puts 0 → OperationCase g e n c P m (run o g (perform e n g c Whole 0 got) m')
+  performs_here : (P : Reached S → Type 0) (m' : Midstep S) → m'.claims ≡ m.claims → (got : OperandFields) → P (record { operand = got; part = Whole; spots = []; mid = m' }) → Puts 0 → OperationCase g e n c P m (run o g (perform e n g c Whole 0 got) m')
   performs_here P m' same got p b =
       performs P (record { operand = got; part = Whole; spots = []; mid = m' }) 0 p (same ∙ sym (append-nil m.claims)) (inl refl) b
 
@@ -57,7 +57,7 @@ module _ {S : Type 0} (o : Store S) (g : RegsFields) (e : Effect) (n : ℕ) (c :
   unfolding run
   references P q gives no_write wrap b = reads_by P q gives no_write wrap b (serve o g m q).reply refl
 
-  writes_by : (P : Reached S → Type 0) (count : ℕ) (part : Part) (got : OperandFields) (m' : Mid S) → m'.claims ≡ m.claims → ((u : Reached S) → IsClaimed o g (request_at Write c count) part got m' u → P u) → Puts count → (reply : Result Answer Fault) → (serve o g m' (request_at Write c count)).reply ≡ reply → OperationCase g e n c P m (run o g (answered (λ a. perform e n g c part a.first got) reply) (serve o g m' (request_at Write c count)).mid)
+  writes_by : (P : Reached S → Type 0) (count : ℕ) (part : Part) (got : OperandFields) (m' : Midstep S) → m'.claims ≡ m.claims → ((u : Reached S) → IsClaimed o g (request_at Write c count) part got m' u → P u) → Puts count → (reply : Result Answer Fault) → (serve o g m' (request_at Write c count)).reply ≡ reply → OperationCase g e n c P m (run o g (answered (λ a. perform e n g c part a.first got) reply) (serve o g m' (request_at Write c count)).mid)
   unfolding run
   writes_by P count part got m' same wrap b (Err f) h = refused (halt.Fault f) refl
   writes_by P count part got m' same wrap b (Ok a) h =
@@ -69,7 +69,7 @@ module _ {S : Type 0} (o : Store S) (g : RegsFields) (e : Effect) (n : ℕ) (c :
       let first : a.first ≡ length m.claims = w.first ∙ ap length same in
       performs P (record { operand = got; part = part; spots = w.spots; mid = t.mid }) a.first (wrap _ (record { answer = a; served = s; operand = refl; part_is = refl; claims = w.claims })) claims (inr first) (subst Puts (sym w.places.count) b)
 
-  claims_words : (P : Reached S → Type 0) (count : ℕ) (part : Part) (got : OperandFields) (m' : Mid S) → m'.claims ≡ m.claims → ((u : Reached S) → IsClaimed o g (request_at Write c count) part got m' u → P u) → Puts count → OperationCase g e n c P m (run o g (refer (request_at Write c count) (λ a. perform e n g c part a.first got)) m')
+  claims_words : (P : Reached S → Type 0) (count : ℕ) (part : Part) (got : OperandFields) (m' : Midstep S) → m'.claims ≡ m.claims → ((u : Reached S) → IsClaimed o g (request_at Write c count) part got m' u → P u) → Puts count → OperationCase g e n c P m (run o g (refer (request_at Write c count) (λ a. perform e n g c part a.first got)) m')
   unfolding run
   claims_words P count part got m' same wrap b =
       writes_by P count part got m' same wrap b (serve o g m' (request_at Write c count)).reply refl
@@ -142,7 +142,7 @@ direct_writes_nothing effect.LprpN h = refl
 direct_writes_nothing effect.Nop h = refl
 direct_writes_nothing e h = one_word_reads (operand_of e) h
 
-module _ {S : Type 0} (o : Store S) (g : RegsFields) (e : Effect) (n : ℕ) (c : ChainEnd) (m : Mid S) where
+module _ {S : Type 0} (o : Store S) (g : RegsFields) (e : Effect) (n : ℕ) (c : ChainEnd) (m : Midstep S) where
   direct_case : (w : ℕ) (b : Bool) → takes_direct e ≡ b → OperationCase g e n c (IsOperand o g e c (Some w) m) m (run o g (by_direct e n g c w b) m)
   unfolding run
   direct_case w false h = refused (fault_at 10 (here g)) refl

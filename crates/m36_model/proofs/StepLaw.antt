@@ -8,7 +8,7 @@ use Rattle.m36_inst.specs.declared.operand.Operand.{Operand}
 use Rattle.m36_inst.specs.declared.operand.Operand.TheVariants as kind
 use Rattle.m36_model.specs.Fields.{FinalFields}
 use Rattle.m36_model.specs.Act.{Whole, Answer, either}
-use Rattle.m36_model.specs.Store.{Spot, Store, Mid, Ran, State, serve, run, changes}
+use Rattle.m36_model.specs.Store.{Spot, Store, Midstep, Ran, State, serve, run, changes}
 use Rattle.m36_model.specs.Core.{core_store, core_put}
 use Rattle.m36_model.specs.Modification.{here, fault_at}
 use Rattle.m36_model.specs.FirstPoint.{first_point}
@@ -16,7 +16,7 @@ use Rattle.m36_model.specs.Chain.{ChainEnd, chain}
 use Rattle.m36_model.specs.Results.{EffectFields}
 use Rattle.m36_model.specs.Effect.{exec}
 use Rattle.m36_model.specs.Step.{Performed, puts_from, tallied, operate, Ending, outcome_of, halted, completed, operated, addressed, at_once, no_address, started, admitted, decoded, has_right, fetched, indirect_words, decode, fetch_request, program, start, step_record, stepped, record_of, state_after}
-use Rattle.m36_model.specs.StepCases.{HasLeft, IsFetched, IsAdmitted, IsFormed, Reached, IsOperand, at_spots, StepCase, fetch_refused, no_instruction, privilege_refused, no_address as no_address_case, address_refused, operation_refused, effected, StepHasACase}
+use Rattle.m36_model.specs.StepCases.{ChangedOnlyMarks, IsFetched, IsAdmitted, IsFormed, Reached, IsOperand, at_spots, StepCase, fetch_refused, no_instruction, privilege_refused, no_address as no_address_case, address_refused, operation_refused, effected, StepHasACase}
 use Rattle.m36_model.proofs.PutLaw.{IsTallied, tally_changes, all_changes}
 use Rattle.m36_model.specs.declared.outcome.Fault.{Fault}
 use Rattle.m36_model.specs.declared.outcome.Halt.{Halt}
@@ -40,17 +40,17 @@ module _ {S : Type 0} (o : Store S) (quiet : (x : S) → o.put x [] ≡ x) (s : 
   CaseOf x = StepCase o s (step_record s.regs x) (stepped o x)
 
   -- a program that ends with nothing changed
-  has_left : (m : Mid S) (word : Option ℕ) (at : Option FinalFields) (h : Halt) → let x = run o s.regs (halted s.regs word at h) m in HasLeft s (step_record s.regs x) (stepped o x) m word at (outcome_of h)
+  has_left : (m : Midstep S) (word : Option ℕ) (at : Option FinalFields) (h : Halt) → let x = run o s.regs (halted s.regs word at h) m in ChangedOnlyMarks s (step_record s.regs x) (stepped o x) m word at (outcome_of h)
   unfolding run changes
   has_left m word at h =
       record { told = refl; left = λ i. record { regs = s.regs; store = quiet m.store i } }
 
-  at_once_left : (i : Effect) (w : ℕ) (m : Mid S) → let x = run o s.regs (no_address i s.regs w) m in HasLeft s (step_record s.regs x) (stepped o x) m (Some w) None (outcome_of (at_once i s.regs))
+  at_once_left : (i : Effect) (w : ℕ) (m : Midstep S) → let x = run o s.regs (no_address i s.regs w) m in ChangedOnlyMarks s (step_record s.regs x) (stepped o x) m (Some w) None (outcome_of (at_once i s.regs))
   at_once_left effect.Mme w m = has_left m (Some w) None (fault_at 2 (here s.regs))
   at_once_left effect.Drl w m = has_left m (Some w) None (fault_at 6 (here s.regs))
   at_once_left _ w m = has_left m (Some w) None (halt.Stop stop.Dis)
 
-  full_case : (w : ℕ) (i : Effect) (n : ℕ) (c : ChainEnd) (m : Mid S) → IsFormed o s w i n c m → IsTallied c m.claims → (u : Reached S) (first : ℕ) (x : EffectFields) → IsOperand o s.regs i c c.last.direct m u → exec i n (tallied s.regs c) c.last u.operand ≡ Ok x → u.mid.claims ≡ m.claims ++ u.spots → length u.spots ≡ length x.put → (u.spots ≡ []) ⊎ (first ≡ length m.claims) → CaseOf (run o s.regs (completed s.regs w c.last (record { regs = x.regs; puts = c.pending ++ puts_from u.part first x.put; overflow = x.overflow })) u.mid)
+  full_case : (w : ℕ) (i : Effect) (n : ℕ) (c : ChainEnd) (m : Midstep S) → IsFormed o s w i n c m → IsTallied c m.claims → (u : Reached S) (first : ℕ) (x : EffectFields) → IsOperand o s.regs i c c.last.direct m u → exec i n (tallied s.regs c) c.last u.operand ≡ Ok x → u.mid.claims ≡ m.claims ++ u.spots → length u.spots ≡ length x.put → (u.spots ≡ []) ⊎ (first ≡ length m.claims) → CaseOf (run o s.regs (completed s.regs w c.last (record { regs = x.regs; puts = c.pending ++ puts_from u.part first x.put; overflow = x.overflow })) u.mid)
   unfolding run
   full_case w i n c m formed t u first x p h a b f =
       let puts = c.pending ++ puts_from u.part first x.put in
@@ -72,44 +72,44 @@ module _ {S : Type 0} (o : Store S) (quiet : (x : S) → o.put x [] ≡ x) (s : 
         left = λ j. record { regs = x.regs; store = o.put u.mid.store (all j) };
       })
 
-  operation_by : (w : ℕ) (i : Effect) (n : ℕ) (c : ChainEnd) (m : Mid S) → IsFormed o s w i n c m → IsTallied c m.claims → (r : Ran (Result Performed Halt) S) → run o s.regs (operate i n s.regs c) m ≡ r → OperationCase s.regs i n c (IsOperand o s.regs i c c.last.direct m) m r → CaseOf (run o s.regs (either (completed s.regs w c.last) (halted s.regs (Some w) (Some c.last)) r.value) r.mid)
+  operation_by : (w : ℕ) (i : Effect) (n : ℕ) (c : ChainEnd) (m : Midstep S) → IsFormed o s w i n c m → IsTallied c m.claims → (r : Ran (Result Performed Halt) S) → run o s.regs (operate i n s.regs c) m ≡ r → OperationCase s.regs i n c (IsOperand o s.regs i c c.last.direct m) m r → CaseOf (run o s.regs (either (completed s.regs w c.last) (halted s.regs (Some w) (Some c.last)) r.value) r.mid)
   operation_by w i n c m formed t r known (refused h e) =
       let ends : r ≡ record { value = Err h; mid = r.mid } = λ j. record { value = e j; mid = r.mid } in
       subst (λ (v : Result Performed Halt). CaseOf (run o s.regs (either (completed s.regs w c.last) (halted s.regs (Some w) (Some c.last)) v) r.mid)) (sym e) (operation_refused w m r.mid i n c h formed (known ∙ ends) (has_left r.mid (Some w) (Some c.last) h))
   operation_by w i n c m formed t r known (performed_with u first x p h a b f q) =
       subst (λ (y : Ran (Result Performed Halt) S). CaseOf (run o s.regs (either (completed s.regs w c.last) (halted s.regs (Some w) (Some c.last)) y.value) y.mid)) (sym q) (full_case w i n c m formed t u first x p h a b f)
 
-  operated_case : (w : ℕ) (i : Effect) (n : ℕ) (c : ChainEnd) (m : Mid S) → IsFormed o s w i n c m → IsTallied c m.claims → CaseOf (run o s.regs (operated i n s.regs w c) m)
+  operated_case : (w : ℕ) (i : Effect) (n : ℕ) (c : ChainEnd) (m : Midstep S) → IsFormed o s w i n c m → IsTallied c m.claims → CaseOf (run o s.regs (operated i n s.regs w c) m)
   operated_case w i n c m formed t =
       let k = either (completed s.regs w c.last) (halted s.regs (Some w) (Some c.last)) in
       let r = run o s.regs (operate i n s.regs c) m in
       subst CaseOf (sym (run_then o s.regs (operate i n s.regs c) k m)) (operation_by w i n c m formed t r refl (operation_case o s.regs i n c m))
 
-  address_by : (w : ℕ) (i : Effect) (n : ℕ) (before : Mid S) → IsAdmitted o s w i n before → forms_address (operand_of i) ≡ true → (v : Result ChainEnd Halt) (m : Mid S) → run o s.regs (chain indirect_words s.regs (first_point s.regs (inst_of w))) before ≡ record { value = v; mid = m } → PostOf v m → CaseOf (run o s.regs (either (operated i n s.regs w) (halted s.regs (Some w) None) v) m)
+  address_by : (w : ℕ) (i : Effect) (n : ℕ) (before : Midstep S) → IsAdmitted o s w i n before → forms_address (operand_of i) ≡ true → (v : Result ChainEnd Halt) (m : Midstep S) → run o s.regs (chain indirect_words s.regs (first_point s.regs (inst_of w))) before ≡ record { value = v; mid = m } → PostOf v m → CaseOf (run o s.regs (either (operated i n s.regs w) (halted s.regs (Some w) None) v) m)
   address_by w i n before admitted forms (Err h) m known post =
       address_refused w before m i n h admitted forms known (has_left m (Some w) None h)
   address_by w i n before admitted forms (Ok c) m known post =
       operated_case w i n c m (record { before = before; admitted = admitted; forms = forms; formed = known }) post
 
-  addressed_case : (w : ℕ) (i : Effect) (n : ℕ) (before : Mid S) → IsAdmitted o s w i n before → forms_address (operand_of i) ≡ true → before.claims ≡ [] → CaseOf (run o s.regs (addressed i n s.regs w) before)
+  addressed_case : (w : ℕ) (i : Effect) (n : ℕ) (before : Midstep S) → IsAdmitted o s w i n before → forms_address (operand_of i) ≡ true → before.claims ≡ [] → CaseOf (run o s.regs (addressed i n s.regs w) before)
   addressed_case w i n before admitted forms e =
       let act = chain indirect_words s.regs (first_point s.regs (inst_of w)) in
       let k = either (operated i n s.regs w) (halted s.regs (Some w) None) in
       let r = run o s.regs act before in
       subst CaseOf (sym (run_then o s.regs act k before)) (address_by w i n before admitted forms r.value r.mid refl (chain_claims o s.regs indirect_words (first_point s.regs (inst_of w)) before e))
 
-  started_case : (w : ℕ) (i : Effect) (n : ℕ) (m : Mid S) → IsAdmitted o s w i n m → m.claims ≡ [] → (k : Operand) → operand_of i ≡ k → CaseOf (run o s.regs (started i n s.regs w k) m)
+  started_case : (w : ℕ) (i : Effect) (n : ℕ) (m : Midstep S) → IsAdmitted o s w i n m → m.claims ≡ [] → (k : Operand) → operand_of i ≡ k → CaseOf (run o s.regs (started i n s.regs w k) m)
   started_case w i n m admitted e kind.N h = no_address_case w m i n admitted h (at_once_left i w m)
   started_case w i n m admitted e k h = addressed_case w i n m admitted (ap forms_address h) e
 
-  admitted_case : (w : ℕ) (right : Bool) (m : Mid S) → IsFetched o s w right m → m.claims ≡ [] → (i : Effect) (n : ℕ) → decode w ≡ Some (i, n) → (b : Bool) → (is_privileged i && not right) ≡ b → CaseOf (run o s.regs (admitted i n s.regs w b) m)
+  admitted_case : (w : ℕ) (right : Bool) (m : Midstep S) → IsFetched o s w right m → m.claims ≡ [] → (i : Effect) (n : ℕ) → decode w ≡ Some (i, n) → (b : Bool) → (is_privileged i && not right) ≡ b → CaseOf (run o s.regs (admitted i n s.regs w b) m)
   admitted_case w right m fetched e i n h true p =
       let no_right = not_right (is_privileged i) right p in
       privilege_refused w m i n (subst (λ (r : Bool). IsFetched o s w r m) no_right fetched) h (and_left (is_privileged i) (not right) p) (has_left m (Some w) None (fault_at 10 (here s.regs)))
   admitted_case w right m fetched e i n h false p =
       started_case w i n m (record { right = right; fetched = fetched; decoded = h; allowed = p }) e (operand_of i) refl
 
-  decoded_case : (w : ℕ) (right : Bool) (m : Mid S) → IsFetched o s w right m → m.claims ≡ [] → (d : Option (Effect × ℕ)) → decode w ≡ d → CaseOf (run o s.regs (decoded s.regs w right d) m)
+  decoded_case : (w : ℕ) (right : Bool) (m : Midstep S) → IsFetched o s w right m → m.claims ≡ [] → (d : Option (Effect × ℕ)) → decode w ≡ d → CaseOf (run o s.regs (decoded s.regs w right d) m)
   decoded_case w right m fetched e None h =
       no_instruction w right m fetched h (has_left m (Some w) None (halt.Stop stop.Operation))
   decoded_case w right m fetched e (Some row) h =

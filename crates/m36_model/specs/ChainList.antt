@@ -6,7 +6,7 @@ use Rattle.std.specs.Prelude.{ℕ, ◌≡◌, ◌+◌, ◌%◌, ◌≤◌, Bool,
 use Rattle.std.specs.Prelude.{length, Option, Result, Ok, Err, slice_index}
 use Rattle.m36_model.specs.Registers.{RegsFields}
 use Rattle.m36_model.specs.Act.{Indirect, Odd, Write, Answer}
-use Rattle.m36_model.specs.Store.{Store, Mid, Ran, serve, run}
+use Rattle.m36_model.specs.Store.{Store, Midstep, Ran, serve, run}
 use Rattle.m36_model.specs.Core.{core_store}
 use Rattle.m36_model.specs.Modification.{Point, Move, Ends, Fails, Reads, Counts, move_of_point}
 use Rattle.m36_model.specs.Tally.{tally, tally_address, indirect_only}
@@ -22,7 +22,7 @@ use Rattle.m36_model.specs.declared.outcome.Halt.TheVariants as halt
 pub record Stage (S : Type 0) : Type 0 where
   pub point : Point
   pub count : ℕ
-  pub mid : Mid S
+  pub mid : Midstep S
 
 -- what follows from a point: the next point, or the answer of the chain
 pub data Turn (S : Type 0) : Type 0 where
@@ -30,25 +30,25 @@ pub data Turn (S : Type 0) : Type 0 where
   Closes : Ran (Result ChainEnd Halt) S → Turn S
 
 -- the chain continues at the next point, with one more indirect word
-abbrev pub goes_on_at : {S : Type 0} → Stage S → Point → Mid S → Turn S
+abbrev pub goes_on_at : {S : Type 0} → Stage S → Point → Midstep S → Turn S
 goes_on_at s next m = Goes (record { point = next; count = s.count + 1; mid = m })
 
 -- the chain ends
-abbrev pub ends_with : {S : Type 0} → ChainEnd → Mid S → Turn S
+abbrev pub ends_with : {S : Type 0} → ChainEnd → Midstep S → Turn S
 ends_with end m = Closes (record { value = Ok end; mid = m })
 
 -- the chain ends with a fault or a stop
-abbrev pub refused_with : {S : Type 0} → Halt → Mid S → Turn S
+abbrev pub refused_with : {S : Type 0} → Halt → Midstep S → Turn S
 refused_with h m = Closes (record { value = Err h; mid = m })
 
 -- after the odd word of a pair: the next point, or the refusal of this word
-abbrev pub turn_odd : {S : Type 0} → Stage S → (ℕ → Point) → Mid S → Result Answer Fault → Turn S
+abbrev pub turn_odd : {S : Type 0} → Stage S → (ℕ → Point) → Midstep S → Result Answer Fault → Turn S
 turn_odd s next m (Ok b) = goes_on_at s (next (slice_index b.words 0)) m
 turn_odd s next m (Err f) = refused_with (halt.Fault f) m
 
 -- after the word that was read: it is plain, or the even word of a pair
 abbrev pub turn_found :
-    {S : Type 0} → Store S → RegsFields → Stage S → ℕ → Option ℕ → Answer → Mid S → Found → Turn S
+    {S : Type 0} → Store S → RegsFields → Stage S → ℕ → Option ℕ → Answer → Midstep S → Found → Turn S
 turn_found o g s word held a m Plain =
     goes_on_at s (plain_point s.point word held (slice_index a.words 0) a.sdw.r1) m
 turn_found o g s word held a m Its =
@@ -62,7 +62,7 @@ turn_found o g s word held a m Itp =
 
 -- after the reference to an indirect word: the fault, or what the word is
 abbrev pub turn_even :
-    {S : Type 0} → Store S → RegsFields → Stage S → ℕ → Option ℕ → Mid S → Result Answer Fault
+    {S : Type 0} → Store S → RegsFields → Stage S → ℕ → Option ℕ → Midstep S → Result Answer Fault
     → Turn S
 turn_even o g s word held m (Ok a) =
     turn_found o g s word held a m (found word (slice_index a.words 0))
@@ -76,14 +76,14 @@ turn_reads o g s word held true =
 turn_reads o g s word held false = refused_with (lockup s.point word) s.mid
 
 -- after the claim of the tally word: the chain ends, or is refused
-abbrev pub turn_claimed : {S : Type 0} → Stage S → Answer → Mid S → Result Answer Fault → Turn S
+abbrev pub turn_claimed : {S : Type 0} → Stage S → Answer → Midstep S → Result Answer Fault → Turn S
 turn_claimed s a m (Ok b) =
     ends_with (tally_end s.point b.first (tally (s.point.tag % 16) (slice_index a.words 0))) m
 turn_claimed s a m (Err f) = refused_with (halt.Fault f) m
 
 -- after the tally word: I does not change it, and the other tags reference it as a Write
 abbrev pub turn_tally_by :
-    {S : Type 0} → Store S → RegsFields → Stage S → Answer → Mid S → Bool → Turn S
+    {S : Type 0} → Store S → RegsFields → Stage S → Answer → Midstep S → Bool → Turn S
 turn_tally_by o g s a m true =
     ends_with (without_tally (tally_final s.point (tally_address (slice_index a.words 0)))) m
 turn_tally_by o g s a m false =
@@ -91,7 +91,7 @@ turn_tally_by o g s a m false =
 
 -- after the read of the tally word: the fault, or as `turn_tally_by`
 abbrev pub turn_tally :
-    {S : Type 0} → Store S → RegsFields → Stage S → Mid S → Result Answer Fault → Turn S
+    {S : Type 0} → Store S → RegsFields → Stage S → Midstep S → Result Answer Fault → Turn S
 turn_tally o g s m (Ok a) = turn_tally_by o g s a m (s.point.tag % 16 == indirect_only)
 turn_tally o g s m (Err f) = refused_with (halt.Fault f) m
 
@@ -121,13 +121,13 @@ IsChain o g (s ∷ []) answer = turn o g s ≡ Closes answer
 IsChain o g (s ∷ next ∷ more) answer = (turn o g s ≡ Goes next) × IsChain o g (next ∷ more) answer
 
 -- the stage at the first point, before any indirect word
-abbrev pub first_stage : {S : Type 0} → Point → Mid S → Stage S
+abbrev pub first_stage : {S : Type 0} → Point → Midstep S → Stage S
 first_stage p m = record { point = p; count = 0; mid = m }
 
 -- There is exactly one chain from a point. It has at most one point more than indirect words may be
 -- read, and its answer is that of the program that forms the address.
 pub record IsOneChain {S : Type 0} (o : Store S) (g : RegsFields) (p : Point)
-    (m : Mid S) : Type 0 where
+    (m : Midstep S) : Type 0 where
   pub more : List (Stage S)
   pub answer : Ran (Result ChainEnd Halt) S
   pub linked : IsChain o g (first_stage p m ∷ more) answer
@@ -139,4 +139,4 @@ pub record IsOneChain {S : Type 0} (o : Store S) (g : RegsFields) (p : Point)
 
 -- From each point there is exactly one chain over core.
 abbrev pub OneChain : Type 0
-OneChain = (g : RegsFields) (p : Point) (m : Mid (List ℕ)) → IsOneChain core_store g p m
+OneChain = (g : RegsFields) (p : Point) (m : Midstep (List ℕ)) → IsOneChain core_store g p m

@@ -4,7 +4,7 @@ use Rattle.std.specs.Prelude.{ℕ, ◌≡◌, if◌then◌else◌, List, [], ◌
 use Rattle.m36_desc.specs.Fields.{DbrFields}
 use Rattle.m36_model.specs.Registers.{RegsFields}
 use Rattle.m36_model.specs.Act.{Request, Answer, Act, done, ask}
-use Rattle.m36_model.specs.Store.{Store, Mid, State, serve, touches, with_reference}
+use Rattle.m36_model.specs.Store.{Store, Midstep, State, serve, touches, with_reference}
 use Rattle.m36_model.specs.Core.{core_store}
 use Rattle.m36_model.specs.Step.{program, start, ran}
 use Rattle.m36_model.specs.declared.outcome.Fault.{Fault}
@@ -17,7 +17,7 @@ completed_by q (Ok a) = if touches q.kind then q ∷ [] else []
 completed_by q (Err f) = []
 
 -- the requests that a run completes, in order
-unfoldable pub completed : {A S : Type 0} → Store S → RegsFields → Act A → Mid S → List Request
+unfoldable pub completed : {A S : Type 0} → Store S → RegsFields → Act A → Midstep S → List Request
 completed o g (done a) m = []
 completed o g (ask q next) m =
     let t = serve o g m q in completed_by q t.reply ++ completed o g (next t.reply) t.mid

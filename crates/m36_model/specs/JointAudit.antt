@@ -39,8 +39,8 @@ pub record AreTwo (dbrs : List DbrFields) (dbr other : DbrFields) : Type 0 where
 
 -- a table word of one process is a segment word of another, or a table word of it that is not
 -- shared
-abbrev pub IsTaken : List ℕ → DbrFields → DbrFields → Table → ℕ → Type 0
-IsTaken core dbr other table a =
+abbrev pub IsUsedByOther : List ℕ → DbrFields → DbrFields → Table → ℕ → Type 0
+IsUsedByOther core dbr other table a =
     ((seg : ℕ) × (w : ℕ) × IsSegmentWord core other seg w a) ⊎
     ((other_table : Table) × IsOf core other other_table a ×
     (AreShared core dbr other table other_table → ⊥))
@@ -54,7 +54,7 @@ pub record IsJointTable (core : List ℕ) (dbrs : List DbrFields) (a : ℕ) : Ty
   pub two : AreTwo dbrs dbr other
   pub table : Table
   pub of : IsOf core dbr table a
-  pub taken : IsTaken core dbr other table a
+  pub taken : IsUsedByOther core dbr other table a
 
 -- two words of segments are the same word of the same segment
 pub record AreSameWord (core : List ℕ) (dbr other : DbrFields)

@@ -146,10 +146,10 @@ abbrev pub ExecutesLdbr : StepRecord → Type 0
 ExecutesLdbr e = Executes effect.Ldbr e
 
 -- A step with this record that executes no LDBR preserves the audit conditions.
-abbrev pub Keeps : State (List ℕ) → State (List ℕ) → StepRecord → Type 0
-Keeps old new e =
+abbrev pub PreservesAudit : State (List ℕ) → State (List ℕ) → StepRecord → Type 0
+PreservesAudit old new e =
     IsAudited old.store old.regs.dbr → (ExecutesLdbr e → ⊥) → IsAudited new.store new.regs.dbr
 
 -- Each step, in any ring, preserves the audit conditions unless it executes LDBR.
 abbrev pub KeptLaw : Type 0
-KeptLaw = (s : State (List ℕ)) → Keeps s (state_after core_store s) (record_of core_store s)
+KeptLaw = (s : State (List ℕ)) → PreservesAudit s (state_after core_store s) (record_of core_store s)

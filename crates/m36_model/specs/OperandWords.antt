@@ -4,7 +4,7 @@ use Rattle.std.specs.Prelude.{ℕ, ◌≡◌, ◌+◌, ◌<◌, true, List, ◌+
 use Rattle.m36_desc.specs.Fields.{SdwFields}
 use Rattle.m36_model.specs.Registers.{RegsFields}
 use Rattle.m36_model.specs.Act.{Read, Write, Request, Answer}
-use Rattle.m36_model.specs.Store.{Spot, Store, Mid, serve, changes, within}
+use Rattle.m36_model.specs.Store.{Spot, Store, Midstep, serve, changes, within}
 use Rattle.m36_model.specs.Core.{core_store}
 
 -- the spots of the words of a request, each of them within the bound and placed by the descriptor
@@ -18,8 +18,8 @@ pub record ArePlaces {S : Type 0} (o : Store S) (s : S) (g : RegsFields) (q : Re
 
 -- a request to read that was answered: its words are those at these spots, after the marks are set
 -- and the pending words are written
-pub record AreReadWords {S : Type 0} (o : Store S) (g : RegsFields) (m : Mid S) (q : Request)
-    (a : Answer) (after : Mid S) : Type 0 where
+pub record AreReadWords {S : Type 0} (o : Store S) (g : RegsFields) (m : Midstep S) (q : Request)
+    (a : Answer) (after : Midstep S) : Type 0 where
   pub spots : List Spot
   pub found : o.sdw m.store g.dbr q.at.seg ≡ Ok a.sdw
   pub places : ArePlaces o m.store g q a.sdw spots
@@ -27,8 +27,8 @@ pub record AreReadWords {S : Type 0} (o : Store S) (g : RegsFields) (m : Mid S) 
 
 -- a request to write that was answered: these spots are claimed, after those that the step has
 -- claimed before
-pub record AreWrittenWords {S : Type 0} (o : Store S) (g : RegsFields) (m : Mid S) (q : Request)
-    (a : Answer) (after : Mid S) : Type 0 where
+pub record AreWrittenWords {S : Type 0} (o : Store S) (g : RegsFields) (m : Midstep S) (q : Request)
+    (a : Answer) (after : Midstep S) : Type 0 where
   pub spots : List Spot
   pub found : o.sdw m.store g.dbr q.at.seg ≡ Ok a.sdw
   pub places : ArePlaces o m.store g q a.sdw spots
@@ -38,13 +38,13 @@ pub record AreWrittenWords {S : Type 0} (o : Store S) (g : RegsFields) (m : Mid 
 -- an answered request to read has the words at its consecutive word numbers
 abbrev pub ReadsWordsInOrder : Type 0
 ReadsWordsInOrder =
-    (g : RegsFields) (m after : Mid (List ℕ)) (q : Request) (a : Answer) → q.kind ≡ Read
+    (g : RegsFields) (m after : Midstep (List ℕ)) (q : Request) (a : Answer) → q.kind ≡ Read
     → serve core_store g m q ≡ record { reply = Ok a; mid = after }
     → AreReadWords core_store g m q a after
 
 -- an answered request to write has claimed the words at its consecutive word numbers
 abbrev pub WritesWordsInOrder : Type 0
 WritesWordsInOrder =
-    (g : RegsFields) (m after : Mid (List ℕ)) (q : Request) (a : Answer) → q.kind ≡ Write
+    (g : RegsFields) (m after : Midstep (List ℕ)) (q : Request) (a : Answer) → q.kind ≡ Write
     → serve core_store g m q ≡ record { reply = Ok a; mid = after }
     → AreWrittenWords core_store g m q a after

@@ -34,9 +34,9 @@ visits o (suc n) s =
     visit o s ∷ only_if (is_next (record_of o s).outcome) (visits o n (state_after o s))
 
 -- the state after the last of some steps or events, or the state s if there are none
-abbrev pub state_behind : {S A : Type 0} → (A → S) → S → List A → S
-state_behind after s [] = s
-state_behind after s (x ∷ more) = state_behind after (after x) more
+abbrev pub state_after_all : {S A : Type 0} → (A → S) → S → List A → S
+state_after_all after s [] = s
+state_after_all after s (x ∷ more) = state_after_all after (after x) more
 
 -- the records of a run
 abbrev pub told : {S : Type 0} → Store S → ℕ → State S → List StepRecord

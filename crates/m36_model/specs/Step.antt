@@ -38,7 +38,7 @@ use Rattle.m36_model.specs.Results.{ring_only, place_only}
 use Rattle.m36_model.specs.WordsPut.{words_written, part_written}
 use Rattle.m36_model.specs.Transfers.{is_taken}
 use Rattle.m36_model.specs.Effect.{exec, is_absa}
-use Rattle.m36_model.specs.Store.{Store, Mid, Ran, State, begun, run, changes}
+use Rattle.m36_model.specs.Store.{Store, Midstep, Ran, State, begun, run, changes}
 use Rattle.m36_model.specs.declared.outcome.Fault.{Fault}
 use Rattle.m36_model.specs.declared.outcome.Stop.TheVariants as stop
 use Rattle.m36_model.specs.declared.outcome.Halt.{Halt}
@@ -360,7 +360,7 @@ stepped o t =
     record { regs = t.value.after; store = o.put t.mid.store (changes t.mid.claims t.value.puts) }
 
 -- the state within a step at its beginning
-abbrev pub start : {S : Type 0} → State S → Mid S
+abbrev pub start : {S : Type 0} → State S → Midstep S
 start s = begun s.store
 
 -- the run of a step's program over a store

@@ -20,7 +20,7 @@ use Rattle.m36_model.specs.Faults.{illegal_procedure}
 use Rattle.m36_model.specs.Fields.{FinalFields}
 use Rattle.m36_model.specs.Registers.{RegsFields}
 use Rattle.m36_model.specs.Act.{Read, Write, Transfer, Call, Locate, Part, Whole, Request, Answer}
-use Rattle.m36_model.specs.Store.{Spot, Change, Store, Mid, State, serve, run}
+use Rattle.m36_model.specs.Store.{Spot, Change, Store, Midstep, State, serve, run}
 use Rattle.m36_model.specs.Core.{core_store}
 use Rattle.m36_model.specs.Modification.{halt_here}
 use Rattle.m36_model.specs.Chain.{ChainEnd}
@@ -41,7 +41,7 @@ use Rattle.m36_model.specs.declared.outcome.Outcome.TheVariants.{Faulted}
 use Rattle.m36_model.specs.declared.record.StepRecord.{StepRecord}
 
 -- A step that changed only marks: its record and its state.
-pub record HasLeft {S : Type 0} (s : State S) (e : StepRecord) (t : State S) (m : Mid S)
+pub record ChangedOnlyMarks {S : Type 0} (s : State S) (e : StepRecord) (t : State S) (m : Midstep S)
     (word : Option ℕ) (at : Option FinalFields) (outcome : Outcome) : Type 0 where
   pub told :
       e
@@ -57,7 +57,7 @@ pub record HasLeft {S : Type 0} (s : State S) (e : StepRecord) (t : State S) (m 
 
 -- The instruction word was fetched; `right` is the right to privileged instructions.
 pub record IsFetched {S : Type 0} (o : Store S) (s : State S) (word : ℕ) (right : Bool)
-    (m : Mid S) : Type 0 where
+    (m : Midstep S) : Type 0 where
   pub answer : Answer
   pub served :
       serve o s.regs (start s) (fetch_request s.regs) ≡ record { reply = Ok answer; mid = m }
@@ -66,7 +66,7 @@ pub record IsFetched {S : Type 0} (o : Store S) (s : State S) (word : ℕ) (righ
 
 -- The instruction may be executed.
 pub record IsAdmitted {S : Type 0} (o : Store S) (s : State S) (word : ℕ) (e : Effect) (n : ℕ)
-    (m : Mid S) : Type 0 where
+    (m : Midstep S) : Type 0 where
   pub right : Bool
   pub fetched : IsFetched o s word right m
   pub decoded : decode word ≡ Some (e, n)
@@ -74,8 +74,8 @@ pub record IsAdmitted {S : Type 0} (o : Store S) (s : State S) (word : ℕ) (e :
 
 -- The address of the instruction was formed.
 pub record IsFormed {S : Type 0} (o : Store S) (s : State S) (word : ℕ) (e : Effect) (n : ℕ)
-    (c : ChainEnd) (m : Mid S) : Type 0 where
-  pub before : Mid S
+    (c : ChainEnd) (m : Midstep S) : Type 0 where
+  pub before : Midstep S
   pub admitted : IsAdmitted o s word e n before
   pub forms : forms_address (operand_of e) ≡ true
   pub formed :
@@ -87,10 +87,10 @@ pub record Reached (S : Type 0) : Type 0 where
   pub operand : OperandFields
   pub part : Part
   pub spots : List Spot
-  pub mid : Mid S
+  pub mid : Midstep S
 
 -- nothing is referenced
-pub record IsUnreferenced {S : Type 0} (m : Mid S) (got : OperandFields)
+pub record IsUnreferenced {S : Type 0} (m : Midstep S) (got : OperandFields)
     (u : Reached S) : Type 0 where
   pub operand : u.operand ≡ got
   pub nothing : u.spots ≡ []
@@ -98,7 +98,7 @@ pub record IsUnreferenced {S : Type 0} (m : Mid S) (got : OperandFields)
 
 -- a reference that writes nothing; the effect gets what its answer gives
 pub record IsReferenced {S : Type 0} (o : Store S) (g : RegsFields) (q : Request)
-    (gives : Answer → OperandFields) (m : Mid S) (u : Reached S) : Type 0 where
+    (gives : Answer → OperandFields) (m : Midstep S) (u : Reached S) : Type 0 where
   pub answer : Answer
   pub served : serve o g m q ≡ record { reply = Ok answer; mid = u.mid }
   pub operand : u.operand ≡ gives answer
@@ -106,7 +106,7 @@ pub record IsReferenced {S : Type 0} (o : Store S) (g : RegsFields) (q : Request
 
 -- words to be written are claimed
 pub record IsClaimed {S : Type 0} (o : Store S) (g : RegsFields) (q : Request) (part : Part)
-    (got : OperandFields) (m : Mid S) (u : Reached S) : Type 0 where
+    (got : OperandFields) (m : Midstep S) (u : Reached S) : Type 0 where
   pub answer : Answer
   pub served : serve o g m q ≡ record { reply = Ok answer; mid = u.mid }
   pub operand : u.operand ≡ got
@@ -115,33 +115,33 @@ pub record IsClaimed {S : Type 0} (o : Store S) (g : RegsFields) (q : Request) (
 
 -- a word is read and then claimed, to be written
 pub record IsChanged {S : Type 0} (o : Store S) (g : RegsFields) (c : ChainEnd) (part : Part)
-    (m : Mid S) (u : Reached S) : Type 0 where
+    (m : Midstep S) (u : Reached S) : Type 0 where
   pub answer : Answer
-  pub between : Mid S
+  pub between : Midstep S
   pub read : serve o g m (request_at Read c 1) ≡ record { reply = Ok answer; mid = between }
   pub write : IsClaimed o g (request_at Write c 1) part (got_word answer) between u
 
 -- the operand of an instruction that uses only its address; ABSA locates the word
 abbrev pub IsAddressed :
-    {S : Type 0} → Store S → RegsFields → ChainEnd → Bool → Mid S → Reached S → Type 0
+    {S : Type 0} → Store S → RegsFields → ChainEnd → Bool → Midstep S → Reached S → Type 0
 IsAddressed o g c false m u = IsUnreferenced m no_operand u
 IsAddressed o g c true m u = IsReferenced o g (request_at Locate c 1) got_place m u
 
 -- the operand of a transfer: its target, if it is taken
 abbrev pub IsTargeted :
-    {S : Type 0} → Store S → RegsFields → ChainEnd → Bool → Mid S → Reached S → Type 0
+    {S : Type 0} → Store S → RegsFields → ChainEnd → Bool → Midstep S → Reached S → Type 0
 IsTargeted o g c false m u = IsUnreferenced m no_operand u
 IsTargeted o g c true m u = IsReferenced o g (request_at Transfer c 1) got_nothing m u
 
 -- the words that an operand kind writes are claimed
 abbrev pub IsClaimedFor :
-    {S : Type 0} → Store S → RegsFields → ChainEnd → Operand → Mid S → Reached S → Type 0
+    {S : Type 0} → Store S → RegsFields → ChainEnd → Operand → Midstep S → Reached S → Type 0
 IsClaimedFor o g c k m u =
     IsClaimed o g (request_at Write c (words_written k)) (part_written k) no_operand m u
 
 -- the operand is referenced by its kind
 abbrev pub IsOperandOf :
-    {S : Type 0} → Store S → RegsFields → Effect → ChainEnd → Operand → Mid S → Reached S → Type 0
+    {S : Type 0} → Store S → RegsFields → Effect → ChainEnd → Operand → Midstep S → Reached S → Type 0
 IsOperandOf o g e c kind.R m u = IsReferenced o g (request_at Read c 1) got_word m u
 IsOperandOf o g e c kind.R2 m u = IsReferenced o g (request_at Read c 2) got_words m u
 IsOperandOf o g e c kind.R16 m u = IsReferenced o g (request_at Read c 16) got_words m u
@@ -160,7 +160,7 @@ IsOperandOf o g e c kind.Call6 m u =
 
 -- the operand is referenced, or is a direct one that the instruction accepts
 abbrev pub IsOperand :
-    {S : Type 0} → Store S → RegsFields → Effect → ChainEnd → Option ℕ → Mid S → Reached S → Type 0
+    {S : Type 0} → Store S → RegsFields → Effect → ChainEnd → Option ℕ → Midstep S → Reached S → Type 0
 IsOperand o g e c None m u = IsOperandOf o g e c (operand_of e) m u
 IsOperand o g e c (Some w) m u =
     (takes_direct e ≡ true) × IsUnreferenced m (words_only (direct_word (operand_of e) w)) u
@@ -180,7 +180,7 @@ pub record HasEffect {S : Type 0} (o : Store S) (s : State S) (e : StepRecord)
   pub instruction : Effect
   pub number : ℕ
   pub end : ChainEnd
-  pub chained : Mid S
+  pub chained : Midstep S
   pub formed : IsFormed o s word instruction number end chained
   pub reached : Reached S
   pub operand : IsOperand o s.regs instruction end end.last.direct chained reached
@@ -208,31 +208,31 @@ pub record HasEffect {S : Type 0} (o : Store S) (s : State S) (e : StepRecord)
 pub data StepCase {S : Type 0} (o : Store S) (s : State S) (e : StepRecord)
     (t : State S) : Type 0 where
   fetch_refused :
-      (f : Fault) (m : Mid S)
+      (f : Fault) (m : Midstep S)
       → serve o s.regs (start s) (fetch_request s.regs) ≡ record { reply = Err f; mid = m }
-      → HasLeft s e t m None None (Faulted f) → StepCase o s e t
+      → ChangedOnlyMarks s e t m None None (Faulted f) → StepCase o s e t
   no_instruction :
-      (word : ℕ) (right : Bool) (m : Mid S) → IsFetched o s word right m → decode word ≡ None
-      → HasLeft s e t m (Some word) None (outcome_of (halt.Stop stop.Operation)) → StepCase o s e t
+      (word : ℕ) (right : Bool) (m : Midstep S) → IsFetched o s word right m → decode word ≡ None
+      → ChangedOnlyMarks s e t m (Some word) None (outcome_of (halt.Stop stop.Operation)) → StepCase o s e t
   privilege_refused :
-      (word : ℕ) (m : Mid S) (i : Effect) (n : ℕ) → IsFetched o s word false m
+      (word : ℕ) (m : Midstep S) (i : Effect) (n : ℕ) → IsFetched o s word false m
       → decode word ≡ Some (i, n) → is_privileged i ≡ true
-      → HasLeft s e t m (Some word) None (outcome_of (halt_here illegal_procedure s.regs))
+      → ChangedOnlyMarks s e t m (Some word) None (outcome_of (halt_here illegal_procedure s.regs))
       → StepCase o s e t
   no_address :
-      (word : ℕ) (m : Mid S) (i : Effect) (n : ℕ) → IsAdmitted o s word i n m
-      → operand_of i ≡ kind.N → HasLeft s e t m (Some word) None (outcome_of (at_once i s.regs))
+      (word : ℕ) (m : Midstep S) (i : Effect) (n : ℕ) → IsAdmitted o s word i n m
+      → operand_of i ≡ kind.N → ChangedOnlyMarks s e t m (Some word) None (outcome_of (at_once i s.regs))
       → StepCase o s e t
   address_refused :
-      (word : ℕ) (before m : Mid S) (i : Effect) (n : ℕ) (h : Halt) → IsAdmitted o s word i n before
+      (word : ℕ) (before m : Midstep S) (i : Effect) (n : ℕ) (h : Halt) → IsAdmitted o s word i n before
       → forms_address (operand_of i) ≡ true
       → run o s.regs (formation s.regs (inst_of word)) before ≡ record { value = Err h; mid = m }
-      → HasLeft s e t m (Some word) None (outcome_of h) → StepCase o s e t
+      → ChangedOnlyMarks s e t m (Some word) None (outcome_of h) → StepCase o s e t
   operation_refused :
-      (word : ℕ) (before m : Mid S) (i : Effect) (n : ℕ) (c : ChainEnd) (h : Halt)
+      (word : ℕ) (before m : Midstep S) (i : Effect) (n : ℕ) (c : ChainEnd) (h : Halt)
       → IsFormed o s word i n c before
       → run o s.regs (operate i n s.regs c) before ≡ record { value = Err h; mid = m }
-      → HasLeft s e t m (Some word) (Some c.last) (outcome_of h) → StepCase o s e t
+      → ChangedOnlyMarks s e t m (Some word) (Some c.last) (outcome_of h) → StepCase o s e t
   effected : HasEffect o s e t → StepCase o s e t
 
 -- Each step is one of the cases.

@@ -216,13 +216,13 @@ places o s dbr d q =
 
 -- the state within a step: its store, the spots that its Writes have claimed, and its completed
 -- references, oldest first
-pub record Mid (S : Type 0) : Type 0 where
+pub record Midstep (S : Type 0) : Type 0 where
   pub store : S
   pub claims : List Spot
   pub refs : List Reference
 
 -- the state at the beginning of a step
-abbrev pub begun : {S : Type 0} → S → Mid S
+abbrev pub begun : {S : Type 0} → S → Midstep S
 begun s = record { store = s; claims = []; refs = [] }
 
 -- the change that a put makes; none if its number is not claimed
@@ -238,10 +238,10 @@ changes claims (p ∷ puts) = change_of p (slice_get claims p.claim) (changes cl
 -- a reply, and the state after it
 pub record Served (S : Type 0) : Type 0 where
   pub reply : Result Answer Fault
-  pub mid : Mid S
+  pub mid : Midstep S
 
 -- a refused reference changes nothing
-abbrev pub refused : {S : Type 0} → Mid S → Request → ℕ → Refusal → Served S
+abbrev pub refused : {S : Type 0} → Midstep S → Request → ℕ → Refusal → Served S
 refused m q word why = record { reply = Err (fault_in q.at word why); mid = m }
 
 -- the store after the marks of a request
@@ -312,7 +312,7 @@ answered_with o s claims refs q d spots =
 
 -- the reply after the rights were checked: the fault of the places, or the answer
 abbrev pub serve_places :
-    {S : Type 0} → Store S → RegsFields → Mid S → Request → SdwFields
+    {S : Type 0} → Store S → RegsFields → Midstep S → Request → SdwFields
     → Result (List Spot) (ℕ × Refusal) → Served S
 serve_places o g m q d (Err e) = refused m q e.0 e.1
 serve_places o g m q d (Ok spots) =
@@ -320,20 +320,20 @@ serve_places o g m q d (Ok spots) =
 
 -- the reply after the descriptor was found: the access violation, or as `serve_places`
 abbrev pub serve_rights :
-    {S : Type 0} → Store S → RegsFields → Mid S → Request → SdwFields → Option ℕ → Served S
+    {S : Type 0} → Store S → RegsFields → Midstep S → Request → SdwFields → Option ℕ → Served S
 serve_rights o g m q d (Some acv) = refused m q q.at.word (violation acv)
 serve_rights o g m q d None = serve_places o g m q d (places o m.store g.dbr d q)
 
 -- the reply to a reference: the refusal of its descriptor, or as `serve_rights`
 abbrev pub serve_sdw :
-    {S : Type 0} → Store S → RegsFields → Mid S → Request → Result SdwFields Refusal → Served S
+    {S : Type 0} → Store S → RegsFields → Midstep S → Request → Result SdwFields Refusal → Served S
 serve_sdw o g m q (Err why) = refused m q q.at.word why
 serve_sdw o g m q (Ok d) =
     serve_rights o g m q d (denied q.kind d q.at.ring g.ppr.prr (q.at.seg == g.ppr.psr) q.at.word)
 
 -- Serves a reference. Checked in this order: descriptor, brackets, rights, bound and place. Then
 -- its marks are set, and its words are read.
-unfoldable pub serve : {S : Type 0} → Store S → RegsFields → Mid S → Request → Served S
+unfoldable pub serve : {S : Type 0} → Store S → RegsFields → Midstep S → Request → Served S
 serve o g m q = serve_sdw o g m q (o.sdw m.store g.dbr q.at.seg)
 
 -- a store that sets no marks
@@ -349,10 +349,10 @@ examined o g s at =
 -- the result of a program, and the state within the step after it
 pub record Ran (A S : Type 0) : Type 0 where
   pub value : A
-  pub mid : Mid S
+  pub mid : Midstep S
 
 -- runs a program over a store, from a state within a step
-unfoldable pub run : {A S : Type 0} → Store S → RegsFields → Act A → Mid S → Ran A S
+unfoldable pub run : {A S : Type 0} → Store S → RegsFields → Act A → Midstep S → Ran A S
 run o g (done a) m = record { value = a; mid = m }
 run o g (ask q next) m = let t = serve o g m q in run o g (next t.reply) t.mid
 

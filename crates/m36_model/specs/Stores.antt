@@ -24,8 +24,8 @@ indicators_half i =
     + of_bit i.overflow * 2 ^ 14 + of_bit i.mask * 2 ^ 11 + of_bit i.tally * 2 ^ 10
 
 -- Indicators that are stored are loaded back.
-abbrev pub IndicatorsComeBack : Type 0
-IndicatorsComeBack = (i : Ind) → indicators_of (indicators_half i) ≡ i
+abbrev pub IndicatorsRoundTrip : Type 0
+IndicatorsRoundTrip = (i : Ind) → indicators_of (indicators_half i) ≡ i
 
 -- STI: the indicators to bits 18 to 35 of the word
 unfoldable pub store_indicators : RegsFields → Result EffectFields ℕ

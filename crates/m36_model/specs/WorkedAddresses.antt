@@ -132,8 +132,8 @@ at_held =
       store = held_core;
     }
 
-abbrev pub IndexIsHeldOverTheIndirectWord : Type 0
-IndexIsHeldOverTheIndirectWord = address_of_step at_held ≡ Some (ends_in 1 0o25 0)
+abbrev pub HeldIndexIsAddedAtTheEnd : Type 0
+HeldIndexIsAddedAtTheEnd = address_of_step at_held ≡ Some (ends_in 1 0o25 0)
 
 -- Tally words: ID twice, the second time with a runout; then SD, AD and DI.
 abbrev pub TallyWordsCount : Type 0

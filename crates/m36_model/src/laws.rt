@@ -5,7 +5,7 @@ ghost use Rattle.m36_model.specs.Completed.{MarksOfCompletedReferences};
 ghost use Rattle.m36_model.specs.OperandWords.{ReadsWordsInOrder, WritesWordsInOrder};
 ghost use Rattle.m36_model.specs.StepCases.{StepHasACase, CaseIsTheStep};
 ghost use Rattle.m36_model.specs.StoredBack.{StoredIsLoaded};
-ghost use Rattle.m36_model.specs.Stores.{IndicatorsComeBack};
+ghost use Rattle.m36_model.specs.Stores.{IndicatorsRoundTrip};
 
 /// From each point there is exactly one address chain. It has at most 17 points, and the program
 /// that forms the address gives its answer.
@@ -27,7 +27,7 @@ pub fn step_cases()
 
 /// Indicators that STI has stored are loaded back by LDI.
 pub fn indicator_law()
-    ensures { IndicatorsComeBack }
+    ensures { IndicatorsRoundTrip }
 {}
 
 /// Words that are stored are loaded back: a half of a word, a number of 72 bits, the parts of a

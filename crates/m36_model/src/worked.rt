@@ -5,7 +5,7 @@ ghost use Rattle.m36_model.specs.WorkedAddresses.{LastWordOfTheBoundIsRead, Word
 ghost use Rattle.m36_model.specs.WorkedAddresses.{PairTakesTheBracketOfItsSegment};
 ghost use Rattle.m36_model.specs.WorkedAddresses.{SeventeenthIndirectWordLocksUp};
 ghost use Rattle.m36_model.specs.WorkedAddresses.{SixteenIndirectWordsAreServed};
-ghost use Rattle.m36_model.specs.WorkedAddresses.{IndexIsHeldOverTheIndirectWord, TallyWordsCount};
+ghost use Rattle.m36_model.specs.WorkedAddresses.{HeldIndexIsAddedAtTheEnd, TallyWordsCount};
 ghost use Rattle.m36_model.specs.WorkedAddresses.{LoadSeesTheNewTallyWord};
 ghost use Rattle.m36_model.specs.WorkedAddresses.{StoreComesAfterTheTallyWord};
 ghost use Rattle.m36_model.specs.WorkedAddresses.{RefusedTallyWordChangesNothing};
@@ -36,7 +36,7 @@ pub fn worked_steps()
     ensures pair_takes_the_bracket_of_its_segment { PairTakesTheBracketOfItsSegment }
     ensures seventeenth_indirect_word_locks_up { SeventeenthIndirectWordLocksUp }
     ensures sixteen_indirect_words_are_served { SixteenIndirectWordsAreServed }
-    ensures index_is_held_over_the_indirect_word { IndexIsHeldOverTheIndirectWord }
+    ensures index_is_held_over_the_indirect_word { HeldIndexIsAddedAtTheEnd }
     ensures tally_words_count { TallyWordsCount }
     ensures load_sees_the_new_tally_word { LoadSeesTheNewTallyWord }
     ensures store_comes_after_the_tally_word { StoreComesAfterTheTallyWord }

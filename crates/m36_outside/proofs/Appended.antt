@@ -30,13 +30,13 @@ keeps_by_nothing (Some held) (Some same) None first more = absurd more
 keeps_by_nothing (Some held) (Some same) (Some rest) first more = more ∙ append-nil same ∙ first
 
 -- a write after others that took nothing
-pub appends_behind :
+pub appends_after :
     (start now next : Option (List ℕ)) (bytes : List ℕ)
     → Keeps start now → Appends now next bytes → Appends start next bytes
-appends_behind None now next bytes same more = tt
-appends_behind (Some held) None next bytes same more = absurd same
-appends_behind (Some held) (Some part) None bytes same more = absurd more
-appends_behind (Some held) (Some part) (Some whole) bytes same more = more ∙ ap (λ l. l ++ bytes) same
+appends_after None now next bytes same more = tt
+appends_after (Some held) None next bytes same more = absurd same
+appends_after (Some held) (Some part) None bytes same more = absurd more
+appends_after (Some held) (Some part) (Some whole) bytes same more = more ∙ ap (λ l. l ++ bytes) same
 
 -- nothing was written, and the bytes are unchanged
 pub keeps_nothing : (now next : Option (List ℕ)) → Appends now next [] → Keeps now next

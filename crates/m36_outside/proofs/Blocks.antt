@@ -3,9 +3,9 @@
 use Rattle.std.proofs.Common.{◌≡◌, ℕ, zero, suc, ◌+◌, ◌-◌, ◌<◌, ◌≤◌, List, [], ◌∷◌, ◌++◌, length, get_or, take, drop, nat_le, nat_lt, slice_range, Option, Some, None, inl, inr, refl, sym, ap, subst, ◌∙◌, arith, length-append, true}
 use Rattle.std.proofs.lemmas.List.{append_assoc, take_at, drop_at, take_all, take-append-drop, take-append-le, drop-append-le, take_more, drop_more}
 use Rattle.std.proofs.lemmas.Bool.{cases_Bool, leb-true, leb-false, ltb-true, and_parts, and_from, le-leb}
-use Rattle.m36_outside.specs.Block.{Lie, has_room, is_room, marks_of, parts}
+use Rattle.m36_outside.specs.Block.{IsStored, has_room, is_room, marks_of, parts}
 use Rattle.m36_outside.specs.Passing.{TakesPart, TakesSome, TakesLines, joined}
-use Rattle.m36_outside.specs.Put.{PutSays}
+use Rattle.m36_outside.specs.Put.{PutResult}
 use Rattle.m36_outside.specs.Written.{Grew, GrewWithin}
 use Rattle.m36_outside.specs.declared.sink.Put.{Put}
 use Rattle.m36_outside.specs.declared.sink.Put.TheVariants.{Done, Failed}
@@ -38,8 +38,8 @@ marks_more from (first ∷ pieces) piece =
 -- no pieces
 pub block_none :
     (bytes marks : List ℕ) (pieces : List (List ℕ))
-    → take 1 marks ≡ 0 ∷ [] → pieces ≡ [] → Lie bytes marks 0 0 pieces
-block_none bytes marks pieces begins none = subst (λ (l : List (List ℕ)). Lie bytes marks 0 0 l) (sym none) record {
+    → take 1 marks ≡ 0 ∷ [] → pieces ≡ [] → IsStored bytes marks 0 0 pieces
+block_none bytes marks pieces begins none = subst (λ (l : List (List ℕ)). IsStored bytes marks 0 0 l) (sym none) record {
   fits = omega arith;
   few = omega arith;
   len_is = refl;
@@ -51,13 +51,13 @@ block_none bytes marks pieces begins none = subst (λ (l : List (List ℕ)). Lie
 -- one more piece
 pub block_more :
     (bytes marks bytes' marks' : List ℕ) (len count len' count' : ℕ) (pieces pieces' : List (List ℕ)) (piece : List ℕ)
-    → Lie bytes marks len count pieces
+    → IsStored bytes marks len count pieces
     → is_room len count (length piece) ≡ true
     → len' ≡ len + length piece → count' ≡ count + 1
     → take len' bytes' ≡ take len bytes ++ piece
     → take (count' + 1) marks' ≡ take (count + 1) marks ++ len' ∷ []
     → pieces' ≡ pieces ++ piece ∷ []
-    → Lie bytes' marks' len' count' pieces'
+    → IsStored bytes' marks' len' count' pieces'
 block_more bytes marks bytes' marks' len count len' count' pieces pieces' piece lie room end next put marked are =
     let parts = and_parts (nat_lt count 2048) (nat_le (len + length piece) 32768) room in
     let few : count < 2048 = ltb-true count 2048 parts.0 in
@@ -66,7 +66,7 @@ block_more bytes marks bytes' marks' len count len' count' pieces pieces' piece 
     let many = lie.count_is in
     let all = joined_more pieces piece in
     let place : len' ≡ 0 + length (joined pieces ++ piece) = omega (arith, length-append (joined pieces) piece) in
-    subst (λ (l : List (List ℕ)). Lie bytes' marks' len' count' l) (sym are) record {
+    subst (λ (l : List (List ℕ)). IsStored bytes' marks' len' count' l) (sym are) record {
       fits = omega arith;
       few = omega arith;
       len_is = omega (arith, ap length all, length-append (joined pieces) piece);
@@ -81,7 +81,7 @@ block_more bytes marks bytes' marks' len count len' count' pieces pieces' piece 
 -- the counters decide whether there is room
 pub block_room :
     (bytes marks : List ℕ) (len count : ℕ) (pieces : List (List ℕ)) (piece : List ℕ)
-    → Lie bytes marks len count pieces
+    → IsStored bytes marks len count pieces
     → is_room len count (length piece) ≡ has_room pieces piece
 block_room bytes marks len count pieces piece lie =
     ap (λ n. is_room len n (length piece)) lie.count_is ∙ ap (λ n. is_room n (length pieces) (length piece)) lie.len_is
@@ -395,14 +395,14 @@ begun_written old new pieces before taken within none some took =
 -- by the answer of a put
 pub block_says :
     (answer : Put) (old new pieces : List (List ℕ)) (before taken : List ℕ)
-    → PutSays answer (Some before) (Some taken) (joined pieces) → before ≡ [] → 0 < length pieces
-    → new ≡ old ++ parts taken pieces → PutSays answer (Some (joined old)) (Some (joined new)) (joined pieces)
+    → PutResult answer (Some before) (Some taken) (joined pieces) → before ≡ [] → 0 < length pieces
+    → new ≡ old ++ parts taken pieces → PutResult answer (Some (joined old)) (Some (joined new)) (joined pieces)
 block_says Done old new pieces before taken grown none some took = block_all_written old new pieces before taken grown none took
 block_says Failed old new pieces before taken within none some took = begun_written old new pieces before taken within none some took
 
 pub block_takes :
     (answer : Put) (old new pieces : List (List ℕ)) (before taken : List ℕ)
-    → PutSays answer (Some before) (Some taken) (joined pieces) → before ≡ [] → 0 < length pieces
+    → PutResult answer (Some before) (Some taken) (joined pieces) → before ≡ [] → 0 < length pieces
     → new ≡ old ++ parts taken pieces → TakesLines answer old new pieces
 block_takes Done old new pieces before taken grown none some took = block_taken old new pieces before taken grown none took
 block_takes Failed old new pieces before taken within none some took = begun_taken old new pieces before taken within none some took

@@ -2,7 +2,7 @@
 use Rattle.std.proofs.Common.{◌≡◌, ℕ, ◌<◌, ◌≤◌, List, [], ◌++◌, length, take, Option, Some, None, IfSome, refl, sym, ap, ◌∙◌, arith, length-append}
 use Rattle.std.proofs.lemmas.List.{append-nil, append_assoc}
 use Rattle.std.specs.Io.KnownBytes.{Consumes, Keeps, IsAtEnd}
-use Rattle.m36_outside.specs.Chunk.{Moves, AddSays, ChunkSays}
+use Rattle.m36_outside.specs.Chunk.{Moves, AddResult, ChunkResult}
 use Rattle.m36_outside.specs.Piece.{Moved}
 use Rattle.m36_outside.specs.ReadAnswer.{file_limit}
 use Rattle.m36_outside.specs.declared.reading.Chunk.{Chunk}
@@ -44,7 +44,7 @@ consumes_too_much (Some all) (Some left) text first more =
 -- what was read was added
 pub chunk_says :
     (answer : Chunk) (old new : Option (List ℕ)) (before after got : List ℕ)
-    → AddSays answer before after got → Consumes old new got → ChunkSays answer old new before after
+    → AddResult answer before after got → Consumes old new got → ChunkResult answer old new before after
 chunk_says More old new before after got added taken = (record { got = got; taken = taken; added = added.0 }, added.1)
 chunk_says End old new before after got added taken = absurd added
 chunk_says TooLarge old new before after got added taken = (record { got = got; taken = taken; added = added.0 }, added.1)
@@ -105,7 +105,7 @@ keeps_all None = tt
 keeps_all (Some left) = refl
 
 -- a piece of an input whose bytes are not known
-pub piece_untold : (count : ℕ) (into : List ℕ) → 1 ≤ count → count ≤ length into → Moved None None count into
-piece_untold count into some room = record { some = some; room = room; left = refl }
+pub piece_unknown : (count : ℕ) (into : List ℕ) → 1 ≤ count → count ≤ length into → Moved None None count into
+piece_unknown count into some room = record { some = some; room = room; left = refl }
 
-pub ruleset pieces = (piece_got, piece_end, piece_failed, piece_untold, keeps_on, keeps_all)
+pub ruleset pieces = (piece_got, piece_end, piece_failed, piece_unknown, keeps_on, keeps_all)

@@ -3,7 +3,7 @@ use Rattle.std.proofs.Common.{◌≡◌, ℕ, ◌<◌, List, [], ◌∷◌, ◌+
 use Rattle.std.proofs.lemmas.List.{append-nil, append_assoc}
 use Rattle.std.specs.declared.io.ErrorKind.{ErrorKind}
 use Rattle.std.specs.declared.io.ErrorKind.TheVariants.{NotFound}
-use Rattle.m36_outside.specs.Chunk.{AddSays, ChunkGives, GivesPiece}
+use Rattle.m36_outside.specs.Chunk.{AddResult, ChunkGives, GivesPiece}
 use Rattle.m36_outside.specs.Given.{Gives, GivesAll, GivesTooMuch, GivesSome, ReadGives}
 use Rattle.m36_outside.specs.ReadAnswer.{file_limit, IsWithinLimit}
 use Rattle.m36_outside.specs.System.{refusal_of}
@@ -66,7 +66,7 @@ gives_some_more start now next before first more = record {
 -- what was read was added
 pub chunk_gives :
     (answer : Chunk) (old new : List (List ℕ)) (before after got : List ℕ)
-    → AddSays answer before after got → new ≡ old ++ got ∷ [] → ChunkGives answer old new before after
+    → AddResult answer before after got → new ≡ old ++ got ∷ [] → ChunkGives answer old new before after
 chunk_gives chunk.More old new before after got added gave = record { got = got; gave = gave; added = added.0 }
 chunk_gives chunk.End old new before after got added gave = absurd added
 chunk_gives chunk.TooLarge old new before after got added gave = record { got = got; gave = gave; added = added.0 }

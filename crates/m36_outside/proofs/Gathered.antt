@@ -3,7 +3,7 @@ use Rattle.std.proofs.Common.{◌≡◌, ℕ, List, [], ◌∷◌, ◌++◌, Opt
 use Rattle.std.proofs.lemmas.List.{append-nil, append_assoc}
 use Rattle.m36_outside.specs.Gathered.{Gathers, Loses, Adds}
 use Rattle.m36_outside.specs.Passing.{joined, TakesPart, TakesSome, TakesLines}
-use Rattle.m36_outside.specs.Put.{PutSays}
+use Rattle.m36_outside.specs.Put.{PutResult}
 use Rattle.m36_outside.specs.Written.{Grew, GrewWithin}
 use Rattle.m36_outside.specs.declared.sink.Put.{Put}
 use Rattle.m36_outside.specs.declared.sink.Put.TheVariants.{Done, Failed}
@@ -25,11 +25,11 @@ gathers_here old new more written taken is = record {
 }
 
 -- the pieces of the block were put, and then others were added to it
-pub gathers_behind :
+pub gathers_after :
     (old now new more : List (List ℕ)) (written between written' : Option (List ℕ)) (taken midway taken' : List (List ℕ))
     → Grew written between (joined old) → midway ≡ taken ++ old → now ≡ []
     → Gathers now new more between written' midway taken' → Gathers old new more written written' taken taken'
-gathers_behind old now new more written between written' taken midway taken' grew took none next = record {
+gathers_after old now new more written between written' taken midway taken' grew took none next = record {
   handed = old ++ next.handed;
   due = ap (λ l. old ++ l) (sym (ap (λ l. l ++ more) none) ∙ next.due) ∙ sym (append_assoc old next.handed new);
   grew = subst (λ t. Grew written written' t) (sym (joined_both old next.handed)) (grew_on written between written' (joined old) (joined next.handed) grew next.grew);
@@ -53,7 +53,7 @@ pub adds_behind :
     → Adds answer now new more between written' midway taken' → Adds answer start new more written written' taken taken'
 adds_behind Done start old now new more written between written' taken midway taken' same grew took none next =
     subst (λ l. Gathers l new more written written' taken taken') same
-    (gathers_behind old now new more written between written' taken midway taken' grew took none next)
+    (gathers_after old now new more written between written' taken midway taken' grew took none next)
 adds_behind Failed start old now new more written between written' taken midway taken' same grew took none next =
     subst (λ l. Loses (l ++ more) written written' taken taken') same
     (loses_behind old now more written between written' taken midway taken' grew took none next)
@@ -90,7 +90,7 @@ loses_put old piece written written' taken taken' none grew took =
     })
 
 -- what a function that adds pieces to a block takes by `using`
-pub ruleset gathering = (gathers_here, gathers_behind, loses_behind, loses_here, gathers_put, loses_put)
+pub ruleset gathering = (gathers_here, gathers_after, loses_behind, loses_here, gathers_put, loses_put)
 
 -- ---- pieces that are added, and put at the end
 
@@ -113,8 +113,8 @@ finished_cut old mid more written between written' taken midway first last =
 
 pub finished_says :
     (answer : Put) (old mid more : List (List ℕ)) (written between written' : Option (List ℕ)) (taken midway : List (List ℕ))
-    → Gathers old mid more written between taken midway → PutSays answer between written' (joined mid)
-    → PutSays answer written written' (joined (old ++ more))
+    → Gathers old mid more written between taken midway → PutResult answer between written' (joined mid)
+    → PutResult answer written written' (joined (old ++ more))
 finished_says Done old mid more written between written' taken midway first last =
     finished old mid more written between written' taken midway first last
 finished_says Failed old mid more written between written' taken midway first last =

@@ -5,7 +5,7 @@ use Rattle.std.specs.Prelude.{IsTrue}
 use Rattle.std.specs.Bool.{OnTrue, OnFalse}
 use Rattle.std.specs.declared.io.ErrorKind.{ErrorKind}
 use Rattle.std.specs.declared.io.ErrorKind.TheVariants.{NotFound, WriteZero, Interrupted}
-use Rattle.m36_outside.specs.Chunk.{AddSays, ChunkHasError}
+use Rattle.m36_outside.specs.Chunk.{AddResult, ChunkHasError}
 use Rattle.m36_outside.specs.Signals.{Signals, IsFault, GivesUp}
 use Rattle.m36_outside.specs.System.{OpenHasError, ReadHasError, PutHasError, refusal_of}
 use Rattle.m36_outside.specs.declared.folder.ReadAnswer.{ReadAnswer}
@@ -160,7 +160,7 @@ gives_up_behind old new before after fault none noted = record {
 -- what was read was appended
 pub chunk_has_error :
     (answer : Chunk) (before after got : List ℕ) (old new : List ErrorKind)
-    → AddSays answer before after got → Signals old new → ChunkHasError answer old new
+    → AddResult answer before after got → Signals old new → ChunkHasError answer old new
 chunk_has_error chunk.More before after got old new added signals = signals
 chunk_has_error chunk.End before after got old new added signals = absurd added
 chunk_has_error chunk.TooLarge before after got old new added signals = signals

@@ -2,7 +2,7 @@
 use Rattle.std.proofs.Common.{◌≡◌, ℕ, List, [], ◌∷◌, ◌++◌, Option, Some, take, drop, refl, sym, ap, ◌∙◌}
 use Rattle.std.proofs.lemmas.List.{append-nil, append_assoc, take-append-drop}
 use Rattle.m36_outside.specs.Passing.{TakesPart, PutTakes, joined}
-use Rattle.m36_outside.specs.Put.{PutSays}
+use Rattle.m36_outside.specs.Put.{PutResult}
 use Rattle.m36_outside.specs.System.{NotesDone}
 use Rattle.m36_outside.specs.Written.{Grew, GrewWithin}
 use Rattle.m36_outside.specs.declared.sink.Put.{Put}
@@ -88,13 +88,13 @@ writes_all old new whole before after grown none took =
 -- ---- by the answer of a put
 
 -- the log of a writer, appended to the log of others
-pub put_says_behind :
+pub put_result_after :
     (answer : Put) (old new before after whole : List ℕ)
-    → PutSays answer (Some before) (Some after) whole → before ≡ [] → new ≡ old ++ after
-    → PutSays answer (Some old) (Some new) whole
-put_says_behind Done old new before after whole grown none noted =
+    → PutResult answer (Some before) (Some after) whole → before ≡ [] → new ≡ old ++ after
+    → PutResult answer (Some old) (Some new) whole
+put_result_after Done old new before after whole grown none noted =
     ap (λ w. Some w) (noted ∙ ap (λ w. old ++ w) (taken_is before after whole grown none))
-put_says_behind Failed old new before after whole within none noted = record {
+put_result_after Failed old new before after whole within none noted = record {
   part = within.part;
   rest = within.rest;
   whole = within.whole;
@@ -104,14 +104,14 @@ put_says_behind Failed old new before after whole within none noted = record {
 -- what it took is logged as one piece
 pub put_says :
     (answer : Put) (old new : List (List ℕ)) (whole before after : List ℕ)
-    → PutSays answer (Some before) (Some after) whole → before ≡ [] → new ≡ old ++ after ∷ []
-    → PutSays answer (Some (joined old)) (Some (joined new)) whole
+    → PutResult answer (Some before) (Some after) whole → before ≡ [] → new ≡ old ++ after ∷ []
+    → PutResult answer (Some (joined old)) (Some (joined new)) whole
 put_says Done old new whole before after grown none took = writes_all old new whole before after grown none took
 put_says Failed old new whole before after within none took = writes_part old new whole before after within none took
 
 pub put_takes :
     (answer : Put) (old new : List (List ℕ)) (whole before after : List ℕ)
-    → PutSays answer (Some before) (Some after) whole → before ≡ [] → new ≡ old ++ after ∷ []
+    → PutResult answer (Some before) (Some after) whole → before ≡ [] → new ≡ old ++ after ∷ []
     → PutTakes answer (Some (joined old)) (Some (joined new)) old new whole
 put_takes Done old new whole before after grown none took = takes_whole old new whole before after grown none took
 put_takes Failed old new whole before after within none took = takes_written old new whole before after within none took
@@ -119,7 +119,7 @@ put_takes Failed old new whole before after within none took = takes_written old
 -- all that a file took is logged as one entry
 pub notes_done :
     (answer : Put) (old new : List (List ℕ)) (whole before after : List ℕ)
-    → PutSays answer (Some before) (Some after) whole → before ≡ [] → new ≡ old ++ after ∷ []
+    → PutResult answer (Some before) (Some after) whole → before ≡ [] → new ≡ old ++ after ∷ []
     → NotesDone answer old new whole
 notes_done Done old new whole before after grown none took = takes_whole old new whole before after grown none took
 notes_done Failed old new whole before after within none took = tt

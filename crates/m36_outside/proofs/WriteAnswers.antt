@@ -4,22 +4,22 @@ use Rattle.std.specs.declared.io.ErrorKind.{ErrorKind}
 use Rattle.m36_outside.specs.NameCalls.{ReplaceCalls}
 use Rattle.m36_outside.specs.Put.{PutHasCause}
 use Rattle.m36_outside.specs.System.{FileHasError, NotesWrite, WriteCalls, WriteHasError, WriteTakes, write_answer_of}
-use Rattle.m36_outside.specs.WriteAnswer.{WriteSays, WriteHasCause}
+use Rattle.m36_outside.specs.WriteAnswer.{WriteResult, WriteHasCause}
 use Rattle.m36_outside.specs.declared.folder.WriteAnswer.{WriteAnswer}
 use Rattle.m36_outside.specs.declared.folder.WriteAnswer.TheVariants as write
 use Rattle.m36_outside.specs.declared.name_calls.NameCall.{NameCall}
 use Rattle.m36_outside.specs.declared.sink.Put.{Put}
 use Rattle.m36_outside.specs.declared.sink.Put.TheVariants.{Done, Failed}
 
-says : (put : Put) (name content : List ℕ) → WriteSays (write_answer_of put) None None name content
+says : (put : Put) (name content : List ℕ) → WriteResult (write_answer_of put) None None name content
 says Done name content = refl
 says Failed name content = refl
 
 pub write_says :
     (put : Put) (answer : WriteAnswer) (name content : List ℕ)
-    → answer ≡ write_answer_of put → WriteSays answer None None name content
+    → answer ≡ write_answer_of put → WriteResult answer None None name content
 write_says put answer name content is =
-    subst (λ a. WriteSays a None None name content) (sym is) (says put name content)
+    subst (λ a. WriteResult a None None name content) (sym is) (says put name content)
 
 cause : (put : Put) (old new : ℕ) → PutHasCause put old new → WriteHasCause (write_answer_of put) old new
 cause Done old new same = same

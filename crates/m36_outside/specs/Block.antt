@@ -24,7 +24,7 @@ marks_of from (piece ∷ pieces) = from ∷ marks_of (from + length piece) piece
 
 -- How pieces are stored in a block: `bytes` begins with their bytes, one piece after the other,
 -- and `marks` with their offsets and the offset of the end.
-pub record Lie (bytes marks : List ℕ) (len count : ℕ) (pieces : List (List ℕ)) : Type 0 where
+pub record IsStored (bytes marks : List ℕ) (len count : ℕ) (pieces : List (List ℕ)) : Type 0 where
   pub fits : len ≤ block_bytes
   pub few : count ≤ block_pieces
   pub len_is : len ≡ length (joined pieces)

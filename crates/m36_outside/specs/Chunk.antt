@@ -21,20 +21,20 @@ pub record GrowsWithinLimit (before after : List ℕ) : Type 0 where
   pub more : length before < length after
 
 -- what an answer implies for the bytes that are left and for the text, before and after the read
-abbrev pub ChunkSays : Chunk → Option (List ℕ) → Option (List ℕ) → List ℕ → List ℕ → Type 0
-ChunkSays More old new before after = Moves old new before after × GrowsWithinLimit before after
-ChunkSays End old new before after = Moves old new before after × IsAtEnd new × (after ≡ before)
-ChunkSays TooLarge old new before after = Moves old new before after × (file_limit < length after)
-ChunkSays Failed old new before after = ⊤
-ChunkSays NoMemory old new before after = ⊤
+abbrev pub ChunkResult : Chunk → Option (List ℕ) → Option (List ℕ) → List ℕ → List ℕ → Type 0
+ChunkResult More old new before after = Moves old new before after × GrowsWithinLimit before after
+ChunkResult End old new before after = Moves old new before after × IsAtEnd new × (after ≡ before)
+ChunkResult TooLarge old new before after = Moves old new before after × (file_limit < length after)
+ChunkResult Failed old new before after = ⊤
+ChunkResult NoMemory old new before after = ⊤
 
 -- what an answer implies if the bytes `got` were read and are appended
-abbrev pub AddSays : Chunk → List ℕ → List ℕ → List ℕ → Type 0
-AddSays More before after got = (after ≡ before ++ got) × GrowsWithinLimit before after
-AddSays End before after got = ⊥
-AddSays TooLarge before after got = (after ≡ before ++ got) × (file_limit < length after)
-AddSays Failed before after got = ⊥
-AddSays NoMemory before after got = after ≡ before
+abbrev pub AddResult : Chunk → List ℕ → List ℕ → List ℕ → Type 0
+AddResult More before after got = (after ≡ before ++ got) × GrowsWithinLimit before after
+AddResult End before after got = ⊥
+AddResult TooLarge before after got = (after ≡ before ++ got) × (file_limit < length after)
+AddResult Failed before after got = ⊥
+AddResult NoMemory before after got = after ≡ before
 
 -- A piece was given, and appended to the text.
 pub record GivesPiece (old new : List (List ℕ)) (before after : List ℕ) : Type 0 where

@@ -11,6 +11,6 @@ unfoldable pub with_file : List ℕ → Option (List ℕ) → Files → Files
 with_file name content files other = if pointwise nat_eq other name then content else files other
 
 -- as `with_file`, for files that may be unknown
-abbrev pub with_told_file : List ℕ → Option (List ℕ) → Option Files → Option Files
-with_told_file name content None = None
-with_told_file name content (Some files) = Some (with_file name content files)
+abbrev pub with_known_file : List ℕ → Option (List ℕ) → Option Files → Option Files
+with_known_file name content None = None
+with_known_file name content (Some files) = Some (with_file name content files)

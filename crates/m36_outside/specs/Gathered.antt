@@ -2,7 +2,7 @@
 -- get: the pieces of the block, and then those that are added.
 use Rattle.std.specs.Prelude.{ℕ, ◌≡◌, List, ◌++◌, Option}
 use Rattle.m36_outside.specs.Passing.{joined, TakesLines}
-use Rattle.m36_outside.specs.Put.{PutSays}
+use Rattle.m36_outside.specs.Put.{PutResult}
 use Rattle.m36_outside.specs.Written.{Grew}
 use Rattle.m36_outside.specs.declared.sink.Put.{Put}
 use Rattle.m36_outside.specs.declared.sink.Put.TheVariants.{Done, Failed}
@@ -20,7 +20,7 @@ pub record Gathers (old new more : List (List ℕ)) (written written' : Option (
 -- failed.
 pub record Loses (due : List (List ℕ)) (written written' : Option (List ℕ))
     (taken taken' : List (List ℕ)) : Type 0 where
-  pub grew : PutSays Failed written written' (joined due)
+  pub grew : PutResult Failed written written' (joined due)
   pub took : TakesLines Failed taken taken' due
 
 -- what the answer implies if `more` is added to a block: for the block and the sink, before and

@@ -20,7 +20,7 @@ pub mod Signals
 pub mod SinkState
 pub mod SureFields
 pub mod System
-pub mod Told
-pub mod Unread
+pub mod SystemModels
+pub mod Remaining
 pub mod WriteAnswer
 pub mod Written

@@ -2,7 +2,7 @@
 use Rattle.std.specs.Prelude.{ℕ, List, [], ◌∷◌, ◌++◌, take, drop, if◌then◌else◌}
 use Rattle.m36_outside.specs.Counts.{raised}
 use Rattle.m36_outside.specs.CallPlan.{CallPlan, new_plan, next_fails, after_call}
-use Rattle.m36_outside.specs.Unread.{piece_length}
+use Rattle.m36_outside.specs.Remaining.{piece_length}
 
 -- the bytes that are left, the pieces given, the plan of calls, and the count of faults
 pub record MemLinesFields : Type 0 where

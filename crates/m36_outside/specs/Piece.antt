@@ -17,10 +17,10 @@ pub record Moved (old new : Option (List ℕ)) (count : ℕ) (into : List ℕ) :
   pub left : old ≡ preceded (take count into) new
 
 -- what the answer implies for what is left, before and after the call, and for the buffer after it
-abbrev pub PieceSays : Piece → Option (List ℕ) → Option (List ℕ) → List ℕ → Type 0
-PieceSays (Got count) old new into = Moved old new count into
-PieceSays End old new into = IsAtEnd old × (new ≡ old)
-PieceSays Failed old new into = new ≡ old
+abbrev pub PieceResult : Piece → Option (List ℕ) → Option (List ℕ) → List ℕ → Type 0
+PieceResult (Got count) old new into = Moved old new count into
+PieceResult End old new into = IsAtEnd old × (new ≡ old)
+PieceResult Failed old new into = new ≡ old
 
 -- A failed call raised the count of faults; every other call left it unchanged.
 abbrev pub PieceHasCause : Piece → ℕ → ℕ → Type 0

@@ -6,9 +6,9 @@ use Rattle.m36_outside.specs.declared.sink.Put.{Put}
 use Rattle.m36_outside.specs.declared.sink.Put.TheVariants.{Done, Failed}
 
 -- what the answer implies for what is written, before and after
-abbrev pub PutSays : Put → Option (List ℕ) → Option (List ℕ) → List ℕ → Type 0
-PutSays Done old new piece = Grew old new piece
-PutSays Failed old new piece = GrewWithin old new piece
+abbrev pub PutResult : Put → Option (List ℕ) → Option (List ℕ) → List ℕ → Type 0
+PutResult Done old new piece = Grew old new piece
+PutResult Failed old new piece = GrewWithin old new piece
 
 -- A failed put raised the count of faults; every other put left it unchanged.
 abbrev pub PutHasCause : Put → ℕ → ℕ → Type 0

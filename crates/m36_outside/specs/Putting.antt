@@ -1,7 +1,7 @@
 -- The contract of putting a text into a sink, in pieces.
 use Rattle.std.specs.Prelude.{ℕ, List}
 use Rattle.m36_outside.specs.Passing.{joined, TakesLines}
-use Rattle.m36_outside.specs.Put.{PutSays, PutHasCause}
+use Rattle.m36_outside.specs.Put.{PutResult, PutHasCause}
 use Rattle.m36_outside.specs.SinkState.{SinkState}
 use Rattle.m36_outside.specs.declared.sink.Put.{Put}
 
@@ -10,7 +10,7 @@ use Rattle.m36_outside.specs.declared.sink.Put.{Put}
 pub record PutsText
     (answer : Put) (bytes : List ℕ) (due : List (List ℕ)) (old new : SinkState)
     : Type 0 where
-  pub text : PutSays answer old.written new.written bytes
+  pub text : PutResult answer old.written new.written bytes
   pub pieces : TakesLines answer old.taken new.taken due
   pub faults : PutHasCause answer old.faults new.faults
 

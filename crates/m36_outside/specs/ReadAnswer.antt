@@ -10,12 +10,12 @@ abbrev pub file_limit : ℕ
 file_limit = 16777216
 
 -- what the answer implies for the named file, if the files of the folder are known
-abbrev pub ReadSays : ReadAnswer → Option (List ℕ) → Type 0
-ReadSays (Read bytes) file = file ≡ Some bytes
-ReadSays Absent file = file ≡ None
-ReadSays TooLarge file = (bytes : List ℕ) × (file ≡ Some bytes) × (file_limit < length bytes)
-ReadSays Failed file = ⊤
-ReadSays NoMemory file = ⊤
+abbrev pub ReadResult : ReadAnswer → Option (List ℕ) → Type 0
+ReadResult (Read bytes) file = file ≡ Some bytes
+ReadResult Absent file = file ≡ None
+ReadResult TooLarge file = (bytes : List ℕ) × (file ≡ Some bytes) × (file_limit < length bytes)
+ReadResult Failed file = ⊤
+ReadResult NoMemory file = ⊤
 
 -- what is read is within the limit
 abbrev pub IsWithinLimit : ReadAnswer → Type 0

@@ -5,9 +5,9 @@ ghost use Rattle.std.specs.Bool.{OnTrue, OnFalse};
 ghost use Rattle.m36_outside.specs.Block.{has_room, is_room, marks_of};
 ghost use Rattle.m36_outside.specs.Gathered.{Adds};
 ghost use Rattle.m36_outside.specs.Passing.{joined, TakesLines};
-ghost use Rattle.m36_outside.specs.Put.{PutSays, PutHasCause, OnFailed};
+ghost use Rattle.m36_outside.specs.Put.{PutResult, PutHasCause, OnFailed};
 
-use crate::passed::{Entries, Passed};
+use crate::passed::{Entries, Log};
 use crate::sink::{Put, Sink};
 use crate::spelled::{SHORT, Spelled};
 use crate::text::Text;
@@ -35,18 +35,18 @@ pub struct Block {
     len: usize,
     /// The number of pieces.
     count: usize,
-    pieces: Passed<Text>,
+    pieces: Log<Text>,
 }
 
 impl Model for Block {
     ghost use Rattle.std.specs.Prelude.{ℕ, List};
-    ghost use Rattle.m36_outside.specs.Block.{Lie};
+    ghost use Rattle.m36_outside.specs.Block.{IsStored};
 
     ghost Value = { List (List ℕ) };
 
     ghost view = { λ b. b.pieces.entries };
 
-    ghost invariant = { λ b. Lie b.bytes b.marks b.len b.count b.pieces.entries };
+    ghost invariant = { λ b. IsStored b.bytes b.marks b.len b.count b.pieces.entries };
 }
 
 impl Block {
@@ -60,7 +60,7 @@ impl Block {
             marks: [0; PIECES_AND_END],
             len: 0,
             count: 0,
-            pieces: Passed::new(),
+            pieces: Log::new(),
         }
     }
 
@@ -157,12 +157,12 @@ impl Block {
         self.len = 0;
         self.count = 0;
         self.marks[0] = 0;
-        self.pieces = Passed::new();
+        self.pieces = Log::new();
     }
 
     /// Puts all pieces into the sink, and removes them, even if the put failed.
     pub fn hand_over<S: Sink>(&mut self, out: &mut S) -> Put
-        ensures says { PutSays result (S.written out.old) (S.written out.new) (joined self.old) }
+        ensures says { PutResult result (S.written out.old) (S.written out.new) (joined self.old) }
         ensures through { TakesLines result (S.taken out.old) (S.taken out.new) self.old }
         ensures cause { PutHasCause result (S.faults out.old) (S.faults out.new) }
         ensures empty { self.new ≡ [] }
@@ -222,7 +222,7 @@ impl Block {
     /// after a failure.
     #[tactic(auto, using(crate::proofs::Gathered::finishing))]
     pub fn finish<S: Sink>(&mut self, piece: &[u8], out: &mut S) -> Put
-        ensures says { PutSays result
+        ensures says { PutResult result
             (S.written out.old) (S.written out.new) (joined (self.old ++ piece.now ∷ [])) }
         ensures through { TakesLines result
             (S.taken out.old) (S.taken out.new) (self.old ++ piece.now ∷ []) }
@@ -324,12 +324,12 @@ impl Entries<Text> for Block {
 
 /// The pieces that a system took of a block from its beginning, and a prefix of the next piece.
 #[derive(Drop)]
-pub(crate) struct Begun<'a> {
+pub(crate) struct TakenPart<'a> {
     pub(crate) block: &'a Block,
-    pub(crate) taken: &'a Passed<u8>,
+    pub(crate) taken: &'a Log<u8>,
 }
 
-impl<'a> Entries<Text> for Begun<'a> {
+impl<'a> Entries<Text> for TakenPart<'a> {
     ghost use Rattle.m36_outside.specs.Block.{parts};
 
     ghost entries = { λ begun. parts begun.taken.now.entries begun.block.now };

@@ -4,13 +4,13 @@ ghost use Rattle.std.specs.Prelude.{[], ◌∷◌, ◌++◌, ◌≡◌, ◌≤�
 ghost use Rattle.m36_outside.specs.Given.{ReadGives};
 ghost use Rattle.m36_outside.specs.ReadAnswer.{IsWithinLimit, ReadHasCause};
 ghost use Rattle.m36_outside.specs.System.{ReadHasError, WriteHasError, WriteTakes, WriteCalls, NamesFile, NamesNoFile, refusal_of, write_answer_of};
-ghost use Rattle.m36_outside.specs.WriteAnswer.{WriteSays, WriteHasCause};
+ghost use Rattle.m36_outside.specs.WriteAnswer.{WriteResult, WriteHasCause};
 
 use crate::faults::{after_put, after_read};
-use crate::file_notes::FileNotes;
+use crate::file_notes::FileLogs;
 use crate::folder::{Folder, ReadAnswer, WriteAnswer};
 use crate::folder_calls::FolderCalls;
-use crate::passed::Passed;
+use crate::passed::Log;
 use crate::reading::read_alone;
 use crate::replacing::write_file;
 use crate::sink::Put;
@@ -39,15 +39,15 @@ pub struct DirFolder<R> {
     read_faults: u64,
     write_faults: u64,
     calls: FolderCalls,
-    notes: FileNotes,
+    notes: FileLogs,
     rt: R,
 }
 
 impl<R> Model for DirFolder<R> {
     ghost use Rattle.std.specs.Prelude.{◌<◌, ◌^◌};
-    ghost use Rattle.m36_outside.specs.Told.{FolderTold};
+    ghost use Rattle.m36_outside.specs.SystemModels.{FolderModel};
 
-    ghost Value = { FolderTold };
+    ghost Value = { FolderModel };
 
     ghost view = { λ f. record {
       reads = f.read_faults;
@@ -81,11 +81,11 @@ impl<R: Files + Drop> DirFolder<R> {
             read_faults: 0,
             write_faults: 0,
             calls: FolderCalls::new(),
-            notes: FileNotes {
-                given: Passed::new(),
-                taken: Passed::new(),
-                names: Passed::new(),
-                errors: Passed::new(),
+            notes: FileLogs {
+                given: Log::new(),
+                taken: Log::new(),
+                names: Log::new(),
+                errors: Log::new(),
             },
             rt,
         }
@@ -125,7 +125,7 @@ impl<R: Files + Drop> Folder for DirFolder<R> {
     }
 
     fn write(&mut self, _alloc: Global, name: &[u8], content: &[u8]) -> WriteAnswer
-        ensures says { WriteSays result None None name.now content.now }
+        ensures says { WriteResult result None None name.now content.now }
         ensures wrote { self.new.wrote ≡ self.old.wrote ++ (name.now, content.now, result) ∷ [] }
         ensures asked { self.new.asked ≡ self.old.asked }
         ensures cause { WriteHasCause result self.old.writes self.new.writes }
@@ -150,7 +150,7 @@ impl<R: Files + Drop> Folder for DirFolder<R> {
 }
 
 /// Reads a file of the current directory.
-fn read_file<R: Files>(rt: &R, alloc: Global, name: &[u8], notes: &mut FileNotes) -> ReadAnswer
+fn read_file<R: Files>(rt: &R, alloc: Global, name: &[u8], notes: &mut FileLogs) -> ReadAnswer
     ensures limit { IsWithinLimit result }
     ensures outside { NamesNoFile name.now → result ≡ ReadAnswer.Absent }
     ensures gives { ReadGives result notes.old.given.entries notes.new.given.entries }

@@ -4,8 +4,8 @@ ghost use Rattle.std.specs.Prelude.{ℕ, ◌≡◌, [], ◌∷◌, ◌++◌, Som
 ghost use Rattle.std.specs.List.{position_or_len};
 ghost use Rattle.m36_outside.specs.Files.{with_file};
 ghost use Rattle.m36_outside.specs.FileList.{file_named, has_name};
-ghost use Rattle.m36_outside.specs.ReadAnswer.{ReadSays, IsWithinLimit, IsNoFault};
-ghost use Rattle.m36_outside.specs.WriteAnswer.{WriteSays, WriteHasCause};
+ghost use Rattle.m36_outside.specs.ReadAnswer.{ReadResult, IsWithinLimit, IsNoFault};
+ghost use Rattle.m36_outside.specs.WriteAnswer.{WriteResult, WriteHasCause};
 
 use crate::folder::{FILE_LIMIT, ReadAnswer, WriteAnswer};
 use crate::text::Text;
@@ -68,7 +68,7 @@ impl FileList {
 
     /// Reads the file with this name. The answer is never Failed.
     pub fn read(&self, alloc: Global, name: &[u8]) -> ReadAnswer
-        ensures says { ReadSays result (file_named self.now name.now) }
+        ensures says { ReadResult result (file_named self.now name.now) }
         ensures limit { IsWithinLimit result }
         ensures sure { IsNoFault result }
     {
@@ -105,7 +105,7 @@ impl FileList {
 
     /// Writes the file with this name. The answer is never Failed.
     pub fn write(&mut self, alloc: Global, name: &[u8], content: &[u8]) -> WriteAnswer
-        ensures says { WriteSays result
+        ensures says { WriteResult result
             (Some (file_named self.old)) (Some (file_named self.new)) name.now content.now }
         ensures cause { (count : ℕ) → WriteHasCause result count count }
         ensures sure { (result ≡ WriteAnswer.Failed) → ⊥ }

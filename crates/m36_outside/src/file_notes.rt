@@ -1,7 +1,7 @@
 //! The log of the files of a directory.
 
 use crate::name_calls::NameCall;
-use crate::passed::Passed;
+use crate::passed::Log;
 use crate::text::Text;
 use std::io::ErrorKind;
 
@@ -9,9 +9,9 @@ use std::io::ErrorKind;
 /// for the end; the bytes that each took when it was made; the calls that change names; and the
 /// errors of the system.
 #[derive(Drop)]
-pub struct FileNotes {
-    pub given: Passed<Text>,
-    pub taken: Passed<Text>,
-    pub names: Passed<NameCall>,
-    pub errors: Passed<ErrorKind>,
+pub struct FileLogs {
+    pub given: Log<Text>,
+    pub taken: Log<Text>,
+    pub names: Log<NameCall>,
+    pub errors: Log<ErrorKind>,
 }

@@ -2,8 +2,8 @@
 
 ghost use Rattle.std.specs.Prelude.{ℕ, ◌≡◌, ◌≤◌, ◌<◌, ◌^◌, List, [], ◌∷◌, ◌++◌, Option, IfSome};
 ghost use Rattle.m36_outside.specs.Files.{Files};
-ghost use Rattle.m36_outside.specs.ReadAnswer.{ReadSays, IsWithinLimit, ReadHasCause};
-ghost use Rattle.m36_outside.specs.WriteAnswer.{WriteSays, WriteHasCause};
+ghost use Rattle.m36_outside.specs.ReadAnswer.{ReadResult, IsWithinLimit, ReadHasCause};
+ghost use Rattle.m36_outside.specs.WriteAnswer.{WriteResult, WriteHasCause};
 ghost use Rattle.m36_outside.specs.FolderCalls.{Asked, Wrote};
 
 use crate::text::Text;
@@ -62,7 +62,7 @@ pub trait Folder {
 
     /// Reads a whole file. No read changes a file.
     fn read(&mut self, alloc: Global, name: &[u8]) -> ReadAnswer
-        ensures told { IfSome (files self.old) (λ f. ReadSays result (f name.now)) }
+        ensures told { IfSome (files self.old) (λ f. ReadResult result (f name.now)) }
         ensures limit { IsWithinLimit result }
         ensures files { files self.new ≡ files self.old }
         ensures asked { asked self.new ≡ asked self.old ++ (name.now, result) ∷ [] }
@@ -76,7 +76,7 @@ pub trait Folder {
     /// Creates or replaces the file with this name, so that its content is `content`. If that
     /// fails, no file changes.
     fn write(&mut self, alloc: Global, name: &[u8], content: &[u8]) -> WriteAnswer
-        ensures says { WriteSays result (files self.old) (files self.new) name.now content.now }
+        ensures says { WriteResult result (files self.old) (files self.new) name.now content.now }
         ensures wrote { wrote self.new ≡ wrote self.old ++ (name.now, content.now, result) ∷ [] }
         ensures asked { asked self.new ≡ asked self.old }
 

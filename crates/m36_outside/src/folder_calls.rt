@@ -3,7 +3,7 @@
 ghost use Rattle.std.specs.Prelude.{[], ◌∷◌, ◌++◌, ◌≡◌};
 
 use crate::folder::{ReadAnswer, WriteAnswer};
-use crate::passed::{Entries, Passed};
+use crate::passed::{Entries, Log};
 use crate::text::Text;
 
 impl Entries<(Text, ReadAnswer)> for (&[u8], &ReadAnswer) {
@@ -17,8 +17,8 @@ impl Entries<(Text, Text, WriteAnswer)> for (&[u8], &[u8], WriteAnswer) {
 /// The calls of a folder so far, which only clauses see.
 #[derive(Drop)]
 pub struct FolderCalls {
-    pub asked: Passed<(Text, ReadAnswer)>,
-    pub wrote: Passed<(Text, Text, WriteAnswer)>,
+    pub asked: Log<(Text, ReadAnswer)>,
+    pub wrote: Log<(Text, Text, WriteAnswer)>,
 }
 
 impl FolderCalls {
@@ -28,8 +28,8 @@ impl FolderCalls {
         ensures wrote { result.wrote.entries ≡ [] }
     {
         FolderCalls {
-            asked: Passed::new(),
-            wrote: Passed::new(),
+            asked: Log::new(),
+            wrote: Log::new(),
         }
     }
 

@@ -28,7 +28,7 @@
 //!
 //! Each of them, also those of the system, exposes its log to contracts, in order: a folder its
 //! reads and writes, an input the pieces that it gave, a sink the pieces that it took. The log is
-//! a [`Passed`]. It has no bytes at run time, so nothing is kept in memory. By it a caller's
+//! a [`Log`]. It has no bytes at run time, so nothing is kept in memory. By it a caller's
 //! contract can state, for every object, what was requested and what was put.
 //!
 //! The system is called in `noted.rt`, in `name_calls.rt` and, to open a file, in `directory.rt`.
@@ -59,11 +59,11 @@ mod file_notes;
 pub mod folder;
 mod folder_calls;
 pub mod lines;
+mod logged;
 pub mod memory_folder;
 pub mod memory_lines;
 pub mod memory_sink;
 mod name_calls;
-mod noted;
 pub mod passed;
 mod reading;
 mod replacing;
@@ -85,7 +85,7 @@ pub use lines::{Lines, Piece};
 pub use memory_folder::MemFolder;
 pub use memory_lines::MemLines;
 pub use memory_sink::MemSink;
-pub use passed::{Entries, Passed};
+pub use passed::{Entries, Log};
 pub use sink::{Put, Sink};
 pub use spelled::Spelled;
 pub use standard_input::StdLines;

@@ -2,7 +2,7 @@
 
 ghost use Rattle.std.specs.Prelude.{ℕ, ◌≡◌, ◌≤◌, ◌<◌, ◌^◌, List, length, Option};
 ghost use Rattle.m36_outside.specs.Passing.{PieceGives};
-ghost use Rattle.m36_outside.specs.Piece.{PieceSays, PieceHasCause};
+ghost use Rattle.m36_outside.specs.Piece.{PieceResult, PieceHasCause};
 
 /// The answer to a call for the next piece.
 #[derive(Clone, Copy, PartialEq, Eq, Debug)]
@@ -36,7 +36,7 @@ pub trait Lines {
     fn next_piece(&mut self, into: &mut [u8]) -> Piece
         requires room { 1 ≤ length into.old }
 
-        ensures says { PieceSays result (left self.old) (left self.new) into.new }
+        ensures says { PieceResult result (left self.old) (left self.new) into.new }
         ensures gives { PieceGives result (given self.old) (given self.new) into.new }
 
         ensures cause { PieceHasCause result (faults self.old) (faults self.new) }

@@ -4,8 +4,8 @@ ghost use Rattle.std.specs.Prelude.{[], ◌∷◌, ◌++◌, ◌≡◌, ◌≤�
 ghost use Rattle.m36_outside.specs.CallPlan.{next_fails};
 ghost use Rattle.m36_outside.specs.Files.{with_file};
 ghost use Rattle.m36_outside.specs.FileList.{file_named};
-ghost use Rattle.m36_outside.specs.ReadAnswer.{ReadSays, IsWithinLimit, ReadHasCause};
-ghost use Rattle.m36_outside.specs.WriteAnswer.{WriteSays, WriteHasCause};
+ghost use Rattle.m36_outside.specs.ReadAnswer.{ReadResult, IsWithinLimit, ReadHasCause};
+ghost use Rattle.m36_outside.specs.WriteAnswer.{WriteResult, WriteHasCause};
 
 use crate::calls::Calls;
 use crate::faults::raise;
@@ -107,7 +107,7 @@ impl Folder for MemFolder {
     ghost write_faults = { λ f. f.write_faults };
 
     fn read(&mut self, alloc: Global, name: &[u8]) -> ReadAnswer
-        ensures told { ReadSays result (file_named self.old.files name.now) }
+        ensures told { ReadResult result (file_named self.old.files name.now) }
         ensures limit { IsWithinLimit result }
         ensures asked { self.new.asked ≡ self.old.asked ++ (name.now, result) ∷ [] }
         ensures cause { ReadHasCause result self.old.read_faults self.new.read_faults }
@@ -128,7 +128,7 @@ impl Folder for MemFolder {
     }
 
     fn write(&mut self, alloc: Global, name: &[u8], content: &[u8]) -> WriteAnswer
-        ensures says { WriteSays result
+        ensures says { WriteResult result
             (Some (file_named self.old.files))
             (Some (file_named self.new.files)) name.now content.now }
         ensures wrote { self.new.wrote ≡ self.old.wrote ++ (name.now, content.now, result) ∷ [] }

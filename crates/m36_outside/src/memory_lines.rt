@@ -3,14 +3,14 @@
 ghost use Rattle.std.specs.Prelude.{◌≡◌, ◌≤◌, ◌<◌, ◌^◌, ◌↔◌, Some, IsTrue, IfOk, length};
 ghost use Rattle.m36_outside.specs.CallPlan.{next_fails};
 ghost use Rattle.m36_outside.specs.Passing.{PieceGives};
-ghost use Rattle.m36_outside.specs.Piece.{PieceSays, PieceHasCause};
+ghost use Rattle.m36_outside.specs.Piece.{PieceResult, PieceHasCause};
 
 use crate::calls::Calls;
 use crate::faults::raise;
 use crate::lines::{Lines, Piece};
-use crate::passed::Passed;
+use crate::passed::Log;
 use crate::text::Text;
-use crate::unread::Unread;
+use crate::unread::Remaining;
 use m36_word::NoMemory;
 use std::alloc::Global;
 use std::marker::Model;
@@ -21,9 +21,9 @@ use std::marker::Model;
 /// were listed fail, and consume nothing. A piece fills the buffer if enough is left.
 #[derive(Drop)]
 pub struct MemLines {
-    unread: Unread,
+    unread: Remaining,
     calls: Calls,
-    given: Passed<Text>,
+    given: Log<Text>,
     faults: u64,
 }
 
@@ -51,12 +51,12 @@ impl MemLines {
     pub fn new(alloc: Global, content: &[u8], fail: &[u32]) -> Result<MemLines, NoMemory>
         ensures { IfOk result (λ lines. lines ≡ new_lines content.now fail.now) }
     {
-        let unread = Unread::new(alloc, content)?;
+        let unread = Remaining::new(alloc, content)?;
         match Calls::new(alloc, fail) {
             Ok(calls) => Ok(MemLines {
                 unread,
                 calls,
-                given: Passed::new(),
+                given: Log::new(),
                 faults: 0,
             }),
             Err(cause) => {
@@ -79,7 +79,7 @@ impl Lines for MemLines {
 
     fn next_piece(&mut self, into: &mut [u8]) -> Piece
         requires room { 1 ≤ length into.old }
-        ensures says { PieceSays result (Some self.old.left) (Some self.new.left) into.new }
+        ensures says { PieceResult result (Some self.old.left) (Some self.new.left) into.new }
         ensures gives { PieceGives result self.old.given self.new.given into.new }
         ensures cause { PieceHasCause result self.old.faults self.new.faults }
         ensures count { self.old.faults ≤ self.new.faults }

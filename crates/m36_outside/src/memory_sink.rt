@@ -2,12 +2,12 @@
 
 ghost use Rattle.std.specs.Prelude.{◌≡◌, ◌+◌, ◌≤◌, ◌<◌, ◌^◌, ◌++◌, ◌↔◌, ◌⊎◌, Some, IsTrue, IfOk, length, vec_len, vec_capacity};
 ghost use Rattle.m36_outside.specs.Passing.{PutTakes, TakesLines, joined};
-ghost use Rattle.m36_outside.specs.Put.{PutSays, PutHasCause};
+ghost use Rattle.m36_outside.specs.Put.{PutResult, PutHasCause};
 
 use crate::block::Block;
 use crate::calls::Calls;
 use crate::faults::raise;
-use crate::passed::Passed;
+use crate::passed::Log;
 use crate::sink::{Put, Sink};
 use crate::text::Text;
 use m36_word::NoMemory;
@@ -24,7 +24,7 @@ use std::marker::Model;
 pub struct MemSink {
     bytes: Vec<u8>,
     puts: Calls,
-    pieces: Passed<Text>,
+    pieces: Log<Text>,
     room: usize,
     faults: u64,
 }
@@ -60,7 +60,7 @@ impl MemSink {
             Ok(puts) => Ok(MemSink {
                 bytes,
                 puts,
-                pieces: Passed::new(),
+                pieces: Log::new(),
                 room,
                 faults: 0,
             }),
@@ -90,7 +90,7 @@ impl Sink for MemSink {
     ghost faults = { λ s. s.faults };
 
     fn put(&mut self, piece: &[u8]) -> Put
-        ensures says { PutSays result (Some self.old.bytes) (Some self.new.bytes) piece.now }
+        ensures says { PutResult result (Some self.old.bytes) (Some self.new.bytes) piece.now }
         ensures took { PutTakes result
             (Some self.old.bytes) (Some self.new.bytes) self.old.pieces self.new.pieces piece.now }
         ensures cause { PutHasCause result self.old.faults self.new.faults }
@@ -119,7 +119,7 @@ impl Sink for MemSink {
 
     #[tactic(auto, using(crate::proofs::Blocks::putting, crate::proofs::MemoryBlocks::in_memory))]
     fn put_block(&mut self, block: &Block) -> Put
-        ensures says { PutSays result (Some self.old.bytes) (Some self.new.bytes)
+        ensures says { PutResult result (Some self.old.bytes) (Some self.new.bytes)
             (joined block.now) }
         ensures took { TakesLines result self.old.pieces self.new.pieces block.now }
         ensures cause { PutHasCause result self.old.faults self.new.faults }

@@ -6,7 +6,7 @@
 ghost use Rattle.std.specs.Prelude.{[], ◌∷◌, ◌++◌, ◌+◌, ◌≡◌, ◌<◌, true, false, MatchResult, MatchOption};
 ghost use Rattle.m36_outside.specs.NameCalls.{ErrorUnless, MakesSpare, MakesNone, spare_name};
 
-use crate::passed::{Entries, Passed};
+use crate::passed::{Entries, Log};
 use crate::text::Text;
 use arrayvec::ArrayString;
 use std::fs;
@@ -80,8 +80,8 @@ impl Entries<NameCall> for Removing<'_> {
 /// None: no spare name was free, or the system refused with another error.
 pub fn make_spare<R: Files>(
     rt: &R,
-    calls: &mut Passed<NameCall>,
-    errors: &mut Passed<ErrorKind>,
+    calls: &mut Log<NameCall>,
+    errors: &mut Log<ErrorKind>,
 ) -> Option<(ArrayString<SPARE_LENGTH>, R::File)>
     ensures { MatchOption result
         (MakesNone calls.old.entries calls.new.entries errors.old.entries errors.new.entries)
@@ -126,8 +126,8 @@ fn digit(number: u16) -> char
 fn make_new<R: Files>(
     rt: &R,
     name: &str,
-    calls: &mut Passed<NameCall>,
-    errors: &mut Passed<ErrorKind>,
+    calls: &mut Log<NameCall>,
+    errors: &mut Log<ErrorKind>,
 ) -> Result<R::File, ErrorKind>
     ensures calls { MatchResult result
         (λ _. calls.new.entries ≡ calls.old.entries ++ NameCall.Make name.now true ∷ [])
@@ -156,8 +156,8 @@ pub fn rename<R: Files>(
     rt: &R,
     from: &str,
     to: &str,
-    calls: &mut Passed<NameCall>,
-    errors: &mut Passed<ErrorKind>,
+    calls: &mut Log<NameCall>,
+    errors: &mut Log<ErrorKind>,
 ) -> bool
     ensures calls { calls.new.entries
         ≡ calls.old.entries ++ NameCall.Rename from.now to.now result ∷ [] }
@@ -172,8 +172,8 @@ pub fn rename<R: Files>(
 pub fn remove<R: Files>(
     rt: &R,
     name: &str,
-    calls: &mut Passed<NameCall>,
-    errors: &mut Passed<ErrorKind>,
+    calls: &mut Log<NameCall>,
+    errors: &mut Log<ErrorKind>,
 ) -> bool
     ensures calls { calls.new.entries ≡ calls.old.entries ++ NameCall.Remove name.now result ∷ [] }
     ensures error { ErrorUnless result errors.old.entries errors.new.entries }
@@ -184,7 +184,7 @@ pub fn remove<R: Files>(
 }
 
 /// Logs the error of a call, if any. Returns whether the call was done.
-fn note_refusal(answer: Result<(), Error>, errors: &mut Passed<ErrorKind>) -> bool
+fn note_refusal(answer: Result<(), Error>, errors: &mut Log<ErrorKind>) -> bool
     ensures { ErrorUnless result errors.old.entries errors.new.entries }
 {
     match answer {

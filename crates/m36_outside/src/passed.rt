@@ -17,21 +17,21 @@ pub trait Entries<E> {
 /// Nothing checks a note against the system, so it is as true as the code that makes it: there are
 /// few notes, each next to the call of the system that it records.
 #[derive(Drop)]
-pub struct Passed<E> {
+pub struct Log<E> {
     marker: PhantomData<E>,
     pub ghost entries: { List E } by { coded_list E.code },
 }
 
-impl<E> Model for Passed<E> {
+impl<E> Model for Log<E> {
     ghost also_owns = { λ _. ftrue };
 }
 
-impl<E> Passed<E> {
+impl<E> Log<E> {
     /// An empty log.
-    pub fn new() -> Passed<E>
+    pub fn new() -> Log<E>
         ensures { result.entries ≡ [] }
     {
-        Passed {
+        Log {
             marker: PhantomData,
         }
     }

@@ -1,17 +1,17 @@
 //! The loop over the reads of std, each of which may return less than was requested.
 
 ghost use Rattle.std.specs.Prelude.{◌≡◌, ◌+◌, ◌≤◌, ◌<◌, Some, None, IfSome, length};
-ghost use Rattle.m36_outside.specs.Piece.{PieceSays};
-ghost use Rattle.m36_outside.specs.ReadAnswer.{ReadSays, IsWithinLimit, file_limit};
-ghost use Rattle.m36_outside.specs.Chunk.{ChunkSays, ChunkGives, AddSays, ChunkHasError};
+ghost use Rattle.m36_outside.specs.Piece.{PieceResult};
+ghost use Rattle.m36_outside.specs.ReadAnswer.{ReadResult, IsWithinLimit, file_limit};
+ghost use Rattle.m36_outside.specs.Chunk.{ChunkResult, ChunkGives, AddResult, ChunkHasError};
 ghost use Rattle.m36_outside.specs.Given.{ReadGives};
 ghost use Rattle.m36_outside.specs.Passing.{PieceGives};
 ghost use Rattle.m36_outside.specs.System.{OpenHasError, PieceHasError};
 
 use crate::folder::{FILE_LIMIT, ReadAnswer};
 use crate::lines::Piece;
-use crate::noted::NotedReader;
-use crate::passed::Passed;
+use crate::logged::LoggedReader;
+use crate::passed::Log;
 use crate::text::Text;
 use m36_word::NoMemory;
 use std::alloc::Global;
@@ -37,8 +37,8 @@ pub enum Chunk {
 
 /// Reads to the end, and consumes at most one byte past the limit. The answer is never Absent.
 #[tactic(auto, using(crate::proofs::Consumed::consumed, crate::proofs::FilesGiven::giving, crate::proofs::Signalled::in_turn))]
-pub fn read_whole<R: Read>(from: &mut NotedReader<R>, alloc: Global) -> ReadAnswer
-    ensures told { IfSome (R.remaining from.old.inner) (λ bytes. ReadSays result (Some bytes)) }
+pub fn read_whole<R: Read>(from: &mut LoggedReader<R>, alloc: Global) -> ReadAnswer
+    ensures told { IfSome (R.remaining from.old.inner) (λ bytes. ReadResult result (Some bytes)) }
     ensures limit { IsWithinLimit result }
     ensures gives { ReadGives result from.old.given.entries from.new.given.entries }
     ensures error { OpenHasError result from.old.errors.entries from.new.errors.entries }
@@ -60,15 +60,15 @@ pub fn read_whole<R: Read>(from: &mut NotedReader<R>, alloc: Global) -> ReadAnsw
 pub fn read_alone<R: Read + Drop>(
     reader: R,
     alloc: Global,
-    given: &mut Passed<Text>,
-    errors: &mut Passed<ErrorKind>,
+    given: &mut Log<Text>,
+    errors: &mut Log<ErrorKind>,
 ) -> ReadAnswer
-    ensures told { IfSome (R.remaining reader) (λ bytes. ReadSays result (Some bytes)) }
+    ensures told { IfSome (R.remaining reader) (λ bytes. ReadResult result (Some bytes)) }
     ensures limit { IsWithinLimit result }
     ensures gives { ReadGives result given.old.entries given.new.entries }
     ensures error { OpenHasError result errors.old.entries errors.new.entries }
 {
-    let mut from = NotedReader::new(reader);
+    let mut from = LoggedReader::new(reader);
     let answer = read_whole(&mut from, alloc);
     given.note(&from.given);
     errors.note(&from.errors);
@@ -76,9 +76,9 @@ pub fn read_alone<R: Read + Drop>(
 }
 
 /// Reads once, and appends what was read.
-fn read_chunk<R: Read>(from: &mut NotedReader<R>, text: &mut Text) -> Chunk
+fn read_chunk<R: Read>(from: &mut LoggedReader<R>, text: &mut Text) -> Chunk
     requires { length text.old ≤ file_limit }
-    ensures says { ChunkSays result
+    ensures says { ChunkResult result
         (R.remaining from.old.inner) (R.remaining from.new.inner) text.old text.new }
     ensures gives { ChunkGives result
         from.old.given.entries from.new.given.entries text.old text.new }
@@ -90,9 +90,9 @@ fn read_chunk<R: Read>(from: &mut NotedReader<R>, text: &mut Text) -> Chunk
 }
 
 /// Reads once through a buffer, and appends what was read.
-fn read_through<R: Read>(from: &mut NotedReader<R>, buffer: &mut [u8], text: &mut Text) -> Chunk
+fn read_through<R: Read>(from: &mut LoggedReader<R>, buffer: &mut [u8], text: &mut Text) -> Chunk
     requires room { 1 ≤ length buffer.old }
-    ensures says { ChunkSays result
+    ensures says { ChunkResult result
         (R.remaining from.old.inner) (R.remaining from.new.inner) text.old text.new }
     ensures gives { ChunkGives result
         from.old.given.entries from.new.given.entries text.old text.new }
@@ -118,7 +118,7 @@ fn room_after(text: &[u8]) -> usize
 /// Appends what was read.
 fn add_chunk(got: &[u8], text: &mut Text) -> Chunk
     requires some { 1 ≤ length got.now }
-    ensures { AddSays result text.old text.new got.now }
+    ensures { AddResult result text.old text.new got.now }
 {
     match text.append(got) {
         Ok(()) if text.bytes().len() > FILE_LIMIT => Chunk::TooLarge,
@@ -129,11 +129,11 @@ fn add_chunk(got: &[u8], text: &mut Text) -> Chunk
 
 /// Reads the next bytes, as many as one read returns.
 #[tactic(auto, using(crate::proofs::Consumed::pieces))]
-pub fn read_piece<R: Read>(from: &mut NotedReader<R>, into: &mut [u8]) -> Piece
+pub fn read_piece<R: Read>(from: &mut LoggedReader<R>, into: &mut [u8]) -> Piece
     requires room { 1 ≤ length into.old }
     ensures told { IfSome (R.remaining from.old.inner)
-        (λ left. PieceSays result (Some left) (R.remaining from.new.inner) into.new) }
-    ensures size { PieceSays result None None into.new }
+        (λ left. PieceResult result (Some left) (R.remaining from.new.inner) into.new) }
+    ensures size { PieceResult result None None into.new }
     ensures gives { PieceGives result from.old.given.entries from.new.given.entries into.new }
     ensures error { PieceHasError result from.old.errors.entries from.new.errors.entries }
 {

@@ -6,20 +6,20 @@
 
 ghost use Rattle.std.specs.Prelude.{◌≡◌, Some, IfSome};
 ghost use Rattle.m36_outside.specs.NameCalls.{ReplaceCalls, SpareUsed, SpareErrors};
-ghost use Rattle.m36_outside.specs.Put.{PutSays};
+ghost use Rattle.m36_outside.specs.Put.{PutResult};
 ghost use Rattle.m36_outside.specs.System.{FileHasError, NotesWrite, PutHasError, NamesNoFile};
 
 use crate::directory::name_of_file;
-use crate::file_notes::FileNotes;
+use crate::file_notes::FileLogs;
 use crate::name_calls::{make_spare, remove, rename};
-use crate::passed::Passed;
+use crate::passed::Log;
 use crate::sink::Put;
 use crate::writing::write_alone;
 use std::io::Write;
 use std::rt::Files;
 
 /// Creates or replaces a file of the current directory.
-pub fn write_file<R: Files>(rt: &R, name: &[u8], content: &[u8], notes: &mut FileNotes) -> Put
+pub fn write_file<R: Files>(rt: &R, name: &[u8], content: &[u8], notes: &mut FileLogs) -> Put
     ensures outside { NamesNoFile name.now
         → (result ≡ Put.Failed)
         × (notes.new.taken.entries ≡ notes.old.taken.entries)
@@ -46,7 +46,7 @@ fn replace<R: Files>(
     spare: &str,
     name: &str,
     content: &[u8],
-    notes: &mut FileNotes,
+    notes: &mut FileLogs,
 ) -> Put
     ensures took { NotesWrite result notes.old.taken.entries notes.new.taken.entries content.now }
     ensures given { notes.new.given.entries ≡ notes.old.given.entries }
@@ -68,22 +68,22 @@ fn replace<R: Files>(
 
 /// Writes the content to a file and flushes it. The bytes that the file took are logged as one
 /// entry.
-fn fill<W: Write>(file: &mut W, content: &[u8], notes: &mut FileNotes) -> Put
+fn fill<W: Write>(file: &mut W, content: &[u8], notes: &mut FileLogs) -> Put
     ensures took { NotesWrite result notes.old.taken.entries notes.new.taken.entries content.now }
     ensures inner { IfSome (W.contents file.old)
-        (λ held. PutSays result (Some held) (W.contents file.new) content.now) }
+        (λ held. PutResult result (Some held) (W.contents file.new) content.now) }
     ensures given { notes.new.given.entries ≡ notes.old.given.entries }
     ensures names { notes.new.names.entries ≡ notes.old.names.entries }
     ensures error { PutHasError result notes.old.errors.entries notes.new.errors.entries }
 {
-    let mut taken = Passed::new();
+    let mut taken = Log::new();
     let answer = write_alone(file, content, &mut taken, &mut notes.errors);
     notes.taken.note(&taken);
     answer
 }
 
 /// Renames the spare file to the name. If that fails, tries to remove the spare file.
-fn give_name<R: Files>(rt: &R, spare: &str, name: &str, notes: &mut FileNotes) -> Put
+fn give_name<R: Files>(rt: &R, spare: &str, name: &str, notes: &mut FileLogs) -> Put
     ensures taken { notes.new.taken.entries ≡ notes.old.taken.entries }
     ensures given { notes.new.given.entries ≡ notes.old.given.entries }
     ensures names { SpareUsed result spare.now name.now notes.old.names.entries

@@ -2,7 +2,7 @@
 
 ghost use Rattle.std.specs.Prelude.{ℕ, ◌≡◌, ◌≤◌, ◌<◌, ◌^◌, ◌⊎◌, List, length, Option};
 ghost use Rattle.m36_outside.specs.Passing.{PutTakes, TakesLines, joined};
-ghost use Rattle.m36_outside.specs.Put.{PutSays, PutHasCause};
+ghost use Rattle.m36_outside.specs.Put.{PutResult, PutHasCause};
 
 use crate::block::Block;
 
@@ -33,7 +33,7 @@ pub trait Sink {
 
     /// Appends a piece. A sink that takes nothing of a non-empty piece has failed.
     fn put(&mut self, piece: &[u8]) -> Put
-        ensures says { PutSays result (written self.old) (written self.new) piece.now }
+        ensures says { PutResult result (written self.old) (written self.new) piece.now }
         ensures took { PutTakes result
             (written self.old) (written self.new) (taken self.old) (taken self.new) piece.now }
 
@@ -44,7 +44,7 @@ pub trait Sink {
     /// Appends the pieces of a block, each logged as a piece of its own: all of them or, if a put
     /// fails, some of them and a prefix of the next. An empty block never fails.
     fn put_block(&mut self, block: &Block) -> Put
-        ensures says { PutSays result (written self.old) (written self.new) (joined block.now) }
+        ensures says { PutResult result (written self.old) (written self.new) (joined block.now) }
         ensures took { TakesLines result (taken self.old) (taken self.new) block.now }
 
         ensures cause { PutHasCause result (faults self.old) (faults self.new) }

@@ -2,12 +2,12 @@
 
 ghost use Rattle.std.specs.Prelude.{[], ◌≡◌, ◌≤◌, ◌<◌, ◌^◌, None, length};
 ghost use Rattle.m36_outside.specs.Passing.{PieceGives};
-ghost use Rattle.m36_outside.specs.Piece.{PieceSays, PieceHasCause};
+ghost use Rattle.m36_outside.specs.Piece.{PieceResult, PieceHasCause};
 ghost use Rattle.m36_outside.specs.System.{PieceHasError};
 
 use crate::faults::after_piece;
 use crate::lines::{Lines, Piece};
-use crate::noted::NotedReader;
+use crate::logged::LoggedReader;
 use crate::reading::read_piece;
 use std::marker::Model;
 
@@ -16,15 +16,15 @@ use std::marker::Model;
 #[derive(Drop)]
 pub struct StdLines<R: Input> {
     faults: u64,
-    reader: NotedReader<R::Reader>,
+    reader: LoggedReader<R::Reader>,
     rt: R,
 }
 
 impl<R: Input> Model for StdLines<R> {
     ghost use Rattle.std.specs.Prelude.{◌<◌, ◌^◌};
-    ghost use Rattle.m36_outside.specs.Told.{LinesTold};
+    ghost use Rattle.m36_outside.specs.SystemModels.{InputModel};
 
-    ghost Value = { LinesTold };
+    ghost Value = { InputModel };
 
     ghost view = { λ l. record {
       faults = l.faults;
@@ -42,7 +42,7 @@ impl<R: Input + Drop> StdLines<R> {
     {
         StdLines {
             faults: 0,
-            reader: NotedReader::new(rt.reader()),
+            reader: LoggedReader::new(rt.reader()),
             rt,
         }
     }
@@ -57,7 +57,7 @@ impl<R: Input + Drop> Lines for StdLines<R> {
 
     fn next_piece(&mut self, into: &mut [u8]) -> Piece
         requires room { 1 ≤ length into.old }
-        ensures says { PieceSays result None None into.new }
+        ensures says { PieceResult result None None into.new }
         ensures gives { PieceGives result self.old.given self.new.given into.new }
         ensures cause { PieceHasCause result self.old.faults self.new.faults }
         ensures count { self.old.faults ≤ self.new.faults }

@@ -2,12 +2,12 @@
 
 ghost use Rattle.std.specs.Prelude.{[], ◌≡◌, ◌≤◌, ◌<◌, ◌^◌, ◌⊎◌, Some, length};
 ghost use Rattle.m36_outside.specs.Passing.{PutTakes, TakesLines, joined};
-ghost use Rattle.m36_outside.specs.Put.{PutSays, PutHasCause};
+ghost use Rattle.m36_outside.specs.Put.{PutResult, PutHasCause};
 ghost use Rattle.m36_outside.specs.System.{PutHasError};
 
-use crate::block::{Begun, Block};
+use crate::block::{Block, TakenPart};
 use crate::faults::after_put;
-use crate::passed::Passed;
+use crate::passed::Log;
 use crate::sink::{Put, Sink};
 use crate::text::Text;
 use crate::writing::write_alone;
@@ -21,16 +21,16 @@ use std::marker::Model;
 #[derive(Drop)]
 pub struct StdSink<R> {
     faults: u64,
-    taken: Passed<Text>,
-    errors: Passed<ErrorKind>,
+    taken: Log<Text>,
+    errors: Log<ErrorKind>,
     rt: R,
 }
 
 impl<R> Model for StdSink<R> {
     ghost use Rattle.std.specs.Prelude.{◌<◌, ◌^◌};
-    ghost use Rattle.m36_outside.specs.Told.{SinkTold};
+    ghost use Rattle.m36_outside.specs.SystemModels.{OutputModel};
 
-    ghost Value = { SinkTold };
+    ghost Value = { OutputModel };
 
     ghost view = { λ s.
         record { faults = s.faults; taken = s.taken.entries; errors = s.errors.entries } };
@@ -45,8 +45,8 @@ impl<R: Print + Drop> StdSink<R> {
     {
         StdSink {
             faults: 0,
-            taken: Passed::new(),
-            errors: Passed::new(),
+            taken: Log::new(),
+            errors: Log::new(),
             rt,
         }
     }
@@ -60,7 +60,7 @@ impl<R: Print + Drop> Sink for StdSink<R> {
     ghost faults = { λ s. s.faults };
 
     fn put(&mut self, piece: &[u8]) -> Put
-        ensures says { PutSays result (Some (joined self.old.taken)) (Some (joined self.new.taken))
+        ensures says { PutResult result (Some (joined self.old.taken)) (Some (joined self.new.taken))
             piece.now }
         ensures took { PutTakes result
             (Some (joined self.old.taken))
@@ -71,7 +71,7 @@ impl<R: Print + Drop> Sink for StdSink<R> {
 
         ensures error { PutHasError result self.old.errors self.new.errors }
     {
-        let mut taken = Passed::new();
+        let mut taken = Log::new();
         let answer = write_alone(
             &mut io::writer(&self.rt),
             piece,
@@ -85,7 +85,7 @@ impl<R: Print + Drop> Sink for StdSink<R> {
 
     /// Puts the pieces in one system call, or in as many as the system needs.
     fn put_block(&mut self, block: &Block) -> Put
-        ensures says { PutSays result
+        ensures says { PutResult result
             (Some (joined self.old.taken)) (Some (joined self.new.taken)) (joined block.now) }
         ensures took { TakesLines result self.old.taken self.new.taken block.now }
         ensures cause { PutHasCause result self.old.faults self.new.faults }
@@ -98,14 +98,14 @@ impl<R: Print + Drop> Sink for StdSink<R> {
         if block.is_empty() {
             return Put::Done;
         }
-        let mut taken = Passed::new();
+        let mut taken = Log::new();
         let answer = write_alone(
             &mut io::writer(&self.rt),
             block.bytes(),
             &mut taken,
             &mut self.errors,
         );
-        self.taken.note(&Begun {
+        self.taken.note(&TakenPart {
             block,
             taken: &taken,
         });

@@ -3,8 +3,8 @@
 ghost use Rattle.std.specs.Prelude.{[], ◌∷◌, ◌++◌, ◌≡◌, Some, IfOk, OnOk, OnErr};
 ghost use Rattle.m36_outside.specs.Files.{with_file};
 ghost use Rattle.m36_outside.specs.FileList.{file_named};
-ghost use Rattle.m36_outside.specs.ReadAnswer.{ReadSays, IsWithinLimit, ReadHasCause};
-ghost use Rattle.m36_outside.specs.WriteAnswer.{WriteSays, WriteHasCause};
+ghost use Rattle.m36_outside.specs.ReadAnswer.{ReadResult, IsWithinLimit, ReadHasCause};
+ghost use Rattle.m36_outside.specs.WriteAnswer.{WriteResult, WriteHasCause};
 
 use crate::file_list::FileList;
 use crate::folder::{Folder, ReadAnswer, WriteAnswer};
@@ -69,7 +69,7 @@ impl Folder for SureFolder {
     ghost write_faults = { λ _. 0 };
 
     fn read(&mut self, alloc: Global, name: &[u8]) -> ReadAnswer
-        ensures told { ReadSays result (file_named self.old.files name.now) }
+        ensures told { ReadResult result (file_named self.old.files name.now) }
         ensures limit { IsWithinLimit result }
         ensures cause { ReadHasCause result 0 0 }
         ensures after { self.new
@@ -81,7 +81,7 @@ impl Folder for SureFolder {
     }
 
     fn write(&mut self, alloc: Global, name: &[u8], content: &[u8]) -> WriteAnswer
-        ensures says { WriteSays result
+        ensures says { WriteResult result
             (Some (file_named self.old.files))
             (Some (file_named self.new.files)) name.now content.now }
         ensures wrote { self.new.wrote ≡ self.old.wrote ++ (name.now, content.now, result) ∷ [] }

@@ -2,13 +2,13 @@
 
 ghost use Rattle.std.specs.Prelude.{[], ◌∷◌, ◌++◌, ◌≡◌, ◌≤◌, Some, IfOk, length, take, drop};
 ghost use Rattle.m36_outside.specs.Passing.{PieceGives};
-ghost use Rattle.m36_outside.specs.Piece.{PieceSays, PieceHasCause};
-ghost use Rattle.m36_outside.specs.Unread.{piece_length};
+ghost use Rattle.m36_outside.specs.Piece.{PieceResult, PieceHasCause};
+ghost use Rattle.m36_outside.specs.Remaining.{piece_length};
 
 use crate::lines::{Lines, Piece};
-use crate::passed::Passed;
+use crate::passed::Log;
 use crate::text::Text;
-use crate::unread::Unread;
+use crate::unread::Remaining;
 use m36_word::NoMemory;
 use std::alloc::Global;
 use std::marker::Model;
@@ -17,8 +17,8 @@ use std::marker::Model;
 /// fault. A piece fills the buffer if enough is left.
 #[derive(Drop)]
 pub struct SureLines {
-    unread: Unread,
-    given: Passed<Text>,
+    unread: Remaining,
+    given: Log<Text>,
 }
 
 impl Model for SureLines {
@@ -35,8 +35,8 @@ impl SureLines {
         ensures { IfOk result (λ lines. lines ≡ record { left = content.now; given = [] }) }
     {
         Ok(SureLines {
-            unread: Unread::new(alloc, content)?,
-            given: Passed::new(),
+            unread: Remaining::new(alloc, content)?,
+            given: Log::new(),
         })
     }
 }
@@ -50,7 +50,7 @@ impl Lines for SureLines {
 
     fn next_piece(&mut self, into: &mut [u8]) -> Piece
         requires room { 1 ≤ length into.old }
-        ensures says { PieceSays result (Some self.old.left) (Some self.new.left) into.new }
+        ensures says { PieceResult result (Some self.old.left) (Some self.new.left) into.new }
         ensures gives { PieceGives result self.old.given self.new.given into.new }
         ensures cause { PieceHasCause result 0 0 }
         ensures rest { self.new.left

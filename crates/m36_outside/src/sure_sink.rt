@@ -2,10 +2,10 @@
 
 ghost use Rattle.std.specs.Prelude.{[], ◌∷◌, ◌++◌, ◌≡◌, Some};
 ghost use Rattle.m36_outside.specs.Passing.{joined};
-ghost use Rattle.m36_outside.specs.Put.{PutSays, PutHasCause};
+ghost use Rattle.m36_outside.specs.Put.{PutResult, PutHasCause};
 
 use crate::block::Block;
-use crate::passed::Passed;
+use crate::passed::Log;
 use crate::sink::{Put, Sink};
 use crate::text::Text;
 
@@ -13,7 +13,7 @@ use crate::text::Text;
 /// counts a fault.
 #[derive(Drop)]
 pub struct SureSink {
-    taken: Passed<Text>,
+    taken: Log<Text>,
 }
 
 impl SureSink {
@@ -21,9 +21,7 @@ impl SureSink {
     pub fn new() -> SureSink
         ensures { result.taken.entries ≡ [] }
     {
-        SureSink {
-            taken: Passed::new(),
-        }
+        SureSink { taken: Log::new() }
     }
 }
 
@@ -36,7 +34,7 @@ impl Sink for SureSink {
 
     #[tactic(auto, using(crate::proofs::Takes::takes))]
     fn put(&mut self, piece: &[u8]) -> Put
-        ensures says { PutSays result
+        ensures says { PutResult result
             (Some (joined self.old.taken.entries))
             (Some (joined self.new.taken.entries)) piece.now }
         ensures took { self.new.taken.entries ≡ self.old.taken.entries ++ piece.now ∷ [] }
@@ -49,7 +47,7 @@ impl Sink for SureSink {
 
     #[tactic(auto, using(crate::proofs::Blocks::written_at_once))]
     fn put_block(&mut self, block: &Block) -> Put
-        ensures says { PutSays result
+        ensures says { PutResult result
             (Some (joined self.old.taken.entries)) (Some (joined self.new.taken.entries))
             (joined block.now) }
         ensures took { self.new.taken.entries ≡ self.old.taken.entries ++ block.now }

@@ -1,7 +1,7 @@
 //! Bytes in memory that are consumed from the beginning on.
 
 ghost use Rattle.std.specs.Prelude.{◌≡◌, ◌≤◌, ◌++◌, IfOk, length, take, drop};
-ghost use Rattle.m36_outside.specs.Unread.{piece_length};
+ghost use Rattle.m36_outside.specs.Remaining.{piece_length};
 
 use crate::text::Text;
 use m36_word::NoMemory;
@@ -10,12 +10,12 @@ use std::marker::Model;
 
 /// Bytes of which some are already consumed; the view is the list of those that are left.
 #[derive(Drop)]
-pub struct Unread {
+pub struct Remaining {
     content: Text,
     taken: usize,
 }
 
-impl Model for Unread {
+impl Model for Remaining {
     ghost use Rattle.std.specs.Prelude.{ℕ, List, ◌≤◌, drop, length};
 
     ghost Value = { List ℕ };
@@ -25,12 +25,12 @@ impl Model for Unread {
     ghost invariant = { λ u. u.taken ≤ length u.content };
 }
 
-impl Unread {
+impl Remaining {
     /// These bytes, with none consumed. Fails only with `NoMemory`.
-    pub fn new(alloc: Global, bytes: &[u8]) -> Result<Unread, NoMemory>
+    pub fn new(alloc: Global, bytes: &[u8]) -> Result<Remaining, NoMemory>
         ensures { IfOk result (λ unread. unread ≡ bytes.now) }
     {
-        Ok(Unread {
+        Ok(Remaining {
             content: Text::from_bytes(alloc, bytes)?,
             taken: 0,
         })

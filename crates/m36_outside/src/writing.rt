@@ -2,22 +2,22 @@
 
 ghost use Rattle.std.specs.Prelude.{◌≡◌, ◌≤◌, ◌<◌, ◌-◌, ◌++◌, Some, IfSome, IfNone, MatchOption, length, take, drop};
 ghost use Rattle.std.specs.Io.KnownBytes.{Appends, Keeps};
-ghost use Rattle.m36_outside.specs.Put.{PutSays};
+ghost use Rattle.m36_outside.specs.Put.{PutResult};
 ghost use Rattle.m36_outside.specs.Signals.{Signals, GivesUp};
 ghost use Rattle.m36_outside.specs.System.{NotesDone, PutHasError};
 
-use crate::noted::WriterNotes;
-use crate::passed::Passed;
+use crate::logged::WriterLogs;
+use crate::passed::Log;
 use crate::sink::Put;
 use std::io::{ErrorKind, Write};
 
 /// Writes all of these bytes, and flushes them. A writer that takes nothing has failed.
 #[tactic(auto, using(crate::proofs::Appended::appending, crate::proofs::Signalled::in_turn))]
-pub fn write_whole<W: Write>(writer: &mut W, notes: &mut WriterNotes, bytes: &[u8]) -> Put
-    ensures taken { PutSays result (Some notes.old.taken.entries) (Some notes.new.taken.entries)
+pub fn write_whole<W: Write>(writer: &mut W, notes: &mut WriterLogs, bytes: &[u8]) -> Put
+    ensures taken { PutResult result (Some notes.old.taken.entries) (Some notes.new.taken.entries)
         bytes.now }
     ensures inner { IfSome (W.contents writer.old)
-        (λ held. PutSays result (Some held) (W.contents writer.new) bytes.now) }
+        (λ held. PutResult result (Some held) (W.contents writer.new) bytes.now) }
     ensures flushed { NotesDone result notes.old.flushed.entries notes.new.flushed.entries
         notes.new.taken.entries }
     ensures error { PutHasError result notes.old.errors.entries notes.new.errors.entries }
@@ -41,15 +41,15 @@ pub fn write_whole<W: Write>(writer: &mut W, notes: &mut WriterNotes, bytes: &[u
 pub fn write_alone<W: Write>(
     writer: &mut W,
     bytes: &[u8],
-    taken: &mut Passed<u8>,
-    errors: &mut Passed<ErrorKind>,
+    taken: &mut Log<u8>,
+    errors: &mut Log<ErrorKind>,
 ) -> Put
-    ensures taken { PutSays result (Some taken.old.entries) (Some taken.new.entries) bytes.now }
+    ensures taken { PutResult result (Some taken.old.entries) (Some taken.new.entries) bytes.now }
     ensures inner { IfSome (W.contents writer.old)
-        (λ held. PutSays result (Some held) (W.contents writer.new) bytes.now) }
+        (λ held. PutResult result (Some held) (W.contents writer.new) bytes.now) }
     ensures error { PutHasError result errors.old.entries errors.new.entries }
 {
-    let mut notes = WriterNotes::new();
+    let mut notes = WriterLogs::new();
     let answer = write_whole(writer, &mut notes, bytes);
     taken.note(&notes.taken);
     errors.note(&notes.errors);
@@ -60,7 +60,7 @@ pub fn write_alone<W: Write>(
 /// made again.
 fn write_from<W: Write>(
     writer: &mut W,
-    notes: &mut WriterNotes,
+    notes: &mut WriterLogs,
     bytes: &[u8],
     place: usize,
 ) -> Option<usize>
@@ -84,7 +84,7 @@ fn write_from<W: Write>(
 
 /// Writes some of these bytes, in one write. A write that a signal interrupts is made again.
 #[tactic(auto, using(crate::proofs::Appended::appending, crate::proofs::Signalled::trying))]
-fn write_some<W: Write>(writer: &mut W, notes: &mut WriterNotes, bytes: &[u8]) -> Option<usize>
+fn write_some<W: Write>(writer: &mut W, notes: &mut WriterLogs, bytes: &[u8]) -> Option<usize>
     requires some { 1 ≤ length bytes.now }
     ensures bound { IfSome result (λ count. count ≤ length bytes.now) }
     ensures progress { IfSome result (λ count. 1 ≤ count) }

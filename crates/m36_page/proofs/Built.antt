@@ -6,21 +6,21 @@ use Rattle.std.proofs.lemmas.List.{get_or-set_same, get_or-set_other, length-set
 use Rattle.std.proofs.lemmas.List.Elements.{All-get_or}
 use Rattle.m36_page.specs.Fields.{TableFields, PagerFields}
 use Rattle.m36_page.specs.Copied.{IsCopied}
-use Rattle.m36_page.specs.Residence.{is_of, table_of, has_page_in, spot_in, kept_in, has_page, spot_of, kept_word, absent_ptw, resident_ptw, frame_of, Holds, IsPager, Reads, IsSettled, IsInside}
-use Rattle.m36_page.specs.Changes.{IsSameShape, IsKept, OthersStay}
+use Rattle.m36_page.specs.Residence.{is_of, table_of, has_page_in, spot_in, kept_in, has_page, spot_of, kept_word, absent_ptw, resident_ptw, frame_of, Holds, IsPager, Reads, IsConsistent, IsInside}
+use Rattle.m36_page.specs.Changes.{IsSameShape, KeepsContents, OthersStay}
 use Rattle.m36_page.proofs.Frames.{held_inside, bounded}
 use Rattle.m36_page.proofs.Tables.{found, words_pages, words_spots, words_kept, words_were, words_others, words_whole}
-use Rattle.m36_page.specs.Moved.{HasWords, IsAway, IsTaken, IsEmptied}
+use Rattle.m36_page.specs.Moved.{HasWords, IsEvicted, IsBroughtIn, IsEmptied}
 use Rattle.m36_page.proofs.Moves.{resident_frame, away_kept, away_settled, away_frame, away_out, same_page}
 
 -- ---- evicted
 
 pub away_from : (p : PagerFields) (core : List ℕ) (new : PagerFields) (now : List ℕ) (k seg page i : ℕ) (d : TableFields) (words : List ℕ)
-    → IsSettled p core → Holds p k seg page → HasWords p new seg i d words
+    → IsConsistent p core → Holds p k seg page → HasWords p new seg i d words
     → new.first ≡ p.first → new.holders ≡ set p.holders k None
     → IsCopied core (1024 * (p.first + k)) (get_or p.tables i d).words (1024 * page) words
     → now ≡ set core (spot_of p seg page) absent_ptw
-    → IsAway p core new now k seg page
+    → IsEvicted p core new now k seg page
 away_from p core new now k seg page i d words s held h first holders copied e =
     let has = s.pager.held k seg page held in
     let below = s.pager.below seg page has in
@@ -102,13 +102,13 @@ same_some : (a b : ℕ × ℕ) → Some a ≡ Some b → a ≡ b
 same_some a b e = cc
 
 pub taken_from : (p : PagerFields) (core : List ℕ) (new : PagerFields) (mid now : List ℕ) (k seg page i : ℕ) (d : TableFields)
-    → IsSettled p core → has_page p seg page ≡ true → frame_of p core seg page ≡ None
+    → IsConsistent p core → has_page p seg page ≡ true → frame_of p core seg page ≡ None
     → get_or p.holders k None ≡ None → k < length p.holders
     → position (is_of seg) p.tables ≡ Some i
     → new.first ≡ p.first → new.tables ≡ p.tables → new.holders ≡ set p.holders k (Some (seg, page))
     → IsCopied (get_or p.tables i d).words (1024 * page) core (1024 * (p.first + k)) mid
     → now ≡ set mid (spot_of p seg page) (resident_ptw (p.first + k))
-    → IsTaken p core new now k seg page
+    → IsBroughtIn p core new now k seg page
 taken_from p core new mid now k seg page i d s has out empty inside at first tables holders copied e =
     let below = s.pager.below seg page has in
     let room = s.frames in
@@ -192,7 +192,7 @@ same_holder p new j left stay (Some h) o' e f = stay h.0 h.1 e ∙ sym e
 
 -- frames other than the one that a page was taken into hold what they held
 pub taken_holders : (p : PagerFields) (core : List ℕ) (new : PagerFields) (now : List ℕ) (k seg page : ℕ)
-    → IsTaken p core new now k seg page → (j : ℕ) → j ≢ k → get_or new.holders j None ≡ get_or p.holders j None
+    → IsBroughtIn p core new now k seg page → (j : ℕ) → j ≢ k → get_or new.holders j None ≡ get_or p.holders j None
 taken_holders p core new now k seg page taken j other =
     same_holder p new j
     (λ x q h. elim (taken.left j x q h) [ inl here ↦ absurd (other here.0) | inr from ↦ from ])
@@ -200,7 +200,7 @@ taken_holders p core new now k seg page taken j other =
     (get_or p.holders j None) (get_or new.holders j None) refl refl
 
 away_stay : (p : PagerFields) (core : List ℕ) (new : PagerFields) (now : List ℕ) (k seg page : ℕ)
-    → IsAway p core new now k seg page → OthersStay p core new now k
+    → IsEvicted p core new now k seg page → OthersStay p core new now k
 away_stay p core new now k seg page away = record {
   holders = λ j other.
       same_holder p new j (λ x q h. (away.left j x q h).0) (λ x q h. away.stay j x q h other)
@@ -217,7 +217,7 @@ held_some : (p : PagerFields) (k seg page : ℕ) → Holds p k seg page → get_
 held_some p k seg page held none = cc
 
 pub emptied : (p : PagerFields) (core : List ℕ) (new : PagerFields) (now : List ℕ) (k seg page : ℕ)
-    → IsSettled p core → IsAway p core new now k seg page → IsEmptied p core new now k
+    → IsConsistent p core → IsEvicted p core new now k seg page → IsEmptied p core new now k
 emptied p core new now k seg page s away = record {
   kept = away_kept p core new now k seg page s away;
   settled = away_settled p core new now k seg page s away;
@@ -242,7 +242,7 @@ emptied p core new now k seg page s away = record {
       ];
 }
 
-pub emptied_none : (p : PagerFields) (core : List ℕ) (k : ℕ) → IsSettled p core → get_or p.holders k None ≡ None → IsEmptied p core p core k
+pub emptied_none : (p : PagerFields) (core : List ℕ) (k : ℕ) → IsConsistent p core → get_or p.holders k None ≡ None → IsEmptied p core p core k
 emptied_none p core k s none = record {
   kept = record {
     shape = record { first = refl; frames = refl; pages = λ x q. refl; spots = λ x q. refl };

@@ -7,10 +7,10 @@ use Rattle.m36_model.specs.Core.{unmarked}
 use Rattle.m36_model.specs.Place.{without_used}
 use Rattle.m36_model.specs.declared.place.Reference.{Reference}
 use Rattle.m36_page.specs.Fields.{TableFields, PagerFields}
-use Rattle.m36_page.specs.Changes.{is_pinned, IsPassed}
-use Rattle.m36_page.specs.Choice.{IsMarked, IsHeldSpot, AreInCore}
+use Rattle.m36_page.specs.Changes.{is_pinned, OnlyMarkCleared}
+use Rattle.m36_page.specs.Choice.{ClearsMarksAt, IsHeldSpot, AreInCore}
 use Rattle.std.specs.Bool.{then_some}
-use Rattle.m36_page.specs.Residence.{has_page, spot_of, kept_word, absent_ptw, resident_ptw, frame_in, frame_of, word_in, page_word, content_of, Holds, IsPager, TellsPage, Reads, HasFrames, IsSettled}
+use Rattle.m36_page.specs.Residence.{has_page, spot_of, kept_word, absent_ptw, resident_ptw, frame_in, frame_of, word_in, page_word, content_of, Holds, IsPager, NamesFrame, Reads, HasFrames, IsConsistent}
 
 -- ---- page table words
 
@@ -44,7 +44,7 @@ held_inside holders k h e =
       | inr past ↦ let none = get_or_past holders k None past in absurd (cc)
     ]
 
-pub bounded : (p : PagerFields) (core : List ℕ) (k seg page : ℕ) → IsSettled p core → Holds p k seg page
+pub bounded : (p : PagerFields) (core : List ℕ) (k seg page : ℕ) → IsConsistent p core → Holds p k seg page
     → (k < length p.holders) × (p.first + k < 16384)
 bounded p core k seg page s h =
     let inside = held_inside p.holders k (seg, page) h in
@@ -64,7 +64,7 @@ pub record IsOut (p : PagerFields) (core : List ℕ) (seg page : ℕ) : Type 0 w
   pub frame : frame_of p core seg page ≡ None
   pub word : unmarked (get_or core (spot_of p seg page) 0) ≡ absent_ptw
 
-pub whereabouts : (p : PagerFields) (core : List ℕ) (seg page : ℕ) → IsSettled p core → has_page p seg page ≡ true
+pub whereabouts : (p : PagerFields) (core : List ℕ) (seg page : ℕ) → IsConsistent p core → has_page p seg page ≡ true
     → IsOut p core seg page ⊎ IsIn p core seg page
 unfolding frame_of
 whereabouts p core seg page s has =
@@ -131,7 +131,7 @@ unfolding without_used
 unused_word w v on is = omega (arith, on, is)
 
 unused_set : (core : List ℕ) (spot v : ℕ) → spot < length core → v ≡ without_used (get_or core spot 0)
-    → IsMarked core (set core spot v) (λ a. a ≡ spot)
+    → ClearsMarksAt core (set core spot v) (λ a. a ≡ spot)
 unused_set core spot v inside is = record {
   size = length-set core spot v;
   each = λ a.
@@ -148,9 +148,9 @@ unused_set core spot v inside is = record {
 
 pub unused : (core now : List ℕ) (spot w v : ℕ) → spot < length core → w ≡ get_or core spot 0 → w < 2 ^ 36
     → nat_eq (get_or core spot 0 / 2 ^ 9 % 2 ^ 1) 1 ≡ true → v ≡ (w - 512) % 2 ^ 36 → now ≡ set core spot v
-    → IsMarked core now (λ a. a ≡ spot)
+    → ClearsMarksAt core now (λ a. a ≡ spot)
 unused core now spot w v inside is few on value e =
-    let P : List ℕ → Type 0 = λ n. IsMarked core n (λ a. a ≡ spot) in
+    let P : List ℕ → Type 0 = λ n. ClearsMarksAt core n (λ a. a ≡ spot) in
     let bit = eqb-true (get_or core spot 0 / 2 ^ 9 % 2 ^ 1) 1 on in
     let less : v ≡ get_or core spot 0 - 512 = omega (arith, is, few, value) in
     subst P (sym e) (unused_set core spot v inside (unused_word (get_or core spot 0) v bit less))
@@ -166,17 +166,17 @@ held_in_core holders spots first core k inside size some =
     let below = inside k h.0 h.1 in
     omega (arith, below, size)
 
-pub marked_none : (core : List ℕ) (at : ℕ → Type 0) → IsMarked core core at
+pub marked_none : (core : List ℕ) (at : ℕ → Type 0) → ClearsMarksAt core core at
 marked_none core at = record { size = refl; each = λ a. inl refl }
 
 -- marks at places of one kind, which are of another kind
-pub marked_as : (core now : List ℕ) (one at : ℕ → Type 0) → ((a : ℕ) → one a → at a) → IsMarked core now one → IsMarked core now at
+pub marked_as : (core now : List ℕ) (one at : ℕ → Type 0) → ((a : ℕ) → one a → at a) → ClearsMarksAt core now one → ClearsMarksAt core now at
 marked_as core now one at all m = record {
   size = m.size;
   each = λ a. elim (m.each a) [ inl e ↦ inl e | inr e ↦ inr (all a e.0, e.1) ];
 }
 
-passed_on : (core mid now : List ℕ) (at : ℕ → Type 0) (a : ℕ) → IsPassed at core mid a → IsPassed at mid now a → IsPassed at core now a
+passed_on : (core mid now : List ℕ) (at : ℕ → Type 0) (a : ℕ) → OnlyMarkCleared at core mid a → OnlyMarkCleared at mid now a → OnlyMarkCleared at core now a
 passed_on core mid now at a one two =
     elim one [
       | inl e ↦ elim two [ inl f ↦ inl (f ∙ e) | inr f ↦ inr (f.0, f.1 ∙ ap without_used e) ]
@@ -188,7 +188,7 @@ passed_on core mid now at a one two =
     ]
 
 -- marks, and then more marks
-pub marked_then : (core mid now : List ℕ) (at : ℕ → Type 0) → IsMarked core mid at → IsMarked mid now at → IsMarked core now at
+pub marked_then : (core mid now : List ℕ) (at : ℕ → Type 0) → ClearsMarksAt core mid at → ClearsMarksAt mid now at → ClearsMarksAt core now at
 marked_then core mid now at a b = record {
   size = b.size ∙ a.size;
   each = λ x. passed_on core mid now at x (a.each x) (b.each x);
@@ -196,14 +196,14 @@ marked_then core mid now at a b = record {
 
 -- the used mark of a page that the references do not pin
 pub marked_free : (refs : List Reference) (holder : Option (ℕ × ℕ)) (core now : List ℕ) (spot : ℕ) → IsSome holder → is_pinned refs holder ≡ false
-    → IsMarked core now (λ a. a ≡ spot) → IsMarked core now (λ a. IsSome holder × (is_pinned refs holder ≡ false) × (a ≡ spot))
+    → ClearsMarksAt core now (λ a. a ≡ spot) → ClearsMarksAt core now (λ a. IsSome holder × (is_pinned refs holder ≡ false) × (a ≡ spot))
 marked_free refs holder core now spot some free m =
     marked_as core now (λ a. a ≡ spot) (λ a. IsSome holder × (is_pinned refs holder ≡ false) × (a ≡ spot)) (λ a at. (some, free, at)) m
 
 pub passed_then : (refs : List Reference) (holders : List (Option (ℕ × ℕ))) (spots core mid now : List ℕ) (k : ℕ)
-    → IsMarked core mid (IsHeldSpot refs holders spots)
-    → IsMarked mid now (λ a. IsSome (get_or holders k None) × (is_pinned refs (get_or holders k None) ≡ false) × (a ≡ get_or spots k 0))
-    → IsMarked core now (IsHeldSpot refs holders spots)
+    → ClearsMarksAt core mid (IsHeldSpot refs holders spots)
+    → ClearsMarksAt mid now (λ a. IsSome (get_or holders k None) × (is_pinned refs (get_or holders k None) ≡ false) × (a ≡ get_or spots k 0))
+    → ClearsMarksAt core now (IsHeldSpot refs holders spots)
 passed_then refs holders spots core mid now k one two =
     marked_then core mid now (IsHeldSpot refs holders spots) one
     (marked_as mid now (λ a. IsSome (get_or holders k None) × (is_pinned refs (get_or holders k None) ≡ false) × (a ≡ get_or spots k 0))

@@ -8,4 +8,4 @@ pub mod SetWords
 pub mod Placed
 pub mod Lay
 pub mod Room
-pub mod ZerosBehind
+pub mod ZerosAfter

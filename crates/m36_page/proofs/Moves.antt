@@ -3,14 +3,14 @@ use Rattle.std.proofs.Common.{ℕ, ◌≡◌, ◌≢◌, ◌+◌, ◌-◌, ◌*�
 use Rattle.std.proofs.lemmas.Bool.{cases_eq, cases_lt}
 use Rattle.m36_model.specs.Core.{unmarked}
 use Rattle.m36_page.specs.Fields.{TableFields, PagerFields}
-use Rattle.m36_page.specs.Residence.{has_page, spot_of, kept_word, absent_ptw, resident_ptw, frame_in, frame_of, word_in, page_word, content_of, Holds, IsPager, TellsPage, Reads, HasFrames, IsSettled}
-use Rattle.m36_page.specs.Changes.{IsSameShape, IsSpot, IsPaged, IsKept}
-use Rattle.m36_page.specs.Moved.{IsAway, IsTaken}
+use Rattle.m36_page.specs.Residence.{has_page, spot_of, kept_word, absent_ptw, resident_ptw, frame_in, frame_of, word_in, page_word, content_of, Holds, IsPager, NamesFrame, Reads, HasFrames, IsConsistent}
+use Rattle.m36_page.specs.Changes.{IsSameShape, IsPtwPlace, IsPaged, KeepsContents}
+use Rattle.m36_page.specs.Moved.{IsEvicted, IsBroughtIn}
 use Rattle.m36_page.proofs.Frames.{frame_absent, frame_resident, absent_unmarked, resident_unmarked, bounded, IsIn, IsOut, whereabouts, content_same, word_stays}
 
--- ---- `IsKept` twice
+-- ---- `KeepsContents` twice
 
-paged_back : (a : PagerFields) (ac : List ℕ) (b : PagerFields) (bc : List ℕ) → IsKept a ac b bc → (x : ℕ) → IsPaged b x → IsPaged a x
+paged_back : (a : PagerFields) (ac : List ℕ) (b : PagerFields) (bc : List ℕ) → KeepsContents a ac b bc → (x : ℕ) → IsPaged b x → IsPaged a x
 paged_back a ac b bc one x paged =
     elim paged [
       | inl spot ↦
@@ -29,7 +29,7 @@ paged_back a ac b bc one x paged =
     ]
 
 pub kept_then : (a : PagerFields) (ac : List ℕ) (b : PagerFields) (bc : List ℕ) (c : PagerFields) (cc' : List ℕ)
-    → IsKept a ac b bc → IsKept b bc c cc' → IsKept a ac c cc'
+    → KeepsContents a ac b bc → KeepsContents b bc c cc' → KeepsContents a ac c cc'
 kept_then a ac b bc c cc' one two =
     let first : c.first ≡ a.first = two.shape.first ∙ one.shape.first in
     let frames : length c.holders ≡ length a.holders = two.shape.frames ∙ one.shape.frames in
@@ -50,10 +50,10 @@ kept_then a ac b bc c cc' one two =
 pub record AreMarks (p : PagerFields) (core now : List ℕ) : Type 0 where
   pub size : length now ≡ length core
   pub unmarks : (a : ℕ) → unmarked (get_or now a 0) ≡ unmarked (get_or core a 0)
-  pub others : (a : ℕ) → (IsSpot p a → ⊥) → get_or now a 0 ≡ get_or core a 0
+  pub others : (a : ℕ) → (IsPtwPlace p a → ⊥) → get_or now a 0 ≡ get_or core a 0
 
 -- a word of a frame is not a page table word
-no_spot : (p : PagerFields) (a : ℕ) → IsPager p → 1024 * p.first ≤ a → IsSpot p a → ⊥
+no_spot : (p : PagerFields) (a : ℕ) → IsPager p → 1024 * p.first ≤ a → IsPtwPlace p a → ⊥
 no_spot p a pager above spot =
     let below = pager.below spot.seg spot.page spot.has in
     let is = spot.is in
@@ -69,7 +69,7 @@ marks_reads p core now reads marks = record {
   frames = λ k seg page h. marks.unmarks (spot_of p seg page) ∙ reads.frames k seg page h;
 }
 
-pub marks_settled : (p : PagerFields) (core now : List ℕ) → IsSettled p core → AreMarks p core now → IsSettled p now
+pub marks_settled : (p : PagerFields) (core now : List ℕ) → IsConsistent p core → AreMarks p core now → IsConsistent p now
 marks_settled p core now s marks = record {
   pager = s.pager;
   reads = marks_reads p core now s.reads marks;
@@ -77,7 +77,7 @@ marks_settled p core now s marks = record {
   most = let size = marks.size in let room = s.most in omega (arith, size, room);
 }
 
-pub marks_frame : (p : PagerFields) (core now : List ℕ) (seg page : ℕ) → IsSettled p core → AreMarks p core now → has_page p seg page ≡ true
+pub marks_frame : (p : PagerFields) (core now : List ℕ) (seg page : ℕ) → IsConsistent p core → AreMarks p core now → has_page p seg page ≡ true
     → frame_of p now seg page ≡ frame_of p core seg page
 unfolding frame_of
 marks_frame p core now seg page s marks has =
@@ -90,7 +90,7 @@ marks_frame p core now seg page s marks has =
     ]
 
 -- the frame that a page is in is a pageable one
-pub frame_range : (p : PagerFields) (core : List ℕ) (seg page frame : ℕ) → IsSettled p core → has_page p seg page ≡ true
+pub frame_range : (p : PagerFields) (core : List ℕ) (seg page frame : ℕ) → IsConsistent p core → has_page p seg page ≡ true
     → frame_of p core seg page ≡ Some frame → (k : ℕ) × (frame ≡ p.first + k) × Holds p k seg page
 frame_range p core seg page frame s has e =
     elim (whereabouts p core seg page s has) [
@@ -98,7 +98,7 @@ frame_range p core seg page frame s has e =
       | inr there ↦ let some = there.frame in let same : frame ≡ p.first + there.k = cc in (there.k, same, there.holds)
     ]
 
-pub marks_kept : (p : PagerFields) (core now : List ℕ) → IsSettled p core → AreMarks p core now → IsKept p core p now
+pub marks_kept : (p : PagerFields) (core now : List ℕ) → IsConsistent p core → AreMarks p core now → KeepsContents p core p now
 marks_kept p core now s marks = record {
   shape = record { first = refl; frames = refl; pages = λ seg page. refl; spots = λ seg page. refl };
   size = marks.size;
@@ -116,7 +116,7 @@ marks_kept p core now s marks = record {
 -- ---- a page that is evicted
 
 -- the frame that holds a page is the one that it is in
-pub resident_frame : (p : PagerFields) (core : List ℕ) (k seg page : ℕ) → IsSettled p core → Holds p k seg page
+pub resident_frame : (p : PagerFields) (core : List ℕ) (k seg page : ℕ) → IsConsistent p core → Holds p k seg page
     → frame_of p core seg page ≡ Some (p.first + k)
 unfolding frame_of
 resident_frame p core k seg page s h =
@@ -136,21 +136,21 @@ other_spot : (p : PagerFields) (s q seg page : ℕ) → IsPager p → has_page p
 other_spot p s q seg page pager has has' other = λ same. other (pager.apart s q seg page has has' same)
 
 away_word : (p : PagerFields) (core : List ℕ) (new : PagerFields) (now : List ℕ) (k seg page s q : ℕ)
-    → IsSettled p core → IsAway p core new now k seg page → has_page p s q ≡ true → ((s ≡ seg) × (q ≡ page) → ⊥)
+    → IsConsistent p core → IsEvicted p core new now k seg page → has_page p s q ≡ true → ((s ≡ seg) × (q ≡ page) → ⊥)
     → get_or now (spot_of new s q) 0 ≡ get_or core (spot_of p s q) 0
 away_word p core new now k seg page s q settled away has other =
     ap (λ a. get_or now a 0) (away.shape.spots s q)
     ∙ away.others (spot_of p s q) (other_spot p s q seg page settled.pager has (settled.pager.held k seg page away.held) other)
 
 pub away_frame : (p : PagerFields) (core : List ℕ) (new : PagerFields) (now : List ℕ) (k seg page s q : ℕ)
-    → IsSettled p core → IsAway p core new now k seg page → has_page p s q ≡ true → ((s ≡ seg) × (q ≡ page) → ⊥)
+    → IsConsistent p core → IsEvicted p core new now k seg page → has_page p s q ≡ true → ((s ≡ seg) × (q ≡ page) → ⊥)
     → frame_of new now s q ≡ frame_of p core s q
 unfolding frame_of
 away_frame p core new now k seg page s q settled away has other =
     ap frame_in (away_word p core new now k seg page s q settled away has other)
 
 pub away_out : (p : PagerFields) (core : List ℕ) (new : PagerFields) (now : List ℕ) (k seg page : ℕ)
-    → IsAway p core new now k seg page → frame_of new now seg page ≡ None
+    → IsEvicted p core new now k seg page → frame_of new now seg page ≡ None
 unfolding frame_of
 away_out p core new now k seg page away =
     let word : get_or now (spot_of new seg page) 0 ≡ absent_ptw = ap (λ a. get_or now a 0) (away.shape.spots seg page) ∙ away.spot in
@@ -167,7 +167,7 @@ same_some : (a b : ℕ × ℕ) → Some a ≡ Some b → a ≡ b
 same_some a b e = cc
 
 away_reads : (p : PagerFields) (core : List ℕ) (new : PagerFields) (now : List ℕ) (k seg page : ℕ)
-    → IsSettled p core → IsAway p core new now k seg page → Reads new now
+    → IsConsistent p core → IsEvicted p core new now k seg page → Reads new now
 away_reads p core new now k seg page settled away = record {
   pages = λ s q has'.
       let has : has_page p s q ≡ true = sym (away.shape.pages s q) ∙ has' in
@@ -211,7 +211,7 @@ away_reads p core new now k seg page settled away = record {
 }
 
 pub away_settled : (p : PagerFields) (core : List ℕ) (new : PagerFields) (now : List ℕ) (k seg page : ℕ)
-    → IsSettled p core → IsAway p core new now k seg page → IsSettled new now
+    → IsConsistent p core → IsEvicted p core new now k seg page → IsConsistent new now
 away_settled p core new now k seg page s away =
     let size = away.size in
     let first = away.shape.first in
@@ -226,7 +226,7 @@ away_settled p core new now k seg page s away =
     }
 
 pub away_kept : (p : PagerFields) (core : List ℕ) (new : PagerFields) (now : List ℕ) (k seg page : ℕ)
-    → IsSettled p core → IsAway p core new now k seg page → IsKept p core new now
+    → IsConsistent p core → IsEvicted p core new now k seg page → KeepsContents p core new now
 unfolding page_word
 away_kept p core new now k seg page s away =
     let has_it : has_page p seg page ≡ true = s.pager.held k seg page away.held in
@@ -262,14 +262,14 @@ away_kept p core new now k seg page s away =
 
 -- ---- a page that is taken in
 
-taken_few : (p : PagerFields) (core : List ℕ) (k : ℕ) → IsSettled p core → k < length p.holders → p.first + k < 16384
+taken_few : (p : PagerFields) (core : List ℕ) (k : ℕ) → IsConsistent p core → k < length p.holders → p.first + k < 16384
 taken_few p core k s inside =
     let room = s.frames in
     let most = s.most in
     omega (arith, inside, room, most)
 
 taken_word : (p : PagerFields) (core : List ℕ) (new : PagerFields) (now : List ℕ) (k seg page s q : ℕ)
-    → IsSettled p core → IsTaken p core new now k seg page → has_page p s q ≡ true → ((s ≡ seg) × (q ≡ page) → ⊥)
+    → IsConsistent p core → IsBroughtIn p core new now k seg page → has_page p s q ≡ true → ((s ≡ seg) × (q ≡ page) → ⊥)
     → get_or now (spot_of new s q) 0 ≡ get_or core (spot_of p s q) 0
 taken_word p core new now k seg page s q settled taken has other =
     let below = settled.pager.below s q has in
@@ -277,19 +277,19 @@ taken_word p core new now k seg page s q settled taken has other =
     ∙ taken.others (spot_of p s q) (other_spot p s q seg page settled.pager has taken.has other) (inl (omega (arith, below)))
 
 pub taken_frame : (p : PagerFields) (core : List ℕ) (new : PagerFields) (now : List ℕ) (k seg page s q : ℕ)
-    → IsSettled p core → IsTaken p core new now k seg page → has_page p s q ≡ true → ((s ≡ seg) × (q ≡ page) → ⊥)
+    → IsConsistent p core → IsBroughtIn p core new now k seg page → has_page p s q ≡ true → ((s ≡ seg) × (q ≡ page) → ⊥)
     → frame_of new now s q ≡ frame_of p core s q
 unfolding frame_of
 taken_frame p core new now k seg page s q settled taken has other =
     ap frame_in (taken_word p core new now k seg page s q settled taken has other)
 
-taken_spot : (p : PagerFields) (core : List ℕ) (new : PagerFields) (now : List ℕ) (k seg page : ℕ) → IsTaken p core new now k seg page
+taken_spot : (p : PagerFields) (core : List ℕ) (new : PagerFields) (now : List ℕ) (k seg page : ℕ) → IsBroughtIn p core new now k seg page
     → unmarked (get_or now (spot_of new seg page) 0) ≡ resident_ptw (p.first + k)
 taken_spot p core new now k seg page taken =
     ap (λ a. unmarked (get_or now a 0)) (taken.shape.spots seg page) ∙ ap unmarked taken.spot ∙ resident_unmarked (p.first + k)
 
 pub taken_in : (p : PagerFields) (core : List ℕ) (new : PagerFields) (now : List ℕ) (k seg page : ℕ)
-    → IsSettled p core → IsTaken p core new now k seg page → frame_of new now seg page ≡ Some (p.first + k)
+    → IsConsistent p core → IsBroughtIn p core new now k seg page → frame_of new now seg page ≡ Some (p.first + k)
 unfolding frame_of
 taken_in p core new now k seg page s taken =
     frame_resident (get_or now (spot_of new seg page) 0) (p.first + k) (taken_few p core k s taken.inside)
@@ -297,7 +297,7 @@ taken_in p core new now k seg page s taken =
 
 -- a page that is in a frame is not the one that is taken in
 pub taken_other : (p : PagerFields) (core : List ℕ) (new : PagerFields) (now : List ℕ) (k seg page s q frame : ℕ)
-    → IsTaken p core new now k seg page → frame_of p core s q ≡ Some frame → (s ≡ seg) × (q ≡ page) → ⊥
+    → IsBroughtIn p core new now k seg page → frame_of p core s q ≡ Some frame → (s ≡ seg) × (q ≡ page) → ⊥
 taken_other p core new now k seg page s q frame taken e same =
     let out = taken.out in
     let is : frame_of p core seg page ≡ Some frame =
@@ -305,7 +305,7 @@ taken_other p core new now k seg page s q frame taken e same =
     absurd (cc)
 
 taken_reads : (p : PagerFields) (core : List ℕ) (new : PagerFields) (now : List ℕ) (k seg page : ℕ)
-    → IsSettled p core → IsTaken p core new now k seg page → Reads new now
+    → IsConsistent p core → IsBroughtIn p core new now k seg page → Reads new now
 taken_reads p core new now k seg page settled taken = record {
   pages = λ s q has'.
       let has : has_page p s q ≡ true = sym (taken.shape.pages s q) ∙ has' in
@@ -348,7 +348,7 @@ taken_reads p core new now k seg page settled taken = record {
 }
 
 pub taken_settled : (p : PagerFields) (core : List ℕ) (new : PagerFields) (now : List ℕ) (k seg page : ℕ)
-    → IsSettled p core → IsTaken p core new now k seg page → IsSettled new now
+    → IsConsistent p core → IsBroughtIn p core new now k seg page → IsConsistent new now
 taken_settled p core new now k seg page s taken =
     let size = taken.size in
     let first = taken.shape.first in
@@ -364,7 +364,7 @@ taken_settled p core new now k seg page s taken =
 
 -- another page is in another frame
 taken_apart : (p : PagerFields) (core : List ℕ) (new : PagerFields) (now : List ℕ) (k seg page j s q : ℕ)
-    → IsTaken p core new now k seg page → Holds p j s q → j ≢ k
+    → IsBroughtIn p core new now k seg page → Holds p j s q → j ≢ k
 taken_apart p core new now k seg page j s q taken h = λ same.
     let P : ℕ → Type 0 = λ x. get_or p.holders x None ≡ Some (s, q) in
     let at : get_or p.holders k None ≡ Some (s, q) = subst P same h in
@@ -372,7 +372,7 @@ taken_apart p core new now k seg page j s q taken h = λ same.
     absurd (cc)
 
 pub taken_kept : (p : PagerFields) (core : List ℕ) (new : PagerFields) (now : List ℕ) (k seg page : ℕ)
-    → IsSettled p core → IsTaken p core new now k seg page → IsKept p core new now
+    → IsConsistent p core → IsBroughtIn p core new now k seg page → KeepsContents p core new now
 unfolding page_word
 taken_kept p core new now k seg page s taken =
     let spot_below = s.pager.below seg page taken.has in

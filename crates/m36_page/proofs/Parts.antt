@@ -11,11 +11,11 @@ use Rattle.m36_model.specs.Core.{unmarked}
 use Rattle.m36_model.specs.declared.place.Reference.{Reference}
 use Rattle.m36_page.specs.Fields.{TableFields, PagerFields}
 use Rattle.m36_page.specs.Copied.{IsCopied}
-use Rattle.m36_page.specs.Choice.{IsFree, ArePinned, IsHeldSpot, IsMarked, AreInCore}
+use Rattle.m36_page.specs.Choice.{IsFree, ArePinned, IsHeldSpot, ClearsMarksAt, AreInCore}
 use Rattle.std.specs.Bool.{then_some}
-use Rattle.m36_page.specs.Residence.{is_of, table_of, has_page_in, has_page, spot_of, kept_word, word_in, page_word, content_of, absent_ptw, resident_ptw, frame_in, frame_of, Holds, IsPager, Reads, HasFrames, IsSettled, IsInside}
-use Rattle.m36_page.specs.Changes.{IsSpot, IsKept, is_to, is_pinned, AllPinned, Stays, IsFreeSpot, IsPassed, IsBrought}
-use Rattle.m36_page.specs.Moved.{HasWords, IsAway, IsTaken, IsEmptied}
+use Rattle.m36_page.specs.Residence.{is_of, table_of, has_page_in, has_page, spot_of, kept_word, word_in, page_word, content_of, absent_ptw, resident_ptw, frame_in, frame_of, Holds, IsPager, Reads, HasFrames, IsConsistent, IsInside}
+use Rattle.m36_page.specs.Changes.{IsPtwPlace, KeepsContents, is_to, is_pinned, AllPinned, Stays, IsFreeSpot, OnlyMarkCleared, IsBrought}
+use Rattle.m36_page.specs.Moved.{HasWords, IsEvicted, IsBroughtIn, IsEmptied}
 use Rattle.m36_page.proofs.Frames.{held_inside, unused_unmarked, marked_as}
 use Rattle.m36_page.proofs.Tables.{found, words_were}
 use Rattle.m36_page.proofs.Moves.{kept_then, marks_kept, marks_settled, marks_frame, AreMarks, resident_frame, frame_range, taken_kept, taken_settled, taken_in, taken_frame, taken_other}
@@ -24,17 +24,17 @@ use Rattle.m36_page.proofs.Built.{has_table, spot_by, page_room, away_from, take
 abbrev pub parts : ℕ → List (Option (ℕ × ℕ)) → List TableFields → PagerFields
 parts first holders tables = record { first = first; holders = holders; tables = tables }
 
-settled_parts : (p q : PagerFields) (core : List ℕ) → q ≡ p → IsSettled p core → IsSettled q core
-settled_parts p q core e s = let P : PagerFields → Type 0 = λ x. IsSettled x core in subst P (sym e) s
+settled_parts : (p q : PagerFields) (core : List ℕ) → q ≡ p → IsConsistent p core → IsConsistent q core
+settled_parts p q core e s = let P : PagerFields → Type 0 = λ x. IsConsistent x core in subst P (sym e) s
 
 -- ---- the choice
 
 pub held_spots : (first : ℕ) (holders hs : List (Option (ℕ × ℕ))) (spots sp : List ℕ) (tables : List TableFields) (p : PagerFields) (core : List ℕ)
-    → parts first holders tables ≡ p → hs ≡ holders → sp ≡ spots → IsInside (parts first holders tables) spots → IsSettled p core
+    → parts first holders tables ≡ p → hs ≡ holders → sp ≡ spots → IsInside (parts first holders tables) spots → IsConsistent p core
     → AreInCore hs sp core
 held_spots first holders hs spots sp tables p core e same same' inside s k held holds =
     let q : PagerFields = parts first holders tables in
-    let settled : IsSettled q core = settled_parts p q core e s in
+    let settled : IsConsistent q core = settled_parts p q core e s in
     let h : Holds q k held.0 held.1 = sym (ap (λ x. get_or x k None) same) ∙ holds in
     let is : get_or sp k 0 ≡ spot_of q held.0 held.1 = ap (λ x. get_or x k 0) same' ∙ inside.spots k held.0 held.1 h in
     let below = settled.pager.below held.0 held.1 (settled.pager.held k held.0 held.1 h) in
@@ -43,10 +43,10 @@ held_spots first holders hs spots sp tables p core e same same' inside s k held 
 
 pub marks_parts : (refs : List Reference) (first : ℕ) (holders hs : List (Option (ℕ × ℕ))) (spots sp : List ℕ) (tables : List TableFields) (p : PagerFields) (core now : List ℕ)
     → parts first holders tables ≡ p → hs ≡ holders → sp ≡ spots → IsInside (parts first holders tables) spots
-    → IsMarked core now (IsHeldSpot refs hs sp) → IsMarked core now (IsFreeSpot p refs)
+    → ClearsMarksAt core now (IsHeldSpot refs hs sp) → ClearsMarksAt core now (IsFreeSpot p refs)
 marks_parts refs first holders hs spots sp tables p core now e same same' inside marks =
     let q : PagerFields = parts first holders tables in
-    let P : PagerFields → Type 0 = λ x. IsMarked core now (IsFreeSpot x refs) in
+    let P : PagerFields → Type 0 = λ x. ClearsMarksAt core now (IsFreeSpot x refs) in
     subst P e
     (marked_as core now (IsHeldSpot refs hs sp) (IsFreeSpot q refs)
     (λ a h.
@@ -103,7 +103,7 @@ room_is first holders tables ts p seg page i t e same place item pager has =
 -- ---- the private part
 
 pub inside_away : (p : PagerFields) (core : List ℕ) (new : PagerFields) (now : List ℕ) (k seg page : ℕ) (spots : List ℕ)
-    → IsInside p spots → IsAway p core new now k seg page → IsInside new spots
+    → IsInside p spots → IsEvicted p core new now k seg page → IsInside new spots
 inside_away p core new now k seg page spots inside away = record {
   pager = away.words;
   count = inside.count ∙ sym away.shape.frames;
@@ -111,7 +111,7 @@ inside_away p core new now k seg page spots inside away = record {
 }
 
 pub inside_taken : (p : PagerFields) (core : List ℕ) (new : PagerFields) (now : List ℕ) (k seg page : ℕ) (spots : List ℕ) (spot : ℕ)
-    → IsInside p spots → IsTaken p core new now k seg page → spot ≡ spot_of p seg page → IsInside new (set spots k spot)
+    → IsInside p spots → IsBroughtIn p core new now k seg page → spot ≡ spot_of p seg page → IsInside new (set spots k spot)
 inside_taken p core new now k seg page spots spot inside taken is = record {
   pager = taken.words;
   count = length-set spots k spot ∙ inside.count ∙ sym taken.shape.frames;
@@ -151,7 +151,7 @@ unfolding frame_of
 out_from p core seg page spot o b is e f false_ =
     sym (ap (λ a. frame_in (get_or core a 0)) is) ∙ sym e ∙ none_by o b f false_
 
-pub kept_same : (p : PagerFields) (core : List ℕ) → IsKept p core p core
+pub kept_same : (p : PagerFields) (core : List ℕ) → KeepsContents p core p core
 kept_same p core = record {
   shape = record { first = refl; frames = refl; pages = λ x q. refl; spots = λ x q. refl };
   size = refl;
@@ -182,13 +182,13 @@ brought_same p core seg page refs resident = record {
   others_kept = λ x w out. refl;
 }
 
-pub settled_by : (p : PagerFields) (core : List ℕ) → IsPager p → Reads p core → HasFrames p core → length core ≤ 2 ^ 24 → IsSettled p core
+pub settled_by : (p : PagerFields) (core : List ℕ) → IsPager p → Reads p core → HasFrames p core → length core ≤ 2 ^ 24 → IsConsistent p core
 settled_by p core pager reads frames most = record { pager = pager; reads = reads; frames = frames; most = most }
 
-free_spot : (p : PagerFields) (refs : List Reference) (a : ℕ) → IsPager p → IsFreeSpot p refs a → IsSpot p a
+free_spot : (p : PagerFields) (refs : List Reference) (a : ℕ) → IsPager p → IsFreeSpot p refs a → IsPtwPlace p a
 free_spot p refs a pager f = record { seg = f.seg; page = f.page; has = pager.held f.k f.seg f.page f.holds; is = f.is }
 
-pub marks_of : (p : PagerFields) (refs : List Reference) (core now : List ℕ) → IsPager p → IsMarked core now (IsFreeSpot p refs) → AreMarks p core now
+pub marks_of : (p : PagerFields) (refs : List Reference) (core now : List ℕ) → IsPager p → ClearsMarksAt core now (IsFreeSpot p refs) → AreMarks p core now
 marks_of p refs core now pager m = record {
   size = m.size;
   unmarks = λ a. elim (m.each a) [ inl e ↦ ap unmarked e | inr e ↦ ap unmarked e.1 ∙ unused_unmarked (get_or core a 0) ];
@@ -207,7 +207,7 @@ unpinned p refs k i d below free holds =
     absurd (cc)
 
 -- a page that a frame holds is not one that is in no frame
-held_other : (p : PagerFields) (core : List ℕ) (k s q seg page : ℕ) → IsSettled p core → Holds p k s q → frame_of p core seg page ≡ None
+held_other : (p : PagerFields) (core : List ℕ) (k s q seg page : ℕ) → IsConsistent p core → Holds p k s q → frame_of p core seg page ≡ None
     → (s ≡ seg) × (q ≡ page) → ⊥
 held_other p core k s q seg page settled holds out same =
     let is : frame_of p core seg page ≡ Some (p.first + k) =
@@ -216,7 +216,7 @@ held_other p core k s q seg page settled holds out same =
 
 -- the page table word of the page that was evicted
 brought_away : (p : PagerFields) (core mid : List ℕ) (gone : PagerFields) (left : List ℕ) (new : PagerFields) (now : List ℕ) (k seg page s q : ℕ)
-    → IsSettled p core → IsEmptied p mid gone left k → IsTaken gone left new now k seg page
+    → IsConsistent p core → IsEmptied p mid gone left k → IsBroughtIn gone left new now k seg page
     → frame_of p core seg page ≡ None → Holds p k s q → get_or now (spot_of p s q) 0 ≡ absent_ptw
 brought_away p core mid gone left new now k seg page s q settled emptied taken out holds =
     let shape = emptied.kept.shape in
@@ -230,10 +230,10 @@ brought_away p core mid gone left new now k seg page s q settled emptied taken o
 
 -- a word that is neither in the frame nor a page table word of the two pages
 brought_word : (p : PagerFields) (core mid : List ℕ) (gone : PagerFields) (left : List ℕ) (new : PagerFields) (now : List ℕ) (k seg page : ℕ) (refs : List Reference) (a : ℕ)
-    → IsMarked core mid (IsFreeSpot p refs) → IsEmptied p mid gone left k → IsTaken gone left new now k seg page
+    → ClearsMarksAt core mid (IsFreeSpot p refs) → IsEmptied p mid gone left k → IsBroughtIn gone left new now k seg page
     → a ≢ spot_of p seg page → ((s q : ℕ) → Holds p k s q → a ≢ spot_of p s q)
     → (a < 1024 * (p.first + k)) ⊎ (1024 * (p.first + k) + 1024 ≤ a)
-    → IsPassed (IsFreeSpot p refs) core now a
+    → OnlyMarkCleared (IsFreeSpot p refs) core now a
 brought_word p core mid gone left new now k seg page refs a marks emptied taken other others range =
     let shape = emptied.kept.shape in
     let R : ℕ → Type 0 = λ n. (a < 1024 * (n + k)) ⊎ (1024 * (n + k) + 1024 ≤ a) in
@@ -242,7 +242,7 @@ brought_word p core mid gone left new now k seg page refs a marks emptied taken 
     elim (marks.each a) [ inl e ↦ inl (still ∙ e) | inr e ↦ inr (e.0, still ∙ e.1) ]
 
 pub brought : (p : PagerFields) (core mid : List ℕ) (gone : PagerFields) (left : List ℕ) (new : PagerFields) (now : List ℕ) (k seg page : ℕ) (refs : List Reference)
-    → IsSettled p core → IsMarked core mid (IsFreeSpot p refs) → IsEmptied p mid gone left k → IsTaken gone left new now k seg page
+    → IsConsistent p core → ClearsMarksAt core mid (IsFreeSpot p refs) → IsEmptied p mid gone left k → IsBroughtIn gone left new now k seg page
     → IsFree refs p.holders k
     → IsBrought p core new now seg page refs
 brought p core mid gone left new now k seg page refs s marks emptied taken free =
@@ -286,15 +286,15 @@ not_pinned p refs k free all =
 
 pub away_parts : (first : ℕ) (holders : List (Option (ℕ × ℕ))) (spots : List ℕ) (tables ts : List TableFields) (p : PagerFields) (core now : List ℕ)
     (k seg page i spot : ℕ) (t t' : TableFields)
-    → parts first holders tables ≡ p → IsInside (parts first holders tables) spots → IsSettled p core → Holds p k seg page
+    → parts first holders tables ≡ p → IsInside (parts first holders tables) spots → IsConsistent p core → Holds p k seg page
     → ts ≡ tables → position (is_of seg) ts ≡ Some i → t ≡ get_or tables i t
     → IsCopied core (1024 * (first + k)) t.words (1024 * page) t'.words → t' ≡ (record t { words = t'.words })
     → spot ≡ get_or spots k spot → now ≡ set core spot absent_ptw
-    → IsAway p core (parts first (set holders k None) (set tables i t')) now k seg page
+    → IsEvicted p core (parts first (set holders k None) (set tables i t')) now k seg page
 away_parts first holders spots tables ts p core now k seg page i spot t t' e inside s held same place item copied others at written =
     let q : PagerFields = parts first holders tables in
     let new : PagerFields = parts first (set holders k None) (set tables i t') in
-    let settled : IsSettled q core = settled_parts p q core e s in
+    let settled : IsConsistent q core = settled_parts p q core e s in
     let H : PagerFields → Type 0 = λ x. Holds x k seg page in
     let held' : Holds q k seg page = subst H (sym e) held in
     let C : TableFields → Type 0 = λ x. IsCopied core (1024 * (first + k)) x.words (1024 * page) t'.words in
@@ -307,27 +307,27 @@ away_parts first holders spots tables ts p core now k seg page i spot t t' e ins
     let room : k < length spots = omega (arith, count, below) in
     let there : get_or spots k 0 ≡ get_or spots k spot = get_or_from_slice_get spots k (get_or spots k spot) 0 (slice_get-get_or spots k spot room) in
     let spot' : spot ≡ spot_of q seg page = at ∙ sym there ∙ inside.spots k seg page held' in
-    let A : PagerFields → Type 0 = λ x. IsAway x core new now k seg page in
+    let A : PagerFields → Type 0 = λ x. IsEvicted x core new now k seg page in
     subst A e
     (away_from q core new now k seg page i t t'.words settled held' has refl refl (subst C item copied)
     (written ∙ ap (λ a. set core a absent_ptw) spot'))
 
 pub taken_parts : (first : ℕ) (holders : List (Option (ℕ × ℕ))) (tables ts : List TableFields) (p : PagerFields) (core mid now : List ℕ)
     (k seg page i spot : ℕ) (t : TableFields)
-    → parts first holders tables ≡ p → IsSettled p core → has_page p seg page ≡ true → frame_of p core seg page ≡ None
+    → parts first holders tables ≡ p → IsConsistent p core → has_page p seg page ≡ true → frame_of p core seg page ≡ None
     → get_or p.holders k None ≡ None → k < length p.holders
     → ts ≡ tables → position (is_of seg) ts ≡ Some i → t ≡ get_or tables i t
     → IsCopied t.words (1024 * page) core (1024 * (first + k)) mid
     → spot ≡ spot_of p seg page → now ≡ set mid spot (resident_ptw (first + k))
-    → IsTaken p core (parts first (set holders k (Some (seg, page))) tables) now k seg page
+    → IsBroughtIn p core (parts first (set holders k (Some (seg, page))) tables) now k seg page
 taken_parts first holders tables ts p core mid now k seg page i spot t e s has out empty inside same place item copied at written =
     let q : PagerFields = parts first holders tables in
     let new : PagerFields = parts first (set holders k (Some (seg, page))) tables in
-    let settled : IsSettled q core = settled_parts p q core e s in
+    let settled : IsConsistent q core = settled_parts p q core e s in
     let C : TableFields → Type 0 = λ x. IsCopied x.words (1024 * page) core (1024 * (first + k)) mid in
     let holders' : holders ≡ p.holders = ap (λ (x : PagerFields). x.holders) e in
     let count : length holders ≡ length p.holders = ap length holders' in
-    let A : PagerFields → Type 0 = λ x. IsTaken x core new now k seg page in
+    let A : PagerFields → Type 0 = λ x. IsBroughtIn x core new now k seg page in
     subst A e
     (taken_from q core new mid now k seg page i t settled (ap (λ x. has_page x seg page) e ∙ has)
     (ap (λ x. frame_of x core seg page) e ∙ out) (ap (λ hs. get_or hs k None) holders' ∙ empty) (omega (arith, inside, count))
@@ -338,7 +338,7 @@ pub inside_view : (q p : PagerFields) (spots : List ℕ) → q ≡ p → IsInsid
 inside_view q p spots e inside = let P : PagerFields → Type 0 = λ x. IsInside x spots in subst P e inside
 
 pub spot_below : (first : ℕ) (holders : List (Option (ℕ × ℕ))) (spots : List ℕ) (tables : List TableFields) (p : PagerFields) (core : List ℕ) (k seg page spot : ℕ)
-    → parts first holders tables ≡ p → IsInside (parts first holders tables) spots → IsSettled p core → Holds p k seg page
+    → parts first holders tables ≡ p → IsInside (parts first holders tables) spots → IsConsistent p core → Holds p k seg page
     → spot ≡ get_or spots k spot → spot < length core
 spot_below first holders spots tables p core k seg page spot e inside s held at =
     let q : PagerFields = parts first holders tables in
@@ -385,7 +385,7 @@ pub frame_told : (p : PagerFields) (core : List ℕ) (seg page spot : ℕ) (o : 
 unfolding frame_of
 frame_told p core seg page spot o is e = sym (ap (λ a. frame_in (get_or core a 0)) is) ∙ sym e
 
-pub frame_room : (p : PagerFields) (core : List ℕ) (seg page frame : ℕ) → IsSettled p core → has_page p seg page ≡ true
+pub frame_room : (p : PagerFields) (core : List ℕ) (seg page frame : ℕ) → IsConsistent p core → has_page p seg page ≡ true
     → frame_of p core seg page ≡ Some frame → 1024 * frame + 1024 ≤ length core
 frame_room p core seg page frame s has e =
     let range = frame_range p core seg page frame s has e in

@@ -6,7 +6,7 @@ use Rattle.std.proofs.lemmas.List.{get_or-set_same, get_or-set_other, length-set
 use Rattle.m36_model.specs.Core.{unmarked}
 use Rattle.m36_page.specs.Fields.{TableFields, PagerFields}
 use Rattle.std.specs.Bool.{then_some}
-use Rattle.m36_page.specs.Residence.{is_of, has_page, spot_of, kept_word, resident_ptw, frame_in, frame_of, word_in, page_word, content_of, Holds, IsPager, TellsPage, Reads, IsSettled, IsInside}
+use Rattle.m36_page.specs.Residence.{is_of, has_page, spot_of, kept_word, resident_ptw, frame_in, frame_of, word_in, page_word, content_of, Holds, IsPager, NamesFrame, Reads, IsConsistent, IsInside}
 use Rattle.m36_page.specs.Changes.{IsSameShape, IsPaged, IsSet}
 use Rattle.m36_page.specs.Moved.{HasWords, IsKeptWord}
 use Rattle.m36_page.proofs.Frames.{held_inside, content_same, word_stays}
@@ -31,12 +31,12 @@ content_other old core new now s w pages words =
 -- ---- in a frame
 
 -- no page table word is a word of a frame
-spot_apart : (p : PagerFields) (core : List ℕ) (s q a : ℕ) → IsSettled p core → has_page p s q ≡ true → 1024 * p.first ≤ a → spot_of p s q ≢ a
+spot_apart : (p : PagerFields) (core : List ℕ) (s q a : ℕ) → IsConsistent p core → has_page p s q ≡ true → 1024 * p.first ≤ a → spot_of p s q ≢ a
 spot_apart p core s q a settled has above = λ same.
     let below = settled.pager.below s q has in
     absurd (omega (arith, same, below, above))
 
-frame_same : (p : PagerFields) (core : List ℕ) (s q a v : ℕ) → IsSettled p core → has_page p s q ≡ true → 1024 * p.first ≤ a
+frame_same : (p : PagerFields) (core : List ℕ) (s q a v : ℕ) → IsConsistent p core → has_page p s q ≡ true → 1024 * p.first ≤ a
     → frame_of p (set core a v) s q ≡ frame_of p core s q
 unfolding frame_of
 frame_same p core s q a v settled has above =
@@ -49,7 +49,7 @@ same_word : (w word : ℕ) → w / 1024 ≡ word / 1024 → w % 1024 ≡ word % 
 same_word w word high low = omega (arith, high, low)
 
 -- another word of a segment has another place
-elsewhere : (p : PagerFields) (core : List ℕ) (s w seg word f frame : ℕ) → IsSettled p core
+elsewhere : (p : PagerFields) (core : List ℕ) (s w seg word f frame : ℕ) → IsConsistent p core
     → has_page p s (w / 1024) ≡ true → has_page p seg (word / 1024) ≡ true
     → frame_of p core s (w / 1024) ≡ Some f → frame_of p core seg (word / 1024) ≡ Some frame
     → ((s ≡ seg) × (w ≡ word) → ⊥) → 1024 * f + w % 1024 ≢ 1024 * frame + word % 1024
@@ -67,10 +67,10 @@ elsewhere p core s w seg word f frame settled has has' e e' other = λ same.
     let both : (s, w / 1024) ≡ (seg, word / 1024) = same_some (s, w / 1024) (seg, word / 1024) pair in
     other (ap (λ (x : ℕ × ℕ). x.0) both, same_word w word (ap (λ (x : ℕ × ℕ). x.1) both) low)
 
-same_reads : (p : PagerFields) (core : List ℕ) (a v : ℕ) → IsSettled p core → 1024 * p.first ≤ a → Reads p (set core a v)
+same_reads : (p : PagerFields) (core : List ℕ) (a v : ℕ) → IsConsistent p core → 1024 * p.first ≤ a → Reads p (set core a v)
 same_reads p core a v settled above = record {
   pages = λ s q has.
-      let P : ℕ → Type 0 = λ x. TellsPage p s q x in
+      let P : ℕ → Type 0 = λ x. NamesFrame p s q x in
       subst P (sym (get_or-set_other core a (spot_of p s q) v 0 (spot_apart p core s q a settled has above))) (settled.reads.pages s q has);
   frames = λ k s q h.
       ap unmarked (get_or-set_other core a (spot_of p s q) v 0 (spot_apart p core s q a settled (settled.pager.held k s q h) above))
@@ -83,7 +83,7 @@ some_same a b e = cc
 some_none : (o : Option ℕ) (f : ℕ) → o ≡ Some f → o ≡ None → ⊥
 some_none o f e none = cc
 
-pub set_in_frame : (p : PagerFields) (core now : List ℕ) (seg word frame v : ℕ) → IsSettled p core → has_page p seg (word / 1024) ≡ true
+pub set_in_frame : (p : PagerFields) (core now : List ℕ) (seg word frame v : ℕ) → IsConsistent p core → has_page p seg (word / 1024) ≡ true
     → frame_of p core seg (word / 1024) ≡ Some frame → now ≡ set core (1024 * frame + word % 1024) v
     → IsSet p core p now seg word v × Reads p now
 set_in_frame p core now seg word frame v s has e written =
@@ -127,7 +127,7 @@ kept_frame : (p new : PagerFields) (core : List ℕ) (s q : ℕ) → IsSameShape
 unfolding frame_of
 kept_frame p new core s q shape = ap (λ a. frame_in (get_or core a 0)) (shape.spots s q)
 
-pub set_kept : (p new : PagerFields) (core : List ℕ) (seg word v : ℕ) → IsSettled p core → has_page p seg (word / 1024) ≡ true
+pub set_kept : (p new : PagerFields) (core : List ℕ) (seg word v : ℕ) → IsConsistent p core → has_page p seg (word / 1024) ≡ true
     → frame_of p core seg (word / 1024) ≡ None → IsKeptWord p new seg word v
     → IsSet p core new core seg word v × Reads new core
 set_kept p new core seg word v s has e kept = (

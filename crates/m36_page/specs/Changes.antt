@@ -19,7 +19,7 @@ pub record IsSameShape (old new : PagerFields) : Type 0 where
   pub spots : (seg page : ℕ) → spot_of new seg page ≡ spot_of old seg page
 
 -- the core word `a` is a page table word of the tables
-pub record IsSpot (p : PagerFields) (a : ℕ) : Type 0 where
+pub record IsPtwPlace (p : PagerFields) (a : ℕ) : Type 0 where
   pub seg : ℕ
   pub page : ℕ
   pub has : has_page p seg page ≡ true
@@ -27,11 +27,11 @@ pub record IsSpot (p : PagerFields) (a : ℕ) : Type 0 where
 
 -- a core word that a call may change: a page table word, or a word of a pageable frame
 abbrev pub IsPaged : PagerFields → ℕ → Type 0
-IsPaged p a = IsSpot p a ⊎ ((1024 * p.first ≤ a) × (a < 1024 * (p.first + length p.holders)))
+IsPaged p a = IsPtwPlace p a ⊎ ((1024 * p.first ≤ a) × (a < 1024 * (p.first + length p.holders)))
 
 -- Pages may have moved: no content has changed, and no core word except page table words and words
 -- of pageable frames.
-pub record IsKept (old : PagerFields) (core : List ℕ) (new : PagerFields)
+pub record KeepsContents (old : PagerFields) (core : List ℕ) (new : PagerFields)
     (now : List ℕ) : Type 0 where
   pub shape : IsSameShape old new
   pub size : length now ≡ length core
@@ -119,8 +119,8 @@ pub record IsFreeSpot (p : PagerFields) (refs : List Reference) (a : ℕ) : Type
   pub is : spot_of p seg page ≡ a
 
 -- a core word is unchanged, or it is at one of these places and its used mark was cleared
-abbrev pub IsPassed : (ℕ → Type 0) → List ℕ → List ℕ → ℕ → Type 0
-IsPassed at core now a =
+abbrev pub OnlyMarkCleared : (ℕ → Type 0) → List ℕ → List ℕ → ℕ → Type 0
+OnlyMarkCleared at core now a =
     (slice_index now a ≡ slice_index core a)
     ⊎ (at a × (slice_index now a ≡ without_used (slice_index core a)))
 
@@ -130,7 +130,7 @@ IsPassed at core now a =
 -- references do not pin. Only the kept words of the evicted page may have changed.
 pub record IsBrought (old : PagerFields) (core : List ℕ) (new : PagerFields) (now : List ℕ)
     (seg page : ℕ) (refs : List Reference) : Type 0 where
-  pub kept : IsKept old core new now
+  pub kept : KeepsContents old core new now
   pub resident : IsSome (frame_of new now seg page)
   pub stays : All (Stays old core new now) refs
   pub k : ℕ
@@ -142,6 +142,6 @@ pub record IsBrought (old : PagerFields) (core : List ℕ) (new : PagerFields) (
   pub words : (a : ℕ) → a ≢ spot_of old seg page
       → ((s q : ℕ) → Holds old k s q → a ≢ spot_of old s q)
       → IsOutside (1024 * (old.first + k)) 1024 a
-      → IsPassed (IsFreeSpot old refs) core now a
+      → OnlyMarkCleared (IsFreeSpot old refs) core now a
   pub others_kept : (s w : ℕ) → (Holds old k s (w / 1024) → ⊥)
       → kept_word new s w ≡ kept_word old s w

@@ -2,7 +2,7 @@
 use Rattle.std.specs.Prelude.{ℕ, ◌≡◌, ◌≤◌, ◌<◌, true, false, List, length, slice_index}
 use Rattle.std.specs.Prelude.{slice_index_or, Option, Some, None}
 use Rattle.m36_model.specs.declared.place.Reference.{Reference}
-use Rattle.m36_page.specs.Changes.{is_pinned, IsPassed}
+use Rattle.m36_page.specs.Changes.{is_pinned, OnlyMarkCleared}
 
 -- a frame that holds no page of the references
 pub record IsFree (refs : List Reference) (holders : List (Option (ℕ × ℕ))) (k : ℕ) : Type 0 where
@@ -25,9 +25,9 @@ pub record IsHeldSpot (refs : List Reference) (holders : List (Option (ℕ × �
   pub is : slice_index spots k ≡ a
 
 -- no word has changed except the used mark of words at these places, which was cleared
-pub record IsMarked (core now : List ℕ) (at : ℕ → Type 0) : Type 0 where
+pub record ClearsMarksAt (core now : List ℕ) (at : ℕ → Type 0) : Type 0 where
   pub size : length now ≡ length core
-  pub each : (a : ℕ) → IsPassed at core now a
+  pub each : (a : ℕ) → OnlyMarkCleared at core now a
 
 -- the page table word of each frame that holds a page is a word of core
 abbrev pub AreInCore : List (Option (ℕ × ℕ)) → List ℕ → List ℕ → Type 0

@@ -4,8 +4,8 @@ use Rattle.std.specs.Prelude.{slice_index, slice_index_or, slice_set, position, 
 use Rattle.m36_page.specs.Copied.{IsOutside}
 use Rattle.m36_page.specs.Fields.{TableFields, PagerFields}
 use Rattle.m36_page.specs.Residence.{is_of, has_page, spot_of, kept_word, absent_ptw, resident_ptw}
-use Rattle.m36_page.specs.Residence.{frame_of, Holds, IsPager, IsSettled}
-use Rattle.m36_page.specs.Changes.{IsSameShape, IsKept, OthersStay}
+use Rattle.m36_page.specs.Residence.{frame_of, Holds, IsPager, IsConsistent}
+use Rattle.m36_page.specs.Changes.{IsSameShape, KeepsContents, OthersStay}
 
 -- The table of a segment, which has index i, has these words now.
 pub record HasWords (p new : PagerFields) (seg i : ℕ) (d : TableFields)
@@ -15,7 +15,7 @@ pub record HasWords (p new : PagerFields) (seg i : ℕ) (d : TableFields)
       ≡ slice_set p.tables i (record (slice_index_or p.tables i d) { words = words })
 
 -- The page of frame k was evicted: its kept words are those that the frame had.
-pub record IsAway (p : PagerFields) (core : List ℕ) (new : PagerFields) (now : List ℕ)
+pub record IsEvicted (p : PagerFields) (core : List ℕ) (new : PagerFields) (now : List ℕ)
     (k seg page : ℕ) : Type 0 where
   pub held : Holds p k seg page
   pub shape : IsSameShape p new
@@ -32,7 +32,7 @@ pub record IsAway (p : PagerFields) (core : List ℕ) (new : PagerFields) (now :
 
 -- A page that was in no frame was taken into frame k, which was empty: the frame has the kept
 -- words of the page.
-pub record IsTaken (p : PagerFields) (core : List ℕ) (new : PagerFields) (now : List ℕ)
+pub record IsBroughtIn (p : PagerFields) (core : List ℕ) (new : PagerFields) (now : List ℕ)
     (k seg page : ℕ) : Type 0 where
   pub has : has_page p seg page ≡ true
   pub out : frame_of p core seg page ≡ None
@@ -54,8 +54,8 @@ pub record IsTaken (p : PagerFields) (core : List ℕ) (new : PagerFields) (now 
 -- Frame k was emptied, if it held a page: all other pages stay where they are.
 pub record IsEmptied (p : PagerFields) (core : List ℕ) (new : PagerFields) (now : List ℕ)
     (k : ℕ) : Type 0 where
-  pub kept : IsKept p core new now
-  pub settled : IsSettled new now
+  pub kept : KeepsContents p core new now
+  pub settled : IsConsistent new now
   pub empty : slice_index_or new.holders k None ≡ None
   pub spot : (s q : ℕ) → Holds p k s q → slice_index now (spot_of p s q) ≡ absent_ptw
   pub same : slice_index_or p.holders k None ≡ None → (new ≡ p) × (now ≡ core)

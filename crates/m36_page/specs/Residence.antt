@@ -96,15 +96,15 @@ pub record IsPager (p : PagerFields) : Type 0 where
 
 -- A page table word, except for its marks, is that of a page in no frame, or names the frame that
 -- holds the page.
-abbrev pub TellsPage : PagerFields → ℕ → ℕ → ℕ → Type 0
-TellsPage p seg page w =
+abbrev pub NamesFrame : PagerFields → ℕ → ℕ → ℕ → Type 0
+NamesFrame p seg page w =
     (unmarked w ≡ absent_ptw)
     ⊎ ((k : ℕ) × Holds p k seg page × (unmarked w ≡ resident_ptw (p.first + k)))
 
 -- Each page table word of the tables is as the pager left it, except for its marks.
 pub record Reads (p : PagerFields) (core : List ℕ) : Type 0 where
   pub pages : (seg page : ℕ) → has_page p seg page ≡ true
-      → TellsPage p seg page (slice_index core (spot_of p seg page))
+      → NamesFrame p seg page (slice_index core (spot_of p seg page))
   pub frames : (k seg page : ℕ) → Holds p k seg page
       → unmarked (slice_index core (spot_of p seg page)) ≡ resident_ptw (p.first + k)
 
@@ -117,7 +117,7 @@ abbrev pub HasFrames : PagerFields → List ℕ → Type 0
 HasFrames p core = 1024 * (p.first + length p.holders) ≤ length core
 
 -- a pager and its core, before and after each call
-pub record IsSettled (p : PagerFields) (core : List ℕ) : Type 0 where
+pub record IsConsistent (p : PagerFields) (core : List ℕ) : Type 0 where
   pub pager : IsPager p
   pub reads : Reads p core
   pub frames : HasFrames p core

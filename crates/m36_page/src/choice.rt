@@ -3,7 +3,7 @@
 ghost use Rattle.std.specs.Prelude.{ℕ, ◌≡◌, ◌+◌, ◌≤◌, ◌<◌, true, false, length, slice_index_or, slice_index, slice_get, Some, None, IsSome, IfSome, IfNone};
 ghost use Rattle.m36_desc.specs.Descriptors.{ptw_of};
 ghost use Rattle.m36_page.specs.Changes.{is_to, is_pinned};
-ghost use Rattle.m36_page.specs.Choice.{IsFree, ArePinned, IsHeldSpot, IsMarked, AreInCore};
+ghost use Rattle.m36_page.specs.Choice.{IsFree, ArePinned, IsHeldSpot, ClearsMarksAt, AreInCore};
 
 use crate::residence::ptw_in_core;
 use m36_core::Core;
@@ -90,9 +90,9 @@ fn is_used(core: &Core, spot: u32) -> bool
 
 // Clears the used mark of a page table word, and returns whether it was set.
 #[tactic(auto, using(crate::proofs::Frames::unused, crate::proofs::Frames::marked_none))]
-fn put_off(core: &mut Core, spot: u32) -> bool
+fn clear_used(core: &mut Core, spot: u32) -> bool
     requires { spot < length core.old }
-    ensures { IsMarked core.old core.new (λ a. a ≡ spot) }
+    ensures { ClearsMarksAt core.old core.new (λ a. a ≡ spot) }
 {
     if !is_used(core, spot) {
         return false;
@@ -105,7 +105,7 @@ fn put_off(core: &mut Core, spot: u32) -> bool
 // Whether the hand passes over a frame: its page is pinned, or was used. The mark of an unpinned
 // page that was used is cleared.
 #[tactic(auto, using(crate::proofs::Frames::marked_none))]
-fn is_passed(
+fn is_skipped(
     core: &mut Core,
     references: &[Reference],
     holder: Option<(u16, u16)>,
@@ -113,7 +113,7 @@ fn is_passed(
 ) -> bool
     requires { IsSome holder → spot < length core.old }
     ensures free { result ≡ false → is_pinned references.now holder ≡ false }
-    ensures marks { IsMarked core.old core.new
+    ensures marks { ClearsMarksAt core.old core.new
         (λ a. IsSome holder × (is_pinned references.now holder ≡ false) × (a ≡ spot)) }
 {
     if is_pinned(references, holder) {
@@ -121,7 +121,7 @@ fn is_passed(
     }
     match holder {
         None => false,
-        Some(_) => put_off(core, spot),
+        Some(_) => clear_used(core, spot),
     }
 }
 
@@ -139,10 +139,10 @@ fn unused_between(
     requires count { length spots.now ≡ length holders.now }
     requires inside { AreInCore holders.now spots.now core.old }
     ensures found { IfSome result (IsFree references.now holders.now) }
-    ensures marks { IsMarked core.old core.new (IsHeldSpot references.now holders.now spots.now) }
+    ensures marks { ClearsMarksAt core.old core.new (IsHeldSpot references.now holders.now spots.now) }
 {
     for k in from..to {
-        if !is_passed(core, references, holders[k], spots[k]) {
+        if !is_skipped(core, references, holders[k], spots[k]) {
             return Some(k);
         }
     }
@@ -161,7 +161,7 @@ fn unused_from(
     requires count { length spots.now ≡ length holders.now }
     requires inside { AreInCore holders.now spots.now core.old }
     ensures found { IfSome result (IsFree references.now holders.now) }
-    ensures marks { IsMarked core.old core.new (IsHeldSpot references.now holders.now spots.now) }
+    ensures marks { ClearsMarksAt core.old core.new (IsHeldSpot references.now holders.now spots.now) }
 {
     let ahead = MOST_PASSED.min(holders.len() - hand);
     if let Some(k) = unused_between(core, references, holders, spots, hand, hand + ahead) {
@@ -188,7 +188,7 @@ pub(crate) fn choose(
     ensures found { IfSome result (IsFree references.now holders.now) }
     ensures none { IfNone result (ArePinned references.now holders.now 0 (length holders.now)) }
     ensures same { IfNone result (core.new ≡ core.old) }
-    ensures marks { IsMarked core.old core.new (IsHeldSpot references.now holders.now spots.now) }
+    ensures marks { ClearsMarksAt core.old core.new (IsHeldSpot references.now holders.now spots.now) }
 {
     let Some(free) = free_from(holders, references, hand) else {
         return None;

@@ -2,11 +2,11 @@
 
 ghost use Rattle.std.specs.Prelude.{ℕ, ◌≡◌, ◌≢◌, ◌+◌, ◌-◌, ◌^◌, ◌*◌, ◌/◌, ◌<◌, ◌≤◌, ◌⊎◌, Bool, true, false, ◌&&◌, nat_eq, if◌then◌else◌, length, slice_index_or, slice_set, replicate, IfOk, Some, None, IsSome, IfSome, IfNone, OnOk, OnErr};
 ghost use Rattle.m36_model.specs.Core.{unmarked};
-ghost use Rattle.m36_page.specs.Residence.{has_page, spot_of, kept_word, frame_of, content_of, Holds, IsPager, Reads, EndBelow, HasFrames, IsSettled};
+ghost use Rattle.m36_page.specs.Residence.{has_page, spot_of, kept_word, frame_of, content_of, Holds, IsPager, Reads, EndBelow, HasFrames, IsConsistent};
 ghost use Rattle.m36_page.specs.Changes.{IsBrought, IsSet, IsFreeSpot, AllPinned, AllEmpty, AreAbsent};
-ghost use Rattle.m36_page.specs.Choice.{IsFree, IsMarked, AreInCore};
+ghost use Rattle.m36_page.specs.Choice.{IsFree, ClearsMarksAt, AreInCore};
 ghost use Rattle.m36_page.specs.Given.{are_placed, pager_given};
-ghost use Rattle.m36_page.specs.Moved.{IsAway, IsTaken, IsEmptied, IsKeptWord};
+ghost use Rattle.m36_page.specs.Moved.{IsEvicted, IsBroughtIn, IsEmptied, IsKeptWord};
 
 use crate::choice::choose;
 use crate::residence::{frame_at, put_absent, put_resident};
@@ -135,10 +135,10 @@ impl Pager {
     }
 
     // Evicts the page of frame k.
-    fn put_page_away(&mut self, core: &mut Core, k: usize, seg: u16, page: u16)
-        requires settled { IsSettled self.old core.old }
+    fn evict_page(&mut self, core: &mut Core, k: usize, seg: u16, page: u16)
+        requires settled { IsConsistent self.old core.old }
         requires held { Holds self.old k seg page }
-        ensures { IsAway self.old core.old self.new core.new k seg page }
+        ensures { IsEvicted self.old core.old self.new core.new k seg page }
     {
         let frame = self.first + k as u32;
         let spot = self.spots[k];
@@ -150,24 +150,24 @@ impl Pager {
 
     // Evicts the page of frame k, if it holds one.
     fn empty(&mut self, core: &mut Core, k: usize)
-        requires settled { IsSettled self.old core.old }
+        requires settled { IsConsistent self.old core.old }
         requires inside { k < length self.old.holders }
         ensures { IsEmptied self.old core.old self.new core.new k }
     {
         match self.holders[k] {
-            Some((seg, page)) => self.put_page_away(core, k, seg, page),
+            Some((seg, page)) => self.evict_page(core, k, seg, page),
             None => {}
         }
     }
 
     // Takes a page that is in no frame into frame k, which is empty.
     fn take_in(&mut self, core: &mut Core, k: usize, seg: u16, page: u16)
-        requires settled { IsSettled self.old core.old }
+        requires settled { IsConsistent self.old core.old }
         requires inside { k < length self.old.holders }
         requires empty { slice_index_or self.old.holders k None ≡ None }
         requires page { has_page self.old seg page ≡ true }
         requires out { frame_of self.old core.old seg page ≡ None }
-        ensures { IsTaken self.old core.old self.new core.new k seg page }
+        ensures { IsBroughtIn self.old core.old self.new core.new k seg page }
     {
         let frame = self.first + k as u32;
         let i = table_place(&self.tables, seg);
@@ -182,11 +182,11 @@ impl Pager {
 
     // The frame to take next.
     fn choose(&self, core: &mut Core, references: &[Reference]) -> Option<usize>
-        requires { IsSettled self.now core.old }
+        requires { IsConsistent self.now core.old }
         ensures found { IfSome result (IsFree references.now self.now.holders) }
         ensures none { IfNone result (AllPinned self.now references.now) }
         ensures same { IfNone result (core.new ≡ core.old) }
-        ensures marks { IsMarked core.old core.new (IsFreeSpot self.now references.now) }
+        ensures marks { ClearsMarksAt core.old core.new (IsFreeSpot self.now references.now) }
     {
         choose(core, references, &self.holders, &self.spots, self.hand)
     }

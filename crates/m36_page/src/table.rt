@@ -54,7 +54,7 @@ fn is_placed(first: u32, table: &PageTable, others: &[PageTable]) -> bool
 }
 
 #[tactic(auto, using(crate::proofs::Placed::rest_of))]
-fn tables_behind(tables: &[PageTable], i: usize) -> &[PageTable]
+fn tables_after(tables: &[PageTable], i: usize) -> &[PageTable]
     requires { i < length tables.now }
     ensures { result.now ≡ drop (i + 1) tables.now }
 {
@@ -67,7 +67,7 @@ pub fn are_placed(first: u32, tables: &[PageTable]) -> bool
     ensures { result ≡ are_placed first tables.now }
 {
     for (i, table) in tables.iter().enumerate() {
-        if !is_placed(first, table, tables_behind(tables, i)) {
+        if !is_placed(first, table, tables_after(tables, i)) {
             return false;
         }
     }

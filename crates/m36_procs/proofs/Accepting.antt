@@ -1,7 +1,7 @@
 -- The result of parsing a text of processes, by its first line and the lines after it.
 use Rattle.std.proofs.Common.{◌≡◌, ℕ, ◌*◌, List, [], ◌∷◌, ◌++◌, drop, replicate, Option, Some, Result, Ok, Err, sym, ap, ◌∙◌}
 use Rattle.m36_model.specs.Registers.{RegsFields}
-use Rattle.m36_text.specs.Lines.{lines_of, line_at, first_told}
+use Rattle.m36_text.specs.Lines.{lines_of, line_at, first_reported}
 use Rattle.m36_text.specs.Results.{unless}
 use Rattle.m36_text.proofs.Telling.{told_earlier}
 use Rattle.m36_image.proofs.Images.{frames_are}
@@ -11,7 +11,7 @@ use Rattle.m36_image.specs.declared.refusal.ImageCode.{ImageCode}
 use Rattle.m36_procs.specs.ProcsFields.{ProcsFields}
 use Rattle.m36_procs.specs.ProcsFile.{codes_from, core_code, at_start, line_codes, processes_in, placed_in, turns_in, procs_in, procs_given}
 use Rattle.m36_procs.specs.ProcsSays.{ProcsSays}
-use Rattle.m36_procs.specs.ReaderSays.{stands_of}
+use Rattle.m36_procs.specs.ReaderSays.{parse_state_of}
 use Rattle.m36_procs.specs.ReadingSays.{FaultSays, Begun, TookLines}
 use Rattle.m36_procs.specs.declared.fault.Code.{Code}
 use Rattle.m36_procs.specs.declared.fault.Code.TheVariants as code
@@ -21,14 +21,14 @@ use Rattle.m36_procs.specs.declared.reader.Reader.{Reader}
 
 given_told :
     (text : List ℕ) (told : ℕ × Code)
-    → first_told 1 (line_codes (lines_of text)) ≡ Some told → procs_given text ≡ Err told
+    → first_reported 1 (line_codes (lines_of text)) ≡ Some told → procs_given text ≡ Err told
 unfolding procs_given
 given_told text told e =
     ap (λ f. unless f (procs_in (1024 * frames_of (lines_of text)) (drop 1 (lines_of text)))) e
 
 says_told :
     (text : List ℕ) (fault : ProcsFault) (n : ℕ) (codes : List (Option Code))
-    → ((told : ℕ × Code) → first_told n codes ≡ Some told → first_told 1 (line_codes (lines_of text)) ≡ Some told)
+    → ((told : ℕ × Code) → first_reported n codes ≡ Some told → first_reported 1 (line_codes (lines_of text)) ≡ Some told)
     → FaultSays fault n codes → ProcsSays (Err fault) (procs_given text)
 says_told text (P1 line) n codes on told = given_told text (line, code.P1) (on (line, code.P1) told)
 says_told text (P2 line) n codes on told = given_told text (line, code.P2) (on (line, code.P2) told)
@@ -43,26 +43,26 @@ first_refused text fault told =
 
 fine_first :
     (read : Result ℕ ImageCode) (n : ℕ) (codes : List (Option Code))
-    → read ≡ Ok n → first_told 1 (core_code read ∷ codes) ≡ first_told 2 codes
-unfolding first_told
+    → read ≡ Ok n → first_reported 1 (core_code read ∷ codes) ≡ first_reported 2 codes
+unfolding first_reported
 fine_first read n codes e = rw e
 
 -- the first code of the text is that of the lines after the first line
 codes_behind :
     (text rest : List ℕ) (r : Reader)
     → Begun r rest (lines_of text)
-    → first_told 1 (line_codes (lines_of text)) ≡ first_told 2 (codes_from (stands_of r) (lines_of rest))
+    → first_reported 1 (line_codes (lines_of text)) ≡ first_reported 2 (codes_from (parse_state_of r) (lines_of rest))
 codes_behind text rest r begun =
-    fine_first (core_line (line_at (lines_of text) 1)) begun.frames _ begun.line ∙ ap (λ n. first_told 2 (codes_from (at_start (1024 * n)) (drop 1 (lines_of text)))) (frames_are (lines_of text) begun.frames begun.line) ∙ ap (λ s. first_told 2 (codes_from s (drop 1 (lines_of text)))) (sym begun.stands) ∙ ap (λ l. first_told 2 (codes_from (stands_of r) l)) begun.others
+    fine_first (core_line (line_at (lines_of text) 1)) begun.frames _ begun.line ∙ ap (λ n. first_reported 2 (codes_from (at_start (1024 * n)) (drop 1 (lines_of text)))) (frames_are (lines_of text) begun.frames begun.line) ∙ ap (λ s. first_reported 2 (codes_from s (drop 1 (lines_of text)))) (sym begun.stands) ∙ ap (λ l. first_reported 2 (codes_from (parse_state_of r) l)) begun.others
 
 -- a later line is refused
 pub later_refused :
     (text rest : List ℕ) (r : Reader) (fault : ProcsFault)
     → Begun r rest (lines_of text)
-    → FaultSays fault 2 (codes_from (stands_of r) (lines_of rest))
+    → FaultSays fault 2 (codes_from (parse_state_of r) (lines_of rest))
     → ProcsSays (Err fault) (procs_given text)
 later_refused text rest r fault begun told =
-    says_told text fault 2 (codes_from (stands_of r) (lines_of rest)) (λ there e. codes_behind text rest r begun ∙ e) told
+    says_told text fault 2 (codes_from (parse_state_of r) (lines_of rest)) (λ there e. codes_behind text rest r begun ∙ e) told
 
 -- processes and a schedule with these parts
 abbrev pub procs_of : List RegsFields → List ℕ → List ℕ → ProcsFields

@@ -3,7 +3,7 @@ use Rattle.std.proofs.Common.{◌≡◌, ℕ, ◌+◌, List, [], ◌∷◌, ◌+
 use Rattle.std.proofs.lemmas.List.{nil_from_length}
 use Rattle.m36_outside.specs.Gathered.{Gathers, Loses, Adds}
 use Rattle.m36_outside.specs.Passing.{joined, TakesSome, TakesLines}
-use Rattle.m36_outside.specs.Put.{PutSays}
+use Rattle.m36_outside.specs.Put.{PutResult}
 use Rattle.m36_outside.specs.declared.sink.Put.{Put}
 use Rattle.m36_outside.proofs.Gathered.{lines_added, lines_lost}
 use Rattle.m36_outside.proofs.LinesTaken.{CompletesLines, completes_lines_all, completes_lines_whole, completes_lines_cut_last}
@@ -26,10 +26,10 @@ line_adds answer written written' taken taken' old new line lent is added =
 -- The last line was added and the block was handed over.
 pub last_says :
     (answer : Put) (written written' : Option (List ℕ)) (old : List (List ℕ)) (line lent : List ℕ)
-    → lent ≡ line → PutSays answer written written' (joined (old ++ lent ∷ []))
-    → PutSays answer written written' (joined (old ++ line ∷ []))
+    → lent ≡ line → PutResult answer written written' (joined (old ++ lent ∷ []))
+    → PutResult answer written written' (joined (old ++ line ∷ []))
 last_says answer written written' old line lent is said =
-    subst (λ l. PutSays answer written written' (joined (old ++ l ∷ []))) is said
+    subst (λ l. PutResult answer written written' (joined (old ++ l ∷ []))) is said
 
 pub last_takes :
     (answer : Put) (taken taken' old : List (List ℕ)) (line lent : List ℕ)

@@ -1,4 +1,4 @@
--- Taking a line keeps the invariant `Fits`.
+-- Taking a line keeps the invariant `IsReaderInvariant`.
 use Rattle.std.proofs.Common.{◌≡◌, ℕ, zero, suc, ◌+◌, ◌<◌, ◌≤◌, Bool, true, false, cond, ◌&&◌, List, [], ◌∷◌, ◌++◌, length, Some, Result, Ok, Err, refl, sym, ap, ◌∙◌, arith}
 use Rattle.std.specs.Prelude.{nat_le, nat_lt}
 use Rattle.std.proofs.lemmas.Bool.{leb-true, ltb-true, lt-ltb, and_parts, and_from}
@@ -7,12 +7,12 @@ use Rattle.std.proofs.lemmas.List.Folds.{list_all-append}
 use Rattle.m36_model.specs.Registers.{RegsFields}
 use Rattle.m36_image.specs.PlacedWords.{PlacedWords}
 use Rattle.m36_image.specs.declared.refusal.ImageCode.{ImageCode}
-use Rattle.m36_image.specs.InTurn.{at_end}
+use Rattle.m36_image.specs.LineByLine.{code_of_at_line}
 use Rattle.m36_procs.specs.ProcsFields.{TurnsFields}
-use Rattle.m36_procs.specs.ProcsFile.{Line, Stands, may_name, may_place, may_end, placed_from, events_with, are_named, judged}
+use Rattle.m36_procs.specs.ProcsFile.{Line, ParseState, may_name, may_place, may_end, placed_from, events_with, are_named, state_after_line}
 use Rattle.std.specs.List.{repeat}
 use Rattle.m36_procs.specs.ProcsFile.Line.{ProcessLine, TurnsLine, AtLine, OtherLine}
-use Rattle.m36_procs.specs.ReaderSays.{stands_of, Fits, TookLine}
+use Rattle.m36_procs.specs.ReaderSays.{parse_state_of, IsReaderInvariant, TookLine}
 use Rattle.m36_procs.specs.declared.fault.Code.{Code}
 use Rattle.m36_procs.specs.declared.fault.Code.TheVariants.{P1, P2}
 use Rattle.m36_procs.specs.declared.reader.Reader.{Reader}
@@ -27,17 +27,17 @@ was_chosen : {A E : Type 0} (b : Bool) (r : Result A E) (e : E) (y : A) → cond
 was_chosen true r e y h = h
 was_chosen false r e y h = cc
 
-abbrev fine : Stands → Result Stands Code
+abbrev fine : ParseState → Result ParseState Code
 fine s = Ok s
 
-abbrev refused : Code → Result Stands Code
+abbrev refused : Code → Result ParseState Code
 refused code = Err code
 
-ok_same : (x y : Stands) → fine x ≡ fine y → x ≡ y
+ok_same : (x y : ParseState) → fine x ≡ fine y → x ≡ y
 ok_same x y h = cc
 
 was_placed :
-    (s y : Stands) (r : Result ℕ ImageCode)
+    (s y : ParseState) (r : Result ℕ ImageCode)
     → placed_from s r ≡ Ok y → (end : ℕ) × (record s { stage = Placing; next = end } ≡ y)
 was_placed s y (Ok end) h = (end, ok_same (record s { stage = Placing; next = end }) y h)
 was_placed s y (Err code) h = cc
@@ -68,15 +68,15 @@ named_still :
 named_still old new count same counted e =
     ap (are_named (length new.regs.items)) (same ∙ append-nil old.schedule.items) ∙ ap (λ n. are_named n old.schedule.items) counted ∙ e
 
-kept_process : (old new : Reader) (g : RegsFields) → Fits old → TookLine old new (ProcessLine g) → Fits new
-unfolding judged
+kept_process : (old new : Reader) (g : RegsFields) → IsReaderInvariant old → TookLine old new (ProcessLine g) → IsReaderInvariant new
+unfolding state_after_line
 kept_process old new g fits took =
-    let s : Stands = stands_of old in
-    let next : Stands = record s { processes = s.processes + 1 } in
-    let test : may_name s.stage && nat_lt s.processes 8 ≡ true = was_tested (may_name s.stage && nat_lt s.processes 8) (Ok next) P1 (stands_of new) took.stands in
-    let is : next ≡ stands_of new = ok_same next (stands_of new) (was_chosen (may_name s.stage && nat_lt s.processes 8) (Ok next) P1 (stands_of new) took.stands) in
-    let counted : length new.regs.items ≡ length old.regs.items + 1 = sym (ap (λ (t : Stands). t.processes) is) in
-    let events : length new.schedule.items ≡ length old.schedule.items = sym (ap (λ (t : Stands). t.events) is) in
+    let s : ParseState = parse_state_of old in
+    let next : ParseState = record s { processes = s.processes + 1 } in
+    let test : may_name s.stage && nat_lt s.processes 8 ≡ true = was_tested (may_name s.stage && nat_lt s.processes 8) (Ok next) P1 (parse_state_of new) took.stands in
+    let is : next ≡ parse_state_of new = ok_same next (parse_state_of new) (was_chosen (may_name s.stage && nat_lt s.processes 8) (Ok next) P1 (parse_state_of new) took.stands) in
+    let counted : length new.regs.items ≡ length old.regs.items + 1 = sym (ap (λ (t : ParseState). t.processes) is) in
+    let events : length new.schedule.items ≡ length old.schedule.items = sym (ap (λ (t : ParseState). t.events) is) in
     let below : length old.regs.items < 8 = ltb-true (length old.regs.items) 8 (and_parts (may_name s.stage) (nat_lt s.processes 8) test).1 in
     record {
       are = record {
@@ -87,14 +87,14 @@ kept_process old new g fits took =
       some = λ e. omega (arith, counted);
     }
 
-kept_words : (old new : Reader) (p : PlacedWords) → Fits old → TookLine old new (AtLine p) → Fits new
-unfolding judged
+kept_words : (old new : Reader) (p : PlacedWords) → IsReaderInvariant old → TookLine old new (AtLine p) → IsReaderInvariant new
+unfolding state_after_line
 kept_words old new p fits took =
-    let s : Stands = stands_of old in
-    let placed = was_placed s (stands_of new) (at_end s.size s.next (Some p)) (was_chosen (may_place s.stage && nat_lt 0 s.processes) (placed_from s (at_end s.size s.next (Some p))) P1 (stands_of new) took.stands) in
-    let counted : length new.regs.items ≡ length old.regs.items = sym (ap (λ (t : Stands). t.processes) placed.1) in
-    let events : length new.schedule.items ≡ length old.schedule.items = sym (ap (λ (t : Stands). t.events) placed.1) in
-    let stage : false ≡ may_end new.stage = ap (λ (t : Stands). may_end t.stage) placed.1 in
+    let s : ParseState = parse_state_of old in
+    let placed = was_placed s (parse_state_of new) (code_of_at_line s.size s.next (Some p)) (was_chosen (may_place s.stage && nat_lt 0 s.processes) (placed_from s (code_of_at_line s.size s.next (Some p))) P1 (parse_state_of new) took.stands) in
+    let counted : length new.regs.items ≡ length old.regs.items = sym (ap (λ (t : ParseState). t.processes) placed.1) in
+    let events : length new.schedule.items ≡ length old.schedule.items = sym (ap (λ (t : ParseState). t.events) placed.1) in
+    let stage : false ≡ may_end new.stage = ap (λ (t : ParseState). may_end t.stage) placed.1 in
     record {
       are = record {
         few = omega (arith, counted, fits.are.few);
@@ -107,17 +107,17 @@ kept_words old new p fits took =
     no_end : {P : Type 0} → false ≡ true → P
     no_end e = cc
 
-kept_turns : (old new : Reader) (t : TurnsFields) → Fits old → TookLine old new (TurnsLine t) → Fits new
-unfolding judged
+kept_turns : (old new : Reader) (t : TurnsFields) → IsReaderInvariant old → TookLine old new (TurnsLine t) → IsReaderInvariant new
+unfolding state_after_line
 kept_turns old new t fits took =
-    let s : Stands = stands_of old in
-    let next : Stands = record s { stage = Turning; events = events_with s.events t } in
-    let test : nat_lt 0 s.processes && nat_le (events_with s.events t) 10000000 ≡ true = was_tested (nat_lt 0 s.processes && nat_le (events_with s.events t) 10000000) (cond (are_named s.processes t.order) (Ok next) (Err P2)) P1 (stands_of new) took.stands in
-    let inner = was_chosen (nat_lt 0 s.processes && nat_le (events_with s.events t) 10000000) (cond (are_named s.processes t.order) (Ok next) (Err P2)) P1 (stands_of new) took.stands in
-    let named : are_named (length old.regs.items) t.order ≡ true = was_tested (are_named s.processes t.order) (Ok next) P2 (stands_of new) inner in
-    let is : next ≡ stands_of new = ok_same next (stands_of new) (was_chosen (are_named s.processes t.order) (Ok next) P2 (stands_of new) inner) in
-    let counted : length new.regs.items ≡ length old.regs.items = sym (ap (λ (u : Stands). u.processes) is) in
-    let events : length new.schedule.items ≡ events_with s.events t = sym (ap (λ (u : Stands). u.events) is) in
+    let s : ParseState = parse_state_of old in
+    let next : ParseState = record s { stage = Turning; events = events_with s.events t } in
+    let test : nat_lt 0 s.processes && nat_le (events_with s.events t) 10000000 ≡ true = was_tested (nat_lt 0 s.processes && nat_le (events_with s.events t) 10000000) (cond (are_named s.processes t.order) (Ok next) (Err P2)) P1 (parse_state_of new) took.stands in
+    let inner = was_chosen (nat_lt 0 s.processes && nat_le (events_with s.events t) 10000000) (cond (are_named s.processes t.order) (Ok next) (Err P2)) P1 (parse_state_of new) took.stands in
+    let named : are_named (length old.regs.items) t.order ≡ true = was_tested (are_named s.processes t.order) (Ok next) P2 (parse_state_of new) inner in
+    let is : next ≡ parse_state_of new = ok_same next (parse_state_of new) (was_chosen (are_named s.processes t.order) (Ok next) P2 (parse_state_of new) inner) in
+    let counted : length new.regs.items ≡ length old.regs.items = sym (ap (λ (u : ParseState). u.processes) is) in
+    let events : length new.schedule.items ≡ events_with s.events t = sym (ap (λ (u : ParseState). u.events) is) in
     let most : events_with s.events t ≤ 10000000 = leb-true (events_with s.events t) 10000000 (and_parts (nat_lt 0 s.processes) (nat_le (events_with s.events t) 10000000) test).1 in
     let some : 0 < length old.regs.items = ltb-true 0 (length old.regs.items) (and_parts (nat_lt 0 s.processes) (nat_le (events_with s.events t) 10000000) test).0 in
     record {
@@ -129,14 +129,14 @@ kept_turns old new t fits took =
       some = λ e. omega (arith, counted, some);
     }
 
-kept_other : (old new : Reader) → TookLine old new OtherLine → Fits new
-unfolding judged
+kept_other : (old new : Reader) → TookLine old new OtherLine → IsReaderInvariant new
+unfolding state_after_line
 kept_other old new took = no_line took.stands
   where
-    no_line : {P : Type 0} → refused P1 ≡ fine (stands_of new) → P
+    no_line : {P : Type 0} → refused P1 ≡ fine (parse_state_of new) → P
     no_line e = cc
 
-pub fits_kept : (line : Line) (old new : Reader) → Fits old → TookLine old new line → Fits new
+pub fits_kept : (line : Line) (old new : Reader) → IsReaderInvariant old → TookLine old new line → IsReaderInvariant new
 fits_kept (ProcessLine g) old new fits took = kept_process old new g fits took
 fits_kept (AtLine p) old new fits took = kept_words old new p fits took
 fits_kept (TurnsLine t) old new fits took = kept_turns old new t fits took

@@ -24,7 +24,7 @@ use Rattle.std.specs.Prelude.{Result, Ok, Err, if◌then◌else◌}
 use Rattle.std.specs.List.{list_all, flat_map, repeat}
 use Rattle.std.specs.Result.{result_err}
 use Rattle.m36_text.specs.Texts.{is_text}
-use Rattle.m36_text.specs.Lines.{lines_of, line_at, first_told, by_words}
+use Rattle.m36_text.specs.Lines.{lines_of, line_at, first_reported, by_words}
 use Rattle.m36_text.specs.Numbers.{decimal_in, short_decimal_in}
 use Rattle.m36_text.specs.Results.{unless}
 use Rattle.m36_word.specs.declared.pair.Pair.{Pair}
@@ -36,7 +36,7 @@ use Rattle.m36_image.specs.Several.{one_to}
 use Rattle.m36_image.specs.declared.refusal.ImageCode.{ImageCode}
 use Rattle.m36_image.specs.BareImage.{dbr_in, start_in, at_words, core_line, frames_of}
 use Rattle.m36_image.specs.ImageState.{regs_of, core_with}
-use Rattle.m36_image.specs.InTurn.{at_end}
+use Rattle.m36_image.specs.LineByLine.{code_of_at_line}
 use Rattle.m36_procs.specs.ProcsFields.{ProcsFields, TurnsFields}
 use Rattle.m36_procs.specs.declared.fault.Code.{Code}
 use Rattle.m36_procs.specs.declared.fault.Code.TheVariants.{P1, P2}
@@ -99,7 +99,7 @@ line_of line = by_words line_in OtherLine line
 
 -- The state of parsing before a line: which lines may follow, the number of words of core, the
 -- number of processes, the least address that an `at` line may have, and the number of events.
-pub record Stands : Type 0 where
+pub record ParseState : Type 0 where
   pub stage : Stage
   pub size : ℕ
   pub processes : ℕ
@@ -125,7 +125,7 @@ may_end Placing = false
 may_end Turning = true
 
 -- the state after an `at` line that ends there, or its code
-abbrev pub placed_from : Stands → Result ℕ ImageCode → Result Stands Code
+abbrev pub placed_from : ParseState → Result ℕ ImageCode → Result ParseState Code
 placed_from s (Ok end) = Ok (record s { stage = Placing; next = end })
 placed_from s (Err code) = Err P1
 
@@ -142,22 +142,22 @@ abbrev pub are_named : ℕ → List ℕ → Bool
 are_named count numbers = list_all (λ number. nat_lt number count) numbers
 
 -- the state after a line, or the least code of the line
-unfoldable pub judged : Stands → Line → Result Stands Code
-judged s (ProcessLine regs) =
+unfoldable pub state_after_line : ParseState → Line → Result ParseState Code
+state_after_line s (ProcessLine regs) =
     if may_name s.stage && nat_lt s.processes most_processes
     then Ok (record s { processes = s.processes + 1 }) else Err P1
-judged s (AtLine placed) =
+state_after_line s (AtLine placed) =
     if may_place s.stage && nat_lt 0 s.processes
-    then placed_from s (at_end s.size s.next (Some placed)) else Err P1
-judged s (TurnsLine t) =
+    then placed_from s (code_of_at_line s.size s.next (Some placed)) else Err P1
+state_after_line s (TurnsLine t) =
     if nat_lt 0 s.processes && nat_le (events_with s.events t) most_events
     then if are_named s.processes t.order
     then Ok (record s { stage = Turning; events = events_with s.events t }) else Err P2
     else Err P1
-judged s OtherLine = Err P1
+state_after_line s OtherLine = Err P1
 
 -- the state after a line with this result; a line with a code does not change it
-abbrev pub behind : Stands → Result Stands Code → Stands
+abbrev pub behind : ParseState → Result ParseState Code → ParseState
 behind s (Ok later) = later
 behind s (Err code) = s
 
@@ -166,10 +166,10 @@ abbrev pub end_code : Stage → Option Code
 end_code stage = if may_end stage then None else Some P1
 
 -- The code of each line from this state on, if it has one, and at last that of a missing line.
-unfoldable pub codes_from : Stands → List (Option (List ℕ)) → List (Option Code)
+unfoldable pub codes_from : ParseState → List (Option (List ℕ)) → List (Option Code)
 codes_from s [] = end_code s.stage ∷ []
 codes_from s (line ∷ lines) =
-    result_err (judged s (line_of line)) ∷ codes_from (behind s (judged s (line_of line))) lines
+    result_err (state_after_line s (line_of line)) ∷ codes_from (behind s (state_after_line s (line_of line))) lines
 
 -- the code of the first line, if it has one
 abbrev pub core_code : Result ℕ ImageCode → Option Code
@@ -177,7 +177,7 @@ core_code (Ok frames) = None
 core_code (Err code) = Some P1
 
 -- the state after the first line
-abbrev pub at_start : ℕ → Stands
+abbrev pub at_start : ℕ → ParseState
 at_start size = record { stage = Naming; size = size; processes = 0; next = 0; events = 0 }
 
 -- the code of each line, if it has one, and of a missing line at the end
@@ -230,5 +230,5 @@ procs_in size lines =
 unfoldable pub procs_given : List ℕ → Result ProcsFields (ℕ × Code)
 procs_given text =
     unless
-    (first_told 1 (line_codes (lines_of text)))
+    (first_reported 1 (line_codes (lines_of text)))
     (procs_in (1024 * frames_of (lines_of text)) (drop 1 (lines_of text)))

@@ -3,7 +3,7 @@ use Rattle.std.specs.Prelude.{ℕ, ◌≡◌, ◌<◌, ⊤, true, List, ◌++◌
 use Rattle.m36_image.specs.BareImage.{at_words}
 use Rattle.m36_image.specs.ImageState.{written_all}
 use Rattle.m36_procs.specs.ProcsFields.{ProcsFields}
-use Rattle.m36_procs.specs.ProcsFile.{Line, line_by, Stands, judged, may_end, process_of, placed_of}
+use Rattle.m36_procs.specs.ProcsFile.{Line, line_by, ParseState, state_after_line, may_end, process_of, placed_of}
 use Rattle.m36_procs.specs.ProcsFile.{turns_of}
 use Rattle.m36_procs.specs.IsProcs.{IsFew}
 use Rattle.m36_procs.specs.declared.fault.LineFault.{LineFault}
@@ -15,8 +15,8 @@ abbrev pub rest_in : List (List ℕ) → Line
 rest_in words = line_by None None (at_words words)
 
 -- the state of parsing after the lines that were read
-abbrev pub stands_of : Reader → Stands
-stands_of r =
+abbrev pub parse_state_of : Reader → ParseState
+parse_state_of r =
     record {
       stage = r.stage;
       size = length r.core;
@@ -34,13 +34,13 @@ procs_read r =
     }
 
 -- the invariant of what was read
-pub record Fits (r : Reader) : Type 0 where
+pub record IsReaderInvariant (r : Reader) : Type 0 where
   pub are : IsFew (length r.regs.items) r.schedule.items
   pub some : may_end r.stage ≡ true → 0 < length r.regs.items
 
 -- A line was accepted: it has no code, and adds what it describes.
 pub record TookLine (old new : Reader) (line : Line) : Type 0 where
-  pub stands : judged (stands_of old) line ≡ Ok (stands_of new)
+  pub stands : state_after_line (parse_state_of old) line ≡ Ok (parse_state_of new)
   pub regs : new.regs.items ≡ old.regs.items ++ process_of line
   pub core : new.core ≡ written_all old.core (placed_of line)
   pub schedule : new.schedule.items ≡ old.schedule.items ++ turns_of line
@@ -48,5 +48,5 @@ pub record TookLine (old new : Reader) (line : Line) : Type 0 where
 -- the result of taking a line: it was accepted, or has this least code
 abbrev pub TakeSays : Result (Unit {0}) LineFault → Reader → Reader → Line → Type 0
 TakeSays (Ok done) old new line = TookLine old new line
-TakeSays (Err (Refused code)) old new line = judged (stands_of old) line ≡ Err code
+TakeSays (Err (Refused code)) old new line = state_after_line (parse_state_of old) line ≡ Err code
 TakeSays (Err NoMemory) old new line = ⊤

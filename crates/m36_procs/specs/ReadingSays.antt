@@ -2,12 +2,12 @@
 use Rattle.std.specs.Prelude.{ℕ, ◌≡◌, ◌*◌, ◌<◌, ⊤, List, [], ◌∷◌, ◌++◌, drop, length, replicate}
 use Rattle.std.specs.Prelude.{Option, Some, None, Result, Ok, Err}
 use Rattle.std.specs.Borrow.{Bor}
-use Rattle.m36_text.specs.Lines.{lines_of, line_at, first_told}
+use Rattle.m36_text.specs.Lines.{lines_of, line_at, first_reported}
 use Rattle.m36_image.specs.BareImage.{core_line}
 use Rattle.m36_image.specs.ImageState.{written_all}
 use Rattle.m36_procs.specs.ProcsFile.{codes_from, core_code, at_start, processes_in, placed_in}
 use Rattle.m36_procs.specs.ProcsFile.{turns_in}
-use Rattle.m36_procs.specs.ReaderSays.{Fits, stands_of}
+use Rattle.m36_procs.specs.ReaderSays.{IsReaderInvariant, parse_state_of}
 use Rattle.m36_procs.specs.declared.fault.Code.{Code}
 use Rattle.m36_procs.specs.declared.fault.Code.TheVariants as code
 use Rattle.m36_procs.specs.declared.fault.ProcsFault.{ProcsFault}
@@ -17,8 +17,8 @@ use Rattle.m36_procs.specs.declared.reader.Reader.{Reader}
 -- The fault is that of the first line with a code. The first entry of the list is the code of line
 -- n. `NoMemory` is always allowed.
 abbrev pub FaultSays : ProcsFault → ℕ → List (Option Code) → Type 0
-FaultSays (P1 line) n codes = first_told n codes ≡ Some (line, code.P1)
-FaultSays (P2 line) n codes = first_told n codes ≡ Some (line, code.P2)
+FaultSays (P1 line) n codes = first_reported n codes ≡ Some (line, code.P1)
+FaultSays (P2 line) n codes = first_reported n codes ≡ Some (line, code.P2)
 FaultSays NoMemory n codes = ⊤
 
 -- The first line was parsed: core has its size and is zero, no process or turn was read yet, and
@@ -26,7 +26,7 @@ FaultSays NoMemory n codes = ⊤
 pub record Begun (r : Reader) (rest : List ℕ) (lines : List (Option (List ℕ))) : Type 0 where
   pub frames : ℕ
   pub line : core_line (line_at lines 1) ≡ Ok frames
-  pub stands : stands_of r ≡ at_start (1024 * frames)
+  pub stands : parse_state_of r ≡ at_start (1024 * frames)
   pub core : r.core ≡ replicate (1024 * frames) 0
   pub regs : r.regs.items ≡ []
   pub schedule : r.schedule.items ≡ []
@@ -39,15 +39,15 @@ BeginSays (Err fault) lines = FaultSays fault 1 (core_code (core_line (line_at l
 
 -- All lines after the first were accepted.
 pub record TookLines (old new : Reader) (lines : List (Option (List ℕ))) : Type 0 where
-  pub fine : first_told 2 (codes_from (stands_of old) lines) ≡ None
+  pub fine : first_reported 2 (codes_from (parse_state_of old) lines) ≡ None
   pub regs : new.regs.items ≡ old.regs.items ++ processes_in lines
   pub core : new.core ≡ written_all old.core (placed_in lines)
   pub schedule : new.schedule.items ≡ old.schedule.items ++ turns_in lines
-  pub fits : Fits new
+  pub fits : IsReaderInvariant new
   pub some : 0 < length new.regs.items
 
 -- the result of parsing the lines after the first
 abbrev pub LinesSay :
     Result (Unit {0}) ProcsFault → Reader → Reader → List (Option (List ℕ)) → Type 0
 LinesSay (Ok done) old new lines = TookLines old new lines
-LinesSay (Err fault) old new lines = FaultSays fault 2 (codes_from (stands_of old) lines)
+LinesSay (Err fault) old new lines = FaultSays fault 2 (codes_from (parse_state_of old) lines)

@@ -1,7 +1,7 @@
 -- What the result of a run of a schedule implies.
 use Rattle.std.specs.Prelude.{ℕ, ◌≡◌, List, ◌++◌, Option, Result, Ok, Err}
 use Rattle.m36_outside.specs.Passing.{TakesLines}
-use Rattle.m36_outside.specs.Put.{PutSays, PutHasCause}
+use Rattle.m36_outside.specs.Put.{PutResult, PutHasCause}
 use Rattle.m36_outside.specs.declared.sink.Put.{Put}
 use Rattle.m36_outside.specs.declared.sink.Put.TheVariants as put
 use Rattle.m36_model.specs.Schedule.{Processes}
@@ -13,7 +13,7 @@ pub record IsRun
     (schedule : List ℕ) (old new : Processes (List ℕ)) (before now : Option (List ℕ))
     : Type 0 where
   pub state : new ≡ last_state schedule old
-  pub grew : PutSays put.Done before now (schedule_text schedule old)
+  pub grew : PutResult put.Done before now (schedule_text schedule old)
 
 -- The events of a prefix of the schedule were made, and a prefix of the text was written.
 pub record IsPartRun
@@ -23,7 +23,7 @@ pub record IsPartRun
   pub rest : List ℕ
   pub schedule_is : schedule ≡ made ++ rest
   pub state : new ≡ last_state made old
-  pub grew : PutSays put.Failed before now (schedule_text schedule old)
+  pub grew : PutResult put.Failed before now (schedule_text schedule old)
 
 -- what the result implies for the processes and for what is written
 abbrev pub RunSays :

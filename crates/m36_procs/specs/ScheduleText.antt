@@ -5,7 +5,7 @@ use Rattle.m36_outside.specs.Passing.{joined}
 use Rattle.m36_text.specs.Digits.{decimal_text}
 use Rattle.m36_text.specs.Lines.{as_line}
 use Rattle.m36_model.specs.Core.{core_store}
-use Rattle.m36_model.specs.Run.{state_behind}
+use Rattle.m36_model.specs.Run.{state_after_all}
 use Rattle.m36_model.specs.Schedule.{Processes, Event, events}
 use Rattle.m36_model.specs.declared.record.StepRecord.{StepRecord}
 use Rattle.m36_trace.specs.EndLine.{end_line_with}
@@ -39,7 +39,7 @@ schedule_text schedule s = joined (schedule_pieces schedule s)
 
 -- the state after these events, which begin in state `s`
 abbrev pub behind_events : Processes (List ℕ) → List (Event (List ℕ)) → Processes (List ℕ)
-behind_events s made = state_behind (λ (e : Event (List ℕ)). e.after) s made
+behind_events s made = state_after_all (λ (e : Event (List ℕ)). e.after) s made
 
 -- the state after a schedule
 unfoldable pub last_state : List ℕ → Processes (List ℕ) → Processes (List ℕ)

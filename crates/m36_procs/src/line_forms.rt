@@ -6,7 +6,7 @@ ghost use Rattle.m36_text.specs.Lines.{words_of};
 ghost use Rattle.m36_procs.specs.ProcsFile.{process_words, process_numbers, turns_words};
 
 use arrayvec::ArrayVec;
-use m36_image::forms::word_of;
+use m36_image::forms::octal_word;
 use m36_image::registers;
 use m36_model::{Ppr, Regs};
 use m36_text::{decimal_in, first_word, is_text, octal_in, only_word, short_decimal_in};
@@ -51,8 +51,8 @@ pub(crate) fn process_line(line: &[u8]) -> Option<Regs>
     let (seg, rest) = first_word(rest?);
     let (ring, rest) = first_word(rest?);
     let word = only_word(rest?)?;
-    let even = word_of(even)?;
-    let odd = word_of(odd)?;
+    let even = octal_word(even)?;
+    let odd = octal_word(odd)?;
     let seg = octal_in(seg, 5)?;
     let ring = octal_in(ring, 1)?;
     let word = octal_in(word, 6)?;

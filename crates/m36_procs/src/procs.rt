@@ -5,7 +5,7 @@ ghost use Rattle.m36_model.specs.JointAudit.{most_processes};
 ghost use Rattle.m36_procs.specs.EventSays.{EventSays};
 ghost use Rattle.m36_procs.specs.ProcsFile.{procs_given};
 ghost use Rattle.m36_procs.specs.ProcsSays.{ProcsSays};
-ghost use Rattle.m36_procs.specs.ReaderSays.{Fits, procs_read};
+ghost use Rattle.m36_procs.specs.ReaderSays.{IsReaderInvariant, procs_read};
 ghost use Rattle.m36_procs.specs.RunSays.{RunSays, RunTakes, RunHasCause};
 
 use crate::fault::{ProcsFault, WriteFault};
@@ -41,7 +41,7 @@ impl Model for Procs {
 
 // The processes and the schedule that were read.
 fn finished(alloc: Global, reader: Reader) -> Result<Procs, NoMemory>
-    requires fits { Fits reader }
+    requires fits { IsReaderInvariant reader }
     requires some { 0 < length reader.regs.items }
     ensures { IfOk result (λ p. p ≡ procs_read reader) }
 {

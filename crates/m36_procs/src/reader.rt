@@ -5,7 +5,7 @@ ghost use Rattle.std.specs.List.{repeat};
 ghost use Rattle.m36_text.specs.Lines.{words_of};
 ghost use Rattle.m36_procs.specs.ProcsFile.{are_named, most_events, events_with, line_in, may_name, may_place, may_end};
 ghost use Rattle.m36_procs.specs.ProcsFile.Line.{ProcessLine, TurnsLine};
-ghost use Rattle.m36_procs.specs.ReaderSays.{Fits, TakeSays, rest_in};
+ghost use Rattle.m36_procs.specs.ReaderSays.{IsReaderInvariant, TakeSays, rest_in};
 
 use crate::fault::{Code, LineFault};
 use crate::line_forms::{Turns, process_line, turns_line};
@@ -126,7 +126,7 @@ fn push_turns(schedule: &mut Vec<u8>, turns: &Turns) -> Result<(), NoMemory>
 }
 
 // Takes a `process` line.
-#[tactic(auto, unfolding(crate::specs::ProcsFile::judged), using(crate::proofs::Taking::taking))]
+#[tactic(auto, unfolding(crate::specs::ProcsFile::state_after_line), using(crate::proofs::Taking::taking))]
 fn take_process(reader: &mut Reader, regs: Regs) -> Result<(), LineFault>
     ensures { TakeSays result reader.old reader.new (ProcessLine regs) }
 {
@@ -138,9 +138,9 @@ fn take_process(reader: &mut Reader, regs: Regs) -> Result<(), LineFault>
 }
 
 // Takes a `turns` line.
-#[tactic(auto, unfolding(crate::specs::ProcsFile::judged), using(crate::proofs::Taking::taking))]
+#[tactic(auto, unfolding(crate::specs::ProcsFile::state_after_line), using(crate::proofs::Taking::taking))]
 fn take_turns(reader: &mut Reader, turns: &Turns) -> Result<(), LineFault>
-    requires { Fits reader.old }
+    requires { IsReaderInvariant reader.old }
     ensures { TakeSays result reader.old reader.new (TurnsLine turns.now) }
 {
     if reader.regs.is_empty() || events_with(reader.schedule.len(), turns) > MOST_EVENTS {
@@ -156,7 +156,7 @@ fn take_turns(reader: &mut Reader, turns: &Turns) -> Result<(), LineFault>
 }
 
 // Takes a line that is neither: an `at` line, or a line without a form.
-#[tactic(auto, unfolding(crate::specs::ProcsFile::judged), using(crate::proofs::Taking::taking))]
+#[tactic(auto, unfolding(crate::specs::ProcsFile::state_after_line), using(crate::proofs::Taking::taking))]
 fn take_words(reader: &mut Reader, line: &[u8]) -> Result<(), LineFault>
     ensures { TakeSays result reader.old reader.new (rest_in (words_of line.now)) }
 {
@@ -176,7 +176,7 @@ fn take_words(reader: &mut Reader, line: &[u8]) -> Result<(), LineFault>
 impl Reader {
     /// Takes a line, or fails with the least code that it has.
     pub(crate) fn take(&mut self, line: &[u8]) -> Result<(), LineFault>
-        requires { Fits self.old }
+        requires { IsReaderInvariant self.old }
         ensures { TakeSays result self.old self.new (line_in (words_of line.now)) }
     {
         if let Some(regs) = process_line(line) {

@@ -2,7 +2,7 @@
 
 ghost use Rattle.std.specs.Prelude.{◌+◌, ◌≤◌, ◌^◌, length, IfOk};
 ghost use Rattle.m36_text.specs.Lines.{lines_of};
-ghost use Rattle.m36_procs.specs.ReaderSays.{Fits};
+ghost use Rattle.m36_procs.specs.ReaderSays.{IsReaderInvariant};
 ghost use Rattle.m36_procs.specs.ReadingSays.{BeginSays, LinesSay};
 
 use crate::fault::{Code, ProcsFault};
@@ -38,7 +38,7 @@ pub(crate) fn begin(alloc: Global, text: &[u8]) -> Result<(Reader, &[u8]), Procs
 /// Parses the lines after the first.
 #[tactic(auto, using(crate::proofs::LinesRead::reading, m36_text::proofs::Splitting::lining))]
 pub(crate) fn read_lines(reader: &mut Reader, text: &[u8]) -> Result<(), ProcsFault>
-    requires fits { Fits reader.old }
+    requires fits { IsReaderInvariant reader.old }
     requires short { length text.now ≤ 2 ^ 31 }
     ensures says { LinesSay result reader.old reader.new (lines_of text.now) }
 {

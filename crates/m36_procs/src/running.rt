@@ -4,7 +4,7 @@
 ghost use Rattle.std.specs.Prelude.{◌≡◌, ◌<◌, true, [], ◌∷◌, ◌++◌, length};
 ghost use Rattle.m36_outside.specs.Gathered.{Adds};
 ghost use Rattle.m36_outside.specs.Passing.{TakesLines, joined};
-ghost use Rattle.m36_outside.specs.Put.{PutSays, PutHasCause};
+ghost use Rattle.m36_outside.specs.Put.{PutResult, PutHasCause};
 ghost use Rattle.m36_procs.specs.ProcsFile.{are_named};
 ghost use Rattle.m36_procs.specs.ScheduleText.{event_line, end_line};
 ghost use Rattle.m36_procs.specs.RunSays.{RunSays, RunTakes, RunHasCause};
@@ -55,7 +55,7 @@ fn add_event<S: Sink>(process: u8, n: u64, told: &StepRecord, block: &mut Block,
 // Adds the last line to a block, as one piece, and hands over the block.
 #[tactic(auto, using(crate::proofs::EventPieces::one_line))]
 fn put_end<S: Sink>(events: u64, block: &mut Block, out: &mut S) -> Put
-    ensures says { PutSays result
+    ensures says { PutResult result
         (S.written out.old) (S.written out.new) (joined (block.old ++ end_line events ∷ [])) }
     ensures through { TakesLines result
         (S.taken out.old) (S.taken out.new) (block.old ++ end_line events ∷ []) }

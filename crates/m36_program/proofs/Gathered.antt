@@ -5,7 +5,7 @@ use Rattle.m36_outside.specs.declared.sink.Put.{Put}
 use Rattle.m36_outside.specs.declared.sink.Put.TheVariants.{Done, Failed}
 use Rattle.m36_world.specs.declared.event.Event.TheVariants.{Output}
 use Rattle.m36_world.specs.Seen.{Seen}
-use Rattle.m36_world.specs.Did.{IsOutput, IsOutputFailed}
+use Rattle.m36_world.specs.Happened.{IsOutput, IsOutputFailed}
 use Rattle.m36_world.specs.Follow.{Follow, outputs}
 use Rattle.m36_program.specs.Gathered.{Gathers, Loses, Adds}
 use Rattle.m36_world.proofs.Following.{follow_on, follow_none, follow_one}

@@ -5,15 +5,15 @@ use Rattle.std.specs.Prelude.{IfSome}
 use Rattle.std.specs.Io.KnownBytes.{IsAtEnd}
 use Rattle.std.proofs.lemmas.Bool.{ltb-false, ltb-true}
 use Rattle.std.proofs.lemmas.List.{append-nil}
-use Rattle.m36_outside.specs.Files.{Files, with_told_file}
+use Rattle.m36_outside.specs.Files.{Files, with_known_file}
 use Rattle.m36_outside.specs.Piece.{preceded}
-use Rattle.m36_outside.specs.ReadAnswer.{ReadSays, IsWithinLimit, ReadHasCause, file_limit}
+use Rattle.m36_outside.specs.ReadAnswer.{ReadResult, IsWithinLimit, ReadHasCause, file_limit}
 use Rattle.m36_outside.specs.Written.{appended}
 use Rattle.m36_outside.specs.declared.folder.ReadAnswer.{ReadAnswer}
 use Rattle.m36_outside.specs.declared.folder.ReadAnswer.TheVariants as read
 use Rattle.m36_outside.specs.declared.folder.WriteAnswer.TheVariants as write
 use Rattle.m36_world.specs.Seen.{Seen, noted}
-use Rattle.m36_world.specs.Did.{Did}
+use Rattle.m36_world.specs.Happened.{Happened}
 use Rattle.m36_world.specs.Follow.{Follow}
 use Rattle.m36_world.specs.declared.event.Event.{Event}
 use Rattle.m36_world.specs.declared.event.Event.TheVariants.{FileRead, FileWrite, Output, Input}
@@ -55,14 +55,14 @@ lives_puts (piece ∷ pieces) p live = lives_puts pieces p live
 record Answered (name : List ℕ) (files : Option Files) : Type 1 where
   answer : ReadAnswer
   found : Found
-  content : IfSome files (λ f. ReadSays answer (f name))
+  content : IfSome files (λ f. ReadResult answer (f name))
   limit : IsWithinLimit answer
   cause : (n : ℕ) → ReadHasCause answer n n
   after : {A : Type 0} (goes : Found → List Event → Type 0) (more : List Event) (result : Result A Status)
       → goes found more → AfterRead answer goes more result
 
 absent :
-    (name : List ℕ) (files : Option Files) → IfSome files (λ f. ReadSays read.Absent (f name)) → Answered name files
+    (name : List ℕ) (files : Option Files) → IfSome files (λ f. ReadResult read.Absent (f name)) → Answered name files
 absent name files content = record {
   answer = read.Absent;
   found = Absent;
@@ -121,7 +121,7 @@ taken (Some (x ∷ xs)) = record {
 -- a step, and then a call of the rest
 step :
     {may : May} {A : Type 0} (p q : Program may A) (e : Event) (old between : Seen)
-    → Did e old between
+    → Happened e old between
     → ((events : List Event) (result : Result A Status) → Goes q events result → Goes p (e ∷ events) result)
     → Comes q between → Comes p old
 unfolding Follow
@@ -194,7 +194,7 @@ lives_comes (reads name go) old counts live =
 lives_comes (writes allowed name content p) old counts live =
     let between : Seen = record (noted (FileWrite name content write.Written) old) {
       writes = old.writes ++ (name, content, write.Written) ∷ [];
-      files = with_told_file name (Some content) old.files;
+      files = with_known_file name (Some content) old.files;
     } in
     step (writes allowed name content p) p (FileWrite name content write.Written) old between
     (record {

@@ -5,15 +5,15 @@ use Rattle.std.proofs.Common.{refl, sym, ap, subst, ◌∙◌, inl, inr}
 use Rattle.std.specs.Prelude.{IfSome}
 use Rattle.std.proofs.lemmas.Bool.{le-ltb, lt-ltb}
 use Rattle.std.proofs.lemmas.List.{append-nil}
-use Rattle.m36_outside.specs.Files.{Files, with_file, with_told_file}
-use Rattle.m36_outside.specs.ReadAnswer.{ReadSays, IsWithinLimit, file_limit}
-use Rattle.m36_outside.specs.WriteAnswer.{WriteSays}
+use Rattle.m36_outside.specs.Files.{Files, with_file, with_known_file}
+use Rattle.m36_outside.specs.ReadAnswer.{ReadResult, IsWithinLimit, file_limit}
+use Rattle.m36_outside.specs.WriteAnswer.{WriteResult}
 use Rattle.m36_outside.specs.declared.folder.ReadAnswer.{ReadAnswer}
 use Rattle.m36_outside.specs.declared.folder.ReadAnswer.TheVariants as read
 use Rattle.m36_outside.specs.declared.folder.WriteAnswer.{WriteAnswer}
 use Rattle.m36_outside.specs.declared.folder.WriteAnswer.TheVariants as write
 use Rattle.m36_world.specs.Seen.{Seen}
-use Rattle.m36_world.specs.Did.{IsFileRead, IsFileWrite, IsOutput, IsInput}
+use Rattle.m36_world.specs.Happened.{IsFileRead, IsFileWrite, IsOutput, IsInput}
 use Rattle.m36_world.specs.Follow.{Follow}
 use Rattle.m36_world.specs.declared.event.Event.{Event}
 use Rattle.m36_world.specs.declared.event.Event.TheVariants.{FileRead, FileWrite, Output, OutputFailed, Input}
@@ -70,7 +70,7 @@ found_large bytes over = ap (λ b. cond b TooLarge (Content bytes)) (lt-ltb file
 pub found_or_ended :
     {A P : Type 0} (answer : ReadAnswer) (file : Option (List ℕ)) (goes : Found → List Event → Type 0)
     (more : List Event) (result : Result A Status)
-    → ReadSays answer file → IsWithinLimit answer → AfterRead answer goes more result
+    → ReadResult answer file → IsWithinLimit answer → AfterRead answer goes more result
     → (goes (found_in file) more → P) → (more ≡ [] → ((Q : Type 0) → IsEnd result → Q) → P) → P
 found_or_ended (read.Read bytes) file goes more result says within after on ends =
     on (subst (λ found. goes found more) (sym (ap found_in says ∙ found_read bytes within)) after)
@@ -87,8 +87,8 @@ found_or_ended read.NoMemory file goes more result says within after on ends =
 written_or_ended :
     {A P : Type 0} (answer : WriteAnswer) (goes : List Event → Type 0) (more : List Event) (result : Result A Status)
     (name content : List ℕ) (old new : Option Files)
-    → WriteSays answer old new name content → AfterWrite answer goes more result
-    → (goes more → new ≡ with_told_file name (Some content) old → P)
+    → WriteResult answer old new name content → AfterWrite answer goes more result
+    → (goes more → new ≡ with_known_file name (Some content) old → P)
     → (more ≡ [] → ((Q : Type 0) → IsEnd result → Q) → P) → P
 written_or_ended write.Written goes more result name content old new says after on ends = on after says
 written_or_ended write.Failed goes more result name content old new says after on ends =
@@ -98,10 +98,10 @@ written_or_ended write.NoMemory goes more result name content old new says after
 
 pub said :
     (answer : ReadAnswer) (name : List ℕ) (told : Option Files) (files : Files) → told ≡ Some files
-    → IfSome told (λ f. ReadSays answer (f name)) → ReadSays answer (files name)
+    → IfSome told (λ f. ReadResult answer (f name)) → ReadResult answer (files name)
 said answer name told files is says =
-    let at : IfSome (Some files) (λ f. ReadSays answer (f name)) =
-    subst (λ t. IfSome t (λ f. ReadSays answer (f name))) is says in at
+    let at : IfSome (Some files) (λ f. ReadResult answer (f name)) =
+    subst (λ t. IfSome t (λ f. ReadResult answer (f name))) is says in at
 
 -- ---- the other call, which ends
 
@@ -186,7 +186,7 @@ text_writes name content alike files inputs first result end new ended on
     subst (λ e. OneText first (pieces_of e) result end) (sym goes.first)
     (written_or_ended goes.answer _ goes.more end other others old.files same.between.files did.files goes.rest
     (λ rest wrote. on q goes.more same.between is.2
-    (wrote ∙ ap (with_told_file other (Some others)) told
+    (wrote ∙ ap (with_known_file other (Some others)) told
     ∙ ap (λ n. Some (with_file n (Some others) files)) (sym is.0)
     ∙ ap (λ c. Some (with_file name (Some c) files)) (sym is.1))
     same.goes_on same_input rest)
@@ -361,7 +361,7 @@ one_text (writes allowed name content p) events result end old between new files
     (λ rest wrote. text_writes name content (λ next. Alike p next) files (inputs_of goes.more)
     (pieces_of goes.more) result end new ended
     (one_text p goes.more result end same.between between new (with_file name (Some content) files) ended
-    (wrote ∙ ap (with_told_file name (Some content)) told) same.goes_on rest)
+    (wrote ∙ ap (with_known_file name (Some content)) told) same.goes_on rest)
     q others old' alike told' follow' input goes')
     (λ none fails. none_put goes.more (pieces_of others) result end none fails))
 one_text (puts piece p) events result end old between new files ended told follow (inl goes) =

@@ -5,7 +5,7 @@ use Rattle.std.specs.List.{flat_map}
 use Rattle.std.specs.Prelude.{IfSome}
 use Rattle.m36_outside.specs.Files.{Files}
 use Rattle.m36_outside.specs.Passing.{joined}
-use Rattle.m36_outside.specs.ReadAnswer.{ReadSays}
+use Rattle.m36_outside.specs.ReadAnswer.{ReadResult}
 use Rattle.m36_outside.specs.Putting.{PutsText, PutsPieces}
 use Rattle.m36_outside.specs.SinkState.{SinkState}
 use Rattle.m36_outside.specs.declared.folder.ReadAnswer.{ReadAnswer}
@@ -14,7 +14,7 @@ use Rattle.std.proofs.lemmas.List.Folds.{concat-append as joined_both}
 use Rattle.m36_outside.proofs.Grown.{grew_longer}
 use Rattle.m36_outside.proofs.LinesTaken.{takes_lines_longer}
 use Rattle.m36_world.specs.Seen.{Seen}
-use Rattle.m36_world.specs.Did.{IsFileRead, IsOutput, IsInput}
+use Rattle.m36_world.specs.Happened.{IsFileRead, IsOutput, IsInput}
 use Rattle.m36_world.specs.Follow.{Follow, outputs}
 use Rattle.m36_world.specs.Logs.{read_of}
 use Rattle.m36_world.specs.declared.event.Event.{Event}
@@ -189,7 +189,7 @@ unfolding Follow
 trail_told may [] result old new files never same trail follow = tt
 trail_told may (FileRead name answer ∷ more) result old new files never same trail follow =
     let did : IsFileRead name answer old follow.between = follow.begins in (
-      record { told = subst (λ t. IfSome t (λ f. ReadSays answer (f name))) same did.content; limit = did.limit },
+      record { told = subst (λ t. IfSome t (λ f. ReadResult answer (f name))) same did.content; limit = did.limit },
       after_read answer (Trail may more result) more result
           (λ none. subst (λ e. AreTold files (reads_of e)) (sym none) tt)
           (λ on. trail_told may more result follow.between new files never

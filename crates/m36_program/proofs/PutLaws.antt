@@ -3,7 +3,7 @@ use Rattle.std.proofs.Common.{◌≡◌, ℕ, List, [], ◌∷◌, ◌++◌, Res
 use Rattle.m36_world.specs.declared.event.Event.{Event}
 use Rattle.m36_world.specs.declared.event.Event.TheVariants.{OutputFailed}
 use Rattle.m36_world.specs.Seen.{Seen}
-use Rattle.m36_world.specs.Did.{IsOutputFailed}
+use Rattle.m36_world.specs.Happened.{IsOutputFailed}
 use Rattle.m36_world.specs.Follow.{outputs}
 use Rattle.m36_reading.specs.declared.status.Status.{Status}
 use Rattle.m36_reading.specs.declared.status.Status.TheVariants.{WriteFault}

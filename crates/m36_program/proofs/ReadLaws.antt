@@ -6,7 +6,7 @@ use Rattle.m36_outside.specs.declared.folder.WriteAnswer.TheVariants as write
 use Rattle.m36_world.specs.declared.event.Event.TheVariants.{FileRead, FileWrite, Output, OutputFailed, Input}
 use Rattle.m36_world.specs.declared.event.Event.TheVariants.{InputFailed}
 use Rattle.m36_world.specs.Seen.{Seen}
-use Rattle.m36_world.specs.Did.{IsFileRead, IsFileWrite, IsOutput, IsOutputFailed, IsInput, IsInputFailed}
+use Rattle.m36_world.specs.Happened.{IsFileRead, IsFileWrite, IsOutput, IsOutputFailed, IsInput, IsInputFailed}
 use Rattle.m36_reading.specs.declared.status.Bad.{Bad}
 use Rattle.m36_reading.specs.declared.status.Code.TheVariants as code
 use Rattle.m36_reading.specs.declared.status.Status.{Status}

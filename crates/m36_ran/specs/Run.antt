@@ -2,7 +2,7 @@
 use Rattle.std.specs.Prelude.{ℕ, List, [], ◌∷◌}
 use Rattle.m36_model.specs.Store.{State}
 use Rattle.m36_model.specs.Core.{core_store}
-use Rattle.m36_model.specs.Run.{Visited, visits, state_behind, told}
+use Rattle.m36_model.specs.Run.{Visited, visits, state_after_all, told}
 use Rattle.m36_model.specs.declared.outcome.Outcome.{Outcome}
 use Rattle.m36_model.specs.declared.outcome.Outcome.TheVariants.{Next}
 use Rattle.m36_model.specs.declared.record.StepRecord.{StepRecord}
@@ -20,7 +20,7 @@ last_outcome (step ∷ next ∷ steps) = last_outcome (next ∷ steps)
 
 -- the state after some steps; `state` if there are none
 abbrev pub behind_steps : State (List ℕ) → List (Visited (List ℕ)) → State (List ℕ)
-behind_steps state steps = state_behind (λ (v : Visited (List ℕ)). v.after) state steps
+behind_steps state steps = state_after_all (λ (v : Visited (List ℕ)). v.after) state steps
 
 -- the state after a run of at most `steps` steps
 unfoldable pub last_state : ℕ → State (List ℕ) → State (List ℕ)

@@ -4,7 +4,7 @@ ghost use Rattle.std.specs.Prelude.{◌≡◌, ◌≤◌, [], ◌∷◌, length}
 ghost use Rattle.m36_text.specs.Digits.{octal_text};
 ghost use Rattle.m36_text.specs.Lines.{as_line};
 ghost use Rattle.m36_outside.specs.Passing.{TakesLines, joined};
-ghost use Rattle.m36_outside.specs.Put.{PutSays, PutHasCause};
+ghost use Rattle.m36_outside.specs.Put.{PutResult, PutHasCause};
 ghost use Rattle.m36_audit.specs.Findings.{pair_of, pairs};
 ghost use Rattle.m36_ran.specs.AuditText.{is_of_segment, place_digits, finding_line, finding_pieces, yes_line, audit_text, audit_pieces};
 
@@ -51,7 +51,7 @@ pub fn finding_line(finding: &Finding) -> ArrayString<160>
 
 // Puts the line of a finding.
 fn put_finding<S: Sink>(finding: &Finding, out: &mut S) -> Put
-    ensures says { PutSays result (S.written out.old) (S.written out.new)
+    ensures says { PutResult result (S.written out.old) (S.written out.new)
         (as_line (finding_line (pair_of finding.now))) }
     ensures through { TakesLines result (S.taken out.old) (S.taken out.new)
         (as_line (finding_line (pair_of finding.now)) ∷ []) }
@@ -63,7 +63,7 @@ fn put_finding<S: Sink>(finding: &Finding, out: &mut S) -> Put
 // Puts a line for each finding, in order, up to the first put that fails.
 #[tactic(auto, using(crate::proofs::AuditTexts::findings_in_turn))]
 fn put_findings<S: Sink>(findings: &[Finding], out: &mut S) -> Put
-    ensures says { PutSays result (S.written out.old) (S.written out.new)
+    ensures says { PutResult result (S.written out.old) (S.written out.new)
         (joined (finding_pieces (pairs findings.now))) }
     ensures through { TakesLines result (S.taken out.old) (S.taken out.new)
         (finding_pieces (pairs findings.now)) }
@@ -80,7 +80,7 @@ fn put_findings<S: Sink>(findings: &[Finding], out: &mut S) -> Put
 
 /// Puts the line `audit yes`.
 pub fn put_yes<S: Sink>(out: &mut S) -> Put
-    ensures says { PutSays result (S.written out.old) (S.written out.new) yes_line }
+    ensures says { PutResult result (S.written out.old) (S.written out.new) yes_line }
     ensures through { TakesLines result (S.taken out.old) (S.taken out.new) (yes_line ∷ []) }
     ensures cause { PutHasCause result (S.faults out.old) (S.faults out.new) }
 {
@@ -92,7 +92,7 @@ pub fn put_yes<S: Sink>(out: &mut S) -> Put
 /// Puts the text of an audit line by line: `audit yes`, or a line for each finding.
 #[tactic(auto, using(crate::proofs::AuditTexts::audit_texts))]
 pub fn put_audit<S: Sink>(findings: &[Finding], out: &mut S) -> Put
-    ensures says { PutSays result (S.written out.old) (S.written out.new)
+    ensures says { PutResult result (S.written out.old) (S.written out.new)
         (audit_text (pairs findings.now)) }
     ensures through { TakesLines result (S.taken out.old) (S.taken out.new)
         (audit_pieces (pairs findings.now)) }

@@ -3,7 +3,7 @@
 ghost use Rattle.std.specs.Prelude.{◌<◌, [], ◌∷◌, length};
 ghost use Rattle.m36_outside.specs.Gathered.{Adds};
 ghost use Rattle.m36_outside.specs.Passing.{TakesLines};
-ghost use Rattle.m36_outside.specs.Put.{PutSays, PutHasCause};
+ghost use Rattle.m36_outside.specs.Put.{PutResult, PutHasCause};
 ghost use Rattle.m36_text.specs.Lines.{as_line};
 
 use arrayvec::ArrayString;
@@ -13,7 +13,7 @@ use m36_outside::{Block, Put, Sink};
 #[tactic(auto, using(crate::proofs::LinePieces::one_line))]
 pub fn put_line<S: Sink>(out: &mut S, mut line: ArrayString<160>) -> Put
     requires { length line.bytes < 160 }
-    ensures says { PutSays result (S.written out.old) (S.written out.new) (as_line line.bytes) }
+    ensures says { PutResult result (S.written out.old) (S.written out.new) (as_line line.bytes) }
     ensures through { TakesLines result (S.taken out.old) (S.taken out.new)
         (as_line line.bytes ∷ []) }
     ensures cause { PutHasCause result (S.faults out.old) (S.faults out.new) }

@@ -4,7 +4,7 @@ use Rattle.std.specs.Prelude.{IfSome}
 use Rattle.std.proofs.lemmas.List.{append-nil, append_assoc}
 use Rattle.m36_outside.specs.Files.{Files}
 use Rattle.m36_outside.specs.Counts.{Rose}
-use Rattle.m36_outside.specs.ReadAnswer.{file_limit, ReadSays}
+use Rattle.m36_outside.specs.ReadAnswer.{file_limit, ReadResult}
 use Rattle.m36_outside.specs.declared.folder.ReadAnswer.TheVariants as read
 use Rattle.m36_reading.specs.declared.status.Code.TheVariants as code
 use Rattle.m36_reading.specs.declared.refusal.Refusal.{Refusal}
@@ -42,7 +42,7 @@ memory_given A NoMemory definition is = tt
 
 pub bytes_read :
     (name bytes : List ℕ) (old new : FolderState) (before after : List Asked)
-    → IfSome old.files (λ f. ReadSays (read.Read bytes) (f name)) → length bytes ≤ file_limit
+    → IfSome old.files (λ f. ReadResult (read.Read bytes) (f name)) → length bytes ≤ file_limit
     → new.files ≡ old.files → new.wrote ≡ old.wrote → new.read_faults ≡ old.read_faults → new.write_faults ≡ old.write_faults
     → after ≡ before ++ (name, read.Read bytes) ∷ []
     → Reads (file_bytes name) (Ok bytes) old new before after
@@ -59,7 +59,7 @@ bytes_read name bytes old new before after told limit files wrote stands writes 
 
 pub bytes_absent :
     (name : List ℕ) (r : Refusal) (old new : FolderState) (before after : List Asked)
-    → IfSome old.files (λ f. ReadSays read.Absent (f name)) → Refuses r (refused name code.F1 0)
+    → IfSome old.files (λ f. ReadResult read.Absent (f name)) → Refuses r (refused name code.F1 0)
     → new.files ≡ old.files → new.wrote ≡ old.wrote → new.read_faults ≡ old.read_faults → new.write_faults ≡ old.write_faults
     → after ≡ before ++ (name, read.Absent) ∷ []
     → Reads (file_bytes name) (Err r) old new before after
@@ -76,7 +76,7 @@ bytes_absent name r old new before after told is files wrote stands writes passe
 
 pub bytes_large :
     (name : List ℕ) (r : Refusal) (old new : FolderState) (before after : List Asked)
-    → IfSome old.files (λ f. ReadSays read.TooLarge (f name)) → Refuses r (refused name code.F2 0)
+    → IfSome old.files (λ f. ReadResult read.TooLarge (f name)) → Refuses r (refused name code.F2 0)
     → new.files ≡ old.files → new.wrote ≡ old.wrote → new.read_faults ≡ old.read_faults → new.write_faults ≡ old.write_faults
     → after ≡ before ++ (name, read.TooLarge) ∷ []
     → Reads (file_bytes name) (Err r) old new before after
@@ -93,7 +93,7 @@ bytes_large name r old new before after told is files wrote stands writes passed
 
 pub bytes_failed :
     (name : List ℕ) (old new : FolderState) (before after : List Asked)
-    → IfSome old.files (λ f. ReadSays read.Failed (f name))
+    → IfSome old.files (λ f. ReadResult read.Failed (f name))
     → new.files ≡ old.files → new.wrote ≡ old.wrote → Rose old.read_faults new.read_faults → new.write_faults ≡ old.write_faults
     → after ≡ before ++ (name, read.Failed) ∷ []
     → Reads (file_bytes name) (Err ReadFault) old new before after
@@ -110,7 +110,7 @@ bytes_failed name old new before after told files wrote rose writes passed = rec
 
 pub bytes_starved :
     (name : List ℕ) (old new : FolderState) (before after : List Asked)
-    → IfSome old.files (λ f. ReadSays read.NoMemory (f name))
+    → IfSome old.files (λ f. ReadResult read.NoMemory (f name))
     → new.files ≡ old.files → new.wrote ≡ old.wrote → new.read_faults ≡ old.read_faults → new.write_faults ≡ old.write_faults
     → after ≡ before ++ (name, read.NoMemory) ∷ []
     → Reads (file_bytes name) (Err NoMemory) old new before after

@@ -1,7 +1,7 @@
 -- Answers to a command: the files that it writes, the text that it prints, in which pieces, and its
 -- status.
 use Rattle.std.specs.Prelude.{ℕ, ◌≡◌, List, [], ◌∷◌, Option, Some, Ok, Err}
-use Rattle.m36_outside.specs.Files.{Files, with_told_file}
+use Rattle.m36_outside.specs.Files.{Files, with_known_file}
 use Rattle.m36_outside.specs.FolderCalls.{Wrote}
 use Rattle.m36_outside.specs.Passing.{joined}
 use Rattle.m36_outside.specs.declared.folder.WriteAnswer.{WriteAnswer}
@@ -43,7 +43,7 @@ IsDueBy IsDue (Err refusal) due = due ≡ unwritten (status_of refusal)
 -- the files, if they are shown, after these are written one after another
 abbrev pub with_sets : List Set → Option Files → Option Files
 with_sets [] files = files
-with_sets (set ∷ sets) files = with_sets sets (with_told_file set.name (Some set.content) files)
+with_sets (set ∷ sets) files = with_sets sets (with_known_file set.name (Some set.content) files)
 
 -- the write of a file, and its answer
 abbrev pub write_of : WriteAnswer → Set → Wrote

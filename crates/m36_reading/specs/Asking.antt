@@ -2,7 +2,7 @@
 use Rattle.std.specs.Prelude.{◌≡◌, ⊤, List, [], ◌∷◌, Option, IfSome, Result, Ok, Err}
 use Rattle.m36_outside.specs.Files.{Files}
 pub use Rattle.m36_outside.specs.FolderCalls.{Asked}
-use Rattle.m36_outside.specs.ReadAnswer.{ReadSays, IsWithinLimit}
+use Rattle.m36_outside.specs.ReadAnswer.{ReadResult, IsWithinLimit}
 use Rattle.m36_outside.specs.declared.folder.ReadAnswer.{ReadAnswer}
 use Rattle.m36_outside.specs.declared.folder.ReadAnswer.TheVariants as read
 use Rattle.m36_reading.specs.declared.refusal.Refusal.{Refusal}
@@ -12,7 +12,7 @@ use Rattle.m36_reading.specs.Reading.{Early, outcome_in}
 
 -- An answer is that of the files, if they are shown; and no more than 16 MiB are read.
 pub record IsTold (files : Option Files) (ask : Asked) : Type 0 where
-  pub told : IfSome files (λ f. ReadSays ask.1 (f ask.0))
+  pub told : IfSome files (λ f. ReadResult ask.1 (f ask.0))
   pub limit : IsWithinLimit ask.1
 
 -- The same of each answer.

@@ -1,6 +1,6 @@
 -- What writing files, one after another, does to a folder, by the answer.
 use Rattle.std.specs.Prelude.{◌≡◌, List, [], ◌∷◌, ◌++◌}
-use Rattle.m36_outside.specs.WriteAnswer.{WriteSays, WriteHasCause}
+use Rattle.m36_outside.specs.WriteAnswer.{WriteResult, WriteHasCause}
 use Rattle.m36_outside.specs.declared.folder.WriteAnswer.{WriteAnswer}
 use Rattle.m36_outside.specs.declared.folder.WriteAnswer.TheVariants.{Written, Failed, NoMemory}
 use Rattle.m36_reading.specs.declared.setting.Set.{Set}
@@ -19,7 +19,7 @@ pub record SetsUpTo (answer : WriteAnswer) (sets : List Set) (old new : FolderSt
   pub last : Set
   pub others : List Set
   pub are : sets ≡ before ++ (last ∷ others)
-  pub files : WriteSays answer (with_sets before old.files) new.files last.name last.content
+  pub files : WriteResult answer (with_sets before old.files) new.files last.name last.content
   pub wrote : new.wrote ≡ old.wrote ++ writes_of before ++ write_of answer last ∷ []
   pub cause : WriteHasCause answer old.write_faults new.write_faults
 

@@ -9,7 +9,7 @@ use Rattle.obj36_parts.specs.Names.{same}
 use Rattle.obj36_parts.specs.ObjectSegment.{definition_named}
 use Rattle.obj36_parts.specs.declared.definition.Named.{Named}
 use Rattle.obj36_parts.proofs.SizeLaws.{same_is, same_self}
-use Rattle.m36_relocate.specs.Exports.{export_named, export_behind, with_export, is_symbol, with_own, own_from, EntriesStand}
+use Rattle.m36_relocate.specs.Exports.{export_named, export_behind, with_export, is_symbol, with_own, own_from, EntriesAreFirst}
 use Rattle.m36_relocate.specs.declared.exports.Export.{Export}
 
 pub found_then : (name other : List ℕ) (table : List (List ℕ × Export)) (x : Export)
@@ -97,6 +97,6 @@ entries_from name table [] = or_none (def_in (lookup (same name) table))
 entries_from name table (d ∷ ds) =
     entries_from name (with_own table d) ds ∙ more name table d (counted ds) (is_symbol d.def.section)
 
-pub entries_stand : EntriesStand
+pub entries_stand : EntriesAreFirst
 unfolding export_named
 entries_stand name ds = entries_from name [] ds

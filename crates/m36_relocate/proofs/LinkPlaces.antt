@@ -4,20 +4,20 @@ use Rattle.std.proofs.Common.{ℕ, ◌≡◌, ◌+◌, ◌-◌, ◌*◌, ◌<◌
 use Rattle.std.proofs.lemmas.Bool.{lt-ltb, le-ltb, cond-true, cond-false}
 use Rattle.obj36_parts.specs.ObjectSegment.{is_newer}
 use Rattle.obj36_parts.specs.declared.section.Section.TheVariants.{Linkage}
-use Rattle.m36_relocate.specs.Layout.{meant, meant_older, meant_newer, first_link, image_number, number_moved, FirstLinkStands, LinksMove}
-use Rattle.m36_relocate.specs.declared.layout.Meant.{Meant}
-use Rattle.m36_relocate.specs.declared.layout.Meant.TheVariants.{StaticWord, LinkWord, HeadWord}
+use Rattle.m36_relocate.specs.Layout.{denoted, meant_older, meant_newer, first_link, image_number, relocated_number, FirstLinkAgrees, LinksMove}
+use Rattle.m36_relocate.specs.declared.layout.Denoted.{Denoted}
+use Rattle.m36_relocate.specs.declared.layout.Denoted.TheVariants.{StaticWord, LinkWord, HeadWord}
 
 stands_by : (newer : Bool) (statics : List ℕ) → cond newer 8 (8 + length statics) ≡ 8 + length (cond newer [] statics)
 stands_by true statics = refl
 stands_by false statics = refl
 
-pub first_link_stands : FirstLinkStands
+pub first_link_stands : FirstLinkAgrees
 first_link_stands p = stands_by (is_newer p) p.statics
 
 -- ---- the linkage section
 
-unfoldable pub in_linkage : Bool → ℕ → ℕ → ℕ → Meant
+unfoldable pub in_linkage : Bool → ℕ → ℕ → ℕ → Denoted
 in_linkage newer statics links v = cond (ltb v 8) (HeadWord v) (cond newer (meant_newer links v) (meant_older statics v))
 
 pub past_head : (newer : Bool) (statics links v : ℕ) → 8 ≤ v → in_linkage newer statics links v ≡ cond newer (meant_newer links v) (meant_older statics v)
@@ -37,7 +37,7 @@ link_named false statics links y lt =
     ∙ ap (λ n. LinkWord n) (let k : v - (8 + statics) ≡ y = omega arith in k)
 
 pub links_move : LinksMove
-unfolding number_moved meant in_linkage
+unfolding relocated_number denoted in_linkage
 links_move m i lt =
     let named = link_named m.shape.newer m.shape.statics m.shape.links (2 * i) (omega (arith, lt)) in
     ap (image_number m.frame m.bases Linkage) named

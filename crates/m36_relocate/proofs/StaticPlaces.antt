@@ -2,16 +2,16 @@
 use Rattle.std.proofs.Common.{ℕ, ◌≡◌, ◌+◌, ◌-◌, ◌<◌, Bool, true, false, ltb, ap, ◌∙◌, arith}
 use Rattle.std.proofs.lemmas.Bool.{lt-ltb, le-ltb, cond-true, cond-false}
 use Rattle.m36_relocate.specs.Fields.{ShapeFields}
-use Rattle.m36_relocate.specs.Layout.{meant, meant_older, static_spot}
+use Rattle.m36_relocate.specs.Layout.{denoted, meant_older, static_spot}
 use Rattle.m36_relocate.specs.Words.{start_of, StaticsBegin}
-use Rattle.m36_relocate.specs.declared.layout.Meant.TheVariants.{StaticWord, LinkWord, HeadWord}
+use Rattle.m36_relocate.specs.declared.layout.Denoted.TheVariants.{StaticWord, LinkWord, HeadWord}
 
 of_shape : Bool → ℕ → ℕ → ShapeFields
 of_shape newer statics links = record { newer = newer; statics = statics; links = links }
 
 begin_by : (newer : Bool) (statics links w : ℕ) → w < statics
-    → meant (of_shape newer statics links) (static_spot (of_shape newer statics links) w).section (start_of true (of_shape newer statics links) + w) ≡ StaticWord w
-unfolding meant of_shape
+    → denoted (of_shape newer statics links) (static_spot (of_shape newer statics links) w).section (start_of true (of_shape newer statics links) + w) ≡ StaticWord w
+unfolding denoted of_shape
 begin_by true statics links w lt = ap (λ n. StaticWord n) (let k : 0 + w ≡ w = omega arith in k)
 begin_by false statics links w lt =
     let v : ℕ = 8 + w in

@@ -11,8 +11,8 @@ use Rattle.obj36_parts.specs.ObjectSegment.{definition_named}
 use Rattle.obj36_parts.specs.declared.definition.Named.{Named}
 use Rattle.obj36_parts.specs.declared.section.Section.{Section}
 use Rattle.obj36_parts.specs.declared.section.Section.TheVariants.{Text, Linkage, Symbol, Static}
-use Rattle.m36_relocate.specs.Layout.{spot_moved}
-use Rattle.m36_relocate.specs.declared.layout.Moving.{Moving}
+use Rattle.m36_relocate.specs.Layout.{relocated_place}
+use Rattle.m36_relocate.specs.declared.layout.Relocation.{Relocation}
 use Rattle.m36_relocate.specs.declared.exports.Export.{Export}
 
 -- the entry of a name, if the table has one
@@ -53,8 +53,8 @@ own_from table (d ∷ ds) = own_from (with_own table d) ds
 
 -- For each name, the table of an object's definitions has the first definition of that name whose
 -- class is not symbol.
-abbrev pub EntriesStand : Type 0
-EntriesStand =
+abbrev pub EntriesAreFirst : Type 0
+EntriesAreFirst =
     (name : List ℕ) (ds : List Named)
     → option_map (λ (e : Export). e.def) (export_named name (own_from [] ds))
     ≡ definition_named name (filter (λ d. not (is_symbol d.def.section)) ds)
@@ -62,16 +62,16 @@ EntriesStand =
 -- ---- the definitions of a component, at their places in the bound object
 
 -- a definition, at its place in the bound object
-abbrev pub def_moved : Moving → DefFields → DefFields
-def_moved m d =
-    let s = spot_moved m d.section d.value in
+abbrev pub relocated_def : Relocation → DefFields → DefFields
+relocated_def m d =
+    let s = relocated_place m d.section d.value in
     record { section = s.section; value = s.offset; is_entry = d.is_entry }
 
 -- the table with a definition of a component, at its place in the bound object
-abbrev pub with_moved : Moving → List (List ℕ × Export) → Named → List (List ℕ × Export)
-with_moved m table d = with_counted table d (def_moved m d.def)
+abbrev pub with_moved : Relocation → List (List ℕ × Export) → Named → List (List ℕ × Export)
+with_moved m table d = with_counted table d (relocated_def m d.def)
 
 -- the table with the definitions of a component, at their places in the bound object
-unfoldable pub moved_from : Moving → List (List ℕ × Export) → List Named → List (List ℕ × Export)
+unfoldable pub moved_from : Relocation → List (List ℕ × Export) → List Named → List (List ℕ × Export)
 moved_from m table [] = table
 moved_from m table (d ∷ ds) = moved_from m (with_moved m table d) ds

@@ -12,9 +12,9 @@ use Rattle.obj36_parts.specs.ObjectSegment.{head_words, left_part, right_part}
 use Rattle.obj36_parts.specs.declared.section.Section.{Section}
 use Rattle.obj36_parts.specs.declared.section.Section.TheVariants.{Text, Linkage, Symbol, Static}
 use Rattle.m36_relocate.specs.Fields.{ShapeFields, BasesFields}
-use Rattle.m36_relocate.specs.Layout.{number_moved, meant, static_spot}
-use Rattle.m36_relocate.specs.declared.layout.Meant.TheVariants.{StaticWord}
-use Rattle.m36_relocate.specs.declared.layout.Moving.{Moving}
+use Rattle.m36_relocate.specs.Layout.{relocated_number, denoted, static_spot}
+use Rattle.m36_relocate.specs.declared.layout.Denoted.TheVariants.{StaticWord}
+use Rattle.m36_relocate.specs.declared.layout.Relocation.{Relocation}
 
 -- ---- parts of a word
 
@@ -32,19 +32,19 @@ below_zero b Linkage v = v
 below_zero b Symbol v = v
 
 -- the relocated number of bits 3 to 17, plus 2^15
-unfoldable pub offset_raised : Moving → Section → ℕ → ℕ
+unfoldable pub offset_raised : Relocation → Section → ℕ → ℕ
 offset_raised m target v =
-    if nat_lt v offset_limit then 2 ^ 15 + number_moved m target v else below_zero m.bases target v
+    if nat_lt v offset_limit then 2 ^ 15 + relocated_number m target v else below_zero m.bases target v
 
 -- the word with the part of a relocation relocated
-unfoldable pub word_moved : Moving → RelocFields → ℕ → ℕ
-word_moved m r w =
-    if nat_eq r.part left_part then joined (number_moved m r.target (left w)) (right w)
-    else if nat_eq r.part right_part then joined (left w) (number_moved m r.target (right w))
+unfoldable pub relocated_word : Relocation → RelocFields → ℕ → ℕ
+relocated_word m r w =
+    if nat_eq r.part left_part then joined (relocated_number m r.target (left w)) (right w)
+    else if nat_eq r.part right_part then joined (left w) (relocated_number m r.target (right w))
     else with_offset w (offset_raised m r.target (offset_in w))
 
 -- whether the relocated part fits: bits 3 to 17 must be from -2^14 to 2^14 - 1
-unfoldable pub part_fits : Moving → RelocFields → ℕ → Bool
+unfoldable pub part_fits : Relocation → RelocFields → ℕ → Bool
 part_fits m r w =
     if nat_eq r.part left_part then true
     else if nat_eq r.part right_part then true
@@ -53,8 +53,8 @@ part_fits m r w =
 -- ---- the words of a component: its text or its static words
 
 -- whether a relocation is of a static word, or of the text, as `statics` says
-abbrev pub stands_in : Bool → RelocFields → Bool
-stands_in statics r = if statics then not (is_text_section r.section) else is_text_section r.section
+abbrev pub is_in : Bool → RelocFields → Bool
+is_in statics r = if statics then not (is_text_section r.section) else is_text_section r.section
 
 -- the offset from which relocations count these words
 abbrev pub start_of : Bool → ShapeFields → ℕ
@@ -65,7 +65,7 @@ start_of statics s = if statics then (if s.newer then 0 else head_words) else 0
 abbrev pub StaticsBegin : Type 0
 StaticsBegin =
     (s : ShapeFields) (w : ℕ) → w < s.statics
-    → meant s (static_spot s w).section (start_of true s + w) ≡ StaticWord w
+    → denoted s (static_spot s w).section (start_of true s + w) ≡ StaticWord w
 
 -- the static words or the text of parts
 abbrev pub words_in : Bool → PartsFields → List ℕ
@@ -76,28 +76,28 @@ abbrev pub place_in : ShapeFields → Bool → RelocFields → ℕ
 place_in s statics r = r.offset - start_of statics s
 
 -- words with word i relocated, if there is one
-abbrev pub moved_at : Moving → RelocFields → ℕ → List ℕ → List ℕ
+abbrev pub moved_at : Relocation → RelocFields → ℕ → List ℕ → List ℕ
 moved_at m r i words = if nat_lt i (length words)
-    then slice_set words i (word_moved m r (slice_index words i)) else words
+    then slice_set words i (relocated_word m r (slice_index words i)) else words
 
 -- words relocated by a relocation, if it is one of these words
-unfoldable pub one_moved : Moving → Bool → RelocFields → List ℕ → List ℕ
+unfoldable pub one_moved : Relocation → Bool → RelocFields → List ℕ → List ℕ
 one_moved m statics r words =
-    if stands_in statics r then moved_at m r (place_in m.shape statics r) words else words
+    if is_in statics r then moved_at m r (place_in m.shape statics r) words else words
 
 -- words relocated by all their relocations
-unfoldable pub words_moved : Moving → Bool → List RelocFields → List ℕ → List ℕ
-words_moved m statics [] words = words
-words_moved m statics (r ∷ rs) words = words_moved m statics rs (one_moved m statics r words)
+unfoldable pub relocated_words : Relocation → Bool → List RelocFields → List ℕ → List ℕ
+relocated_words m statics [] words = words
+relocated_words m statics (r ∷ rs) words = relocated_words m statics rs (one_moved m statics r words)
 
 -- whether the part of a relocation fits, if it is one of these words
-unfoldable pub one_fits : Moving → Bool → List ℕ → RelocFields → Bool
+unfoldable pub one_fits : Relocation → Bool → List ℕ → RelocFields → Bool
 one_fits m statics words r =
-    if stands_in statics r then part_fits m r (slice_index words (place_in m.shape statics r))
+    if is_in statics r then part_fits m r (slice_index words (place_in m.shape statics r))
     else true
 
 -- whether the parts of all relocations of these words fit
-unfoldable pub all_fit : Moving → Bool → List ℕ → List RelocFields → Bool
+unfoldable pub all_fit : Relocation → Bool → List ℕ → List RelocFields → Bool
 all_fit m statics words [] = true
 all_fit m statics words (r ∷ rs) =
     if one_fits m statics words r then all_fit m statics words rs else false

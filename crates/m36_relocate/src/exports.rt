@@ -1,9 +1,9 @@
 //! Tables of definitions by their names.
 
 ghost use Rattle.std.specs.Prelude.{ℕ, ◌≡◌, ◌^◌, ◌<◌, [], IfOk, OnOk, option_map};
-ghost use Rattle.m36_relocate.specs.Exports.{export_named, export_behind, with_export, is_symbol, with_counted, with_own, own_from, def_moved, with_moved, moved_from};
+ghost use Rattle.m36_relocate.specs.Exports.{export_named, export_behind, with_export, is_symbol, with_counted, with_own, own_from, relocated_def, with_moved, moved_from};
 
-use crate::layout::{Moving, spot_moved};
+use crate::layout::{Relocation, relocated_place};
 use indexmap::IndexMap;
 use m36_text::{HashSeed, Name};
 use m36_word::NoMemory;
@@ -129,10 +129,10 @@ pub fn own_entries(
     Ok(table)
 }
 
-fn def_moved(m: &Moving, def: Def) -> Def
-    ensures { result ≡ def_moved m.now def }
+fn relocated_def(m: &Relocation, def: Def) -> Def
+    ensures { result ≡ relocated_def m.now def }
 {
-    let s = spot_moved(m, def.section, def.value as u64);
+    let s = relocated_place(m, def.section, def.value as u64);
     Def {
         value: s.offset,
         section: s.section,
@@ -140,16 +140,20 @@ fn def_moved(m: &Moving, def: Def) -> Def
     }
 }
 
-fn add_one_moved(table: &mut Exports, m: &Moving, d: &Named) -> Result<(), NoMemory>
+fn add_one_moved(table: &mut Exports, m: &Relocation, d: &Named) -> Result<(), NoMemory>
     ensures { OnOk result (table.new ≡ with_moved m.now table.old d.now) }
 {
-    table.add_counted(d, def_moved(m, d.def))
+    table.add_counted(d, relocated_def(m, d.def))
 }
 
 /// Adds the definitions of a component, at their places in the bound object. Fails only with
 /// `NoMemory`.
 #[tactic(auto, unfolding(crate::specs::Exports::moved_from))]
-pub fn add_moved(table: &mut Exports, m: &Moving, definitions: &[Named]) -> Result<(), NoMemory>
+pub fn add_relocated(
+    table: &mut Exports,
+    m: &Relocation,
+    definitions: &[Named],
+) -> Result<(), NoMemory>
     ensures { OnOk result (table.new ≡ moved_from m.now table.old definitions.now) }
 {
     let mut rest = definitions;

@@ -1,7 +1,7 @@
 //! The places of the words of components in the bound object.
 
 ghost use Rattle.std.specs.Prelude.{ℕ, ◌≡◌, ◌+◌, ◌*◌, ◌^◌, ◌<◌, ◌≤◌, length};
-ghost use Rattle.m36_relocate.specs.Layout.{meant, meant_older, meant_newer, meant_past_head, meant_in_linkage, IsBelow, bases_behind, first_link, first_static, spot, static_spot, image_spot, spot_moved, static_number, image_number, number_moved};
+ghost use Rattle.m36_relocate.specs.Layout.{denoted, meant_older, meant_newer, meant_past_head, meant_in_linkage, IsBelow, next_bases, first_link, first_static, spot, static_spot, image_spot, relocated_place, static_number, image_number, relocated_number};
 ghost use Rattle.obj36_parts.specs.ObjectSegment.{evened, head_words};
 
 use obj36_parts::Section;
@@ -58,7 +58,7 @@ impl Model for Bases {
 
 /// How the places of a component are relocated to those of the bound object.
 #[derive(Clone, Copy)]
-pub struct Moving {
+pub struct Relocation {
     /// The shape of the bound object.
     pub frame: Shape,
     /// The shape of the component.
@@ -69,7 +69,7 @@ pub struct Moving {
 
 /// The word that a place of an object denotes.
 #[derive(Clone, Copy)]
-pub enum Meant {
+pub enum Denoted {
     /// This word of the text.
     TextWord(u64),
     /// This static word.
@@ -82,14 +82,14 @@ pub enum Meant {
 
 /// A place of the bound object.
 #[derive(Clone, Copy)]
-pub struct Spot {
+pub struct BoundPlace {
     /// The offset in the section; 18 bits.
     pub offset: u32,
     /// The section.
     pub section: Section,
 }
 
-fn meant_older(statics: u64, v: u64) -> Meant
+fn meant_older(statics: u64, v: u64) -> Denoted
     requires head { head_words ≤ v }
     requires statics { statics < 2 ^ 61 }
     requires small { v < 2 ^ 18 }
@@ -98,13 +98,13 @@ fn meant_older(statics: u64, v: u64) -> Meant
 {
     let first = HEAD_WORDS + statics;
     if v < first {
-        Meant::StaticWord(v - HEAD_WORDS)
+        Denoted::StaticWord(v - HEAD_WORDS)
     } else {
-        Meant::LinkWord(v - first)
+        Denoted::LinkWord(v - first)
     }
 }
 
-fn meant_newer(links: u64, v: u64) -> Meant
+fn meant_newer(links: u64, v: u64) -> Denoted
     requires head { head_words ≤ v }
     requires links { links < 2 ^ 61 }
     requires small { v < 2 ^ 18 }
@@ -113,13 +113,13 @@ fn meant_newer(links: u64, v: u64) -> Meant
 {
     let end = HEAD_WORDS + 2 * links;
     if v < end {
-        Meant::LinkWord(v - HEAD_WORDS)
+        Denoted::LinkWord(v - HEAD_WORDS)
     } else {
-        Meant::StaticWord(v - end)
+        Denoted::StaticWord(v - end)
     }
 }
 
-fn meant_past_head(s: &Shape, v: u64) -> Meant
+fn meant_past_head(s: &Shape, v: u64) -> Denoted
     requires head { head_words ≤ v }
     requires small { v < 2 ^ 18 }
     ensures value { result ≡ meant_past_head s.now v }
@@ -132,30 +132,30 @@ fn meant_past_head(s: &Shape, v: u64) -> Meant
     }
 }
 
-fn meant_in_linkage(s: &Shape, v: u64) -> Meant
+fn meant_in_linkage(s: &Shape, v: u64) -> Denoted
     requires small { v < 2 ^ 18 }
     ensures value { result ≡ meant_in_linkage s.now v }
     ensures small { IsBelow (2 ^ 18) result }
 {
     if v < HEAD_WORDS {
-        Meant::HeadWord(v)
+        Denoted::HeadWord(v)
     } else {
         meant_past_head(s, v)
     }
 }
 
 // The word that an offset in a section denotes.
-#[tactic(auto, unfolding(crate::specs::Layout::meant))]
-fn meaning(s: &Shape, section: Section, v: u64) -> Meant
+#[tactic(auto, unfolding(crate::specs::Layout::denoted))]
+fn meaning(s: &Shape, section: Section, v: u64) -> Denoted
     requires small { v < 2 ^ 18 }
-    ensures value { result ≡ meant s.now section v }
+    ensures value { result ≡ denoted s.now section v }
     ensures small { IsBelow (2 ^ 18) result }
 {
     match section {
-        Section::Text => Meant::TextWord(v),
+        Section::Text => Denoted::TextWord(v),
         Section::Linkage => meant_in_linkage(s, v),
-        Section::Symbol => Meant::HeadWord(v),
-        Section::Static => Meant::StaticWord(v),
+        Section::Symbol => Denoted::HeadWord(v),
+        Section::Static => Denoted::StaticWord(v),
     }
 }
 
@@ -191,17 +191,17 @@ fn first_static(f: &Shape) -> u64
 }
 
 /// A place of a section, with the offset modulo 2^18.
-pub fn spot_at(section: Section, offset: u64) -> Spot
+pub fn spot_at(section: Section, offset: u64) -> BoundPlace
     ensures value { result ≡ spot section offset }
     ensures bound { result.offset < 2 ^ 18 }
 {
-    Spot {
+    BoundPlace {
         offset: (offset % (1 << 18)) as u32,
         section,
     }
 }
 
-fn static_spot(f: &Shape, w: u64) -> Spot
+fn static_spot(f: &Shape, w: u64) -> BoundPlace
     requires { w < 2 ^ 62 }
     ensures value { result ≡ static_spot f.now w }
     ensures bound { result.offset < 2 ^ 18 }
@@ -213,24 +213,24 @@ fn static_spot(f: &Shape, w: u64) -> Spot
     }
 }
 
-fn image_spot(f: &Shape, b: &Bases, m: Meant) -> Spot
+fn image_spot(f: &Shape, b: &Bases, m: Denoted) -> BoundPlace
     requires { IsBelow (2 ^ 18) m }
     ensures value { result ≡ image_spot f.now b.now m }
     ensures bound { result.offset < 2 ^ 18 }
 {
     match m {
-        Meant::TextWord(v) => spot_at(Section::Text, b.text + v),
-        Meant::StaticWord(w) => static_spot(f, b.statics + w),
-        Meant::LinkWord(k) => spot_at(Section::Linkage, first_link(f) + 2 * b.links + k),
-        Meant::HeadWord(v) => spot_at(Section::Linkage, v),
+        Denoted::TextWord(v) => spot_at(Section::Text, b.text + v),
+        Denoted::StaticWord(w) => static_spot(f, b.statics + w),
+        Denoted::LinkWord(k) => spot_at(Section::Linkage, first_link(f) + 2 * b.links + k),
+        Denoted::HeadWord(v) => spot_at(Section::Linkage, v),
     }
 }
 
 /// The place in the bound object of a place of a component.
-#[tactic(auto, unfolding(crate::specs::Layout::spot_moved))]
-pub fn spot_moved(m: &Moving, section: Section, v: u64) -> Spot
+#[tactic(auto, unfolding(crate::specs::Layout::relocated_place))]
+pub fn relocated_place(m: &Relocation, section: Section, v: u64) -> BoundPlace
     requires { v < 2 ^ 18 }
-    ensures value { result ≡ spot_moved m.now section v }
+    ensures value { result ≡ relocated_place m.now section v }
     ensures bound { result.offset < 2 ^ 18 }
 {
     image_spot(&m.frame, &m.bases, meaning(&m.shape, section, v))
@@ -247,25 +247,25 @@ fn static_number(f: &Shape, target: Section, w: u64) -> u64
     }
 }
 
-fn image_number(f: &Shape, b: &Bases, target: Section, m: Meant) -> u64
+fn image_number(f: &Shape, b: &Bases, target: Section, m: Denoted) -> u64
     requires { IsBelow (2 ^ 18) m }
     ensures value { result ≡ image_number f.now b.now target m }
     ensures bound { result < 2 ^ 63 }
 {
     match m {
-        Meant::TextWord(v) => b.text + v,
-        Meant::StaticWord(w) => static_number(f, target, b.statics + w),
-        Meant::LinkWord(k) => first_link(f) + 2 * b.links + k,
-        Meant::HeadWord(v) => v,
+        Denoted::TextWord(v) => b.text + v,
+        Denoted::StaticWord(w) => static_number(f, target, b.statics + w),
+        Denoted::LinkWord(k) => first_link(f) + 2 * b.links + k,
+        Denoted::HeadWord(v) => v,
     }
 }
 
 /// A number in a relocated part, for the bound object: the number of the same word there. `v` has
 /// 18 bits.
-#[tactic(auto, unfolding(crate::specs::Layout::number_moved))]
-pub fn number_moved(m: &Moving, target: Section, v: u64) -> u64
+#[tactic(auto, unfolding(crate::specs::Layout::relocated_number))]
+pub fn relocated_number(m: &Relocation, target: Section, v: u64) -> u64
     requires { v < 2 ^ 18 }
-    ensures value { result ≡ number_moved m.now target v }
+    ensures value { result ≡ relocated_number m.now target v }
     ensures bound { result < 2 ^ 63 }
 {
     image_number(&m.frame, &m.bases, target, meaning(&m.shape, target, v))

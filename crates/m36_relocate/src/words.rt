@@ -2,9 +2,9 @@
 
 ghost use Rattle.std.specs.Prelude.{ℕ, ◌≡◌, ◌+◌, ◌-◌, ◌*◌, ◌/◌, ◌%◌, ◌^◌, ◌<◌, slice_index};
 ghost use Rattle.obj36_parts.specs.Halves.{offset_in};
-ghost use Rattle.m36_relocate.specs.Words.{with_offset, below_zero, offset_raised, word_moved, part_fits, stands_in, start_of, place_in, moved_at, one_moved, words_moved, one_fits, all_fit};
+ghost use Rattle.m36_relocate.specs.Words.{with_offset, below_zero, offset_raised, relocated_word, part_fits, is_in, start_of, place_in, moved_at, one_moved, relocated_words, one_fits, all_fit};
 
-use crate::layout::{Bases, Moving, Shape, number_moved};
+use crate::layout::{Bases, Relocation, Shape, relocated_number};
 use m36_word::Word;
 use obj36_parts::halves::{OFFSET_LIMIT, left_of, right_of, word_of};
 use obj36_parts::sections::{HEAD_WORDS, is_text_section};
@@ -44,34 +44,34 @@ fn below_zero(b: &Bases, target: Section, v: u64) -> u64
 
 // The relocated number of bits 3 to 17, plus 2^15 so that it is not negative.
 #[tactic(auto, unfolding(crate::specs::Words::offset_raised))]
-fn offset_raised(m: &Moving, target: Section, v: u64) -> u64
+fn offset_raised(m: &Relocation, target: Section, v: u64) -> u64
     requires { v < 2 ^ 15 }
     ensures { result ≡ offset_raised m.now target v }
 {
     if v < OFFSET_LIMIT {
-        (1 << 15) + number_moved(m, target, v)
+        (1 << 15) + relocated_number(m, target, v)
     } else {
         below_zero(&m.bases, target, v)
     }
 }
 
 // The word with the part of a relocation relocated.
-#[tactic(auto, unfolding(crate::specs::Words::word_moved))]
-fn word_moved(m: &Moving, r: &Reloc, w: Word) -> Word
-    ensures { result ≡ word_moved m.now r.now w }
+#[tactic(auto, unfolding(crate::specs::Words::relocated_word))]
+fn relocated_word(m: &Relocation, r: &Reloc, w: Word) -> Word
+    ensures { result ≡ relocated_word m.now r.now w }
 {
     if r.part == 0 {
-        return word_of(number_moved(m, r.target, left_of(w)), right_of(w));
+        return word_of(relocated_number(m, r.target, left_of(w)), right_of(w));
     }
     if r.part == 1 {
-        return word_of(left_of(w), number_moved(m, r.target, right_of(w)));
+        return word_of(left_of(w), relocated_number(m, r.target, right_of(w)));
     }
     with_offset(w, offset_raised(m, r.target, offset_in(w)))
 }
 
 // Whether the relocated part fits: bits 3 to 17 must be from -2^14 to 2^14 - 1.
 #[tactic(auto, unfolding(crate::specs::Words::part_fits))]
-fn part_fits(m: &Moving, r: &Reloc, w: Word) -> bool
+fn part_fits(m: &Relocation, r: &Reloc, w: Word) -> bool
     ensures { result ≡ part_fits m.now r.now w }
 {
     if r.part == 0 {
@@ -84,8 +84,8 @@ fn part_fits(m: &Moving, r: &Reloc, w: Word) -> bool
 }
 
 /// Whether a relocation is of a static word, or of the text, as `statics` says.
-pub fn stands_in(statics: bool, r: &Reloc) -> bool
-    ensures { result ≡ stands_in statics r.now }
+pub fn is_in(statics: bool, r: &Reloc) -> bool
+    ensures { result ≡ is_in statics r.now }
 {
     if statics {
         !is_text_section(r.section)
@@ -105,37 +105,37 @@ fn start_of(statics: bool, s: &Shape) -> usize
     }
 }
 
-fn place_in(m: &Moving, statics: bool, r: &Reloc) -> usize
+fn place_in(m: &Relocation, statics: bool, r: &Reloc) -> usize
     ensures { result ≡ place_in m.now.shape statics r.now }
 {
     (r.offset as usize).saturating_sub(start_of(statics, &m.shape))
 }
 
 // Relocates word i, if there is one.
-fn move_at(words: &mut [Word], m: &Moving, r: &Reloc, i: usize)
+fn move_at(words: &mut [Word], m: &Relocation, r: &Reloc, i: usize)
     ensures { words.new ≡ moved_at m.now r.now i words.old }
 {
     if i < words.len() {
         let w = words[i];
-        words[i] = word_moved(m, r, w);
+        words[i] = relocated_word(m, r, w);
     }
 }
 
 // Relocates the word of a relocation, if it is one of these words.
 #[tactic(auto, unfolding(crate::specs::Words::one_moved))]
-fn move_one(words: &mut [Word], m: &Moving, statics: bool, r: &Reloc)
+fn move_one(words: &mut [Word], m: &Relocation, statics: bool, r: &Reloc)
     ensures { words.new ≡ one_moved m.now statics r.now words.old }
 {
-    if stands_in(statics, r) {
+    if is_in(statics, r) {
         move_at(words, m, r, place_in(m, statics, r));
     }
 }
 
 /// Relocates the parts of these words that have relocations, in order. The words are the static
 /// words, or the text, as `statics` says.
-#[tactic(auto, unfolding(crate::specs::Words::words_moved))]
-pub fn move_words(words: &mut [Word], m: &Moving, statics: bool, relocations: &[Reloc])
-    ensures { words.new ≡ words_moved m.now statics relocations.now words.old }
+#[tactic(auto, unfolding(crate::specs::Words::relocated_words))]
+pub fn move_words(words: &mut [Word], m: &Relocation, statics: bool, relocations: &[Reloc])
+    ensures { words.new ≡ relocated_words m.now statics relocations.now words.old }
 {
     let mut rest = relocations;
     while let [r, others @ ..] = rest {
@@ -156,10 +156,10 @@ fn word_at(words: &[Word], i: usize) -> Word
 }
 
 #[tactic(auto, unfolding(crate::specs::Words::one_fits))]
-fn one_fits(m: &Moving, statics: bool, words: &[Word], r: &Reloc) -> bool
+fn one_fits(m: &Relocation, statics: bool, words: &[Word], r: &Reloc) -> bool
     ensures { result ≡ one_fits m.now statics words.now r.now }
 {
-    if stands_in(statics, r) {
+    if is_in(statics, r) {
         part_fits(m, r, word_at(words, place_in(m, statics, r)))
     } else {
         true
@@ -169,7 +169,7 @@ fn one_fits(m: &Moving, statics: bool, words: &[Word], r: &Reloc) -> bool
 /// Whether each part of these words fits after relocation. The words are the static words, or the
 /// text, as `statics` says.
 #[tactic(auto, unfolding(crate::specs::Words::all_fit))]
-pub fn all_fit(m: &Moving, statics: bool, words: &[Word], relocations: &[Reloc]) -> bool
+pub fn all_fit(m: &Relocation, statics: bool, words: &[Word], relocations: &[Reloc]) -> bool
     ensures { result ≡ all_fit m.now statics words.now relocations.now }
 {
     let mut rest = relocations;

@@ -11,7 +11,7 @@ use Rattle.m36_inst.specs.declared.operand.Operand.TheVariants as kind
 use Rattle.m36_model.specs.Fields.{FinalFields}
 use Rattle.m36_model.specs.Registers.{RegsFields}
 use Rattle.m36_model.specs.Act.{Fetch, Act, either, otherwise}
-use Rattle.m36_model.specs.Store.{Spot, State, Mid, Served, Ran, run, changes}
+use Rattle.m36_model.specs.Store.{Spot, State, Midstep, Served, Ran, run, changes}
 use Rattle.m36_model.specs.Core.{core_store, core_put}
 use Rattle.m36_model.specs.Modification.{here}
 use Rattle.m36_model.specs.FirstPoint.{first_point}
@@ -29,7 +29,7 @@ use Rattle.m36_model.proofs.ChainClaims.{run_then}
 use Rattle.m36_walk.specs.Memory.{Memory}
 use Rattle.m36_walk.specs.Served.{standing, sdw_in, ServesWord}
 use Rattle.m36_ea.specs.Formed.{formed_from, ended}
-use Rattle.m36_step.specs.Ended.{End, end_of, given_end, EndsSo, EndsFormed}
+use Rattle.m36_step.specs.Ended.{StepEndState, end_of, given_end, EndsAs, EndsFormed}
 use Rattle.m36_step.specs.Operated.{claims_of, puts_of, operation_from, operated_end}
 use Rattle.m36_step.specs.declared.ended.Ended.{Ended}
 use Rattle.m36_step.specs.declared.operated.Operated.{Operated}
@@ -44,12 +44,12 @@ module _ (g : RegsFields) where
   unfolding run core_put changes
   halts word at h core claims refs = refl
 
-  pub ends_halted : (word : Option ℕ) (at : Option FinalFields) (h : Halt) (core : List ℕ) (refs : List Reference) (program : Act Ending) (g' : RegsFields) (e : Ended) → program ≡ halted g word at h → g' ≡ g → e ≡ refused word at h → EndsSo g program core refs core refs g' e
+  pub ends_halted : (word : Option ℕ) (at : Option FinalFields) (h : Halt) (core : List ℕ) (refs : List Reference) (program : Act Ending) (g' : RegsFields) (e : Ended) → program ≡ halted g word at h → g' ≡ g → e ≡ refused word at h → EndsAs g program core refs core refs g' e
   ends_halted word at h core refs program g' e is same end =
       rw (is, same, end) (halts word at h core [] refs)
 
   -- what follows a program, by how that program ran
-  goes_on : {A : Type 0} (act : Act (Result A Halt)) (next : A → Act Ending) (halts : Halt → Act Ending) (m : Mid (List ℕ)) (t : Ran (Result A Halt) (List ℕ)) → run core_store g act m ≡ t → run core_store g (otherwise act next halts) m ≡ run core_store g (either next halts t.value) t.mid
+  goes_on : {A : Type 0} (act : Act (Result A Halt)) (next : A → Act Ending) (halts : Halt → Act Ending) (m : Midstep (List ℕ)) (t : Ran (Result A Halt) (List ℕ)) → run core_store g act m ≡ t → run core_store g (otherwise act next halts) m ≡ run core_store g (either next halts t.value) t.mid
   goes_on {A = A} act next halts m t e =
       run_then core_store g act (either next halts) m ∙ ap (λ (x : Ran (Result A Halt) (List ℕ)). run core_store g (either next halts x.value) x.mid) e
 
@@ -78,11 +78,11 @@ module _ (g : RegsFields) where
     forms result r =
         goes_on (chain indirect_words g (first_point g (inst_of w))) (operated e n g w) (halted g (Some w) None) (standing core [] refs) (ended core' refs' result) (rw is at r)
 
-    pub address_refused : (h : Halt) (g' : RegsFields) (end : Ended) → formed_from g i core refs ≡ ended core' refs' (Err h) → g' ≡ g → end ≡ refused (Some w) None h → EndsSo g (addressed e n g w) core refs core' refs' g' end
+    pub address_refused : (h : Halt) (g' : RegsFields) (end : Ended) → formed_from g i core refs ≡ ended core' refs' (Err h) → g' ≡ g → end ≡ refused (Some w) None h → EndsAs g (addressed e n g w) core refs core' refs' g' end
     address_refused h g' end r stay same =
         rw (stay, same) (ap end_of (forms (Err h) r) ∙ halts (Some w) None h core' [] refs')
 
-    pub address_formed : (f : Formed) (core'' : List ℕ) (refs'' : List Reference) (g' : RegsFields) (end : Ended) → formed_from g i core refs ≡ ended core' refs' (Ok f) → EndsFormed g (operated e n g w (chain_end_fields f)) core' f refs' core'' refs'' g' end → EndsSo g (addressed e n g w) core refs core'' refs'' g' end
+    pub address_formed : (f : Formed) (core'' : List ℕ) (refs'' : List Reference) (g' : RegsFields) (end : Ended) → formed_from g i core refs ≡ ended core' refs' (Ok f) → EndsFormed g (operated e n g w (chain_end_fields f)) core' f refs' core'' refs'' g' end → EndsAs g (addressed e n g w) core refs core'' refs'' g' end
     address_formed f core'' refs'' g' end r rest = ap end_of (forms (Ok f) r) ∙ rest
 
   -- MME, DRL and DIS
@@ -103,23 +103,23 @@ module _ (g : RegsFields) where
 
   -- The fetch of the instruction. m is the walk before it.
   module _ (m : Memory) (refs : List Reference) (core' : List ℕ) (same : g.dbr ≡ m.dbr) where
-    pub fetch_refused : (f : Fault) (g' : RegsFields) (end : Ended) → ServesWord (λ x. x.ppr.prr ≡ g.ppr.prr) Fetch m core' (here g) (Err f) → g' ≡ g → end ≡ refused None None (halt.Fault f) → EndsSo g (program g) m.core refs core' refs g' end
+    pub fetch_refused : (f : Fault) (g' : RegsFields) (end : Ended) → ServesWord (λ x. x.ppr.prr ≡ g.ppr.prr) Fetch m core' (here g) (Err f) → g' ≡ g → end ≡ refused None None (halt.Fault f) → EndsAs g (program g) m.core refs core' refs g' end
     unfolding program run
     fetch_refused f g' end served stay is =
         rw (stay, is) (ap (λ (t : Served (List ℕ)). end_of (run core_store g (fetched g t.reply) t.mid)) (served g same refl [] refs) ∙ halts None None (halt.Fault f) core' [] refs)
 
-    pub fetches : (w : ℕ) (privileged : Bool) (refs' : List Reference) (core'' : List ℕ) (refs'' : List Reference) (g' : RegsFields) (end : Ended) → ServesWord (λ x. x.ppr.prr ≡ g.ppr.prr) Fetch m core' (here g) (Ok w) → privileged ≡ has_right (sdw_in m g.ppr.psr) g.ppr.prr → refs' ≡ refs ++ record { kind = reference.Fetch; at = here g; count = 1 } ∷ [] → EndsSo g (decoded g w privileged (decode w)) core' refs' core'' refs'' g' end → EndsSo g (program g) m.core refs core'' refs'' g' end
+    pub fetches : (w : ℕ) (privileged : Bool) (refs' : List Reference) (core'' : List ℕ) (refs'' : List Reference) (g' : RegsFields) (end : Ended) → ServesWord (λ x. x.ppr.prr ≡ g.ppr.prr) Fetch m core' (here g) (Ok w) → privileged ≡ has_right (sdw_in m g.ppr.psr) g.ppr.prr → refs' ≡ refs ++ record { kind = reference.Fetch; at = here g; count = 1 } ∷ [] → EndsAs g (decoded g w privileged (decode w)) core' refs' core'' refs'' g' end → EndsAs g (program g) m.core refs core'' refs'' g' end
     unfolding program run
     fetches w privileged refs' core'' refs'' g' end served right one rest =
         ap (λ (t : Served (List ℕ)). end_of (run core_store g (fetched g t.reply) t.mid)) (served g same refl [] refs) ∙ rw (right, one) at rest
 
 -- The whole step.
-module _ (s : State (List ℕ)) (core : List ℕ) (refs : List Reference) (after : RegsFields) (e : Ended) (ends : EndsSo s.regs (program s.regs) s.store [] core refs after e) where
+module _ (s : State (List ℕ)) (core : List ℕ) (refs : List Reference) (after : RegsFields) (e : Ended) (ends : EndsAs s.regs (program s.regs) s.store [] core refs after e) where
   pub step_told : record_of core_store s ≡ record { refs = record { items = refs }; after = after; word = e.word; at = e.at; outcome = e.outcome; ppr = s.regs.ppr }
   unfolding record_of
   step_told =
-      ap (λ (x : End). record { refs = record { items = x.refs }; after = x.after; word = x.word; at = x.at; outcome = x.outcome; ppr = s.regs.ppr }) ends
+      ap (λ (x : StepEndState). record { refs = record { items = x.refs }; after = x.after; word = x.word; at = x.at; outcome = x.outcome; ppr = s.regs.ppr }) ends
 
   pub step_left : state_after core_store s ≡ record { regs = after; store = core }
   unfolding state_after
-  step_left = ap (λ (x : End). record { regs = x.after; store = x.core }) ends
+  step_left = ap (λ (x : StepEndState). record { regs = x.after; store = x.core }) ends

@@ -34,11 +34,11 @@ use Rattle.m36_model.specs.declared.place.Kind.TheVariants as reference
 use Rattle.m36_walk.specs.Memory.{Memory}
 use Rattle.m36_walk.specs.Served.{standing, sdw_in, request, served_by, at_target, Reads, ServesClaim, ServesWord}
 use Rattle.m36_walk.specs.Words.{run_changes}
-use Rattle.m36_frequent.specs.Frequent.{IsDone, word_read, pair_read}
+use Rattle.m36_fastpath.specs.FastPath.{IsDone, word_read, pair_read}
 use Rattle.m36_ea.specs.Formed.{formed_from, ended, plain}
-use Rattle.m36_step.specs.Ended.{EndsSo, ended_of, given_end}
+use Rattle.m36_step.specs.Ended.{EndsAs, ended_of, given_end}
 use Rattle.m36_step.specs.Operated.{part_of}
-use Rattle.m36_step.specs.Quick.{next_end, GoesOn, Operates, Addresses, Decodes, IsNoLdbr, Steps}
+use Rattle.m36_step.specs.Quick.{next_end, EndsWithNext, Operates, Addresses, Decodes, IsNoLdbr, Steps}
 use Rattle.m36_step.specs.References.{read_served}
 use Rattle.m36_step.specs.declared.ended.Ended.{Ended}
 use Rattle.m36_step.specs.declared.operated.Part as code
@@ -330,7 +330,7 @@ module _ (Has : List Reference → Type 0) (Tells : List Reference → Ended →
     decoded_on is row other goes privileged refs has =
         let formed = forms_by q.group q.effect (fits q q.group row refl) other in
         let same = ap (λ (x : Option (Effect × ℕ)). decoded g w privileged x) (decode_quick w q is other) ∙ unprivileged q.effect q.reg w g privileged formed.privileged formed.forms in
-        subst (λ (a : Act Ending). GoesOn Tells g a (standing core [] refs) core' after w) (sym same) (goes refs has)
+        subst (λ (a : Act Ending). EndsWithNext Tells g a (standing core [] refs) core' after w) (sym same) (goes refs has)
 
 -- The whole step.
 module _ (Has : List Reference → Type 0) (Tells : List Reference → Ended → Type 0) (g : RegsFields) (m : Memory) (dbr : g.dbr ≡ m.dbr) (core' : List ℕ) (after : RegsFields) where
@@ -356,7 +356,7 @@ module _ (Has : List Reference → Type 0) (Tells : List Reference → Ended →
 -- What a record has of a quick step.
 pub told_on : (g : RegsFields) (m : Memory) (before : List Reference) (core : List ℕ) (after : RegsFields) (told : StepRecord) → before ≡ []
     → Steps (λ refs. before ≡ refs) (λ refs e. (told.refs.items ≡ refs) × (ended_of told ≡ e)) g m.core core after
-    → EndsSo g (program g) m.core [] core told.refs.items after (ended_of told)
+    → EndsAs g (program g) m.core [] core told.refs.items after (ended_of told)
 told_on g m before core after told none steps =
     let t = steps.goes [] none in
     t.ends ∙ ap (λ (r : List Reference). given_end core r after (next_end steps.word t.last)) (sym t.tells.0) ∙ ap (λ (e : Ended). given_end core told.refs.items after e) (sym t.tells.1)

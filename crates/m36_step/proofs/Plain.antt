@@ -30,7 +30,7 @@ use Rattle.m36_walk.proofs.Claims.{changes_of_run, put_one_word}
 use Rattle.m36_word.specs.declared.pair.Pair.{Pair}
 use Rattle.m36_inst.specs.Quick.{group_of}
 use Rattle.m36_inst.specs.declared.rows.Group.TheVariants as group
-use Rattle.m36_frequent.specs.Frequent.{word_read, pair_read}
+use Rattle.m36_fastpath.specs.FastPath.{word_read, pair_read}
 use Rattle.m36_ea.specs.Formed.{plain}
 use Rattle.m36_ea.proofs.Runs.{run_ask, run_done}
 use Rattle.m36_step.specs.Ended.{EndsFormed}

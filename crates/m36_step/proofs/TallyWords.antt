@@ -28,7 +28,7 @@ use Rattle.m36_walk.specs.Runs.{run_from}
 use Rattle.m36_walk.specs.Served.{sdw_in, Reads, ServesClaim}
 use Rattle.m36_walk.specs.Words.{seen}
 use Rattle.m36_walk.specs.declared.words.Pending.{Pending}
-use Rattle.m36_frequent.specs.Frequent.{IsDone, word_read}
+use Rattle.m36_fastpath.specs.FastPath.{IsDone, word_read}
 use Rattle.m36_ea.specs.Formed.{formed_from, ended, formed_mid, plain}
 use Rattle.m36_ea.specs.declared.quick.Counting.{Counting}
 use Rattle.m36_ea.proofs.Runs.{run_ask, run_done}

@@ -12,7 +12,7 @@ use Rattle.m36_model.specs.declared.effects.Formed.{Formed}
 use Rattle.m36_model.specs.declared.effects.Held.{Held}
 use Rattle.m36_model.specs.declared.effects.Tally.{Tally}
 use Rattle.m36_model.proofs.PutLaw.{IsTallied, no_tally, tallied_at, all_changes}
-use Rattle.m36_walk.specs.Runs.{run_from, LiesIn}
+use Rattle.m36_walk.specs.Runs.{run_from, IsInCore}
 use Rattle.m36_walk.specs.Words.{run_changes}
 use Rattle.m36_step.specs.Operated.{part_of, claims_of, puts_of, PartFits}
 use Rattle.m36_step.specs.declared.operated.Part as code
@@ -64,10 +64,10 @@ pub block_length : (pairs : List Pair) → length (words_of_pairs pairs) ≡ 2 *
 block_length [] = refl
 block_length (p ∷ pairs) = let rest = block_length pairs in omega (arith, rest)
 
-pub block_lies : (size a : ℕ) (pairs : List Pair) → length pairs ≡ 8 → LiesIn size a (length (words_of_pairs pairs)) → LiesIn size a 16
+pub block_lies : (size a : ℕ) (pairs : List Pair) → length pairs ≡ 8 → IsInCore size a (length (words_of_pairs pairs)) → IsInCore size a 16
 block_lies size a pairs e h =
     let n : length (words_of_pairs pairs) ≡ 16 = omega (arith, block_length pairs) in
-    subst (λ (k : ℕ). LiesIn size a k) n h
+    subst (λ (k : ℕ). IsInCore size a k) n h
 
 -- A block is written as a whole.
 pub block_is_whole : (part : code.Part) (pairs : List Pair) → PartFits part (words_of_pairs pairs) → Whole ≡ part_of part

@@ -51,10 +51,10 @@ IsStep Full = ⊥
 IsStep NoMemory = ⊥
 
 -- the outcome is a fault or a stop
-abbrev pub IsNotNext : Outcome → Type 0
-IsNotNext Next = ⊥
-IsNotNext (Faulted fault) = Unit {0}
-IsNotNext (Stopped stop) = Unit {0}
+abbrev pub IsHalted : Outcome → Type 0
+IsHalted Next = ⊥
+IsHalted (Faulted fault) = Unit {0}
+IsHalted (Stopped stop) = Unit {0}
 
 -- the result of a link service that refused the link
 abbrev pub IsRefused : Result Pair LinkCode → Type 0
@@ -63,13 +63,13 @@ IsRefused (Err code) = Unit {0}
 
 -- A step whose outcome is not Next, or a link service that refused the link. The turn after it is
 -- not a step.
-abbrev pub Interrupts : Turn → Type 0
-Interrupts (Stepped told) = IsNotNext told.outcome
-Interrupts (Linked note) = IsRefused note.answer
-Interrupts (Console text) = ⊥
-Interrupts (Ended end) = ⊥
-Interrupts Full = ⊥
-Interrupts NoMemory = ⊥
+abbrev pub PrecludesStep : Turn → Type 0
+PrecludesStep (Stepped told) = IsHalted told.outcome
+PrecludesStep (Linked note) = IsRefused note.answer
+PrecludesStep (Console text) = ⊥
+PrecludesStep (Ended end) = ⊥
+PrecludesStep Full = ⊥
+PrecludesStep NoMemory = ⊥
 
 -- the machine answers that it cannot go back, and is unchanged
 abbrev pub IsUnable : {S : Type 0} → S → BackAnswer → S → Type 0

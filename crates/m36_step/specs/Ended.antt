@@ -18,7 +18,7 @@ use Rattle.m36_ea.specs.Formed.{formed_mid}
 use Rattle.m36_step.specs.declared.ended.Ended.{Ended}
 
 -- the end of a step, with its references, and the registers and core after it
-pub record End : Type 0 where
+pub record StepEndState : Type 0 where
   pub word : Option ℕ
   pub at : Option FinalFields
   pub after : RegsFields
@@ -27,7 +27,7 @@ pub record End : Type 0 where
   pub core : List ℕ
 
 -- the end of a run of the program, after which the words are written together
-abbrev pub end_of : Ran Ending (List ℕ) → End
+abbrev pub end_of : Ran Ending (List ℕ) → StepEndState
 end_of t =
     record {
       word = t.value.word;
@@ -39,7 +39,7 @@ end_of t =
     }
 
 -- the end that the code gives, with core, the references and the registers that it leaves
-abbrev pub given_end : List ℕ → List Reference → RegsFields → Ended → End
+abbrev pub given_end : List ℕ → List Reference → RegsFields → Ended → StepEndState
 given_end core refs after e =
     record {
       word = e.word;
@@ -64,8 +64,8 @@ abbrev pub ended_of : StepRecord → Ended
 ended_of told = record { word = told.word; at = told.at; outcome = told.outcome }
 
 -- an empty record with these registers
-abbrev pub untold_record : RegsFields → StepRecord
-untold_record g =
+abbrev pub empty_record_of : RegsFields → StepRecord
+empty_record_of g =
     record {
       refs = record { items = [] };
       after = g;
@@ -77,13 +77,13 @@ untold_record g =
 
 -- The program, run over core in a step that has completed these references and claimed no write,
 -- ends as the code does.
-abbrev pub EndsSo :
+abbrev pub EndsAs :
     RegsFields → Act Ending → List ℕ → List Reference → List ℕ → List Reference → RegsFields → Ended
     → Type 0
-EndsSo g program core refs core' refs' g' e =
+EndsAs g program core refs core' refs' g' e =
     end_of (run core_store g program (standing core [] refs)) ≡ given_end core' refs' g' e
 
--- As `EndsSo`, once the address is formed: the step has claimed the tally word, if there is one.
+-- As `EndsAs`, once the address is formed: the step has claimed the tally word, if there is one.
 abbrev pub EndsFormed :
     RegsFields → Act Ending → List ℕ → Formed → List Reference → List ℕ → List Reference
     → RegsFields → Ended → Type 0

@@ -8,8 +8,8 @@ use Rattle.m36_model.specs.declared.endings.End.{End}
 use Rattle.m36_model.specs.declared.endings.End.TheVariants as end
 use Rattle.m36_model.specs.declared.outcome.Outcome.{Outcome}
 use Rattle.m36_model.specs.declared.outcome.Outcome.TheVariants.{Next, Faulted, Stopped}
-use Rattle.m36_step.specs.Answers.{IsDone, IsService, IsStep, IsNotNext, IsStepOrEnd, IsUnable}
-use Rattle.m36_step.specs.Answers.{Interrupts}
+use Rattle.m36_step.specs.Answers.{IsDone, IsService, IsStep, IsHalted, IsStepOrEnd, IsUnable}
+use Rattle.m36_step.specs.Answers.{PrecludesStep}
 use Rattle.m36_step.specs.MachineFields.{MachineFields}
 use Rattle.m36_step.specs.declared.turns.Turn.{Turn}
 use Rattle.m36_step.specs.declared.turns.Turn.TheVariants.{Stepped, Ended}
@@ -74,14 +74,14 @@ machine_apart first second third one two h k service other =
     turn_no_service first (subst IsService h.0 service)
 
 no_step : (outcome : Outcome) (s : State (List ℕ))
-    → IsNotNext outcome → IsStep (turn_by (ended_by outcome) s) → ⊥
+    → IsHalted outcome → IsStep (turn_by (ended_by outcome) s) → ⊥
 no_step Next s not step = not
 no_step (Faulted fault) s not step = step
 no_step (Stopped stop) s not step = step
 
 no_step_after :
     (ended : Option End) (s : State (List ℕ))
-    → Interrupts (turn_by ended s)
+    → PrecludesStep (turn_by ended s)
     → IsStep (turn_by (after_by ended s).ended (after_by ended s).state) → ⊥
 no_step_after None s interrupts step =
     no_step (record_of core_store s).outcome (state_after core_store s) interrupts step
@@ -89,7 +89,7 @@ no_step_after (Some e) s interrupts step = interrupts
 
 turn_interrupted :
     (m : MachineFields)
-    → Interrupts (machine_turn m) → IsStep (machine_turn (machine_after m)) → ⊥
+    → PrecludesStep (machine_turn m) → IsStep (machine_turn (machine_after m)) → ⊥
 unfolding machine_turn machine_after
 turn_interrupted m interrupts step = no_step_after m.ended m.state interrupts step
 
@@ -97,9 +97,9 @@ turn_interrupted m interrupts step = no_step_after m.ended m.state interrupts st
 pub machine_interrupted :
     (first second third : MachineFields) (one two : Turn)
     → MachineTurns first one second → MachineTurns second two third
-    → Interrupts one → IsStep two → ⊥
+    → PrecludesStep one → IsStep two → ⊥
 machine_interrupted first second third one two h k interrupts step =
-    turn_interrupted first (subst Interrupts h.0 interrupts)
+    turn_interrupted first (subst PrecludesStep h.0 interrupts)
     (subst IsStep (k.0 ∙ ap machine_turn h.1) step)
 
 -- the turn of a state is one that the machine may take

@@ -15,7 +15,7 @@ use Rattle.m36_model.specs.declared.effects.Held.{Held}
 use Rattle.m36_model.specs.declared.effects.Tally.{Tally}
 use Rattle.m36_model.specs.declared.outcome.Halt.{Halt}
 use Rattle.m36_model.specs.declared.place.Reference.{Reference}
-use Rattle.m36_walk.specs.Runs.{run_from, LiesIn}
+use Rattle.m36_walk.specs.Runs.{run_from, IsInCore}
 use Rattle.m36_walk.specs.Served.{standing}
 use Rattle.m36_ea.specs.Formed.{formed_mid}
 use Rattle.m36_step.specs.declared.operated.Part as code
@@ -88,6 +88,6 @@ PartHolds part.Right w = FitsHalf w
 -- the words to write have places in a core of this size
 pub record Lies (size : ℕ) (f : Formed) (put : Held) (o : Operated) : Type 0 where
   pub tally : TallyIn f.tally f.place size
-  pub run : LiesIn size o.place (length (words_of_held put))
+  pub run : IsInCore size o.place (length (words_of_held put))
   pub place : o.place < 2 ^ 24
   pub part : PartFits o.part (words_of_held put)

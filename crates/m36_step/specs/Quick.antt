@@ -8,7 +8,7 @@ use Rattle.m36_model.specs.Core.{core_store}
 use Rattle.m36_model.specs.Fields.{FinalFields}
 use Rattle.m36_model.specs.Registers.{RegsFields}
 use Rattle.m36_model.specs.Step.{Ending, addressed, decode, decoded, operated, program}
-use Rattle.m36_model.specs.Store.{Mid, run}
+use Rattle.m36_model.specs.Store.{Midstep, run}
 use Rattle.m36_model.specs.declared.outcome.Outcome.TheVariants.{Next}
 use Rattle.m36_model.specs.declared.place.Reference.{Reference}
 use Rattle.m36_walk.specs.Served.{standing}
@@ -24,8 +24,8 @@ next_end w last = record { word = Some w; at = Some last; outcome = Next }
 
 -- The program, run from this state of a step, ends with the outcome Next, and leaves this core and
 -- these registers. The recorder has its references and its end (`Tells`).
-pub record GoesOn (Tells : List Reference → Ended → Type 0) (g : RegsFields) (act : Act Ending)
-    (mid : Mid (List ℕ)) (core : List ℕ) (after : RegsFields) (w : ℕ) : Type 0 where
+pub record EndsWithNext (Tells : List Reference → Ended → Type 0) (g : RegsFields) (act : Act Ending)
+    (mid : Midstep (List ℕ)) (core : List ℕ) (after : RegsFields) (w : ℕ) : Type 0 where
   pub refs : List Reference
   pub last : FinalFields
   pub ends : end_of (run core_store g act mid) ≡ given_end core refs after (next_end w last)
@@ -36,7 +36,7 @@ abbrev pub Goes :
     (List Reference → Type 0) → (List Reference → Ended → Type 0) → RegsFields → Act Ending
     → List ℕ → List ℕ → RegsFields → ℕ → Type 0
 Goes Has Tells g act core core' after w =
-    (refs : List Reference) → Has refs → GoesOn Tells g act (standing core [] refs) core' after w
+    (refs : List Reference) → Has refs → EndsWithNext Tells g act (standing core [] refs) core' after w
 
 -- the operation of an instruction whose address has no tally word
 abbrev pub Operates :
@@ -56,7 +56,7 @@ abbrev pub OperatesCounted :
     → Counting → List ℕ → List ℕ → RegsFields → Type 0
 OperatesCounted Has Tells q g w c core core' after =
     (refs : List Reference) → Has refs
-    → GoesOn Tells g (operated q.effect q.reg g w (chain_end_fields (counted_address c)))
+    → EndsWithNext Tells g (operated q.effect q.reg g w (chain_end_fields (counted_address c)))
     (formed_mid core (counted_address c) refs) core' after w
 
 -- an instruction, from its address on

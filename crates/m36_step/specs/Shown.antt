@@ -5,7 +5,7 @@ use Rattle.m36_model.specs.Step.{program}
 use Rattle.m36_model.specs.declared.outcome.Outcome.TheVariants.{Next}
 use Rattle.m36_model.specs.declared.place.Reference.{Reference}
 use Rattle.m36_model.specs.declared.record.Shown.{Shown}
-use Rattle.m36_step.specs.Ended.{EndsSo}
+use Rattle.m36_step.specs.Ended.{EndsAs}
 use Rattle.m36_step.specs.declared.ended.Ended.{Ended}
 
 -- the end that is recorded
@@ -13,11 +13,11 @@ abbrev pub shown_end : Shown → Ended
 shown_end shown = record { word = shown.word; at = shown.at; outcome = shown.outcome }
 
 -- the empty value, with the place of the instruction
-abbrev pub unshown : RegsFields → Shown
-unshown g = record { word = None; at = None; outcome = Next; ppr = g.ppr }
+abbrev pub empty_shown : RegsFields → Shown
+empty_shown g = record { word = None; at = None; outcome = Next; ppr = g.ppr }
 
 -- The step ends in this way, with some references.
 pub record EndsShown (g : RegsFields) (core core' : List ℕ) (after : RegsFields) (e : Ended)
     : Type 0 where
   pub refs : List Reference
-  pub ends : EndsSo g (program g) core [] core' refs after e
+  pub ends : EndsAs g (program g) core [] core' refs after e

@@ -11,7 +11,7 @@ ghost use Rattle.m36_model.specs.Results.{OperandFields, operand_fields, words_o
 ghost use Rattle.m36_model.specs.Step.{with_tally, tallied};
 ghost use Rattle.m36_model.specs.Transfers.{is_taken};
 ghost use Rattle.m36_model.specs.WordsPut.{PutsFor};
-ghost use Rattle.m36_xdata.specs.Changes.{LeavesSo};
+ghost use Rattle.m36_xdata.specs.Changes.{Leaves};
 ghost use Rattle.m36_xfer.specs.ControlInstructions.{is_transfer};
 
 use m36_inst::{Effect, Row};
@@ -85,7 +85,7 @@ fn execute_pointer(
     requires group { IsTrue (is_pointer row.now.effect) }
     requires reg { row.now.reg < 8 }
     requires got { HoldsFor (operand_of row.now.effect) operand.now.got }
-    ensures value { LeavesSo regs.old regs.new put.new result
+    ensures value { Leaves regs.old regs.new put.new result
         (refused_here regs.old
         (exec row.now.effect row.now.reg regs.old last.now (operand_fields operand.now))) }
     ensures put { IfOk result (λ o. PutsFor (operand_of row.now.effect) (words_of_held put.new)) }
@@ -126,7 +126,7 @@ fn execute_control(
     requires group { IsTrue (is_control row.now.effect) }
     requires reg { row.now.reg < 8 }
     requires got { HoldsFor (operand_of row.now.effect) operand.now.got }
-    ensures value { LeavesSo regs.old regs.new put.new result
+    ensures value { Leaves regs.old regs.new put.new result
         (refused_here regs.old
         (exec row.now.effect row.now.reg regs.old last.now (operand_fields operand.now))) }
     ensures put { IfOk result (λ o. PutsFor (operand_of row.now.effect) (words_of_held put.new)) }
@@ -153,7 +153,7 @@ fn execute(
     requires addressed { operand_of row.now.effect ≢ N }
     requires reg { row.now.reg < 8 }
     requires got { HoldsFor (operand_of row.now.effect) operand.now.got }
-    ensures value { LeavesSo regs.old regs.new put.new result
+    ensures value { Leaves regs.old regs.new put.new result
         (refused_here regs.old
         (exec row.now.effect row.now.reg regs.old last.now (operand_fields operand.now))) }
     ensures put { IfOk result (λ o. PutsFor (operand_of row.now.effect) (words_of_held put.new)) }
@@ -183,7 +183,7 @@ pub(crate) fn effect(
     requires addressed { operand_of row.now.effect ≢ N }
     requires reg { row.now.reg < 8 }
     requires got { HoldsFor (operand_of row.now.effect) operand.now.got }
-    ensures value { LeavesSo regs.old regs.new put.new result
+    ensures value { Leaves regs.old regs.new put.new result
         (refused_here regs.old
         (exec row.now.effect row.now.reg (tallied regs.old (chain_end_fields formed.now))
         formed.now.last (operand_fields operand.now))) }

@@ -5,14 +5,14 @@ ghost use Rattle.std.specs.Prelude.{◌≡◌, ◌≢◌, ◌==◌, ◌+◌, ◌
 ghost use Rattle.m36_inst.specs.Instruction.{inst_of};
 ghost use Rattle.m36_inst.specs.Lookup.{IsRow};
 ghost use Rattle.m36_inst.specs.declared.operand.Operand.TheVariants.{N};
-ghost use Rattle.m36_ea.specs.Formed.{TallyLies};
+ghost use Rattle.m36_ea.specs.Formed.{HasTally};
 ghost use Rattle.m36_inst.specs.Operands.{operand_of};
 ghost use Rattle.m36_model.specs.Chain.{chain_end_fields};
 ghost use Rattle.m36_model.specs.Modification.{here};
 ghost use Rattle.m36_model.specs.Registers.{RegsFields};
 ghost use Rattle.m36_model.specs.Step.{program, decoded, decode, admitted, is_barred, started, at_once};
 ghost use Rattle.m36_model.specs.Step.{addressed, operated};
-ghost use Rattle.m36_step.specs.Ended.{EndsSo, EndsFormed, completed_end};
+ghost use Rattle.m36_step.specs.Ended.{EndsAs, EndsFormed, completed_end};
 
 use crate::ended::{Ended, fault_here, halted, outcome_by};
 use crate::operate::operate;
@@ -64,7 +64,7 @@ pub(crate) fn operated(
     requires dbr { walk.old.dbr ≡ regs.old.dbr }
     requires row { IsRow row.now }
     requires addressed { row.now.operand ≢ N }
-    requires tally { TallyLies formed.now.tally formed.now.place (length walk.old.core)
+    requires tally { HasTally formed.now.tally formed.now.place (length walk.old.core)
         refs.old.items }
     requires room { length refs.old.items ≤ 38 }
     ensures ends { EndsFormed regs.old
@@ -98,7 +98,7 @@ fn addressed(
     requires addressed { row.now.operand ≢ N }
     requires inst { inst.now ≡ inst_of word }
     requires room { length refs.old.items ≤ 4 }
-    ensures ends { EndsSo regs.old (addressed row.now.effect row.now.reg regs.old word)
+    ensures ends { EndsAs regs.old (addressed row.now.effect row.now.reg regs.old word)
         walk.old.core refs.old.items walk.new.core refs.new.items regs.new result }
     ensures dbr { walk.new.dbr ≡ regs.new.dbr }
 {
@@ -132,7 +132,7 @@ fn started(
     requires row { IsRow row.now }
     requires inst { inst.now ≡ inst_of word }
     requires room { length refs.old.items ≤ 4 }
-    ensures ends { EndsSo regs.old
+    ensures ends { EndsAs regs.old
         (started row.now.effect row.now.reg regs.old word (operand_of row.now.effect)) walk.old.core
         refs.old.items walk.new.core refs.new.items regs.new result }
     ensures dbr { walk.new.dbr ≡ regs.new.dbr }
@@ -157,7 +157,7 @@ fn admitted(
     requires row { IsRow row.now }
     requires inst { inst.now ≡ inst_of word }
     requires room { length refs.old.items ≤ 4 }
-    ensures ends { EndsSo regs.old
+    ensures ends { EndsAs regs.old
         (admitted row.now.effect row.now.reg regs.old word
         (is_barred row.now.effect privileged)) walk.old.core refs.old.items walk.new.core
         refs.new.items regs.new result }
@@ -174,7 +174,7 @@ fn admitted(
 fn decoded(walk: &mut Walk, regs: &mut Regs, word: Word, privileged: bool, refs: &mut Refs) -> Ended
     requires dbr { walk.old.dbr ≡ regs.old.dbr }
     requires room { length refs.old.items ≤ 4 }
-    ensures ends { EndsSo regs.old (decoded regs.old word privileged (decode word)) walk.old.core
+    ensures ends { EndsAs regs.old (decoded regs.old word privileged (decode word)) walk.old.core
         refs.old.items walk.new.core refs.new.items regs.new result }
     ensures dbr { walk.new.dbr ≡ regs.new.dbr }
 {
@@ -189,7 +189,7 @@ fn decoded(walk: &mut Walk, regs: &mut Regs, word: Word, privileged: bool, refs:
 pub(crate) fn execute(walk: &mut Walk, regs: &mut Regs, refs: &mut Refs) -> Ended
     requires dbr { walk.old.dbr ≡ regs.old.dbr }
     requires room { length refs.old.items ≤ 3 }
-    ensures ends { EndsSo regs.old (program regs.old) walk.old.core refs.old.items walk.new.core
+    ensures ends { EndsAs regs.old (program regs.old) walk.old.core refs.old.items walk.new.core
         refs.new.items regs.new result }
     ensures dbr { walk.new.dbr ≡ regs.new.dbr }
 {

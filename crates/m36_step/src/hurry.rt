@@ -8,13 +8,13 @@ ghost use Rattle.m36_model.specs.declared.outcome.Outcome.TheVariants.{Next};
 ghost use Rattle.m36_step.specs.Hurry.{states_after};
 
 use crate::quick::quick;
-use crate::recorder::Untold;
+use crate::recorder::NoRecord;
 use m36_model::Regs;
 use m36_walk::Walk;
 
 /// Takes at most `most` steps, as long as the next one is quick. Returns the number of steps
 /// taken.
-pub(crate) fn hurried(walk: &mut Walk, regs: &mut Regs, most: u32) -> u32
+pub(crate) fn run_quick_steps(walk: &mut Walk, regs: &mut Regs, most: u32) -> u32
     requires dbr { walk.old.dbr ≡ regs.old.dbr }
     ensures few { result ≤ most }
     ensures state { record { regs = regs.new; store = walk.new.core }
@@ -27,7 +27,7 @@ pub(crate) fn hurried(walk: &mut Walk, regs: &mut Regs, most: u32) -> u32
         (states_after n (record { regs = regs.old; store = walk.old.core }))) → ⊥ }
     ensures dbr { walk.new.dbr ≡ regs.new.dbr }
 {
-    let mut untold = Untold;
+    let mut untold = NoRecord;
     let mut taken = 0;
     while taken < most {
         if !quick(walk, regs, &mut untold) {

@@ -45,11 +45,11 @@ mod quick_pairs;
 mod quick_words;
 mod reach;
 mod recorder;
+mod recording;
 mod references;
 mod shown;
 pub mod stepper;
 mod targets;
-mod telling;
 pub mod turns;
 mod writes;
 

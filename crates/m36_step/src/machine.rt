@@ -3,25 +3,25 @@
 ghost use Rattle.std.specs.Prelude.{ℕ, ◌≡◌, ◌+◌, ◌%◌, ◌^◌, ◌<◌, ◌≤◌, [], None, IfOk, length, slice_set};
 ghost use Rattle.std.specs.Borrow.{sem};
 ghost use Rattle.m36_model.specs.Core.{core_store};
-ghost use Rattle.m36_model.specs.Laws.{ExecutesLdbr, Keeps};
+ghost use Rattle.m36_model.specs.Laws.{ExecutesLdbr, PreservesAudit};
 ghost use Rattle.m36_model.specs.Results.{moved_on};
 ghost use Rattle.m36_model.specs.Shown.{shown_of};
 ghost use Rattle.m36_model.specs.Step.{program, record_of, state_after};
-ghost use Rattle.m36_step.specs.Ended.{EndsSo, ended_of, untold_record};
+ghost use Rattle.m36_step.specs.Ended.{EndsAs, ended_of, empty_record_of};
 ghost use Rattle.m36_step.specs.Hurry.{states_after};
 ghost use Rattle.m36_step.specs.MachineTurn.{MachineTurns, ended_by};
-ghost use Rattle.m36_step.specs.Shown.{unshown};
+ghost use Rattle.m36_step.specs.Shown.{empty_shown};
 ghost use Rattle.m36_model.specs.declared.outcome.Outcome.TheVariants.{Next};
 
 use crate::execute::execute;
-use crate::hurry::hurried;
+use crate::hurry::run_quick_steps;
 use crate::quick::quick;
+use crate::recording::record_end;
 use crate::shown::take_shown;
 use crate::stepper::{Replay, Stepper};
-use crate::telling::tell;
 use crate::turns::{BackAnswer, Turn};
 use m36_core::Core;
-use m36_isol::law_kept;
+use m36_isol::law_audit_preserved;
 use m36_model::{End, Outcome, Refs, Regs, Shown, StepRecord};
 use m36_walk::Walk;
 use m36_word::{NoMemory, Word};
@@ -54,23 +54,23 @@ impl Model for Machine {
 
 /// Takes a step that is not quick, and records it.
 #[inline(never)]
-fn told_else(walk: &mut Walk, regs: &mut Regs, told: &mut StepRecord)
+fn record_general_step(walk: &mut Walk, regs: &mut Regs, told: &mut StepRecord)
     requires dbr { walk.old.dbr ≡ regs.old.dbr }
-    ensures ends { EndsSo regs.old (program regs.old) walk.old.core [] walk.new.core
+    ensures ends { EndsAs regs.old (program regs.old) walk.old.core [] walk.new.core
         told.new.refs.items regs.new (ended_of told.new) }
     ensures ppr { told.new.ppr ≡ told.old.ppr }
     ensures dbr { walk.new.dbr ≡ regs.new.dbr }
 {
     told.refs.clear();
     let ended = execute(walk, regs, &mut told.refs);
-    tell(told, &ended);
+    record_end(told, &ended);
 }
 
 /// Takes one step, and records it without the place of the instruction and the registers after it.
 #[inline(always)]
-fn told_step(walk: &mut Walk, regs: &mut Regs, told: &mut StepRecord)
+fn record_step(walk: &mut Walk, regs: &mut Regs, told: &mut StepRecord)
     requires dbr { walk.old.dbr ≡ regs.old.dbr }
-    ensures ends { EndsSo regs.old (program regs.old) walk.old.core [] walk.new.core
+    ensures ends { EndsAs regs.old (program regs.old) walk.old.core [] walk.new.core
         told.new.refs.items regs.new (ended_of told.new) }
     ensures ppr { told.new.ppr ≡ told.old.ppr }
     ensures dbr { walk.new.dbr ≡ regs.new.dbr }
@@ -79,7 +79,7 @@ fn told_step(walk: &mut Walk, regs: &mut Regs, told: &mut StepRecord)
     if quick(walk, regs, told) {
         return;
     }
-    told_else(walk, regs, told)
+    record_general_step(walk, regs, told)
 }
 
 /// Copies the registers field by field. LLVM would copy a struct of this size by a call.
@@ -107,13 +107,13 @@ fn take_step(walk: &mut Walk, regs: &mut Regs, told: &mut StepRecord)
     ensures dbr { walk.new.dbr ≡ regs.new.dbr }
 {
     told.ppr = regs.ppr;
-    told_step(walk, regs, told);
+    record_step(walk, regs, told);
     copy_registers(regs, &mut told.after);
 }
 
 /// An empty record, to be overwritten.
 fn untold(regs: &Regs) -> StepRecord
-    ensures { result ≡ untold_record regs.now }
+    ensures { result ≡ empty_record_of regs.now }
 {
     StepRecord {
         refs: Refs::new(),
@@ -156,7 +156,7 @@ impl Machine {
         ensures told { result ≡ record_of core_store self.old.state }
         ensures state { self.new.state ≡ state_after core_store self.old.state }
         ensures ended { self.new.ended ≡ self.old.ended }
-        ensures kept { Keeps self.old.state self.new.state (record_of core_store self.old.state) }
+        ensures kept { PreservesAudit self.old.state self.new.state (record_of core_store self.old.state) }
     {
         let mut told = self.untold();
         self.step_into(&mut told);
@@ -170,9 +170,9 @@ impl Machine {
         ensures told { told.new ≡ record_of core_store self.old.state }
         ensures state { self.new.state ≡ state_after core_store self.old.state }
         ensures ended { self.new.ended ≡ self.old.ended }
-        ensures kept { Keeps self.old.state self.new.state (record_of core_store self.old.state) }
+        ensures kept { PreservesAudit self.old.state self.new.state (record_of core_store self.old.state) }
     {
-        law_kept();
+        law_audit_preserved();
         let Machine { walk, regs, .. } = self;
         take_step(walk, regs, told)
     }
@@ -190,8 +190,8 @@ impl Machine {
     }
 
     /// An empty value for `step_shown` to overwrite.
-    pub fn unshown(&self) -> Shown
-        ensures { result ≡ unshown self.now.state.regs }
+    pub fn empty_shown(&self) -> Shown
+        ensures { result ≡ empty_shown self.now.state.regs }
     {
         Shown {
             word: None,
@@ -215,7 +215,7 @@ impl Machine {
         ensures ended { self.new.ended ≡ self.old.ended }
     {
         let Machine { walk, regs, .. } = self;
-        hurried(walk, regs, most)
+        run_quick_steps(walk, regs, most)
     }
 
     /// Stores how a step ended the run, if it did. The run of turns had not ended before.
@@ -251,7 +251,7 @@ impl Machine {
 
     /// An empty record with the current registers, for `step_into` to overwrite.
     pub fn untold(&self) -> StepRecord
-        ensures { result ≡ untold_record self.now.state.regs }
+        ensures { result ≡ empty_record_of self.now.state.regs }
     {
         untold(&self.regs)
     }

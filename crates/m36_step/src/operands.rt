@@ -5,7 +5,7 @@ ghost use Rattle.m36_model.specs.OperandHeld.{is_empty, is_word, is_pair, is_blo
 ghost use Rattle.m36_model.specs.Chain.{chain_end_fields};
 ghost use Rattle.m36_model.specs.Results.{operand_fields, words_of_held, words_in_ring};
 ghost use Rattle.m36_model.specs.Step.{reading_word, reading_words, writing, changing};
-ghost use Rattle.m36_walk.specs.Runs.{LiesIn};
+ghost use Rattle.m36_walk.specs.Runs.{IsInCore};
 ghost use Rattle.m36_walk.specs.Served.{IsCount};
 ghost use Rattle.m36_step.specs.Operated.{part_of};
 ghost use Rattle.m36_step.specs.Reached.{Reads, Writes};
@@ -43,7 +43,7 @@ pub(crate) fn unwritten() -> Reached
 }
 
 /// Reads a word.
-#[tactic(auto, using(crate::proofs::Reaching::reaching), unfolding(m36_walk::specs::Runs::LiesIn))]
+#[tactic(auto, using(crate::proofs::Reaching::reaching), unfolding(m36_walk::specs::Runs::IsInCore))]
 pub(crate) fn reach_word(
     walk: &mut Walk,
     regs: &Regs,
@@ -56,7 +56,7 @@ pub(crate) fn reach_word(
     ensures reads { Reads (λ e n. reading_word e n regs.now (chain_end_fields formed.now)) regs.now
         formed.now walk.old.core refs.old.items walk.new.core refs.new.items operand.new result }
     ensures got { IfOk result (λ u. IsTrue (is_word operand.new.got)) }
-    ensures run { IfOk result (λ u. LiesIn (length walk.new.core) u.place 0) }
+    ensures run { IfOk result (λ u. IsInCore (length walk.new.core) u.place 0) }
     ensures place { IfOk result (λ u. u.place < 2 ^ 24) }
     ensures part { IfOk result (λ u. u.part ≡ part.Whole) }
     ensures count { length refs.new.items ≤ length refs.old.items + 1 }
@@ -73,7 +73,7 @@ pub(crate) fn reach_word(
 }
 
 /// Reads a pair.
-#[tactic(auto, using(crate::proofs::Reaching::reaching), unfolding(m36_walk::specs::Runs::LiesIn))]
+#[tactic(auto, using(crate::proofs::Reaching::reaching), unfolding(m36_walk::specs::Runs::IsInCore))]
 pub(crate) fn reach_pair(
     walk: &mut Walk,
     regs: &Regs,
@@ -87,7 +87,7 @@ pub(crate) fn reach_pair(
         regs.now formed.now walk.old.core refs.old.items walk.new.core refs.new.items operand.new
         result }
     ensures got { IfOk result (λ u. IsTrue (is_pair operand.new.got)) }
-    ensures run { IfOk result (λ u. LiesIn (length walk.new.core) u.place 0) }
+    ensures run { IfOk result (λ u. IsInCore (length walk.new.core) u.place 0) }
     ensures place { IfOk result (λ u. u.place < 2 ^ 24) }
     ensures part { IfOk result (λ u. u.part ≡ part.Whole) }
     ensures count { length refs.new.items ≤ length refs.old.items + 1 }
@@ -104,7 +104,7 @@ pub(crate) fn reach_pair(
 }
 
 /// Reads a block.
-#[tactic(auto, using(crate::proofs::Reaching::reaching), unfolding(m36_walk::specs::Runs::LiesIn))]
+#[tactic(auto, using(crate::proofs::Reaching::reaching), unfolding(m36_walk::specs::Runs::IsInCore))]
 pub(crate) fn reach_block(
     walk: &mut Walk,
     regs: &Regs,
@@ -118,7 +118,7 @@ pub(crate) fn reach_block(
         regs.now formed.now walk.old.core refs.old.items walk.new.core refs.new.items operand.new
         result }
     ensures got { IfOk result (λ u. IsTrue (is_block operand.new.got)) }
-    ensures run { IfOk result (λ u. LiesIn (length walk.new.core) u.place 0) }
+    ensures run { IfOk result (λ u. IsInCore (length walk.new.core) u.place 0) }
     ensures place { IfOk result (λ u. u.place < 2 ^ 24) }
     ensures part { IfOk result (λ u. u.part ≡ part.Whole) }
     ensures count { length refs.new.items ≤ length refs.old.items + 1 }
@@ -136,7 +136,7 @@ pub(crate) fn reach_block(
 }
 
 /// Claims the places of `count` words that will be written.
-#[tactic(auto, using(crate::proofs::Reaching::reaching), unfolding(m36_walk::specs::Runs::LiesIn))]
+#[tactic(auto, using(crate::proofs::Reaching::reaching), unfolding(m36_walk::specs::Runs::IsInCore))]
 pub(crate) fn reach_written(
     walk: &mut Walk,
     regs: &Regs,
@@ -154,7 +154,7 @@ pub(crate) fn reach_written(
         formed.now count walk.old.core refs.old.items walk.new.core refs.new.items operand.new
         result }
     ensures got { IfOk result (λ u. IsTrue (is_empty operand.new.got)) }
-    ensures run { IfOk result (λ u. LiesIn (length walk.new.core) u.place count) }
+    ensures run { IfOk result (λ u. IsInCore (length walk.new.core) u.place count) }
     ensures place { IfOk result (λ u. u.place < 2 ^ 24) }
     ensures part { IfOk result (λ u. u.part ≡ part) }
     ensures count { length refs.new.items ≤ length refs.old.items + 1 }
@@ -171,7 +171,7 @@ pub(crate) fn reach_written(
 }
 
 /// Reads a word, and claims its place to write it.
-#[tactic(auto, using(crate::proofs::Reaching::reaching), unfolding(m36_walk::specs::Runs::LiesIn))]
+#[tactic(auto, using(crate::proofs::Reaching::reaching), unfolding(m36_walk::specs::Runs::IsInCore))]
 pub(crate) fn reach_changed(
     walk: &mut Walk,
     regs: &Regs,
@@ -186,7 +186,7 @@ pub(crate) fn reach_changed(
         (λ e n. changing e n regs.now (chain_end_fields formed.now) (part_of part)) regs.now
         formed.now 1 walk.old.core refs.old.items walk.new.core refs.new.items operand.new result }
     ensures got { IfOk result (λ u. IsTrue (is_word operand.new.got)) }
-    ensures run { IfOk result (λ u. LiesIn (length walk.new.core) u.place 1) }
+    ensures run { IfOk result (λ u. IsInCore (length walk.new.core) u.place 1) }
     ensures place { IfOk result (λ u. u.place < 2 ^ 24) }
     ensures part { IfOk result (λ u. u.part ≡ part) }
     ensures count { length refs.new.items ≤ length refs.old.items + 2 }

@@ -3,7 +3,7 @@
 ghost use Rattle.std.specs.Prelude.{ℕ, ◌≡◌, ◌≢◌, ◌+◌, ◌≤◌, ◌<◌, IfOk, IfErr, length};
 ghost use Rattle.m36_inst.specs.Lookup.{IsRow};
 ghost use Rattle.m36_inst.specs.declared.operand.Operand.TheVariants.{N};
-ghost use Rattle.m36_ea.specs.Formed.{TallyLies};
+ghost use Rattle.m36_ea.specs.Formed.{HasTally};
 ghost use Rattle.m36_step.specs.Operated.{operation_from, operated_end, Lies};
 
 use crate::effects::effect;
@@ -31,7 +31,7 @@ pub(crate) fn operate(
     requires dbr { walk.old.dbr ≡ regs.old.dbr }
     requires row { IsRow row.now }
     requires addressed { row.now.operand ≢ N }
-    requires tally { TallyLies formed.now.tally formed.now.place (length walk.old.core)
+    requires tally { HasTally formed.now.tally formed.now.place (length walk.old.core)
         refs.old.items }
     requires room { length refs.old.items ≤ 38 }
     ensures operates { operation_from row.now.effect row.now.reg regs.old formed.now walk.old.core

@@ -136,7 +136,7 @@ fn operated_directly<R: Recorder>(
 {
     match row.group {
         Group::Read => {
-            if !m36_frequent::read_word(row.effect, row.reg as u8, regs, operand) {
+            if !m36_fastpath::read_word(row.effect, row.reg as u8, regs, operand) {
                 return false;
             }
             rec.end(word, last);
@@ -184,7 +184,7 @@ fn counted<R: Recorder>(
 
 /// Executes an instruction whose tag is not one of register modification.
 #[inline(never)]
-fn chained<R: Recorder>(
+fn try_indirect<R: Recorder>(
     walk: &mut Walk,
     regs: &mut Regs,
     rec: &mut R,
@@ -238,7 +238,7 @@ fn addressed<R: Recorder>(
 {
     let inst = Inst::of_word(word);
     match plain_address(regs, &inst) {
-        None => chained(walk, regs, rec, word, row),
+        None => try_indirect(walk, regs, rec, word, row),
         Some(last) => match last.direct {
             Some(operand) => operated_directly(walk, regs, rec, word, row, &last, operand),
             None => operated(walk, regs, rec, word, row, &last),

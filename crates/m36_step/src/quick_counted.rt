@@ -74,7 +74,7 @@ pub(crate) fn read_counted<R: Recorder>(
     let operand = walk.peek(place);
     let before = tally_runout(regs);
     set_tally(regs, tally.runout);
-    if !m36_frequent::read_word(row.effect, row.reg as u8, regs, operand) {
+    if !m36_fastpath::read_word(row.effect, row.reg as u8, regs, operand) {
         set_tally(regs, before);
         return false;
     }
@@ -116,7 +116,7 @@ pub(crate) fn store_counted<R: Recorder>(
         None => return false,
     };
     set_tally(regs, tally.runout);
-    let stored = m36_frequent::store_word(row.effect, regs);
+    let stored = m36_fastpath::store_word(row.effect, regs);
     walk.store(counting.place, tally.word);
     walk.store(place, stored);
     rec.refer(Kind::Write, at, 1);

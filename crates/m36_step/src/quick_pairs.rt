@@ -40,7 +40,7 @@ pub(crate) fn pair_operand<R: Recorder>(
         None => return false,
     };
     let operand = walk.peek_pair(place);
-    if !m36_frequent::read_pair(row.effect, regs, operand) {
+    if !m36_fastpath::read_pair(row.effect, regs, operand) {
         return false;
     }
     rec.refer(Kind::Read, first_at(at, 2), 2);
@@ -50,7 +50,7 @@ pub(crate) fn pair_operand<R: Recorder>(
 
 /// Executes an instruction that stores a pair.
 #[inline(always)]
-#[tactic(auto, unfolding(m36_walk::specs::Runs::LiesIn, m36_model::specs::Place::wrapped))]
+#[tactic(auto, unfolding(m36_walk::specs::Runs::IsInCore, m36_model::specs::Place::wrapped))]
 pub(crate) fn stored_pair<R: Recorder>(
     walk: &mut Walk,
     regs: &mut Regs,
@@ -77,7 +77,7 @@ pub(crate) fn stored_pair<R: Recorder>(
         None => return false,
     };
     let _size = walk.core().len(); // at most 2^24, so both places are below it
-    let stored = m36_frequent::store_pair(row.effect, regs);
+    let stored = m36_fastpath::store_pair(row.effect, regs);
     walk.store_pair(place, stored);
     rec.refer(Kind::Write, first_at(at, 2), 2);
     rec.end(word, last);

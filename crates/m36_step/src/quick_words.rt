@@ -43,7 +43,7 @@ pub(crate) fn read_operand<R: Recorder>(
         None => return false,
     };
     let operand = walk.peek(place);
-    if !m36_frequent::read_word(row.effect, row.reg as u8, regs, operand) {
+    if !m36_fastpath::read_word(row.effect, row.reg as u8, regs, operand) {
         return false;
     }
     rec.refer(Kind::Read, at, 1);
@@ -78,7 +78,7 @@ pub(crate) fn stored_operand<R: Recorder>(
         Some(place) => place,
         None => return false,
     };
-    let stored = m36_frequent::store_word(row.effect, regs);
+    let stored = m36_fastpath::store_word(row.effect, regs);
     walk.store(place, stored);
     rec.refer(Kind::Write, at, 1);
     rec.end(word, last);
@@ -113,7 +113,7 @@ pub(crate) fn changed_operand<R: Recorder>(
         None => return false,
     };
     let operand = walk.peek(place);
-    let changed = match m36_frequent::change_word(row.effect, regs, operand) {
+    let changed = match m36_fastpath::change_word(row.effect, regs, operand) {
         Some(changed) => changed,
         None => return false,
     };
@@ -151,7 +151,7 @@ pub(crate) fn upper_operand<R: Recorder>(
         Some(place) => place,
         None => return false,
     };
-    let half = m36_frequent::store_half(row.effect, row.reg as u8, regs);
+    let half = m36_fastpath::store_half(row.effect, row.reg as u8, regs);
     write_word(walk, place, Part::Left, half);
     rec.refer(Kind::Write, at, 1);
     rec.end(word, last);
@@ -185,7 +185,7 @@ pub(crate) fn lower_operand<R: Recorder>(
         Some(place) => place,
         None => return false,
     };
-    let half = m36_frequent::store_half(row.effect, row.reg as u8, regs);
+    let half = m36_fastpath::store_half(row.effect, row.reg as u8, regs);
     write_word(walk, place, Part::Right, half);
     rec.refer(Kind::Write, at, 1);
     rec.end(word, last);
@@ -214,7 +214,7 @@ pub(crate) fn address_operand<R: Recorder>(
     ensures place { R.place rec.new ≡ R.place rec.old }
     ensures dbr { walk.new.dbr ≡ regs.new.dbr }
 {
-    m36_frequent::load_address(row.effect, row.reg as u8, regs, last);
+    m36_fastpath::load_address(row.effect, row.reg as u8, regs, last);
     rec.end(word, last);
     true
 }
@@ -241,7 +241,7 @@ pub(crate) fn shift_operand<R: Recorder>(
     ensures place { R.place rec.new ≡ R.place rec.old }
     ensures dbr { walk.new.dbr ≡ regs.new.dbr }
 {
-    m36_frequent::shift(row.effect, regs, last);
+    m36_fastpath::shift(row.effect, regs, last);
     rec.end(word, last);
     true
 }

@@ -7,7 +7,7 @@ ghost use Rattle.m36_model.specs.Chain.{chain_end_fields};
 ghost use Rattle.m36_model.specs.WordsPut.{words_written};
 ghost use Rattle.m36_model.specs.OperandHeld.{HoldsFor};
 ghost use Rattle.m36_model.specs.Step.{by_kind};
-ghost use Rattle.m36_walk.specs.Runs.{LiesIn};
+ghost use Rattle.m36_walk.specs.Runs.{IsInCore};
 ghost use Rattle.m36_step.specs.Operated.{ran_from, operation_from};
 ghost use Rattle.m36_step.specs.declared.operated.Part.TheVariants as part;
 ghost use Rattle.m36_step.specs.Reached.{reached_end, part_for, DirectOperand};
@@ -43,7 +43,7 @@ fn reach_by_kind(
         formed.now row.now.operand walk.new.core refs.new.items operand.new result }
     ensures got { IfOk result (λ u. HoldsFor row.now.operand operand.new.got) }
     ensures run { IfOk result
-        (λ u. LiesIn (length walk.new.core) u.place (words_written row.now.operand)) }
+        (λ u. IsInCore (length walk.new.core) u.place (words_written row.now.operand)) }
     ensures place { IfOk result (λ u. u.place < 2 ^ 24) }
     ensures part { IfOk result (λ u. u.part ≡ part_for row.now.operand) }
     ensures dbr { walk.new.dbr ≡ walk.old.dbr }
@@ -100,7 +100,7 @@ fn reach_direct(
 }
 
 /// Reaches the operand of an instruction. The only changes of core are marks.
-#[tactic(auto, using(crate::proofs::Direct::direct_reached), unfolding(m36_model::specs::Step::operate, m36_walk::specs::Runs::LiesIn))]
+#[tactic(auto, using(crate::proofs::Direct::direct_reached), unfolding(m36_model::specs::Step::operate, m36_walk::specs::Runs::IsInCore))]
 pub(crate) fn reach(
     walk: &mut Walk,
     regs: &Regs,
@@ -118,7 +118,7 @@ pub(crate) fn reach(
         walk.new.core refs.new.items operand.new result }
     ensures got { IfOk result (λ u. HoldsFor row.now.operand operand.new.got) }
     ensures run { IfOk result
-        (λ u. LiesIn (length walk.new.core) u.place (words_written row.now.operand)) }
+        (λ u. IsInCore (length walk.new.core) u.place (words_written row.now.operand)) }
     ensures place { IfOk result (λ u. u.place < 2 ^ 24) }
     ensures part { IfOk result (λ u. u.part ≡ part_for row.now.operand) }
     ensures dbr { walk.new.dbr ≡ walk.old.dbr }

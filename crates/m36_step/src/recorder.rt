@@ -44,9 +44,9 @@ pub(crate) trait Recorder {
 
 /// A recorder that records nothing.
 #[derive(Clone, Copy)]
-pub(crate) struct Untold;
+pub(crate) struct NoRecord;
 
-impl Recorder for Untold {
+impl Recorder for NoRecord {
     ghost use Rattle.std.specs.Prelude.{ℕ, List};
     ghost use Rattle.m36_model.specs.Fields.{PprFields};
 

@@ -4,7 +4,7 @@ ghost use Rattle.std.specs.Prelude.{ℕ, ◌≡◌, ◌+◌, ◌<◌, ◌≤◌,
 ghost use Rattle.m36_word.specs.Pairs.{pair_words};
 ghost use Rattle.m36_model.specs.Results.{words_of_pairs};
 ghost use Rattle.m36_model.specs.Step.{aligned_at};
-ghost use Rattle.m36_walk.specs.Runs.{LiesIn};
+ghost use Rattle.m36_walk.specs.Runs.{IsInCore};
 ghost use Rattle.m36_walk.specs.Served.{IsCount, sdw_in, ok_map};
 ghost use Rattle.m36_step.specs.References.{ServesRead, ServesWrite};
 
@@ -128,7 +128,7 @@ pub(crate) fn hold_words(
     requires room { length refs.old.items < 40 }
     ensures serves { ServesWrite regs.now formed.now count walk.old refs.old.items walk.new.core
         refs.new.items result }
-    ensures inside { IfOk result (λ a. LiesIn (length walk.new.core) a count) }
+    ensures inside { IfOk result (λ a. IsInCore (length walk.new.core) a count) }
     ensures bound { IfOk result (λ a. a < 2 ^ 24) }
     ensures dbr { walk.new.dbr ≡ walk.old.dbr }
     ensures len { length walk.new.core ≡ length walk.old.core }

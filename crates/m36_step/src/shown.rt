@@ -41,7 +41,7 @@ impl Recorder for Shown {
 
 /// Takes a step that is not quick.
 #[inline(never)]
-fn shown_else(walk: &mut Walk, regs: &mut Regs, shown: &mut Shown)
+fn show_general_step(walk: &mut Walk, regs: &mut Regs, shown: &mut Shown)
     requires dbr { walk.old.dbr ≡ regs.old.dbr }
     ensures ends { EndsShown regs.old walk.old.core walk.new.core regs.new (shown_end shown.new) }
     ensures ppr { shown.new.ppr ≡ shown.old.ppr }
@@ -65,7 +65,7 @@ fn shown_step(walk: &mut Walk, regs: &mut Regs, shown: &mut Shown)
     if quick(walk, regs, shown) {
         return;
     }
-    shown_else(walk, regs, shown)
+    show_general_step(walk, regs, shown)
 }
 
 /// Takes one step, and overwrites `shown` with it. The walk and the registers have the same

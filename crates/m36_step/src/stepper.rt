@@ -1,7 +1,7 @@
 //! The traits of machines that are stepped.
 
 ghost use Rattle.std.specs.Prelude.{ℕ, ◌≡◌, ◌<◌, ◌≤◌, ◌^◌, ◌⊎◌, Option, IfOk};
-ghost use Rattle.m36_step.specs.Answers.{Interrupts, IsDone, IsService, IsStep, IsStepOrEnd};
+ghost use Rattle.m36_step.specs.Answers.{PrecludesStep, IsDone, IsService, IsStep, IsStepOrEnd};
 
 use crate::turns::{BackAnswer, Turn};
 use m36_model::Regs;
@@ -67,7 +67,7 @@ pub trait Stepper {
     /// The turn after a step whose outcome is not Next is not a step. Nor is the turn after a
     /// refused link.
     ghost interrupted: { (first second third : Self) (one two : Turn)
-        → next first one second → next second two third → Interrupts one → IsStep two → ⊥ };
+        → next first one second → next second two third → PrecludesStep one → IsStep two → ⊥ };
 }
 
 /// A machine whose turns are a function of its state, and which can be copied.

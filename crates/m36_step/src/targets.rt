@@ -6,7 +6,7 @@ ghost use Rattle.m36_model.specs.OperandHeld.{is_empty};
 ghost use Rattle.m36_model.specs.Results.{operand_fields, place_only};
 ghost use Rattle.m36_model.specs.Step.{addressing, transferring, calling};
 ghost use Rattle.m36_model.specs.declared.place.Reference.{Reference};
-ghost use Rattle.m36_walk.specs.Runs.{LiesIn};
+ghost use Rattle.m36_walk.specs.Runs.{IsInCore};
 ghost use Rattle.m36_step.specs.Reached.{Reads};
 ghost use Rattle.m36_step.specs.declared.operated.Part.TheVariants as part;
 
@@ -31,7 +31,7 @@ fn give_place(walk: &Walk, place: u32, operand: &mut Operand36)
 }
 
 /// Reaches an operand of which only the address is used. For ABSA this includes its place in core.
-#[tactic(auto, using(crate::proofs::Reaching::reaching), unfolding(m36_walk::specs::Runs::LiesIn, m36_walk::specs::Runs::run_from))]
+#[tactic(auto, using(crate::proofs::Reaching::reaching), unfolding(m36_walk::specs::Runs::IsInCore, m36_walk::specs::Runs::run_from))]
 pub(crate) fn reach_address(
     walk: &mut Walk,
     regs: &Regs,
@@ -44,7 +44,7 @@ pub(crate) fn reach_address(
         → Reads (λ e n. addressing e n regs.now (chain_end_fields formed.now) absa) regs.now
         formed.now walk.old.core refs walk.new.core refs operand.new result }
     ensures got { IfOk result (λ u. IsTrue (is_empty operand.new.got)) }
-    ensures run { IfOk result (λ u. LiesIn (length walk.new.core) u.place 0) }
+    ensures run { IfOk result (λ u. IsInCore (length walk.new.core) u.place 0) }
     ensures place { IfOk result (λ u. u.place < 2 ^ 24) }
     ensures part { IfOk result (λ u. u.part ≡ part.Whole) }
     ensures same { walk.new ≡ walk.old }
@@ -63,7 +63,7 @@ pub(crate) fn reach_address(
 }
 
 /// Checks the target of a transfer that is taken. One that is not taken is not checked.
-#[tactic(auto, using(crate::proofs::Reaching::reaching), unfolding(m36_walk::specs::Runs::LiesIn))]
+#[tactic(auto, using(crate::proofs::Reaching::reaching), unfolding(m36_walk::specs::Runs::IsInCore))]
 pub(crate) fn reach_target(
     walk: &mut Walk,
     regs: &Regs,
@@ -76,7 +76,7 @@ pub(crate) fn reach_target(
         → Reads (λ e n. transferring e n regs.now (chain_end_fields formed.now) taken) regs.now
         formed.now walk.old.core refs walk.new.core refs operand.new result }
     ensures got { IfOk result (λ u. IsTrue (is_empty operand.new.got)) }
-    ensures run { IfOk result (λ u. LiesIn (length walk.new.core) u.place 0) }
+    ensures run { IfOk result (λ u. IsInCore (length walk.new.core) u.place 0) }
     ensures place { IfOk result (λ u. u.place < 2 ^ 24) }
     ensures part { IfOk result (λ u. u.part ≡ part.Whole) }
     ensures same { walk.new ≡ walk.old }
@@ -96,7 +96,7 @@ pub(crate) fn reach_target(
 }
 
 /// Checks the target of CALL6, which determines the new ring.
-#[tactic(auto, using(crate::proofs::Reaching::reaching), unfolding(m36_walk::specs::Runs::LiesIn))]
+#[tactic(auto, using(crate::proofs::Reaching::reaching), unfolding(m36_walk::specs::Runs::IsInCore))]
 pub(crate) fn reach_call(
     walk: &mut Walk,
     regs: &Regs,
@@ -108,7 +108,7 @@ pub(crate) fn reach_call(
         → Reads (λ e n. calling e n regs.now (chain_end_fields formed.now)) regs.now formed.now
         walk.old.core refs walk.new.core refs operand.new result }
     ensures got { IfOk result (λ u. IsTrue (is_empty operand.new.got)) }
-    ensures run { IfOk result (λ u. LiesIn (length walk.new.core) u.place 0) }
+    ensures run { IfOk result (λ u. IsInCore (length walk.new.core) u.place 0) }
     ensures place { IfOk result (λ u. u.place < 2 ^ 24) }
     ensures part { IfOk result (λ u. u.part ≡ part.Whole) }
     ensures same { walk.new ≡ walk.old }

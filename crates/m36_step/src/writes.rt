@@ -7,7 +7,7 @@ ghost use Rattle.m36_model.specs.Core.{core_put, put_one};
 ghost use Rattle.m36_model.specs.Results.{words_of_held, words_of_pairs};
 ghost use Rattle.m36_model.specs.StepCases.{at_spots};
 ghost use Rattle.m36_model.specs.Store.{Core_word, changes, written};
-ghost use Rattle.m36_walk.specs.Runs.{run_from, LiesIn};
+ghost use Rattle.m36_walk.specs.Runs.{run_from, IsInCore};
 ghost use Rattle.m36_step.specs.Operated.{part_of, claims_of, puts_of, TallyIn, PartFits};
 ghost use Rattle.m36_step.specs.Operated.{PartHolds, Lies};
 ghost use Rattle.m36_step.specs.declared.operated.Part.TheVariants as part;
@@ -64,7 +64,7 @@ pub(crate) fn write_word(walk: &mut Walk, place: u32, part: Part, value: Word)
 /// Writes a block.
 fn write_block(walk: &mut Walk, place: u32, block: &[Pair; 8])
     requires place { place < 2 ^ 24 }
-    requires inside { LiesIn (length walk.old.core) place (length (words_of_pairs block.now)) }
+    requires inside { IsInCore (length walk.old.core) place (length (words_of_pairs block.now)) }
     ensures core { walk.new.core
         ≡ core_put walk.old.core
         (at_spots Whole (run_from place (length (words_of_pairs block.now)))
@@ -76,9 +76,9 @@ fn write_block(walk: &mut Walk, place: u32, block: &[Pair; 8])
 }
 
 /// Writes the words that an effect gives, or the half.
-#[tactic(auto, unfolding(m36_model::specs::Core::core_put, m36_walk::specs::Runs::run_from, m36_walk::specs::Runs::LiesIn))]
+#[tactic(auto, unfolding(m36_model::specs::Core::core_put, m36_walk::specs::Runs::run_from, m36_walk::specs::Runs::IsInCore))]
 fn write_operand(walk: &mut Walk, operated: &Operated, put: &Held)
-    requires run { LiesIn (length walk.old.core) operated.now.place
+    requires run { IsInCore (length walk.old.core) operated.now.place
         (length (words_of_held put.now)) }
     requires place { operated.now.place < 2 ^ 24 }
     requires part { PartFits operated.now.part (words_of_held put.now) }

@@ -17,9 +17,9 @@ use Rattle.m36_step.specs.declared.turns.Turn.{Turn}
 use Rattle.m36_step.specs.declared.turns.Turn.TheVariants.{Stepped, Linked, Console, Ended, Full, NoMemory}
 use Rattle.m36_super.specs.Library.{Library}
 use Rattle.m36_super.specs.Services.{asks_too_much, console_text, link_changes}
-use Rattle.m36_super.specs.Coming.{Coming, Step, Link, Print, Over, loaded_after}
+use Rattle.m36_super.specs.NextEvent.{NextEvent, Step, Link, Print, Over, loaded_after}
 use Rattle.m36_super.specs.FlatRun.{FlatRun, flat_stepped, flat_linked_by, flat_printed_by, flat_turn_by, flat_turn, flat_turns}
-use Rattle.m36_super.specs.BootedRun.{Booted, IsStep, IsStepTurn, IsLinkTurn, IsConsoleTurn, IsTurnBy, IsTurn, AreTurns, IsStanding, Stands, flat_run_of}
+use Rattle.m36_super.specs.BootedRun.{Booted, IsStep, IsStepTurn, IsLinkTurn, IsConsoleTurn, IsTurnBy, IsTurn, AreTurns, IsLaidOut, LaidOutUntilLdbr, flat_run_of}
 use Rattle.m36_super.specs.TurnLaws.{LocatesInTurn, IsFlatTurn, TurnAuditLaw, IsPlainTurn, FunctionLaw}
 use Rattle.m36_super.proofs.Served.{services_alike}
 use Rattle.m36_super.proofs.Turns.{turn_law}
@@ -42,7 +42,7 @@ old_low m = refl
 same_low : (before after : Booted) → after.state ≡ before.state → IsLow before after
 same_low before after e = ap (λ (s : PagedState). take descriptor_words s.memory.core) e
 
-step_low : (frames : ℕ) (before : Booted) (turn : Turn) (after : Booted) → IsStanding frames before.state → IsStep frames before turn after → IsLow before after
+step_low : (frames : ℕ) (before : Booted) (turn : Turn) (after : Booted) → IsLaidOut frames before.state → IsStep frames before turn after → IsLow before after
 step_low frames before turn after stands h =
     let alike = services_alike frames h.services before.state h.last stands h.served in
     let step = paged_step_law frames h.last.memory.kept (core_state h.last) alike.standing.dbr alike.standing.laid in
@@ -60,7 +60,7 @@ console_low true text before turn after h = ap (λ (r : Booted). take descriptor
 console_low false (Err f) before turn after h = ap (λ (r : Booted). take descriptor_words r.state.memory.core) h.1
 console_low false (Ok text) before turn after h = ap (λ (r : Booted). take descriptor_words r.state.memory.core) h.1
 
-turn_low_by : (coming : Coming) (lib : Library) (before : Booted) (turn : Turn) (after : Booted) (b : Bool) → before.loaded ≡ b → b ≡ false → IsStanding lib.catalog.frames before.state → IsTurnBy coming lib before turn after → IsLow before after
+turn_low_by : (coming : NextEvent) (lib : Library) (before : Booted) (turn : Turn) (after : Booted) (b : Bool) → before.loaded ≡ b → b ≡ false → IsLaidOut lib.catalog.frames before.state → IsTurnBy coming lib before turn after → IsLow before after
 turn_low_by Step lib before turn after true e loaded stands h = cc
 turn_low_by Step lib before turn after false e loaded stands h =
     step_low lib.catalog.frames before turn after stands (subst (λ (b : Bool). IsStepTurn b lib.catalog.frames before turn after) e h)
@@ -71,7 +71,7 @@ turn_low_by Print lib before turn after b e loaded stands h =
 turn_low_by (Over end) lib before turn after b e loaded stands h =
     ap (λ (r : Booted). take descriptor_words r.state.memory.core) h.1
 
-turn_low : (lib : Library) (before : Booted) (turn : Turn) (after : Booted) → before.loaded ≡ false → IsStanding lib.catalog.frames before.state → IsTurn lib before turn after → IsLow before after
+turn_low : (lib : Library) (before : Booted) (turn : Turn) (after : Booted) → before.loaded ≡ false → IsLaidOut lib.catalog.frames before.state → IsTurn lib before turn after → IsLow before after
 unfolding IsTurn
 turn_low lib before turn after loaded stands h =
     turn_low_by before.coming lib before turn after before.loaded refl loaded stands h
@@ -79,7 +79,7 @@ turn_low lib before turn after loaded stands h =
 pub turn_audit : TurnAuditLaw
 turn_audit lib before turn after loaded stands audited h none =
     let kept = turn_law lib before turn after loaded stands h in
-    let laid : IsStanding lib.catalog.frames after.state = subst (λ (b : Bool). Stands b lib.catalog.frames after.state) none kept.stands in
+    let laid : IsLaidOut lib.catalog.frames after.state = subst (λ (b : Bool). LaidOutUntilLdbr b lib.catalog.frames after.state) none kept.stands in
     same_audit lib.catalog.frames before.state.memory.core after.state.memory.core audited laid.laid (turn_low lib before turn after loaded stands h)
 
 -- ---- plain turns
@@ -98,7 +98,7 @@ step_loaded : (r : FlatRun) → r.loaded ≡ false → IsPlainTurn (flat_stepped
 unfolding flat_stepped
 step_loaded r loaded plain = ap (λ (b : Bool). loaded_after b (record_of flat_store r.state)) loaded ∙ plain.1
 
-loaded_by : (coming : Coming) (lib : Library) (r : FlatRun) → r.loaded ≡ false → IsPlainTurn (flat_turn_by coming lib r).turn → (flat_turn_by coming lib r).after.loaded ≡ false
+loaded_by : (coming : NextEvent) (lib : Library) (r : FlatRun) → r.loaded ≡ false → IsPlainTurn (flat_turn_by coming lib r).turn → (flat_turn_by coming lib r).after.loaded ≡ false
 loaded_by Step lib r loaded plain = step_loaded r loaded plain
 loaded_by (Link at) lib r loaded plain = link_loaded (snap_of r.known lib.catalog lib.files at) r at ∙ loaded
 loaded_by Print lib r loaded plain =
@@ -132,7 +132,7 @@ function_law lib (turn ∷ more) r last loaded stands turns plain =
     let kept = turn_law lib r turn mid loaded stands turns.1 in
     let flat = plain_flat lib r turn mid plain.0 kept.cases in
     let next : mid.loaded ≡ false = ap (λ (s : FlatRun). s.loaded) flat.after_is ∙ flat_loaded lib (flat_run_of r) loaded (subst IsPlainTurn flat.turn_is plain.0) in
-    let standing : Stands false lib.catalog.frames mid.state = subst (λ (b : Bool). Stands b lib.catalog.frames mid.state) next kept.stands in
+    let standing : LaidOutUntilLdbr false lib.catalog.frames mid.state = subst (λ (b : Bool). LaidOutUntilLdbr b lib.catalog.frames mid.state) next kept.stands in
     let rest = function_law lib more mid last next standing turns.2 plain.1 in
     let same : more ≡ flat_turns lib (flat_turn lib (flat_run_of r)).after (length more) = rest ∙ ap (λ (s : FlatRun). flat_turns lib s (length more)) flat.after_is in
     λ i. flat.turn_is i ∷ same i

@@ -10,10 +10,10 @@ use Rattle.m36_boot.specs.Start.{start_answer, start_link}
 use Rattle.m36_link.specs.Fields.{SnapFields}
 use Rattle.m36_link.specs.Known.{nothing_known, linkage_segment}
 use Rattle.m36_link.specs.Accepted.{accepted, MayBeLaid}
-use Rattle.m36_link.specs.Laws.{IsMade, MayBeAcceptedFrom, KeepsMadeFrom}
+use Rattle.m36_link.specs.Laws.{IsConsistent, MayBeAcceptedFrom, KeepsMadeFrom}
 use Rattle.m36_page.specs.Residence.{Reads}
 use Rattle.m36_super.specs.Library.{Library}
-use Rattle.m36_super.specs.Coming.{Step}
+use Rattle.m36_super.specs.NextEvent.{Step}
 use Rattle.m36_super.specs.SuperFields.{SuperFields, IsManaged, IsRunning}
 use Rattle.m36_super.specs.BootSays.{IsBooted, at_start}
 
@@ -28,7 +28,7 @@ image_runs frames image r reads =
       });
     }
 
-pub start_made : (catalog : CatalogFields) (files : List (List ℕ)) (s : SnapFields) → KeepsMadeFrom → start_answer catalog files ≡ Ok s → IsMade catalog files (accepted nothing_known s)
+pub start_made : (catalog : CatalogFields) (files : List (List ℕ)) (s : SnapFields) → KeepsMadeFrom → start_answer catalog files ≡ Ok s → IsConsistent catalog files (accepted nothing_known s)
 unfolding start_answer
 start_made catalog files s keeps e =
     keeps nothing_known catalog files catalog.start.ring (start_link catalog.start) catalog.work s (record { names = λ k d lt. absurd (omega arith); laid = λ k d lt. absurd (omega arith) }) e

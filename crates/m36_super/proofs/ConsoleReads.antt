@@ -9,7 +9,7 @@ use Rattle.m36_desc.specs.declared.access.Acv.{Acv}
 use Rattle.m36_model.specs.Fields.{AtFields}
 use Rattle.m36_model.specs.Registers.{RegsFields}
 use Rattle.m36_model.specs.Act.{Answer, Read, Request}
-use Rattle.m36_model.specs.Store.{Spot, Segment_word, Mid, violation, within, fault_by, denied, serve_sdw, serve_rights, serve_places, placed_one, serve, place, place_by, place_within, when_ordered, places, spots_of, changes, without_marks, examined}
+use Rattle.m36_model.specs.Store.{Spot, Segment_word, Midstep, violation, within, fault_by, denied, serve_sdw, serve_rights, serve_places, placed_one, serve, place, place_by, place_within, when_ordered, places, spots_of, changes, without_marks, examined}
 use Rattle.m36_model.specs.Place.{core_sdw}
 use Rattle.m36_model.specs.Sight.{word_of, content_in}
 use Rattle.m36_model.specs.Flat.{Flat, flat_sdw, flat_put, flat_store}
@@ -29,7 +29,7 @@ use Rattle.m36_super.proofs.PagedContents.{content_shown, shown, shown_by}
 -- ---- over any flat memory
 
 module _ (f : Flat) (g : RegsFields) (at : AtFields) where
-  abbrev first : Mid Flat
+  abbrev first : Midstep Flat
   first = record { store = f; claims = []; refs = [] }
 
   abbrev request : Request

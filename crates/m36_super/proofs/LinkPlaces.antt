@@ -13,7 +13,7 @@ use Rattle.m36_link.specs.Fields.{LaidFields, KnownFields, SnapFields}
 use Rattle.m36_link.specs.Known.{linkage_segment, object_in, laid_words}
 use Rattle.m36_link.specs.Links.{link_from, link_in, holds_link, section_at}
 use Rattle.m36_link.specs.Snap.{snap_of, snap_in}
-use Rattle.m36_link.specs.Laws.{IsWhole, IsMade}
+use Rattle.m36_link.specs.Laws.{IsWholeSection, IsConsistent}
 
 -- an element that is found passes the test, and satisfies what each element does
 pub record IsFound {A : Type 0} (p : A → Bool) (P : A → Type 0) (x : A) : Type 0 where
@@ -81,14 +81,14 @@ pub record IsSnapPlace (at : AtFields) : Type 0 where
   pub seg : at.seg ≡ linkage_segment at.ring
   pub pair : at.word + 1 < 2 ^ 18
 
-pub snap_place : (known : KnownFields) (catalog : CatalogFields) (files : List (List ℕ)) (at : AtFields) (s : SnapFields) → IsMade catalog files known → snap_of known catalog files at ≡ Ok s → IsSnapPlace at
+pub snap_place : (known : KnownFields) (catalog : CatalogFields) (files : List (List ℕ)) (at : AtFields) (s : SnapFields) → IsConsistent catalog files known → snap_of known catalog files at ≡ Ok s → IsSnapPlace at
 unfolding snap_of
 snap_place known catalog files at s made e = by_section (section_at known.laid files at) refl e
   where
     by_section : (v : Option LaidFields) → section_at known.laid files at ≡ v → snap_in known catalog files at v ≡ Ok s → IsSnapPlace at
     by_section None found e = cc
     by_section (Some l) found e =
-        let k = section_of known files at l (IsWhole catalog files) found made.laid in
+        let k = section_of known files at l (IsWholeSection catalog files) found made.laid in
         let whole = k.1 in
         let size = whole.size in
         let end = whole.end in

@@ -18,7 +18,7 @@ use Rattle.m36_step.specs.declared.turns.Turn.TheVariants.{Linked, NoMemory}
 use Rattle.m36_super.specs.Laying.{written_from, laying}
 use Rattle.m36_super.specs.PagedPut.{paged_put, paged_put_one}
 use Rattle.m36_super.specs.Services.{link_changes, note_snapped, note_refused}
-use Rattle.m36_super.specs.Coming.{Coming, Step, Over}
+use Rattle.m36_super.specs.NextEvent.{NextEvent, Step, Over}
 use Rattle.m36_super.specs.BootedRun.{Booted, IsLinkTurn}
 use Rattle.m36_super.specs.SuperFields.{run_of, IsManaged, IsRunning}
 use Rattle.m36_super.specs.Writing.{memory_by, flat_by, ArePut}
@@ -116,7 +116,7 @@ put_changes core mid now p r q at s seg first second =
 
 -- ---- the turn
 
-pub linked : (old new : State (List ℕ)) (p q : PagerFields) (known later : KnownFields) (coming next : Coming) (loaded : Bool) (at : AtFields) (s : SnapFields) (turn : Turn) → ArePut old.store p new.store q (link_changes at s) → new.regs ≡ old.regs → later ≡ accepted known s → next ≡ Step → turn ≡ Linked (note_snapped at s) → IsLinkTurn (Ok s) (length p.holders) at (run_of old p known coming loaded) turn (run_of new q later next loaded)
+pub linked : (old new : State (List ℕ)) (p q : PagerFields) (known later : KnownFields) (coming next : NextEvent) (loaded : Bool) (at : AtFields) (s : SnapFields) (turn : Turn) → ArePut old.store p new.store q (link_changes at s) → new.regs ≡ old.regs → later ≡ accepted known s → next ≡ Step → turn ≡ Linked (note_snapped at s) → IsLinkTurn (Ok s) (length p.holders) at (run_of old p known coming loaded) turn (run_of new q later next loaded)
 unfolding memory_by
 linked old new p q known later coming next loaded at s turn put regs accepts step told =
     subst (λ (t : Turn). IsLinkTurn (Ok s) (length p.holders) at (run_of old p known coming loaded) t (run_of new q later next loaded)) (sym told) (record {

@@ -30,11 +30,11 @@ use Rattle.m36_isol.proofs.Laid.{page_of_word, resident_spot}
 use Rattle.m36_isol.proofs.PagedStep.{paged_step_law}
 use Rattle.m36_isol.proofs.Pages.{few_references}
 use Rattle.m36_page.specs.Fields.{PagerFields}
-use Rattle.m36_page.specs.Residence.{has_page, spot_of, frame_of, kept_word, Holds, IsPager, TellsPage, Reads}
-use Rattle.m36_page.specs.Changes.{is_to, is_pinned, Stays, IsFreeSpot, IsPassed, IsBrought}
+use Rattle.m36_page.specs.Residence.{has_page, spot_of, frame_of, kept_word, Holds, IsPager, NamesFrame, Reads}
+use Rattle.m36_page.specs.Changes.{is_to, is_pinned, Stays, IsFreeSpot, OnlyMarkCleared, IsBrought}
 use Rattle.m36_page.proofs.Frames.{frame_absent, resident_unmarked}
 use Rattle.m36_super.specs.SuperFields.{IsManaged, IsRunning, frame_by, IsPaging}
-use Rattle.m36_super.specs.Stepping.{IsLacked, IsTried, IsTaken}
+use Rattle.m36_super.specs.Stepping.{IsLacked, IsTried, IsFullStep}
 use Rattle.m36_super.proofs.Paging.{frame_true, paging_law, step_managed}
 
 -- ---- the page that a step lacked
@@ -170,7 +170,7 @@ module _ (old : State (List ℕ)) (p q : PagerFields) (now : List ℕ) (runs : I
         word = ap (λ (a : ℕ). unmarked (slice_index mid a)) (sym (spot_at s n here)) ∙ managed_mid.reads.frames k s n holds;
       }
 
-  held_by : (k s n w : ℕ) → unmarked w ≡ resident_ptw (p.first + k) → TellsPage p s n w → Holds p k s n
+  held_by : (k s n w : ℕ) → unmarked w ≡ resident_ptw (p.first + k) → NamesFrame p s n w → Holds p k s n
   held_by k s n w e (inl absent) = absurd (omega (arith, e, absent))
   held_by k s n w e (inr there) =
       let word = there.2 in
@@ -212,7 +212,7 @@ module _ (old : State (List ℕ)) (p q : PagerFields) (now : List ℕ) (runs : I
     goes s n h =
         ap (slice_index now) (sym (spot_at s n (managed_mid.pages.serves s n h.is))) ∙ brought.away s n out (holds_it brought.k s n h)
 
-    passed : (a : ℕ) → IsPassed (IsFreeSpot p refs) mid now a → (slice_index now a ≡ slice_index mid a) ⊎ (MayLoseUsed mid refs a × (slice_index now a ≡ without_used (slice_index mid a)))
+    passed : (a : ℕ) → OnlyMarkCleared (IsFreeSpot p refs) mid now a → (slice_index now a ≡ slice_index mid a) ⊎ (MayLoseUsed mid refs a × (slice_index now a ≡ without_used (slice_index mid a)))
     passed a (inl e) = inl e
     passed a (inr e) = inr (may_lose_used a e.0, e.1)
 
@@ -289,7 +289,7 @@ tried old mid new p q told at told_is mid_is runs lacked regs brought reads page
     let b3 = subst (λ (a : AtFields). IsBrought p (state_after core_store old).store q new.store a.seg (a.word / 1024) (record_of core_store old).refs.items) f.at_is b2 in
     tried_at old p q new.store runs f.fault b3 reads pager new.regs (regs ∙ ap (λ (s : State (List ℕ)). s.regs) mid_is)
 
-pub taken : (old new : State (List ℕ)) (p q : PagerFields) (told : StepRecord) → told ≡ record_of core_store old → new ≡ state_after core_store old → IsPresent told.outcome → q ≡ p → IsTaken old p new q told
+pub taken : (old new : State (List ℕ)) (p q : PagerFields) (told : StepRecord) → told ≡ record_of core_store old → new ≡ state_after core_store old → IsPresent told.outcome → q ≡ p → IsFullStep old p new q told
 taken old new p q told told_is state present same =
     record { step = record { told_is = told_is; state = state; pager = same }; present = present }
 

@@ -10,7 +10,7 @@ use Rattle.m36_isol.proofs.PagedStep.{paged_step_law}
 use Rattle.m36_isol.proofs.Moved.{same_descriptors, laid_by}
 use Rattle.m36_page.specs.Fields.{PagerFields}
 use Rattle.std.specs.Bool.{then_some}
-use Rattle.m36_page.specs.Residence.{has_page, spot_of, frame_of, kept_word, word_in, content_of, Holds, IsPager, TellsPage, Reads}
+use Rattle.m36_page.specs.Residence.{has_page, spot_of, frame_of, kept_word, word_in, content_of, Holds, IsPager, NamesFrame, Reads}
 use Rattle.m36_page.specs.Residence as pages
 use Rattle.m36_page.specs.Changes.{IsPaged, IsSameShape}
 use Rattle.m36_page.proofs.Frames.{frame_absent, frame_resident}
@@ -58,7 +58,7 @@ module _ (frames : ℕ) (core : List ℕ) (p : PagerFields) (most : wired_frames
     frame_is : frame ≡ p.first + k
     word : unmarked (slice_index core (spot_of p seg page)) ≡ resident_ptw frame
 
-  tells : (seg page : ℕ) → has_page p seg page ≡ true → TellsPage p seg page (slice_index core (spot_of p seg page)) → ((frame_of p core seg page ≡ None) × (unmarked (slice_index core (spot_of p seg page)) ≡ absent_ptw)) ⊎ ((frame : ℕ) × (frame_of p core seg page ≡ Some frame) × IsHeld seg page frame)
+  tells : (seg page : ℕ) → has_page p seg page ≡ true → NamesFrame p seg page (slice_index core (spot_of p seg page)) → ((frame_of p core seg page ≡ None) × (unmarked (slice_index core (spot_of p seg page)) ≡ absent_ptw)) ⊎ ((frame : ℕ) × (frame_of p core seg page ≡ Some frame) × IsHeld seg page frame)
   unfolding frame_of
   tells seg page has (inl e) = inl (frame_absent _ e, e)
   tells seg page has (inr h) =
@@ -230,7 +230,7 @@ paging_law frames core now p q m pager reads kept =
 
 -- ---- a step
 
-tells_as : (p : PagerFields) (seg page x y : ℕ) → unmarked y ≡ unmarked x → TellsPage p seg page x → TellsPage p seg page y
+tells_as : (p : PagerFields) (seg page x y : ℕ) → unmarked y ≡ unmarked x → NamesFrame p seg page x → NamesFrame p seg page y
 tells_as p seg page x y same (inl e) = inl (same ∙ e)
 tells_as p seg page x y same (inr h) = inr (h.0, h.1, same ∙ h.2)
 

@@ -9,16 +9,16 @@ use Rattle.m36_model.specs.Residence.{flat_of}
 use Rattle.m36_isol.specs.PageServices.{PagedState, core_state, stepped_memory, IsServed, AreServed}
 use Rattle.m36_isol.proofs.PagedStep.{paged_step_law}
 use Rattle.m36_isol.proofs.Moved.{moved_law}
-use Rattle.m36_super.specs.BootedRun.{IsStanding}
+use Rattle.m36_super.specs.BootedRun.{IsLaidOut}
 
 -- a state of the same image, with other pages in frames
 pub record IsAlike (frames : ℕ) (old new : PagedState) : Type 0 where
   pub regs : new.regs ≡ old.regs
-  pub standing : IsStanding frames new
+  pub standing : IsLaidOut frames new
   pub flat : flat_of new.memory ≡ flat_of old.memory
   pub low : take descriptor_words new.memory.core ≡ take descriptor_words old.memory.core
 
-one_service : (frames : ℕ) (old new : PagedState) → IsStanding frames old → IsServed frames old new → IsAlike frames old new
+one_service : (frames : ℕ) (old new : PagedState) → IsLaidOut frames old → IsServed frames old new → IsAlike frames old new
 one_service frames old new stands served =
     let step = paged_step_law frames old.memory.kept (core_state old) stands.dbr stands.laid in
     let moved = served.service.moved in
@@ -30,7 +30,7 @@ one_service frames old new stands served =
       low = moved.descriptors ∙ step.descriptors;
     }
 
-pub services_alike : (frames n : ℕ) (old new : PagedState) → IsStanding frames old → AreServed frames n old new → IsAlike frames old new
+pub services_alike : (frames n : ℕ) (old new : PagedState) → IsLaidOut frames old → AreServed frames n old new → IsAlike frames old new
 unfolding AreServed
 services_alike frames zero old new stands same =
     subst (IsAlike frames old) (sym same) (record { regs = refl; standing = stands; flat = refl; low = refl })

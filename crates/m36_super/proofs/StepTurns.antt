@@ -15,10 +15,10 @@ use Rattle.m36_link.specs.Fields.{KnownFields}
 use Rattle.m36_page.specs.Fields.{PagerFields}
 use Rattle.m36_page.specs.Residence.{kept_word}
 use Rattle.m36_step.specs.declared.turns.Turn.TheVariants.{Stepped}
-use Rattle.m36_super.specs.Coming.{Coming, coming_after, loaded_after}
+use Rattle.m36_super.specs.NextEvent.{NextEvent, coming_after, loaded_after}
 use Rattle.m36_super.specs.BootedRun.{IsStepTurn}
-use Rattle.m36_super.specs.SuperFields.{paged_of, run_of, IsRunning, Manages}
-use Rattle.m36_super.specs.Stepping.{IsTried, IsTaken, IsStepped, StepSays}
+use Rattle.m36_super.specs.SuperFields.{paged_of, run_of, IsRunning, RunningUntilLdbr}
+use Rattle.m36_super.specs.Stepping.{IsTried, IsFullStep, IsStepped, StepSays}
 use Rattle.m36_super.proofs.Paging.{step_managed}
 use Rattle.m36_super.proofs.Turns.{not_loaded}
 use Rattle.m36_super.proofs.SystemTurns.{due_after}
@@ -60,11 +60,11 @@ serving_more old mid now p q r left some h t =
       first = h.first;
     }
 
-taken_again : (mid now : State (List ℕ)) (q r : PagerFields) (told : StepRecord) → IsTaken mid q now r told → IsTaken mid r now r told
+taken_again : (mid now : State (List ℕ)) (q r : PagerFields) (told : StepRecord) → IsFullStep mid q now r told → IsFullStep mid r now r told
 taken_again mid now q r told t =
     record { step = record { told_is = t.step.told_is; state = t.step.state; pager = refl }; present = t.present }
 
-pub serving_done : (old mid now : State (List ℕ)) (p q r : PagerFields) (told : StepRecord) (left : ℕ) → IsServing old p mid q left → IsTaken mid q now r told → IsStepped old p now r told
+pub serving_done : (old mid now : State (List ℕ)) (p q r : PagerFields) (told : StepRecord) (left : ℕ) → IsServing old p mid q left → IsFullStep mid q now r told → IsStepped old p now r told
 serving_done old mid now p q r told left h t =
     let count = h.count in
     let same = sym t.step.pager in
@@ -96,7 +96,7 @@ pub frames_kept : (loaded : Bool) (old new : State (List ℕ)) (p q : PagerField
 frames_kept false old new p q told h = h.frames
 frames_kept true old new p q told h = ap (λ (x : PagerFields). length x.holders) h.pager
 
-pub step_turn : (loaded after : Bool) (old new : State (List ℕ)) (p q : PagerFields) (told : StepRecord) (known : KnownFields) (coming next : Coming) → StepSays loaded old p new q told → after ≡ loaded_after loaded told → next ≡ coming_after after told.ppr.prr told.outcome → IsStepTurn loaded (length p.holders) (run_of old p known coming loaded) (Stepped told) (run_of new q known next after)
+pub step_turn : (loaded after : Bool) (old new : State (List ℕ)) (p q : PagerFields) (told : StepRecord) (known : KnownFields) (coming next : NextEvent) → StepSays loaded old p new q told → after ≡ loaded_after loaded told → next ≡ coming_after after told.ppr.prr told.outcome → IsStepTurn loaded (length p.holders) (run_of old p known coming loaded) (Stepped told) (run_of new q known next after)
 step_turn false after old new p q told known coming next h after_is next_is =
     let e = h.taken.step.told_is in
     let s = h.taken.step.state in
@@ -151,17 +151,17 @@ running_after last q told runs told_is present none =
         absurd (subst IsPresent h.outcome (subst (λ (e : StepRecord). IsPresent e.outcome) told_is present) h.number)
     by_cases (inr (inr h)) = h.dbr
 
-manages_by : (after : Bool) (new : State (List ℕ)) (q : PagerFields) (told : StepRecord) (last : State (List ℕ)) → loaded_after false told ≡ after → IsRunning (length q.holders) last.regs last.store q → IsTaken last q new q told → Manages after (length q.holders) new.regs new.store q
+manages_by : (after : Bool) (new : State (List ℕ)) (q : PagerFields) (told : StepRecord) (last : State (List ℕ)) → loaded_after false told ≡ after → IsRunning (length q.holders) last.regs last.store q → IsFullStep last q new q told → RunningUntilLdbr after (length q.holders) new.regs new.store q
 manages_by true new q told last e runs t = tt
 manages_by false new q told last e runs t =
     let dbr = running_after last q told runs t.step.told_is t.present e in
     subst (λ (s : State (List ℕ)). IsRunning (length q.holders) s.regs s.store q) (sym t.step.state) (record { dbr = dbr; managed = step_managed (length q.holders) last q runs.dbr runs.managed })
 
-pub step_manages : (loaded after : Bool) (old new : State (List ℕ)) (p q : PagerFields) (told : StepRecord) → StepSays loaded old p new q told → after ≡ loaded_after loaded told → Manages after (length q.holders) new.regs new.store q
+pub step_manages : (loaded after : Bool) (old new : State (List ℕ)) (p q : PagerFields) (told : StepRecord) → StepSays loaded old p new q told → after ≡ loaded_after loaded told → RunningUntilLdbr after (length q.holders) new.regs new.store q
 step_manages false after old new p q told h after_is =
     manages_by after new q told h.last (sym after_is) h.runs h.taken
 step_manages true after old new p q told h after_is =
-    subst (λ (b : Bool). Manages b (length q.holders) new.regs new.store q) (sym after_is) tt
+    subst (λ (b : Bool). RunningUntilLdbr b (length q.holders) new.regs new.store q) (sym after_is) tt
 
 pub ruleset services = (serving_first, serving_more, serving_done, serving_last)
 

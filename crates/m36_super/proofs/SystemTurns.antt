@@ -13,46 +13,46 @@ use Rattle.m36_link.specs.Snap.{snap_of}
 use Rattle.m36_step.specs.declared.turns.Turn.{Turn}
 use Rattle.m36_step.specs.declared.turns.Turn.TheVariants.{Console, Ended}
 use Rattle.m36_super.specs.Library.{Library}
-use Rattle.m36_super.specs.Coming.{Coming, Step, Link, Print, Over, coming_in, coming_on, coming_after}
+use Rattle.m36_super.specs.NextEvent.{NextEvent, Step, Link, Print, Over, coming_in, coming_on, coming_after}
 use Rattle.m36_super.specs.Services.{asks_too_much, console_text}
 use Rattle.m36_super.specs.BootedRun.{Booted, IsStepTurn, IsLinkTurn, IsConsoleTurn, IsTurnBy, IsTurn}
-use Rattle.m36_super.specs.SuperFields.{SuperFields, booted_of, IsDue, IsRunning}
+use Rattle.m36_super.specs.SuperFields.{SuperFields, booted_of, NoServiceAfterLdbr, IsRunning}
 use Rattle.m36_super.proofs.Turns.{moved_dbr}
 use Rattle.m36_page.specs.Fields.{PagerFields}
 use Rattle.m36_model.specs.Store.{State}
 
 -- ---- the next turn is not a service once an LDBR has been executed
 
-due_in : (a b : Bool) (f : Fault) → IsDue (coming_in a b f) false
+due_in : (a b : Bool) (f : Fault) → NoServiceAfterLdbr (coming_in a b f) false
 due_in true b f = refl
 due_in false true f = refl
 due_in false false f = tt
 
-due_on : (loaded : Bool) (ring : ℕ) (f : Fault) → IsDue (coming_on loaded ring f) loaded
+due_on : (loaded : Bool) (ring : ℕ) (f : Fault) → NoServiceAfterLdbr (coming_on loaded ring f) loaded
 due_on true ring f = tt
 due_on false ring f = due_in _ _ f
 
-due_by : (loaded : Bool) (ring : ℕ) (outcome : Outcome) → IsDue (coming_after loaded ring outcome) loaded
+due_by : (loaded : Bool) (ring : ℕ) (outcome : Outcome) → NoServiceAfterLdbr (coming_after loaded ring outcome) loaded
 due_by loaded ring Next = tt
 due_by loaded ring (Faulted f) = due_on loaded ring f
 due_by loaded ring (Stopped s) = tt
 
-pub due_after : (loaded : Bool) (ring : ℕ) (outcome : Outcome) (next : Coming) → next ≡ coming_after loaded ring outcome → IsDue next loaded
+pub due_after : (loaded : Bool) (ring : ℕ) (outcome : Outcome) (next : NextEvent) → next ≡ coming_after loaded ring outcome → NoServiceAfterLdbr next loaded
 due_after loaded ring outcome next e =
-    subst (λ (c : Coming). IsDue c loaded) (sym e) (due_by loaded ring outcome)
+    subst (λ (c : NextEvent). NoServiceAfterLdbr c loaded) (sym e) (due_by loaded ring outcome)
 
-pub due_at : (loaded : Bool) (coming : Coming) (at : AtFields) → coming ≡ Link at → IsDue coming loaded → loaded ≡ false
-due_at loaded coming at e due = subst (λ (c : Coming). IsDue c loaded) e due
+pub due_at : (loaded : Bool) (coming : NextEvent) (at : AtFields) → coming ≡ Link at → NoServiceAfterLdbr coming loaded → loaded ≡ false
+due_at loaded coming at e due = subst (λ (c : NextEvent). NoServiceAfterLdbr c loaded) e due
 
-pub due_print : (loaded : Bool) (coming : Coming) → coming ≡ Print → IsDue coming loaded → loaded ≡ false
-due_print loaded coming e due = subst (λ (c : Coming). IsDue c loaded) e due
+pub due_print : (loaded : Bool) (coming : NextEvent) → coming ≡ Print → NoServiceAfterLdbr coming loaded → loaded ≡ false
+due_print loaded coming e due = subst (λ (c : NextEvent). NoServiceAfterLdbr c loaded) e due
 
 -- ---- turns, by what the next turn is
 
-turn_by : (lib : Library) (before : Booted) (turn : Turn) (after : Booted) (coming : Coming) → before.coming ≡ coming → IsTurnBy coming lib before turn after → IsTurn lib before turn after
+turn_by : (lib : Library) (before : Booted) (turn : Turn) (after : Booted) (coming : NextEvent) → before.coming ≡ coming → IsTurnBy coming lib before turn after → IsTurn lib before turn after
 unfolding IsTurn
 turn_by lib before turn after coming e h =
-    subst (λ (c : Coming). IsTurnBy c lib before turn after) (sym e) h
+    subst (λ (c : NextEvent). IsTurnBy c lib before turn after) (sym e) h
 
 pub step_is_turn : (lib : Library) (before : Booted) (turn : Turn) (after : Booted) (frames : ℕ) → before.coming ≡ Step → frames ≡ lib.catalog.frames → IsStepTurn before.loaded frames before turn after → IsTurn lib before turn after
 step_is_turn lib before turn after frames e same h =

@@ -26,9 +26,9 @@ use Rattle.m36_step.specs.declared.turns.Turn.{Turn}
 use Rattle.m36_step.specs.declared.turns.Turn.TheVariants.{Stepped, NoMemory}
 use Rattle.m36_super.specs.Library.{Library}
 use Rattle.m36_super.specs.Services.{asks_too_much, console_text}
-use Rattle.m36_super.specs.Coming.{Coming, Step, Link, Print, Over, coming_after, is_ldbr, loads, loaded_after}
+use Rattle.m36_super.specs.NextEvent.{NextEvent, Step, Link, Print, Over, coming_after, is_ldbr, loads, loaded_after}
 use Rattle.m36_super.specs.FlatRun.{FlatTurn, flat_stepped, flat_linked_by, flat_printed_by, flat_turn_by, flat_turn}
-use Rattle.m36_super.specs.BootedRun.{Booted, told_of, with_step, IsStep, IsLinkTurn, IsConsoleTurn, IsTurnBy, IsTurn, IsStanding, Stands, flat_run_of}
+use Rattle.m36_super.specs.BootedRun.{Booted, record_of_state, with_step, IsStep, IsLinkTurn, IsConsoleTurn, IsTurnBy, IsTurn, IsLaidOut, LaidOutUntilLdbr, flat_run_of}
 use Rattle.m36_super.specs.TurnLaws.{LoadsLaw, LocatesInTurn, IsFlatTurn, IsTurnKept, TurnLaw}
 use Rattle.m36_super.proofs.AbsaSteps.{absa_law}
 use Rattle.m36_super.proofs.Served.{IsAlike, services_alike}
@@ -76,35 +76,35 @@ module _ (lib : Library) (state : PagedState) (known : KnownFields) where
   abbrev frames : ℕ
   frames = lib.catalog.frames
 
-  abbrev before : Coming → Booted
+  abbrev before : NextEvent → Booted
   before coming = record { state = state; known = known; coming = coming; loaded = false }
 
   -- the turn of the flat run
-  abbrev IsBy : Coming → FlatTurn → Turn → Booted → Type 0
+  abbrev IsBy : NextEvent → FlatTurn → Turn → Booted → Type 0
   IsBy coming t turn after = (turn ≡ t.turn) × (flat_run_of after ≡ t.after)
 
-  flat_by : (coming : Coming) (turn : Turn) (after : Booted) → IsBy coming (flat_turn_by coming lib (flat_run_of (before coming))) turn after → IsFlatTurn lib (before coming) turn after
+  flat_by : (coming : NextEvent) (turn : Turn) (after : Booted) → IsBy coming (flat_turn_by coming lib (flat_run_of (before coming))) turn after → IsFlatTurn lib (before coming) turn after
   unfolding flat_turn
   flat_by coming turn after h = record { turn_is = h.0; after_is = h.1 }
 
-  flat_kept : (coming : Coming) (turn : Turn) (after : Booted) → IsFlatTurn lib (before coming) turn after → Stands after.loaded frames after.state → IsTurnKept lib (before coming) turn after
+  flat_kept : (coming : NextEvent) (turn : Turn) (after : Booted) → IsFlatTurn lib (before coming) turn after → LaidOutUntilLdbr after.loaded frames after.state → IsTurnKept lib (before coming) turn after
   flat_kept coming turn after h stands =
       record { cases = inl h; locates = λ k. subst LocatesInTurn h.turn_is k; stands = stands }
 
   -- the core after a step
-  stands_after : (s : PagedState) → IsPagedStep frames s.memory.kept (core_state s) → (((state_after core_store (core_state s)).regs.dbr ≡ booted_dbr) ⊎ ExecutesLdbr (told_of s)) → (b : Bool) → loaded_after false (told_of s) ≡ b → Stands b frames (record { regs = (state_after core_store (core_state s)).regs; memory = stepped_memory s })
+  stands_after : (s : PagedState) → IsPagedStep frames s.memory.kept (core_state s) → (((state_after core_store (core_state s)).regs.dbr ≡ booted_dbr) ⊎ ExecutesLdbr (record_of_state s)) → (b : Bool) → loaded_after false (record_of_state s) ≡ b → LaidOutUntilLdbr b frames (record { regs = (state_after core_store (core_state s)).regs; memory = stepped_memory s })
   stands_after s step dbr true e = tt
   stands_after s step (inl same) false e = record { dbr = same; laid = step.laid }
-  stands_after s step (inr loads) false e = absurd (not_loaded (told_of s) e loads)
+  stands_after s step (inr loads) false e = absurd (not_loaded (record_of_state s) e loads)
 
   -- a step from a state that represents the flat memory
-  step_turn : (last : PagedState) → IsAlike frames state last → (turn : Turn) → turn ≡ Stepped (told_of last) → IsFlatStep last.memory.kept (core_state last) → IsBy Step (flat_stepped (flat_run_of (before Step))) turn (with_step (before Step) last)
+  step_turn : (last : PagedState) → IsAlike frames state last → (turn : Turn) → turn ≡ Stepped (record_of_state last) → IsFlatStep last.memory.kept (core_state last) → IsBy Step (flat_stepped (flat_run_of (before Step))) turn (with_step (before Step) last)
   unfolding flat_stepped
   step_turn last alike turn told h =
       let r = alike.regs in
       let f = alike.flat in
       let same : flat_state last.memory.kept (core_state last) ≡ (flat_run_of (before Step)).state = λ i. record { regs = r i; store = f i } in
-      let e : told_of last ≡ record_of flat_store (flat_run_of (before Step)).state = h.told ∙ ap (record_of flat_store) same in
+      let e : record_of_state last ≡ record_of flat_store (flat_run_of (before Step)).state = h.told ∙ ap (record_of flat_store) same in
       let s : flat_state last.memory.kept (state_after core_store (core_state last)) ≡ state_after flat_store (flat_run_of (before Step)).state = h.state ∙ ap (state_after flat_store) same in (
         told ∙ ap Stepped e,
         λ i. record {
@@ -116,7 +116,7 @@ module _ (lib : Library) (state : PagedState) (known : KnownFields) where
       )
 
   -- if a step executes ABSA, that of the flat run does too
-  step_locates : (last : PagedState) → IsAlike frames state last → ExecutesAbsa (told_of last) → LocatesInTurn (flat_turn lib (flat_run_of (before Step))).turn
+  step_locates : (last : PagedState) → IsAlike frames state last → ExecutesAbsa (record_of_state last) → LocatesInTurn (flat_turn lib (flat_run_of (before Step))).turn
   unfolding flat_turn flat_stepped
   step_locates last alike h =
       let r = alike.regs in
@@ -124,7 +124,7 @@ module _ (lib : Library) (state : PagedState) (known : KnownFields) where
       let same : flat_state last.memory.kept (core_state last) ≡ (flat_run_of (before Step)).state = λ i. record { regs = r i; store = f i } in
       subst (λ (s : State Flat). ExecutesAbsa (record_of flat_store s)) same (absa_law frames last.memory.kept (core_state last) alike.standing.dbr alike.standing.laid h)
 
-  step_cases : (last : PagedState) → IsAlike frames state last → (turn : Turn) → turn ≡ Stepped (told_of last) → IsPresent (told_of last).outcome → IsPagedStep frames last.memory.kept (core_state last) → (IsFlatStep last.memory.kept (core_state last) ⊎ IsPageFault last.memory.kept (core_state last) ⊎ IsAbsaStep last.memory.kept (core_state last)) → IsTurnKept lib (before Step) turn (with_step (before Step) last)
+  step_cases : (last : PagedState) → IsAlike frames state last → (turn : Turn) → turn ≡ Stepped (record_of_state last) → IsPresent (record_of_state last).outcome → IsPagedStep frames last.memory.kept (core_state last) → (IsFlatStep last.memory.kept (core_state last) ⊎ IsPageFault last.memory.kept (core_state last) ⊎ IsAbsaStep last.memory.kept (core_state last)) → IsTurnKept lib (before Step) turn (with_step (before Step) last)
   step_cases last alike turn told present step (inl h) =
       flat_kept Step turn (with_step (before Step) last) (flat_by Step turn (with_step (before Step) last) (step_turn last alike turn told h)) (stands_after last step h.dbr _ refl)
   step_cases last alike turn told present step (inr (inl h)) =
@@ -136,17 +136,17 @@ module _ (lib : Library) (state : PagedState) (known : KnownFields) where
         stands = stands_after last step (inl h.dbr) _ refl;
       }
 
-  step_kept : (turn : Turn) (after : Booted) → IsStanding frames state → IsStep frames (before Step) turn after → IsTurnKept lib (before Step) turn after
+  step_kept : (turn : Turn) (after : Booted) → IsLaidOut frames state → IsStep frames (before Step) turn after → IsTurnKept lib (before Step) turn after
   step_kept turn after stands h =
       let alike = services_alike frames h.services state h.last stands h.served in
       let step = paged_step_law frames h.last.memory.kept (core_state h.last) alike.standing.dbr alike.standing.laid in
       subst (IsTurnKept lib (before Step) turn) (sym h.takes.after_is) (step_cases h.last alike turn h.takes.told h.present step step.cases)
 
   -- ---- services
-  stands_as : (after : Booted) → after.loaded ≡ false → IsStanding frames after.state → Stands after.loaded frames after.state
-  stands_as after loaded h = subst (λ (b : Bool). Stands b frames after.state) (sym loaded) h
+  stands_as : (after : Booted) → after.loaded ≡ false → IsLaidOut frames after.state → LaidOutUntilLdbr after.loaded frames after.state
+  stands_as after loaded h = subst (λ (b : Bool). LaidOutUntilLdbr b frames after.state) (sym loaded) h
 
-  link_cases : (at : AtFields) (answer : Result SnapFields RefusedFields) (turn : Turn) (after : Booted) → IsStanding frames state → IsLinkTurn answer frames at (before (Link at)) turn after → ((turn ≡ NoMemory) × (after ≡ before (Link at))) ⊎ (IsBy (Link at) (flat_linked_by answer (flat_run_of (before (Link at))) at) turn after × Stands after.loaded frames after.state)
+  link_cases : (at : AtFields) (answer : Result SnapFields RefusedFields) (turn : Turn) (after : Booted) → IsLaidOut frames state → IsLinkTurn answer frames at (before (Link at)) turn after → ((turn ≡ NoMemory) × (after ≡ before (Link at))) ⊎ (IsBy (Link at) (flat_linked_by answer (flat_run_of (before (Link at))) at) turn after × LaidOutUntilLdbr after.loaded frames after.state)
   link_cases at (Ok s) NoMemory after stands h = inl (refl, h)
   link_cases at (Err why) NoMemory after stands h = inl (refl, h)
   link_cases at (Ok s) turn after stands h =
@@ -157,39 +157,39 @@ module _ (lib : Library) (state : PagedState) (known : KnownFields) where
       let loaded = h.loaded in
       inr ((h.told, λ i. record { state = record { regs = regs i; store = flat i }; known = known i; coming = coming i; loaded = loaded i }), stands_as after loaded (record { dbr = ap (λ (r : RegsFields). r.dbr) regs ∙ stands.dbr; laid = h.written.laid }))
   link_cases at (Err why) turn after stands h =
-      inr ((h.0, ap flat_run_of h.1), subst (λ (r : Booted). Stands r.loaded frames r.state) (sym h.1) stands)
+      inr ((h.0, ap flat_run_of h.1), subst (λ (r : Booted). LaidOutUntilLdbr r.loaded frames r.state) (sym h.1) stands)
 
-  link_kept_by : (at : AtFields) (turn : Turn) (after : Booted) → IsStanding frames state → (((turn ≡ NoMemory) × (after ≡ before (Link at))) ⊎ (IsBy (Link at) (flat_turn_by (Link at) lib (flat_run_of (before (Link at)))) turn after × Stands after.loaded frames after.state)) → IsTurnKept lib (before (Link at)) turn after
+  link_kept_by : (at : AtFields) (turn : Turn) (after : Booted) → IsLaidOut frames state → (((turn ≡ NoMemory) × (after ≡ before (Link at))) ⊎ (IsBy (Link at) (flat_turn_by (Link at) lib (flat_run_of (before (Link at)))) turn after × LaidOutUntilLdbr after.loaded frames after.state)) → IsTurnKept lib (before (Link at)) turn after
   link_kept_by at turn after stands (inl h) =
-      record { cases = inr (inl h); locates = λ k. absurd (subst LocatesInTurn h.0 k); stands = subst (λ (r : Booted). Stands r.loaded frames r.state) (sym h.1) stands }
+      record { cases = inr (inl h); locates = λ k. absurd (subst LocatesInTurn h.0 k); stands = subst (λ (r : Booted). LaidOutUntilLdbr r.loaded frames r.state) (sym h.1) stands }
   link_kept_by at turn after stands (inr h) =
       flat_kept (Link at) turn after (flat_by (Link at) turn after h.0) h.1
 
-  link_kept : (at : AtFields) (turn : Turn) (after : Booted) → IsStanding frames state → IsLinkTurn (snap_of known lib.catalog lib.files at) frames at (before (Link at)) turn after → IsTurnKept lib (before (Link at)) turn after
+  link_kept : (at : AtFields) (turn : Turn) (after : Booted) → IsLaidOut frames state → IsLinkTurn (snap_of known lib.catalog lib.files at) frames at (before (Link at)) turn after → IsTurnKept lib (before (Link at)) turn after
   link_kept at turn after stands h =
       link_kept_by at turn after stands (link_cases at (snap_of known lib.catalog lib.files at) turn after stands h)
 
-  console_cases : (b : Bool) (text : Result (List ℕ) Fault) (turn : Turn) (after : Booted) → IsStanding frames state → IsConsoleTurn b text (before Print) turn after → IsBy Print (flat_printed_by b text (flat_run_of (before Print))) turn after × Stands after.loaded frames after.state
+  console_cases : (b : Bool) (text : Result (List ℕ) Fault) (turn : Turn) (after : Booted) → IsLaidOut frames state → IsConsoleTurn b text (before Print) turn after → IsBy Print (flat_printed_by b text (flat_run_of (before Print))) turn after × LaidOutUntilLdbr after.loaded frames after.state
   console_cases true text turn after stands h =
-      ((h.0, ap flat_run_of h.1), subst (λ (r : Booted). Stands r.loaded frames r.state) (sym h.1) stands)
+      ((h.0, ap flat_run_of h.1), subst (λ (r : Booted). LaidOutUntilLdbr r.loaded frames r.state) (sym h.1) stands)
   console_cases false (Err f) turn after stands h =
-      ((h.0, ap flat_run_of h.1), subst (λ (r : Booted). Stands r.loaded frames r.state) (sym h.1) stands)
+      ((h.0, ap flat_run_of h.1), subst (λ (r : Booted). LaidOutUntilLdbr r.loaded frames r.state) (sym h.1) stands)
   console_cases false (Ok text) turn after stands h =
-      ((h.0, ap flat_run_of h.1), subst (λ (r : Booted). Stands r.loaded frames r.state) (sym h.1) (record { dbr = moved_dbr state.regs ∙ stands.dbr; laid = stands.laid }))
+      ((h.0, ap flat_run_of h.1), subst (λ (r : Booted). LaidOutUntilLdbr r.loaded frames r.state) (sym h.1) (record { dbr = moved_dbr state.regs ∙ stands.dbr; laid = stands.laid }))
 
-  print_kept : (turn : Turn) (after : Booted) → IsStanding frames state → IsConsoleTurn (asks_too_much state.regs) (console_text state.regs (flat_of state.memory)) (before Print) turn after → IsTurnKept lib (before Print) turn after
+  print_kept : (turn : Turn) (after : Booted) → IsLaidOut frames state → IsConsoleTurn (asks_too_much state.regs) (console_text state.regs (flat_of state.memory)) (before Print) turn after → IsTurnKept lib (before Print) turn after
   print_kept turn after stands h =
       let k = console_cases (asks_too_much state.regs) (console_text state.regs (flat_of state.memory)) turn after stands h in
       flat_kept Print turn after (flat_by Print turn after k.0) k.1
 
-  turn_by : (coming : Coming) (turn : Turn) (after : Booted) → IsStanding frames state → IsTurnBy coming lib (before coming) turn after → IsTurnKept lib (before coming) turn after
+  turn_by : (coming : NextEvent) (turn : Turn) (after : Booted) → IsLaidOut frames state → IsTurnBy coming lib (before coming) turn after → IsTurnKept lib (before coming) turn after
   turn_by Step turn after stands h = step_kept turn after stands h
   turn_by (Link at) turn after stands h = link_kept at turn after stands h
   turn_by Print turn after stands h = print_kept turn after stands h
   turn_by (Over e) turn after stands h =
-      flat_kept (Over e) turn after (flat_by (Over e) turn after (h.0, ap flat_run_of h.1)) (subst (λ (r : Booted). Stands r.loaded frames r.state) (sym h.1) stands)
+      flat_kept (Over e) turn after (flat_by (Over e) turn after (h.0, ap flat_run_of h.1)) (subst (λ (r : Booted). LaidOutUntilLdbr r.loaded frames r.state) (sym h.1) stands)
 
-loaded_by : (lib : Library) (before : Booted) (turn : Turn) (after : Booted) (b : Bool) → b ≡ false → IsStanding lib.catalog.frames before.state → IsTurnBy before.coming lib (record before { loaded = b }) turn after → IsTurnKept lib (record before { loaded = b }) turn after
+loaded_by : (lib : Library) (before : Booted) (turn : Turn) (after : Booted) (b : Bool) → b ≡ false → IsLaidOut lib.catalog.frames before.state → IsTurnBy before.coming lib (record before { loaded = b }) turn after → IsTurnKept lib (record before { loaded = b }) turn after
 loaded_by lib before turn after true e stands h = cc
 loaded_by lib before turn after false e stands h =
     turn_by lib before.state before.known before.coming turn after stands h

@@ -1,14 +1,14 @@
 -- The result of booting.
 use Rattle.std.specs.Prelude.{◌≡◌, false, Result, Ok, Err}
 use Rattle.m36_boot.specs.declared.fault.BootFault.{BootFault}
-use Rattle.m36_boot.specs.Refusals.{Told, boot_answer}
+use Rattle.m36_boot.specs.Refusals.{ReportsFault, boot_answer}
 use Rattle.m36_boot.specs.declared.image.Image.{Image}
 use Rattle.m36_boot.specs.Image.{IsImage}
 use Rattle.m36_link.specs.Known.{nothing_known}
 use Rattle.m36_link.specs.Accepted.{accepted}
 use Rattle.m36_super.specs.Library.{Library}
-use Rattle.m36_super.specs.Coming.{Step}
-use Rattle.m36_super.specs.BootedRun.{IsStanding}
+use Rattle.m36_super.specs.NextEvent.{Step}
+use Rattle.m36_super.specs.BootedRun.{IsLaidOut}
 use Rattle.m36_super.specs.SuperFields.{SuperFields, booted_of}
 
 -- the system that an image starts, with the names and sections that the answer to its link makes
@@ -34,9 +34,9 @@ pub record IsBooted (lib : Library) (s : SuperFields) : Type 0 where
   pub laid : IsImage lib.catalog lib.files image.snap image
   pub system : s ≡ at_start lib image
   -- what follows
-  pub stands : IsStanding lib.catalog.frames (booted_of s).state
+  pub stands : IsLaidOut lib.catalog.frames (booted_of s).state
 
 -- the system, or the first fault; or NoMemory
 abbrev pub BootSays : Library → Result SuperFields BootFault → Type 0
 BootSays lib (Ok s) = IsBooted lib s
-BootSays lib (Err told) = Told told (boot_answer lib.catalog lib.files)
+BootSays lib (Err told) = ReportsFault told (boot_answer lib.catalog lib.files)

@@ -29,21 +29,21 @@ use Rattle.m36_super.specs.Library.{Library}
 use Rattle.m36_super.specs.PagedPut.{paged_put}
 use Rattle.m36_super.specs.Services.{link_changes, note_snapped, note_refused, asks_too_much}
 use Rattle.m36_super.specs.Services.{console_text}
-use Rattle.m36_super.specs.Coming.{Coming, Step, Link, Print, Over, loaded_after, coming_behind}
+use Rattle.m36_super.specs.NextEvent.{NextEvent, Step, Link, Print, Over, loaded_after, next_event_after}
 use Rattle.m36_super.specs.FlatRun.{FlatRun}
 
 -- a state of the booted run
 pub record Booted : Type 0 where
   pub state : PagedState
   pub known : KnownFields
-  pub coming : Coming
+  pub coming : NextEvent
   pub loaded : Bool
 
 -- ---- steps
 
 -- the record of a step over the current core
-abbrev pub told_of : PagedState → StepRecord
-told_of s = record_of core_store (core_state s)
+abbrev pub record_of_state : PagedState → StepRecord
+record_of_state s = record_of core_store (core_state s)
 
 -- the state of the run after a step from this paged state
 abbrev pub with_step : Booted → PagedState → Booted
@@ -54,13 +54,13 @@ with_step r s =
             regs = (state_after core_store (core_state s)).regs;
             memory = stepped_memory s;
           };
-      coming = coming_behind r.loaded (told_of s);
-      loaded = loaded_after r.loaded (told_of s);
+      coming = next_event_after r.loaded (record_of_state s);
+      loaded = loaded_after r.loaded (record_of_state s);
     }
 
 -- The turn is the step from this paged state, and `after` is the state after it.
-pub record Takes (s : PagedState) (before : Booted) (turn : Turn) (after : Booted) : Type 0 where
-  pub told : turn ≡ Stepped (told_of s)
+pub record IsStepTo (s : PagedState) (before : Booted) (turn : Turn) (after : Booted) : Type 0 where
+  pub told : turn ≡ Stepped (record_of_state s)
   pub after_is : after ≡ with_step before s
 
 -- Pages are served until the step meets no absent page.
@@ -69,20 +69,20 @@ pub record IsStep (frames : ℕ) (before : Booted) (turn : Turn) (after : Booted
   pub few : services ≤ pages_of_an_instruction
   pub last : PagedState
   pub served : AreServed frames services before.state last
-  pub present : IsPresent (told_of last).outcome
-  pub takes : Takes last before turn after
+  pub present : IsPresent (record_of_state last).outcome
+  pub takes : IsStepTo last before turn after
 
 -- Pages are served until an LDBR has been executed, and none after that.
 abbrev pub IsStepTurn : Bool → ℕ → Booted → Turn → Booted → Type 0
 IsStepTurn false frames before turn after = IsStep frames before turn after
-IsStepTurn true frames before turn after = Takes before.state before turn after
+IsStepTurn true frames before turn after = IsStepTo before.state before turn after
 
 -- ---- services
 
 -- Words of segments are written, each where its page is. Nothing else of the memory changes, and no
 -- mark of a page table word. So the core is still laid out as that of the image, and the flat
 -- memory changes by the same words.
-pub record IsWritten (frames : ℕ) (old new : Paged) (changes : List Change) : Type 0 where
+pub record IsWrittenBy (frames : ℕ) (old new : Paged) (changes : List Change) : Type 0 where
   pub put : new ≡ paged_put old changes
   -- what follows
   pub laid : IsLaid new.core frames
@@ -94,7 +94,7 @@ pub record IsLinked
     : Type 0 where
   pub told : turn ≡ Linked (note_snapped at s)
   pub regs : after.state.regs ≡ before.state.regs
-  pub written : IsWritten frames before.state.memory after.state.memory (link_changes at s)
+  pub written : IsWrittenBy frames before.state.memory after.state.memory (link_changes at s)
   pub known : after.known ≡ accepted before.known s
   pub coming : after.coming ≡ Step
   pub loaded : after.loaded ≡ before.loaded
@@ -130,7 +130,7 @@ IsConsoleTurn false (Ok text) before turn after =
 -- ---- one turn
 
 -- what a turn may be, by what the next turn is
-abbrev pub IsTurnBy : Coming → Library → Booted → Turn → Booted → Type 0
+abbrev pub IsTurnBy : NextEvent → Library → Booted → Turn → Booted → Type 0
 IsTurnBy Step lib before turn after =
     IsStepTurn before.loaded lib.catalog.frames before turn after
 IsTurnBy (Link at) lib before turn after =
@@ -157,14 +157,14 @@ AreTurns lib r (turn ∷ turns) last =
 
 -- The registers have the descriptor segment of the image, and the core is laid out as that of the
 -- image.
-pub record IsStanding (frames : ℕ) (s : PagedState) : Type 0 where
+pub record IsLaidOut (frames : ℕ) (s : PagedState) : Type 0 where
   pub dbr : s.regs.dbr ≡ booted_dbr
   pub laid : IsLaid s.memory.core frames
 
--- `IsStanding` holds, until an LDBR has been executed.
-abbrev pub Stands : Bool → ℕ → PagedState → Type 0
-Stands false frames s = IsStanding frames s
-Stands true frames s = Unit {0}
+-- `IsLaidOut` holds, until an LDBR has been executed.
+abbrev pub LaidOutUntilLdbr : Bool → ℕ → PagedState → Type 0
+LaidOutUntilLdbr false frames s = IsLaidOut frames s
+LaidOutUntilLdbr true frames s = Unit {0}
 
 -- the state of the flat run that a state of the booted run represents
 abbrev pub flat_run_of : Booted → FlatRun

@@ -16,14 +16,14 @@ use Rattle.m36_step.specs.declared.turns.Turn.TheVariants.{Stepped, Linked, Cons
 use Rattle.m36_super.specs.Library.{Library}
 use Rattle.m36_super.specs.Services.{link_changes, note_snapped, note_refused, asks_too_much}
 use Rattle.m36_super.specs.Services.{console_text}
-use Rattle.m36_super.specs.Coming.{Coming, Step, Link, Print, Over, loaded_after, coming_behind}
+use Rattle.m36_super.specs.NextEvent.{NextEvent, Step, Link, Print, Over, loaded_after, next_event_after}
 
 -- registers and flat memory; what the rings know; what the next turn is; and whether an LDBR has
 -- been executed
 pub record FlatRun : Type 0 where
   pub state : State Flat
   pub known : KnownFields
-  pub coming : Coming
+  pub coming : NextEvent
   pub loaded : Bool
 
 -- a turn, and the state of the flat run after it
@@ -40,7 +40,7 @@ flat_stepped r =
       after =
           record r {
             state = state_after flat_store r.state;
-            coming = coming_behind r.loaded told;
+            coming = next_event_after r.loaded told;
             loaded = loaded_after r.loaded told;
           };
     }
@@ -84,7 +84,7 @@ flat_printed_by false (Ok text) r =
     }
 
 -- a turn of the flat run, by what the next turn is
-abbrev pub flat_turn_by : Coming → Library → FlatRun → FlatTurn
+abbrev pub flat_turn_by : NextEvent → Library → FlatRun → FlatTurn
 flat_turn_by Step lib r = flat_stepped r
 flat_turn_by (Link at) lib r = flat_linked_by (snap_of r.known lib.catalog lib.files at) r at
 flat_turn_by Print lib r =

@@ -4,7 +4,7 @@ pub mod LayingLaw
 pub mod PagedPut
 pub mod Services
 pub mod ConsoleLaw
-pub mod Coming
+pub mod NextEvent
 pub mod FlatRun
 pub mod BootedRun
 pub mod TurnLaws

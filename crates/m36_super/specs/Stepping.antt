@@ -43,7 +43,7 @@ pub record IsBareStep
   pub pager : q ≡ p
 
 -- A step that lacked no page.
-pub record IsTaken
+pub record IsFullStep
     (old : State (List ℕ)) (p : PagerFields) (new : State (List ℕ)) (q : PagerFields)
     (told : StepRecord) : Type 0 where
   pub step : IsBareStep old p new q told
@@ -53,7 +53,7 @@ pub record IsTaken
 abbrev pub AttemptSays :
     Bool → State (List ℕ) → PagerFields → State (List ℕ) → PagerFields → StepRecord → Type 0
 AttemptSays true old p new q told = IsTried old p new q
-AttemptSays false old p new q told = IsTaken old p new q told
+AttemptSays false old p new q told = IsFullStep old p new q told
 
 -- The pages that a step lacked were brought in, and then it was taken.
 pub record IsStepped
@@ -65,7 +65,7 @@ pub record IsStepped
   pub served : AreServed (length p.holders) services (paged_of old p) (paged_of last q)
   pub frames : length q.holders ≡ length p.holders
   pub runs : IsRunning (length q.holders) last.regs last.store q
-  pub taken : IsTaken last q new q told
+  pub taken : IsFullStep last q new q told
 
 -- A step: with page services until an LDBR has been executed (false), and without them after that
 -- (true).

@@ -12,14 +12,14 @@ use Rattle.m36_model.specs.Residence.{IsMoved}
 use Rattle.m36_isol.specs.PageServices.{PagedState}
 use Rattle.m36_page.specs.Fields.{PagerFields}
 use Rattle.m36_page.specs.Residence.{has_page, frame_of, paged_by, IsPager, Reads}
-use Rattle.m36_page.specs.Changes.{IsKept}
+use Rattle.m36_page.specs.Changes.{KeepsContents}
 use Rattle.m36_link.specs.Fields.{KnownFields}
 use Rattle.m36_link.specs.Known.{linkage_segment}
 use Rattle.m36_boot.specs.Segments.{linkage_pages, bound_of_pages}
 use Rattle.m36_boot.specs.Image.{HasPages}
-use Rattle.m36_link.specs.Laws.{IsMade}
+use Rattle.m36_link.specs.Laws.{IsConsistent}
 use Rattle.m36_super.specs.Library.{Library}
-use Rattle.m36_super.specs.Coming.{Coming, Step, Link, Print, Over}
+use Rattle.m36_super.specs.NextEvent.{NextEvent, Step, Link, Print, Over}
 use Rattle.m36_super.specs.BootedRun.{Booted}
 
 -- A system: its library, registers and core, the pager with the kept words, what the rings know,
@@ -30,7 +30,7 @@ pub record SuperFields : Type 0 where
   pub core : List ℕ
   pub pager : PagerFields
   pub known : KnownFields
-  pub coming : Coming
+  pub coming : NextEvent
   pub loaded : Bool
 
 -- the paged state of a processor and its pager
@@ -38,7 +38,7 @@ abbrev pub paged_of : State (List ℕ) → PagerFields → PagedState
 paged_of s p = record { regs = s.regs; memory = paged_by s.store p }
 
 -- the state of the booted run
-abbrev pub run_of : State (List ℕ) → PagerFields → KnownFields → Coming → Bool → Booted
+abbrev pub run_of : State (List ℕ) → PagerFields → KnownFields → NextEvent → Bool → Booted
 run_of s p known coming loaded =
     record { state = paged_of s p; known = known; coming = coming; loaded = loaded }
 
@@ -68,24 +68,24 @@ pub record IsRunning (frames : ℕ) (regs : RegsFields) (core : List ℕ)
   pub managed : IsManaged frames core p
 
 -- `IsRunning` holds, until an LDBR has been executed.
-abbrev pub Manages : Bool → ℕ → RegsFields → List ℕ → PagerFields → Type 0
-Manages false frames regs core p = IsRunning frames regs core p
-Manages true frames regs core p = Unit {0}
+abbrev pub RunningUntilLdbr : Bool → ℕ → RegsFields → List ℕ → PagerFields → Type 0
+RunningUntilLdbr false frames regs core p = IsRunning frames regs core p
+RunningUntilLdbr true frames regs core p = Unit {0}
 
 -- once an LDBR has been executed, the next turn is not a service
-abbrev pub IsDue : Coming → Bool → Type 0
-IsDue Step loaded = Unit {0}
-IsDue (Link at) loaded = loaded ≡ false
-IsDue Print loaded = loaded ≡ false
-IsDue (Over e) loaded = Unit {0}
+abbrev pub NoServiceAfterLdbr : NextEvent → Bool → Type 0
+NoServiceAfterLdbr Step loaded = Unit {0}
+NoServiceAfterLdbr (Link at) loaded = loaded ≡ false
+NoServiceAfterLdbr Print loaded = loaded ≡ false
+NoServiceAfterLdbr (Over e) loaded = Unit {0}
 
 -- The invariant of a booted system.
 pub record IsSuper (s : SuperFields) : Type 0 where
   pub files : length s.lib.files ≡ length s.lib.catalog.segments
   pub frames : length s.pager.holders ≡ s.lib.catalog.frames
-  pub manages : Manages s.loaded (length s.pager.holders) s.regs s.core s.pager
-  pub made : IsMade s.lib.catalog s.lib.files s.known
-  pub due : IsDue s.coming s.loaded
+  pub manages : RunningUntilLdbr s.loaded (length s.pager.holders) s.regs s.core s.pager
+  pub made : IsConsistent s.lib.catalog s.lib.files s.known
+  pub due : NoServiceAfterLdbr s.coming s.loaded
 
 -- the frame of a page of the image, if it is in one
 abbrev pub frame_by : Bool → Option ℕ → Option ℕ
@@ -110,7 +110,7 @@ pub record IsPaging
 abbrev pub PagingLaw : Type 0
 PagingLaw =
     (frames : ℕ) (core now : List ℕ) (p q : PagerFields)
-    → IsManaged frames core p → IsPager q → Reads q now → IsKept p core q now
+    → IsManaged frames core p → IsPager q → Reads q now → KeepsContents p core q now
     → IsPaging frames core now p q
 
 -- A step keeps `IsManaged`.

@@ -13,16 +13,16 @@ use Rattle.m36_model.specs.declared.outcome.Outcome.{Outcome}
 use Rattle.m36_model.specs.declared.outcome.Outcome.TheVariants.{Next, Faulted, Stopped}
 use Rattle.m36_link.specs.Fields.{SnapFields}
 use Rattle.m36_link.specs.Snap.{RefusedFields}
-use Rattle.m36_step.specs.Answers.{IsDone, IsService, IsStep, IsNotNext, IsUnable, Interrupts}
+use Rattle.m36_step.specs.Answers.{IsDone, IsService, IsStep, IsHalted, IsUnable, PrecludesStep}
 use Rattle.m36_step.specs.declared.turns.Turn.{Turn}
 use Rattle.m36_step.specs.declared.turns.Turn.TheVariants.{Stepped, Linked, Console, Ended, Full}
 use Rattle.m36_step.specs.declared.turns.Turn.TheVariants.{NoMemory}
 use Rattle.m36_step.specs.declared.turns.BackAnswer.{BackAnswer}
-use Rattle.m36_super.specs.Coming.{Coming, Step, Link, Print, Over, loaded_after}
-use Rattle.m36_super.specs.Coming.{coming_in, coming_on, coming_after}
+use Rattle.m36_super.specs.NextEvent.{NextEvent, Step, Link, Print, Over, loaded_after}
+use Rattle.m36_super.specs.NextEvent.{coming_in, coming_on, coming_after}
 use Rattle.m36_super.specs.Library.{Library}
 use Rattle.m36_super.specs.BootedRun.{Booted, IsStepTurn, IsLinkTurn, IsConsoleTurn, IsTurnBy}
-use Rattle.m36_super.specs.BootedRun.{IsTurn, Takes, told_of}
+use Rattle.m36_super.specs.BootedRun.{IsTurn, IsStepTo, record_of_state}
 use Rattle.m36_isol.specs.PageServices.{PagedState}
 use Rattle.m36_super.specs.SuperFields.{SuperFields, booted_of}
 
@@ -55,7 +55,7 @@ pub super_stays :
 super_stays before n answer after went = inr went.1
 
 -- the next turn is not a service
-abbrev pub IsQuiet : Coming → Type 0
+abbrev pub IsQuiet : NextEvent → Type 0
 IsQuiet Step = Unit {0}
 IsQuiet (Link at) = ⊥
 IsQuiet Print = ⊥
@@ -96,7 +96,7 @@ console_quiet false (Ok text) before turn after h service =
     subst (λ (r : Booted). IsQuiet r.coming) (sym h.1) tt
 
 after_service :
-    (coming : Coming) (lib : Library) (before : Booted) (turn : Turn) (after : Booted)
+    (coming : NextEvent) (lib : Library) (before : Booted) (turn : Turn) (after : Booted)
     → IsTurnBy coming lib before turn after → IsService turn → IsQuiet after.coming
 after_service Step lib before turn after h service =
     absurd (step_no_service before.loaded lib.catalog.frames before turn after h service)
@@ -106,7 +106,7 @@ after_service Print lib before turn after h service = console_quiet _ _ before t
 after_service (Over e) lib before turn after h service = absurd (subst IsService h.0 service)
 
 no_service :
-    (coming : Coming) (lib : Library) (before : Booted) (turn : Turn) (after : Booted)
+    (coming : NextEvent) (lib : Library) (before : Booted) (turn : Turn) (after : Booted)
     → IsTurnBy coming lib before turn after → IsQuiet coming → IsService turn → ⊥
 no_service Step lib before turn after h quiet service =
     step_no_service before.loaded lib.catalog.frames before turn after h service
@@ -127,7 +127,7 @@ super_apart first second third one two h k service other =
 -- ---- a turn that interrupts is not followed by a step
 
 -- the next turn is not a step
-abbrev pub IsHeld : Coming → Type 0
+abbrev pub IsHeld : NextEvent → Type 0
 IsHeld Step = ⊥
 IsHeld (Link at) = Unit {0}
 IsHeld Print = Unit {0}
@@ -145,22 +145,22 @@ held_on false ring f =
 
 held_after :
     (loaded : Bool) (ring : ℕ) (outcome : Outcome)
-    → IsNotNext outcome → IsHeld (coming_after loaded ring outcome)
+    → IsHalted outcome → IsHeld (coming_after loaded ring outcome)
 held_after loaded ring Next not = absurd not
 held_after loaded ring (Faulted f) not = held_on loaded ring f
 held_after loaded ring (Stopped s) not = tt
 
 takes_held :
     (s : PagedState) (before : Booted) (turn : Turn) (after : Booted)
-    → Takes s before turn after → Interrupts turn → IsHeld after.coming
+    → IsStepTo s before turn after → PrecludesStep turn → IsHeld after.coming
 takes_held s before turn after h interrupts =
     subst (λ (r : Booted). IsHeld r.coming) (sym h.after_is)
-    (held_after (loaded_after before.loaded (told_of s)) (told_of s).ppr.prr (told_of s).outcome
-    (subst Interrupts h.told interrupts))
+    (held_after (loaded_after before.loaded (record_of_state s)) (record_of_state s).ppr.prr (record_of_state s).outcome
+    (subst PrecludesStep h.told interrupts))
 
 step_held :
     (loaded : Bool) (frames : ℕ) (before : Booted) (turn : Turn) (after : Booted)
-    → IsStepTurn loaded frames before turn after → Interrupts turn → IsHeld after.coming
+    → IsStepTurn loaded frames before turn after → PrecludesStep turn → IsHeld after.coming
 step_held false frames before turn after h interrupts =
     takes_held h.last before turn after h.takes interrupts
 step_held true frames before turn after h interrupts =
@@ -169,11 +169,11 @@ step_held true frames before turn after h interrupts =
 link_held :
     (answer : Result SnapFields RefusedFields) (frames : ℕ) (at : AtFields) (before : Booted)
     (turn : Turn) (after : Booted)
-    → IsLinkTurn answer frames at before turn after → Interrupts turn → IsHeld after.coming
+    → IsLinkTurn answer frames at before turn after → PrecludesStep turn → IsHeld after.coming
 link_held (Ok s) frames at before (Linked note) after h interrupts =
-    absurd (subst Interrupts h.told interrupts)
+    absurd (subst PrecludesStep h.told interrupts)
 link_held (Ok s) frames at before (Stepped told) after h interrupts =
-    absurd (subst Interrupts h.told interrupts)
+    absurd (subst PrecludesStep h.told interrupts)
 link_held (Ok s) frames at before (Console text) after h interrupts = absurd interrupts
 link_held (Ok s) frames at before (Ended e) after h interrupts = absurd interrupts
 link_held (Ok s) frames at before Full after h interrupts = absurd interrupts
@@ -189,15 +189,15 @@ link_held (Err why) frames at before NoMemory after h interrupts = absurd interr
 
 console_no_interrupt :
     (b : Bool) (text : Result (List ℕ) Fault) (before : Booted) (turn : Turn) (after : Booted)
-    → IsConsoleTurn b text before turn after → Interrupts turn → ⊥
-console_no_interrupt true text before turn after h interrupts = subst Interrupts h.0 interrupts
-console_no_interrupt false (Err f) before turn after h interrupts = subst Interrupts h.0 interrupts
+    → IsConsoleTurn b text before turn after → PrecludesStep turn → ⊥
+console_no_interrupt true text before turn after h interrupts = subst PrecludesStep h.0 interrupts
+console_no_interrupt false (Err f) before turn after h interrupts = subst PrecludesStep h.0 interrupts
 console_no_interrupt false (Ok text) before turn after h interrupts =
-    subst Interrupts h.0 interrupts
+    subst PrecludesStep h.0 interrupts
 
 after_interrupt :
-    (coming : Coming) (lib : Library) (before : Booted) (turn : Turn) (after : Booted)
-    → IsTurnBy coming lib before turn after → Interrupts turn → IsHeld after.coming
+    (coming : NextEvent) (lib : Library) (before : Booted) (turn : Turn) (after : Booted)
+    → IsTurnBy coming lib before turn after → PrecludesStep turn → IsHeld after.coming
 after_interrupt Step lib before turn after h interrupts =
     step_held before.loaded lib.catalog.frames before turn after h interrupts
 after_interrupt (Link at) lib before turn after h interrupts =
@@ -205,7 +205,7 @@ after_interrupt (Link at) lib before turn after h interrupts =
 after_interrupt Print lib before turn after h interrupts =
     absurd (console_no_interrupt _ _ before turn after h interrupts)
 after_interrupt (Over e) lib before turn after h interrupts =
-    absurd (subst Interrupts h.0 interrupts)
+    absurd (subst PrecludesStep h.0 interrupts)
 
 link_no_step :
     (answer : Result SnapFields RefusedFields) (frames : ℕ) (at : AtFields) (before : Booted)
@@ -232,7 +232,7 @@ console_no_step false (Err f) before turn after h step = subst IsStep h.0 step
 console_no_step false (Ok text) before turn after h step = subst IsStep h.0 step
 
 no_step :
-    (coming : Coming) (lib : Library) (before : Booted) (turn : Turn) (after : Booted)
+    (coming : NextEvent) (lib : Library) (before : Booted) (turn : Turn) (after : Booted)
     → IsTurnBy coming lib before turn after → IsHeld coming → IsStep turn → ⊥
 no_step Step lib before turn after h held step = held
 no_step (Link at) lib before turn after h held step =
@@ -243,7 +243,7 @@ no_step (Over e) lib before turn after h held step = subst IsStep h.0 step
 -- the turn after one that interrupts is not a step
 pub super_interrupted :
     (first second third : SuperFields) (one two : Turn)
-    → SuperTurns first one second → SuperTurns second two third → Interrupts one → IsStep two → ⊥
+    → SuperTurns first one second → SuperTurns second two third → PrecludesStep one → IsStep two → ⊥
 unfolding IsTurn
 super_interrupted first second third one two h k interrupts step =
     no_step second.coming second.lib (booted_of second) two (booted_of third) k.0

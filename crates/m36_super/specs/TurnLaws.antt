@@ -12,9 +12,9 @@ use Rattle.m36_step.specs.declared.turns.Turn.{Turn}
 use Rattle.m36_step.specs.declared.turns.Turn.TheVariants.{Stepped, Linked, Console, Ended, Full}
 use Rattle.m36_step.specs.declared.turns.Turn.TheVariants.{NoMemory}
 use Rattle.m36_super.specs.Library.{Library}
-use Rattle.m36_super.specs.Coming.{loads, loaded_after}
+use Rattle.m36_super.specs.NextEvent.{loads, loaded_after}
 use Rattle.m36_super.specs.FlatRun.{flat_turn, flat_turns}
-use Rattle.m36_super.specs.BootedRun.{Booted, IsTurn, AreTurns, Stands, flat_run_of}
+use Rattle.m36_super.specs.BootedRun.{Booted, IsTurn, AreTurns, LaidOutUntilLdbr, flat_run_of}
 
 -- A step counts as loading the DBR exactly if it executes an LDBR.
 abbrev pub LoadsLaw : Type 0
@@ -42,20 +42,20 @@ pub record IsTurnKept (lib : Library) (before : Booted) (turn : Turn)
   pub cases :
       IsFlatTurn lib before turn after ⊎ ((turn ≡ NoMemory) × (after ≡ before)) ⊎ LocatesInTurn turn
   pub locates : LocatesInTurn turn → LocatesInTurn (flat_turn lib (flat_run_of before)).turn
-  pub stands : Stands after.loaded lib.catalog.frames after.state
+  pub stands : LaidOutUntilLdbr after.loaded lib.catalog.frames after.state
 
 -- Each turn before an LDBR is executed satisfies `IsTurnKept`.
 abbrev pub TurnLaw : Type 0
 TurnLaw =
     (lib : Library) (before : Booted) (turn : Turn) (after : Booted) → before.loaded ≡ false
-    → Stands false lib.catalog.frames before.state → IsTurn lib before turn after
+    → LaidOutUntilLdbr false lib.catalog.frames before.state → IsTurn lib before turn after
     → IsTurnKept lib before turn after
 
 -- A turn keeps the audit conditions until an LDBR is executed.
 abbrev pub TurnAuditLaw : Type 0
 TurnAuditLaw =
     (lib : Library) (before : Booted) (turn : Turn) (after : Booted) → before.loaded ≡ false
-    → Stands false lib.catalog.frames before.state
+    → LaidOutUntilLdbr false lib.catalog.frames before.state
     → IsAudited before.state.memory.core booted_dbr → IsTurn lib before turn after
     → after.loaded ≡ false → IsAudited after.state.memory.core booted_dbr
 
@@ -72,5 +72,5 @@ IsPlainTurn NoMemory = ⊥
 abbrev pub FunctionLaw : Type 0
 FunctionLaw =
     (lib : Library) (turns : List Turn) (r last : Booted) → r.loaded ≡ false
-    → Stands false lib.catalog.frames r.state → AreTurns lib r turns last → Each IsPlainTurn turns
+    → LaidOutUntilLdbr false lib.catalog.frames r.state → AreTurns lib r turns last → Each IsPlainTurn turns
     → turns ≡ flat_turns lib (flat_run_of r) (length turns)

@@ -1,13 +1,13 @@
 //! The booted system.
 
 ghost use Rattle.std.specs.Prelude.{◌≡◌, ◌<◌, length, false};
-ghost use Rattle.m36_link.specs.Laws.{IsMade};
-ghost use Rattle.m36_step.specs.Ended.{untold_record};
+ghost use Rattle.m36_link.specs.Laws.{IsConsistent};
+ghost use Rattle.m36_step.specs.Ended.{empty_record_of};
 ghost use Rattle.m36_super.specs.BootedRun.{link_turn};
-ghost use Rattle.m36_super.specs.SuperFields.{IsRunning, IsDue};
+ghost use Rattle.m36_super.specs.SuperFields.{IsRunning, NoServiceAfterLdbr};
 ghost use Rattle.m36_super.specs.SuperTurn.{SuperTurns};
 
-use crate::coming::Coming;
+use crate::coming::NextEvent;
 use crate::console::print;
 use crate::content::flat_content;
 use crate::linking::{link, link_turn};
@@ -32,7 +32,7 @@ pub struct Super {
     known: Known,
     catalog: Catalog,
     files: Vec<File>,
-    coming: Coming,
+    coming: NextEvent,
     // Whether an LDBR has been executed.
     loaded: bool,
     alloc: Global,
@@ -78,7 +78,7 @@ impl Super {
         requires frames { length pager.holders ≡ catalog.frames }
         requires runs { IsRunning (length pager.holders) machine.state.regs machine.state.store
             pager }
-        requires made { IsMade catalog files.items known }
+        requires made { IsConsistent catalog files.items known }
         ensures { result
             ≡ record {
               lib = record { catalog = catalog; files = files.items };
@@ -86,7 +86,7 @@ impl Super {
               core = machine.state.store;
               pager = pager;
               known = known;
-              coming = Coming.Step;
+              coming = NextEvent.Step;
               loaded = false;
             } }
     {
@@ -96,7 +96,7 @@ impl Super {
             known,
             catalog,
             files,
-            coming: Coming::Step,
+            coming: NextEvent::Step,
             loaded: false,
             alloc,
         }
@@ -117,16 +117,16 @@ impl Super {
     }
 
     /// What the next turn is.
-    pub fn coming(&self) -> Coming
+    pub fn coming(&self) -> NextEvent
         ensures value { result ≡ self.now.coming }
-        ensures due { IsDue self.now.coming self.now.loaded }
+        ensures due { NoServiceAfterLdbr self.now.coming self.now.loaded }
     {
         self.coming
     }
 
     /// An empty record with the current registers, for `step_told` to overwrite.
     pub fn untold(&self) -> StepRecord
-        ensures { result ≡ untold_record self.now.regs }
+        ensures { result ≡ empty_record_of self.now.regs }
     {
         self.machine.untold()
     }
@@ -134,7 +134,7 @@ impl Super {
     /// Takes the turn, which is a step, and overwrites `told` with its record.
     #[tactic(auto, using(crate::proofs::SystemTurns::step_is_turn))]
     pub fn step_told(&mut self, told: &mut StepRecord)
-        requires { self.old.coming ≡ Coming.Step }
+        requires { self.old.coming ≡ NextEvent.Step }
         ensures { SuperTurns self.old (Turn.Stepped told.new) self.new }
     {
         let Super {
@@ -149,7 +149,7 @@ impl Super {
 
     // Takes a step. Until an LDBR has been executed, the pages that it lacks are brought in.
     fn step(&mut self) -> Turn
-        requires { self.old.coming ≡ Coming.Step }
+        requires { self.old.coming ≡ NextEvent.Step }
         ensures { SuperTurns self.old result self.new }
     {
         let mut told = self.untold();
@@ -161,7 +161,7 @@ impl Super {
     /// `NoMemory`.
     #[tactic(auto, using(crate::proofs::SystemTurns::due_at))]
     pub fn serve_link(&mut self, at: At) -> Result<LinkNote, NoMemory>
-        requires { self.old.coming ≡ Coming.Link at }
+        requires { self.old.coming ≡ NextEvent.Link at }
         ensures { SuperTurns self.old (link_turn result) self.new }
     {
         let _coming = self.coming();
@@ -171,7 +171,7 @@ impl Super {
     // Takes a turn that is a link service.
     #[tactic(auto, using(crate::proofs::SystemTurns::link_is_turn))]
     fn link(&mut self, at: At) -> Result<LinkNote, NoMemory>
-        requires coming { self.old.coming ≡ Coming.Link at }
+        requires coming { self.old.coming ≡ NextEvent.Link at }
         requires runs { self.old.loaded ≡ false }
         ensures { SuperTurns self.old (link_turn result) self.new }
     {
@@ -191,7 +191,7 @@ impl Super {
     // Takes a turn that is a console service.
     #[tactic(auto, using(crate::proofs::SystemTurns::print_is_turn))]
     fn print(&mut self) -> Turn
-        requires coming { self.old.coming ≡ Coming.Print }
+        requires coming { self.old.coming ≡ NextEvent.Print }
         requires runs { self.old.loaded ≡ false }
         ensures { SuperTurns self.old result self.new }
     {
@@ -206,16 +206,16 @@ impl Super {
 
     // Takes the next turn.
     #[tactic(auto, using(crate::proofs::SystemTurns::system_turns))]
-    fn turn_of(&mut self, coming: Coming) -> Turn
+    fn turn_of(&mut self, coming: NextEvent) -> Turn
         requires coming { coming ≡ self.old.coming }
-        requires due { IsDue coming self.old.loaded }
+        requires due { NoServiceAfterLdbr coming self.old.loaded }
         ensures { SuperTurns self.old result self.new }
     {
         match coming {
-            Coming::Step => self.step(),
-            Coming::Link(at) => link_turn(self.link(at)),
-            Coming::Print => self.print(),
-            Coming::Over(end) => Turn::Ended(end),
+            NextEvent::Step => self.step(),
+            NextEvent::Link(at) => link_turn(self.link(at)),
+            NextEvent::Print => self.print(),
+            NextEvent::Over(end) => Turn::Ended(end),
         }
     }
 
@@ -246,7 +246,7 @@ impl Stepper for Super {
     /// before it calls for; or the end.
     #[inline]
     fn turn_into(&mut self, turn: &mut Turn) {
-        if let Coming::Step = self.coming
+        if let NextEvent::Step = self.coming
             && let Turn::Stepped(told) = turn
         {
             self.step_told(told);

@@ -7,7 +7,7 @@ ghost use Rattle.m36_boot.specs.Image.{IsRunnable};
 ghost use Rattle.m36_boot.specs.Start.{start_answer};
 ghost use Rattle.m36_link.specs.Known.{nothing_known};
 ghost use Rattle.m36_link.specs.Accepted.{accepted};
-ghost use Rattle.m36_link.specs.Laws.{IsMade};
+ghost use Rattle.m36_link.specs.Laws.{IsConsistent};
 ghost use Rattle.m36_page.specs.Residence.{Reads};
 ghost use Rattle.m36_super.specs.BootSays.{BootSays, at_start};
 
@@ -56,7 +56,7 @@ fn known_of(
 ) -> Result<Known, NoMemory>
     requires { start_answer catalog.now files.now ≡ Ok snap.now }
     ensures known { IfOk result (λ known. known ≡ accepted nothing_known snap.now) }
-    ensures made { IfOk result (IsMade catalog.now files.now) }
+    ensures made { IfOk result (IsConsistent catalog.now files.now) }
 {
     link_laws();
     let mut known = Known::new(alloc, catalog)?;

@@ -2,7 +2,7 @@
 
 ghost use Rattle.std.specs.Prelude.{ℕ, ◌≡◌, false, Some};
 ghost use Rattle.m36_model.specs.Step.{decode};
-ghost use Rattle.m36_super.specs.Coming.{is_ldbr, loads, loaded_after, coming_in, coming_on, coming_after};
+ghost use Rattle.m36_super.specs.NextEvent.{is_ldbr, loads, loaded_after, coming_in, coming_on, coming_after};
 
 use m36_inst::{Effect, Inst, row};
 use m36_model::{At, End, Fault, Outcome, StepRecord};
@@ -16,7 +16,7 @@ const MASTER_MODE_ENTRY: u8 = 2;
 
 /// What the next turn of a booted run is.
 #[derive(Clone, Copy, PartialEq, Eq)]
-pub enum Coming {
+pub enum NextEvent {
     /// A step.
     Step,
     /// The service of the link at this address, for the ring of the address.
@@ -67,28 +67,28 @@ pub(crate) fn loaded_after(loaded: bool, told: &StepRecord) -> bool
 }
 
 // What follows a fault, if no LDBR has been executed.
-fn coming_in(ring: u8, fault: Fault) -> Coming
+fn coming_in(ring: u8, fault: Fault) -> NextEvent
     ensures { result ≡ coming_on false ring fault }
 {
     if fault.number == FAULT_TAG_2 {
-        Coming::Link(fault.at)
+        NextEvent::Link(fault.at)
     } else if fault.number == MASTER_MODE_ENTRY && ring == 0 {
-        Coming::Print
+        NextEvent::Print
     } else {
-        Coming::Over(End::Fault(fault))
+        NextEvent::Over(End::Fault(fault))
     }
 }
 
 /// What follows a step whose instruction was executed in this ring.
-pub(crate) fn coming_after(loaded: bool, ring: u8, outcome: Outcome) -> Coming
+pub(crate) fn coming_after(loaded: bool, ring: u8, outcome: Outcome) -> NextEvent
     ensures { result ≡ coming_after loaded ring outcome }
 {
     match outcome {
-        Outcome::Next => Coming::Step,
-        Outcome::Stopped(stop) => Coming::Over(End::Stop(stop)),
+        Outcome::Next => NextEvent::Step,
+        Outcome::Stopped(stop) => NextEvent::Over(End::Stop(stop)),
         Outcome::Faulted(fault) => {
             if loaded {
-                Coming::Over(End::Fault(fault))
+                NextEvent::Over(End::Fault(fault))
             } else {
                 coming_in(ring, fault)
             }

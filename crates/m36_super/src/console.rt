@@ -13,7 +13,7 @@ ghost use Rattle.m36_super.specs.SuperFields.{run_of, IsManaged, IsRunning};
 ghost use Rattle.m36_super.specs.Writing.{flat_by};
 ghost use Rattle.m36_super.specs.Examining.{ExaminedSays};
 
-use crate::coming::Coming;
+use crate::coming::NextEvent;
 use crate::content::found_word;
 use arrayvec::ArrayVec;
 use m36_core::Core;
@@ -173,17 +173,17 @@ fn text(core: &Core, pager: &Pager, regs: &Regs, count: u32) -> Result<ConsoleNo
 }
 
 // Ends the run in this way.
-fn ends(coming: &mut Coming, end: &End) -> Turn
+fn ends(coming: &mut NextEvent, end: &End) -> Turn
     ensures turn { result ≡ Turn.Ended end.now }
-    ensures coming { coming.new ≡ Coming.Over end.now }
+    ensures coming { coming.new ≡ NextEvent.Over end.now }
 {
-    *coming = Coming::Over(*end);
+    *coming = NextEvent::Over(*end);
     Turn::Ended(*end)
 }
 
 /// Takes a turn that is a console service.
 #[tactic(auto, using(crate::proofs::SystemTurns::printed))]
-pub(crate) fn print(machine: &mut Machine, pager: &Pager, coming: &mut Coming) -> Turn
+pub(crate) fn print(machine: &mut Machine, pager: &Pager, coming: &mut NextEvent) -> Turn
     requires { IsRunning (length pager.now.holders) machine.old.state.regs machine.old.state.store
         pager.now }
     ensures turn { (known : KnownFields) (loaded : Bool) → IsConsoleTurn
@@ -202,7 +202,7 @@ pub(crate) fn print(machine: &mut Machine, pager: &Pager, coming: &mut Coming) -
     match text(machine.walk().core(), pager, regs, count as u32) {
         Ok(note) => {
             machine.skip();
-            *coming = Coming::Step;
+            *coming = NextEvent::Step;
             Turn::Console(note)
         }
         Err(fault) => ends(coming, &End::Fault(fault)),

@@ -48,7 +48,7 @@ ghost use Rattle.m36_super.specs.ConsoleLaw.{ConsoleCounts};
 
 pub use booted::Super;
 pub use booting::{are_short, files_of};
-pub use coming::Coming;
+pub use coming::NextEvent;
 
 /// Until an LDBR is executed, a turn of a booted run is that of the flat run, or runs out of
 /// memory, or executes ABSA as the turn of the flat run does. The core stays laid out as that of

@@ -5,17 +5,17 @@ ghost use Rattle.obj36_parts.specs.ObjectSegment.{segment_limit};
 ghost use Rattle.m36_link.specs.Known.{linkage_segment};
 ghost use Rattle.m36_link.specs.Snap.{snap_of};
 ghost use Rattle.m36_link.specs.Accepted.{accepted, MayBeLaid};
-ghost use Rattle.m36_link.specs.Laws.{IsMade};
+ghost use Rattle.m36_link.specs.Laws.{IsConsistent};
 ghost use Rattle.m36_super.specs.BootedRun.{IsLinkTurn, link_turn};
 ghost use Rattle.m36_super.specs.Laying.{written_from, laying};
 ghost use Rattle.m36_super.specs.Services.{link_changes, note_snapped, note_of};
 ghost use Rattle.m36_super.specs.SuperFields.{run_of, IsManaged, IsRunning};
 ghost use Rattle.m36_super.specs.Writing.{ArePut};
 
-use crate::coming::Coming;
+use crate::coming::NextEvent;
 use crate::naming::link_text;
 use m36_dir::Catalog;
-use m36_link::{FIRST_LINKAGE, File, Known, Lay, LinkFault, Snap, link_laws};
+use m36_link::{FIRST_LINKAGE, File, Known, LinkFault, NewSection, Snap, link_laws};
 use m36_model::{At, End, LinkCode};
 use m36_page::Pager;
 use m36_step::{LinkNote, Machine, Turn};
@@ -59,7 +59,7 @@ fn write_words(machine: &mut Machine, pager: &mut Pager, ring: u8, word: u32, wo
 
 // Writes a linkage section that is laid, and its word of the linkage offset table.
 #[tactic(auto, using(crate::proofs::LinkTurns::put_section))]
-fn write_section(machine: &mut Machine, pager: &mut Pager, lay: &Lay)
+fn write_section(machine: &mut Machine, pager: &mut Pager, lay: &NewSection)
     requires managed { IsManaged (length pager.old.holders) machine.old.state.store pager.old }
     requires fits { lay.now.base + length lay.now.words ≤ segment_limit }
     ensures put { ArePut machine.old.state.store pager.old machine.new.state.store pager.new
@@ -72,7 +72,7 @@ fn write_section(machine: &mut Machine, pager: &mut Pager, lay: &Lay)
 
 // Writes the linkage section that an answer lays, if it lays one.
 #[tactic(auto, using(crate::proofs::LinkTurns::put_nothing))]
-fn write_lay(machine: &mut Machine, pager: &mut Pager, lay: &Option<Lay>)
+fn write_lay(machine: &mut Machine, pager: &mut Pager, lay: &Option<NewSection>)
     requires managed { IsManaged (length pager.old.holders) machine.old.state.store pager.old }
     requires fits { IfSome lay.now (λ l. l.base + length l.words ≤ segment_limit) }
     ensures put { ArePut machine.old.state.store pager.old machine.new.state.store pager.new
@@ -139,7 +139,7 @@ fn snapped(
     machine: &mut Machine,
     pager: &mut Pager,
     known: &mut Known,
-    coming: &mut Coming,
+    coming: &mut NextEvent,
     at: At,
     snap: &Snap,
 ) -> Result<LinkNote, NoMemory>
@@ -159,7 +159,7 @@ fn snapped(
     match known.accept(snap) {
         Ok(()) => {
             write_changes(machine, pager, at, snap);
-            *coming = Coming::Step;
+            *coming = NextEvent::Step;
             Ok(note_snapped(at, snap))
         }
         Err(NoMemory) => Err(NoMemory),
@@ -175,12 +175,12 @@ pub(crate) fn link(
     machine: &mut Machine,
     pager: &mut Pager,
     known: &mut Known,
-    coming: &mut Coming,
+    coming: &mut NextEvent,
     at: At,
 ) -> Result<LinkNote, NoMemory>
     requires runs { IsRunning (length pager.old.holders) machine.old.state.regs
         machine.old.state.store pager.old }
-    requires made { IsMade catalog.now files.now known.old }
+    requires made { IsConsistent catalog.now files.now known.old }
     ensures turn { (loaded : Bool) → IsLinkTurn (snap_of known.old catalog.now files.now at)
         (length pager.old.holders) at
         (run_of machine.old.state pager.old known.old coming.old loaded) (link_turn result)
@@ -188,13 +188,13 @@ pub(crate) fn link(
     ensures frames { length pager.new.holders ≡ length pager.old.holders }
     ensures runs { IsRunning (length pager.new.holders) machine.new.state.regs
         machine.new.state.store pager.new }
-    ensures made { IsMade catalog.now files.now known.new }
+    ensures made { IsConsistent catalog.now files.now known.new }
 {
     link_laws();
     match known.resolve(alloc, catalog, files, at) {
         Ok(snap) => snapped(machine, pager, known, coming, at, &snap),
         Err(LinkFault::Refused(code, link)) => {
-            *coming = Coming::Over(End::Link(code));
+            *coming = NextEvent::Over(End::Link(code));
             Ok(note_refused(at, code, link.as_ref()))
         }
         Err(LinkFault::NoMemory) => Err(NoMemory),

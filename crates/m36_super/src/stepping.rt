@@ -6,10 +6,10 @@ ghost use Rattle.m36_link.specs.Fields.{KnownFields};
 ghost use Rattle.m36_page.specs.Residence.{has_page, Reads, IsPager};
 ghost use Rattle.m36_page.specs.Changes.{IsBrought};
 ghost use Rattle.m36_super.specs.BootedRun.{IsStepTurn};
-ghost use Rattle.m36_super.specs.SuperFields.{run_of, IsManaged, IsRunning, Manages, IsDue};
+ghost use Rattle.m36_super.specs.SuperFields.{run_of, IsManaged, IsRunning, RunningUntilLdbr, NoServiceAfterLdbr};
 ghost use Rattle.m36_super.specs.Stepping.{LackedSays, AttemptSays, IsStepped, StepSays};
 
-use crate::coming::{Coming, coming_after, loaded_after};
+use crate::coming::{NextEvent, coming_after, loaded_after};
 use m36_model::{At, Fault, Outcome, Refs, StepRecord};
 use m36_page::{Pager, Pinned};
 use m36_step::{Machine, Turn};
@@ -101,7 +101,7 @@ fn step_with_pages(machine: &mut Machine, pager: &mut Pager, told: &mut StepReco
 
 // Takes a step. Pages are brought in until an LDBR has been executed.
 fn step_into(machine: &mut Machine, pager: &mut Pager, loaded: bool, told: &mut StepRecord)
-    requires { Manages loaded (length pager.old.holders) machine.old.state.regs
+    requires { RunningUntilLdbr loaded (length pager.old.holders) machine.old.state.regs
         machine.old.state.store pager.old }
     ensures { StepSays loaded machine.old.state pager.old machine.new.state pager.new told.new }
 {
@@ -117,19 +117,19 @@ fn step_into(machine: &mut Machine, pager: &mut Pager, loaded: bool, told: &mut 
 pub(crate) fn step_told(
     machine: &mut Machine,
     pager: &mut Pager,
-    coming: &mut Coming,
+    coming: &mut NextEvent,
     loaded: &mut bool,
     told: &mut StepRecord,
 )
-    requires { Manages loaded.old (length pager.old.holders) machine.old.state.regs
+    requires { RunningUntilLdbr loaded.old (length pager.old.holders) machine.old.state.regs
         machine.old.state.store pager.old }
     ensures turn { (known : KnownFields) → IsStepTurn loaded.old (length pager.old.holders)
         (run_of machine.old.state pager.old known coming.old loaded.old) (Turn.Stepped told.new)
         (run_of machine.new.state pager.new known coming.new loaded.new) }
     ensures frames { length pager.new.holders ≡ length pager.old.holders }
-    ensures manages { Manages loaded.new (length pager.new.holders) machine.new.state.regs
+    ensures manages { RunningUntilLdbr loaded.new (length pager.new.holders) machine.new.state.regs
         machine.new.state.store pager.new }
-    ensures due { IsDue coming.new loaded.new }
+    ensures due { NoServiceAfterLdbr coming.new loaded.new }
 {
     step_into(machine, pager, *loaded, told);
     let now = loaded_after(*loaded, told);

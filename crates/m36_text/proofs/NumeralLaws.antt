@@ -6,12 +6,12 @@ use Rattle.std.proofs.lemmas.Bool.{cond-false, cond-true, le-ltb, le-leb, and_fr
 use Rattle.std.proofs.lemmas.Int.Digits.{number_digits_of, all_below_base_digits_of, first_digits_of}
 use Rattle.std.proofs.lemmas.List.Sums.{position_or_len_is}
 use Rattle.m36_text.specs.Digits.{digits, character, is_digit, digit_of, octal_text, decimal_text}
-use Rattle.m36_text.specs.Reading.{first_other, number_of, number_read, ReadsOctal, ReadsDecimal, HasNoLeadingZero}
+use Rattle.m36_text.specs.Reading.{first_non_digit, number_of, number_read, ReadsOctal, ReadsDecimal, HasNoLeadingZero}
 use Rattle.m36_text.proofs.DigitLaws.{length_digits, digits_below}
 use Rattle.m36_text.proofs.DigitNumbers.{number_of_digits}
 
-no_other : (base : ℕ) (text : List ℕ) → ((k : ℕ) → k < length text → is_digit base (get_or text k 0) ≡ true) → first_other base text ≡ None
-unfolding first_other
+no_other : (base : ℕ) (text : List ℕ) → ((k : ℕ) → k < length text → is_digit base (get_or text k 0) ≡ true) → first_non_digit base text ≡ None
+unfolding first_non_digit
 no_other base text each =
     let other : ℕ → Bool = λ byte. not (is_digit base byte) in
     let whole : position_or_len other text ≡ length text =

@@ -7,7 +7,7 @@ use Rattle.std.proofs.lemmas.List.{length-map, take-map, get_or-map}
 use Rattle.std.proofs.lemmas.List.Sums.{fails_before_first}
 use Rattle.std.proofs.Math.Nat.{min-eq_left, le-mul_of_pos_right, one-le-pow, pow-le-pow_right}
 use Rattle.m36_text.specs.Digits.{is_digit}
-use Rattle.m36_text.specs.Reading.{first_other, number_of}
+use Rattle.m36_text.specs.Reading.{first_non_digit, number_of}
 
 some≢none : {n : ℕ} → Some n ≡ None → ⊥
 some≢none e = cc
@@ -37,9 +37,9 @@ is_within base byte e =
     (leb-true 48 byte both.0, omega (arith, high))
 
 -- if no byte is other than a digit, each byte is one
-pub all_digits : (base : ℕ) (text : List ℕ) (k : ℕ) → first_other base text ≡ None → k < length text
+pub all_digits : (base : ℕ) (text : List ℕ) (k : ℕ) → first_non_digit base text ≡ None → k < length text
     → (48 ≤ get_or text k 0) × (get_or text k 0 < 48 + base)
-unfolding first_other
+unfolding first_non_digit
 all_digits base text k none within =
     let other : ℕ → Bool = λ byte. not (is_digit base byte) in
     elim (cases_lt k (position_or_len other text)) [

@@ -7,7 +7,7 @@ use Rattle.std.proofs.lemmas.List.Splits.{slice_split_first, slice_split_none, l
 use Rattle.std.proofs.lemmas.List.Sums.{fails_before_first}
 use Rattle.std.proofs.Math.Seq.{take-length}
 use Rattle.std.proofs.Math.Dec.{ltb}
-use Rattle.m36_text.specs.Lines.{cut_line, ended, lines_of, open_rest, open_ended, open_lines_of, words_of, HasMore}
+use Rattle.m36_text.specs.Lines.{unended_line, ended, lines_of, open_rest, open_lines_of_parts, open_lines_of, words_of, HasMore}
 
 -- a slice up to the end is what `drop` leaves
 pub rest_whole : (xs : List ℕ) (i : ℕ) → take (length xs - i) (drop i xs) ≡ drop i xs
@@ -49,13 +49,13 @@ lines_first text line rest e =
     ap ended e ∙ ended_line line (slice_split (λ b. b == 10) rest) (omega (arith, length-slice_split (λ b. b == 10) rest))
 
 -- a text without a line feed
-pub lines_cut : (text : List ℕ) → slice_split (λ b. b == 10) text ≡ text ∷ [] → lines_of text ≡ cut_line text
+pub lines_cut : (text : List ℕ) → slice_split (λ b. b == 10) text ≡ text ∷ [] → lines_of text ≡ unended_line text
 unfolding lines_of
 lines_cut text e = ap ended e
 
 pub ruleset lining = (lines_first, lines_cut)
 
-pub open_line : (line : List ℕ) (parts : List (List ℕ)) → 0 < length parts → open_ended (line ∷ parts) ≡ line ∷ open_ended parts
+pub open_line : (line : List ℕ) (parts : List (List ℕ)) → 0 < length parts → open_lines_of_parts (line ∷ parts) ≡ line ∷ open_lines_of_parts parts
 open_line line [] some = absurd (omega arith)
 open_line line (next ∷ parts) some = refl
 
@@ -66,7 +66,7 @@ pub open_lines_first :
     → open_lines_of text ≡ line ∷ open_lines_of rest
 unfolding open_lines_of
 open_lines_first text line rest e =
-    ap open_ended e ∙ open_line line (slice_split (λ b. b == 10) rest) (omega (arith, length-slice_split (λ b. b == 10) rest))
+    ap open_lines_of_parts e ∙ open_line line (slice_split (λ b. b == 10) rest) (omega (arith, length-slice_split (λ b. b == 10) rest))
 
 -- an empty text has no line
 pub open_lines_none : (text : List ℕ) → length text ≡ 0 → open_lines_of text ≡ []
@@ -85,7 +85,7 @@ pub open_lines_last :
     → open_lines_of text ≡ text ∷ open_lines_of rest
 unfolding open_lines_of
 open_lines_last text rest e some none =
-    ap open_ended e ∙ open_rest_some text some ∙ ap (λ l. text ∷ l) (sym (open_lines_none rest none))
+    ap open_lines_of_parts e ∙ open_rest_some text some ∙ ap (λ l. text ∷ l) (sym (open_lines_none rest none))
 
 pub ruleset open_lining = (open_lines_first, open_lines_none, open_lines_last)
 

@@ -9,14 +9,14 @@ as_line text = text ++ 10 ∷ []
 
 -- A line ends with its line feed. Nonempty text after the last line feed is a line too, but one
 -- that lacks its line feed. It is given as None, since no form of line allows it.
-abbrev pub cut_line : List ℕ → List (Option (List ℕ))
-cut_line [] = []
-cut_line (b ∷ rest) = None ∷ []
+abbrev pub unended_line : List ℕ → List (Option (List ℕ))
+unended_line [] = []
+unended_line (b ∷ rest) = None ∷ []
 
 -- the lines, by the parts that the line feeds separate
 abbrev pub ended : List (List ℕ) → List (Option (List ℕ))
 ended [] = []
-ended (rest ∷ []) = cut_line rest
+ended (rest ∷ []) = unended_line rest
 ended (line ∷ next ∷ parts) = Some line ∷ ended (next ∷ parts)
 
 -- the lines of a text, without their line feeds; the last is None if it lacks its line feed
@@ -33,14 +33,14 @@ open_rest [] = []
 open_rest (b ∷ rest) = (b ∷ rest) ∷ []
 
 -- the lines, by the parts that the line feeds separate, of which the last may lack its own
-abbrev pub open_ended : List (List ℕ) → List (List ℕ)
-open_ended [] = []
-open_ended (rest ∷ []) = open_rest rest
-open_ended (line ∷ next ∷ parts) = line ∷ open_ended (next ∷ parts)
+abbrev pub open_lines_of_parts : List (List ℕ) → List (List ℕ)
+open_lines_of_parts [] = []
+open_lines_of_parts (rest ∷ []) = open_rest rest
+open_lines_of_parts (line ∷ next ∷ parts) = line ∷ open_lines_of_parts (next ∷ parts)
 
 -- The lines of a text, without their line feeds. The last one may lack its line feed.
 unfoldable pub open_lines_of : List ℕ → List (List ℕ)
-open_lines_of text = open_ended (slice_split (λ b. b == 10) text)
+open_lines_of text = open_lines_of_parts (slice_split (λ b. b == 10) text)
 
 -- Single spaces separate the words of a line.
 unfoldable pub words_of : List ℕ → List (List ℕ)
@@ -78,10 +78,10 @@ abbrev pub last_of : {A : Type 0} → List A → Option A
 last_of lines = slice_get lines (length lines - 1)
 
 -- The first line that has a result, with its number. The first line of the list has the number n.
-unfoldable pub first_told : {A : Type 0} → ℕ → List (Option A) → Option (ℕ × A)
-first_told n [] = None
-first_told n (Some told ∷ lines) = Some (n, told)
-first_told n (None ∷ lines) = first_told (n + 1) lines
+unfoldable pub first_reported : {A : Type 0} → ℕ → List (Option A) → Option (ℕ × A)
+first_reported n [] = None
+first_reported n (Some told ∷ lines) = Some (n, told)
+first_reported n (None ∷ lines) = first_reported (n + 1) lines
 
 -- The result of the first test that holds.
 unfoldable pub first_met : {A : Type 0} → List (Bool × A) → Option A

@@ -43,11 +43,11 @@ unpacked bytes =
     else Err (T3 (length bytes)))
 
 -- The result of a call that unpacks. It may be NoMemory whatever the bytes are.
-abbrev pub UnpackSays : Result (List ℕ) PackFault → Result (List ℕ) PackFault → Type 0
-UnpackSays (Ok words) definition = definition ≡ Ok words
-UnpackSays (Err (T3 count)) definition = definition ≡ Err (T3 count)
-UnpackSays (Err (T4 place)) definition = definition ≡ Err (T4 place)
-UnpackSays (Err NoMemory) definition = Unit {0}
+abbrev pub UnpackResult : Result (List ℕ) PackFault → Result (List ℕ) PackFault → Type 0
+UnpackResult (Ok words) definition = definition ≡ Ok words
+UnpackResult (Err (T3 count)) definition = definition ≡ Err (T3 count)
+UnpackResult (Err (T4 place)) definition = definition ≡ Err (T4 place)
+UnpackResult (Err NoMemory) definition = Unit {0}
 
 -- The number or index in a fault agrees with a count of bytes.
 abbrev pub IsOfCount : ℕ → PackFault → Type 0

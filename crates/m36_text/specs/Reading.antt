@@ -9,8 +9,8 @@ use Rattle.m36_text.specs.declared.reading.NumberFault.{NumberFault}
 use Rattle.m36_text.specs.declared.reading.NumberFault.TheVariants.{T1, T2}
 
 -- the index of the first byte that is not a digit
-unfoldable pub first_other : ℕ → List ℕ → Option ℕ
-first_other base text = position (λ byte. not (is_digit base byte)) text
+unfoldable pub first_non_digit : ℕ → List ℕ → Option ℕ
+first_non_digit base text = position (λ byte. not (is_digit base byte)) text
 
 -- the number that digits represent
 unfoldable pub number_of : ℕ → List ℕ → ℕ
@@ -18,16 +18,16 @@ number_of base text = number_from_digits base (map digit_of text)
 
 -- The result of parsing a text that is not empty, given the index of its first byte that is not a
 -- digit and the number that its digits represent.
-abbrev pub judged : Option ℕ → ℕ → ℕ → Result ℕ NumberFault
-judged (Some place) v max = Err (T1 place)
-judged None v max = if nat_le v max then Ok v else Err T2
+abbrev pub parsed_number : Option ℕ → ℕ → ℕ → Result ℕ NumberFault
+parsed_number (Some place) v max = Err (T1 place)
+parsed_number None v max = if nat_le v max then Ok v else Err T2
 
 -- A text parsed as a number of at most `max`. T1 with the index of the first byte that is not a
 -- digit, or 0 for an empty text. T2 if all bytes are digits and the number is over `max`.
 unfoldable pub number_read : ℕ → List ℕ → ℕ → Result ℕ NumberFault
 number_read base [] max = Err (T1 0)
 number_read base (byte ∷ text) max =
-    judged (first_other base (byte ∷ text)) (number_of base (byte ∷ text)) max
+    parsed_number (first_non_digit base (byte ∷ text)) (number_of base (byte ∷ text)) max
 
 -- the index in a fault is at most `count`
 abbrev pub IsWithin : ℕ → NumberFault → Type 0

@@ -2,7 +2,7 @@
 
 ghost use Rattle.std.specs.Prelude.{ℕ, ◌≡◌, ◌==◌, List, [], ◌∷◌, Option, None, Some, MatchOption, IfSome, length, ◌<◌};
 ghost use Rattle.std.specs.List.{position, slice_split};
-ghost use Rattle.m36_text.specs.Lines.{lines_of, open_lines_of, cut_line, words_of, HasMore};
+ghost use Rattle.m36_text.specs.Lines.{lines_of, open_lines_of, unended_line, words_of, HasMore};
 
 /// The index of the first occurrence of a byte in a text, counted from 0.
 pub fn place_of(text: &[u8], byte: u8) -> Option<usize>
@@ -38,7 +38,7 @@ fn split_first(text: &[u8], byte: u8) -> Option<(&[u8], &[u8])>
 /// text has no line feed.
 #[tactic(auto, using(crate::proofs::Splitting::lining))]
 pub fn first_line(text: &[u8]) -> Option<(&[u8], &[u8])>
-    ensures line { MatchOption result (lines_of text.now ≡ cut_line text.now)
+    ensures line { MatchOption result (lines_of text.now ≡ unended_line text.now)
         (λ parts. lines_of text.now ≡ Some parts.0.now ∷ lines_of parts.1.now) }
     ensures shorter { IfSome result (λ parts. length parts.1.now < length text.now) }
 {

@@ -2,7 +2,7 @@
 
 ghost use Rattle.std.specs.Prelude.{ℕ, ◌≡◌, ◌+◌, ◌-◌, ◌*◌, ◌/◌, ◌%◌, ◌^◌, ◌<◌, ◌≤◌, ◌⊎◌, List, [], ◌∷◌, ◌++◌, length, drop, IfOk, IfErr, OnOk};
 ghost use Rattle.m36_text.specs.Digits.{digits};
-ghost use Rattle.m36_text.specs.Packing.{packed, bits_of, last_word, words_of, unpacked, UnpackSays, IsOfCount, UnpacksWhatWasPacked, PacksWhatWasUnpacked, UnpacksIntoWords};
+ghost use Rattle.m36_text.specs.Packing.{packed, bits_of, last_word, words_of, unpacked, UnpackResult, IsOfCount, UnpacksWhatWasPacked, PacksWhatWasUnpacked, UnpacksIntoWords};
 ghost use Rattle.m36_text.specs.declared.packing.PackFault.TheVariants as fault;
 
 use m36_outside::Text;
@@ -104,7 +104,7 @@ fn five_bytes(bits: u64) -> [u8; 5]
 /// nor 5, T4 exactly if it is 5 and the last four bits are not zero, or it is `NoMemory`.
 #[tactic(auto, unfolding(crate::specs::Packing::unpacked))]
 pub fn unpack(alloc: Global, t: &[u8]) -> Result<Words, PackFault>
-    ensures says { UnpackSays result (unpacked t.now) }
+    ensures says { UnpackResult result (unpacked t.now) }
     ensures place { IfErr result (IsOfCount (length t.now)) }
 {
     match t.len() % 9 {

@@ -2,7 +2,7 @@
 
 ghost use Rattle.std.specs.Prelude.{ℕ, ◌≡◌, ◌+◌, ◌-◌, ◌^◌, ◌<◌, ◌≤◌, length, min, None, IfOk, IfErr, IfSome};
 ghost use Rattle.m36_text.specs.Digits.{is_digit};
-ghost use Rattle.m36_text.specs.Reading.{first_other, number_of, number_read, IsWithin, ReadsOctal, ReadsDecimal, HasPlaces, HasNoLeadingZero};
+ghost use Rattle.m36_text.specs.Reading.{first_non_digit, number_of, number_read, IsWithin, ReadsOctal, ReadsDecimal, HasPlaces, HasNoLeadingZero};
 
 /// Why a text could not be parsed as a number.
 #[derive(Clone, Copy, PartialEq, Eq)]
@@ -66,7 +66,7 @@ fn read_number(base: u8, t: &[u8], max: u64) -> Result<u64, NumberFault>
 // `position`.
 fn place_of_other(base: u8, t: &[u8]) -> Option<usize>
     requires { (1 ≤ base) × (base ≤ 10) }
-    ensures value { result ≡ first_other base t.now }
+    ensures value { result ≡ first_non_digit base t.now }
     ensures within { IfSome result (λ place. place < length t.now) }
 {
     for place in 0..t.len() {
@@ -81,7 +81,7 @@ fn place_of_other(base: u8, t: &[u8]) -> Option<usize>
 fn capped_value(base: u8, t: &[u8], cap: u128) -> u128
     requires base { (1 ≤ base) × (base ≤ 10) }
     requires cap { cap ≤ 2 ^ 64 }
-    requires digits { first_other base t.now ≡ None }
+    requires digits { first_non_digit base t.now ≡ None }
     ensures { result ≡ min (number_of base t.now) cap }
 {
     let mut value = 0;

@@ -2,7 +2,7 @@
 use Rattle.std.proofs.Common.{◌≡◌, ℕ, ◌+◌, ◌<◌, List, [], ◌∷◌, ◌++◌, length, take, drop, get_or, Option, Some, refl, sym, ap, subst, ◌∙◌}
 use Rattle.std.proofs.lemmas.List.{append_assoc, take_more, take-append-drop, drop_more}
 use Rattle.m36_outside.specs.Counts.{Rose}
-use Rattle.m36_outside.specs.Files.{Files, with_told_file}
+use Rattle.m36_outside.specs.Files.{Files, with_known_file}
 use Rattle.m36_outside.specs.FolderCalls.{Wrote}
 use Rattle.m36_outside.specs.declared.folder.WriteAnswer.{WriteAnswer}
 use Rattle.m36_outside.specs.declared.folder.WriteAnswer.TheVariants.{Written, Failed, NoMemory}
@@ -12,17 +12,17 @@ use Rattle.m36_reading.specs.Outside.{FolderState}
 use Rattle.m36_reading.proofs.WriteLaws.{writes_end}
 use Rattle.m36_reading.specs.Setting.{SetFailed, SetWanting}
 
-with_sets_end : (sets : List Set) (set : Set) (files : Option Files) → with_sets (sets ++ (set ∷ [])) files ≡ with_told_file set.name (Some set.content) (with_sets sets files)
+with_sets_end : (sets : List Set) (set : Set) (files : Option Files) → with_sets (sets ++ (set ∷ [])) files ≡ with_known_file set.name (Some set.content) (with_sets sets files)
 with_sets_end [] set files = refl
-with_sets_end (first ∷ sets) set files = with_sets_end sets set (with_told_file first.name (Some first.content) files)
+with_sets_end (first ∷ sets) set files = with_sets_end sets set (with_known_file first.name (Some first.content) files)
 
 -- one more file was written
 pub sets_more :
     (sets : List Set) (i : ℕ) (set : Set) (old now next : Option Files)
-    → i < length sets → set ≡ get_or sets i set → now ≡ with_sets (take i sets) old → next ≡ with_told_file set.name (Some set.content) now
+    → i < length sets → set ≡ get_or sets i set → now ≡ with_sets (take i sets) old → next ≡ with_known_file set.name (Some set.content) now
     → next ≡ with_sets (take (i + 1) sets) old
 sets_more sets i set old now next inside at so_far written =
-    written ∙ ap (with_told_file set.name (Some set.content)) so_far ∙ sym (with_sets_end (take i sets) set old)
+    written ∙ ap (with_known_file set.name (Some set.content)) so_far ∙ sym (with_sets_end (take i sets) set old)
     ∙ ap (λ s. with_sets (take i sets ++ (s ∷ [])) old) at ∙ ap (λ l. with_sets l old) (sym (take_more sets i set inside))
 
 -- a write with the name and the content of the file

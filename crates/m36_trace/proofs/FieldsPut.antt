@@ -15,8 +15,8 @@ use Rattle.m36_model.specs.declared.outcome.Outcome.TheVariants.{Next}
 use Rattle.m36_model.specs.declared.record.StepRecord.{StepRecord}
 use Rattle.m36_model.specs.declared.record.Shown.{Shown}
 use Rattle.m36_model.specs.declared.registers.Ind.{Ind}
-use Rattle.m36_trace.specs.Spaced.{spaced, front_text, kept_place, kept_operand, kept_final, HasFront}
-use Rattle.m36_trace.specs.Kept.{kept_by, kept_line, Serves}
+use Rattle.m36_trace.specs.Spaced.{spaced, ring_segment_text, kept_place, kept_operand, kept_final, HasRingSegment}
+use Rattle.m36_trace.specs.Kept.{kept_by, kept_line, CanBeUsed}
 use Rattle.m36_trace.specs.declared.text.TraceText.{TraceText}
 use Rattle.m36_trace.proofs.Lines.{put_in_turn}
 use Rattle.m36_trace.specs.TraceLine.{fields_by, line_of, shown_line, word_of_segment, instruction_text, operand_text, letter, final_text, indicators_text, outcome_text}
@@ -28,13 +28,13 @@ two_put before a b = simp append_assoc
 pub place_put :
     (place ring mark seg word end : ℕ) (front start first last : List ℕ)
     → ((count : ℕ) → count ≤ 8 → take (place + count) first ≡ take place start ++ take count front)
-    → length front ≡ 8 → front ≡ front_text ring mark seg
+    → length front ≡ 8 → front ≡ ring_segment_text ring mark seg
     → take end last ≡ take (place + 8) first ++ spaced (half_text word)
     → take end last ≡ take place start ++ spaced (kept_place ring mark seg word)
 place_put place ring mark seg word end front start first last put eight is half =
     half
     ∙ ap (λ l. l ++ spaced (half_text word)) (put 8 (omega arith) ∙ ap (λ l. take place start ++ l) (take_all 8 front (omega arith) ∙ is))
-    ∙ two_put (take place start) (front_text ring mark seg) (half_text word)
+    ∙ two_put (take place start) (ring_segment_text ring mark seg) (half_text word)
 
 -- an equals sign, and a word
 pub operand_put :
@@ -88,7 +88,7 @@ operand_is ring seg at None ring_is seg_is =
     ∙ ap (λ s. kept_place at.ring 58 s at.word) seg_is
     ∙ simp append_assoc
 
-final_is : (ring seg : ℕ) (end : Option FinalFields) → HasFront ring seg end → kept_final ring seg end ≡ final_text end
+final_is : (ring seg : ℕ) (end : Option FinalFields) → HasRingSegment ring seg end → kept_final ring seg end ≡ final_text end
 final_is ring seg (Some end) front = operand_is ring seg end.at end.direct front.0 front.1
 final_is ring seg None front = refl
 
@@ -98,7 +98,7 @@ front_place ring seg word = simp append_assoc
 -- the kept parts of a step whose outcome is Next, with its other values, give its line
 kept_is :
     (n address_ring address_seg : ℕ) (ppr : PprFields) (word : Option ℕ) (at : Option FinalFields) (after : RegsFields)
-    → HasFront address_ring address_seg at
+    → HasRingSegment address_ring address_seg at
     → kept_by n ppr.prr ppr.psr address_ring address_seg after.a after.q ppr.ic word at after.ind
     ≡ as_line (joined_by_spaces (fields_by n ppr word at Next after))
 unfolding kept_by
@@ -110,7 +110,7 @@ kept_is n address_ring address_seg ppr word at after front =
 
 serves_line :
     (text : TraceText) (n : ℕ) (ppr : PprFields) (word : Option ℕ) (at : Option FinalFields) (outcome : Outcome) (after : RegsFields)
-    → Serves text n ppr at outcome after
+    → CanBeUsed text n ppr at outcome after
     → kept_line text ppr word at after ≡ as_line (joined_by_spaces (fields_by n ppr word at outcome after))
 serves_line text n ppr word at outcome after serves =
     let number = serves.number in
@@ -121,7 +121,7 @@ serves_line text n ppr word at outcome after serves =
 
 pub step_adds :
     (answer : Put) (written written' : Option (List ℕ)) (taken taken' old new : List (List ℕ)) (text : TraceText) (n : ℕ) (told : StepRecord)
-    → Serves text n told.ppr told.at told.outcome told.after
+    → CanBeUsed text n told.ppr told.at told.outcome told.after
     → Adds answer old new (kept_line text told.ppr told.word told.at told.after ∷ []) written written' taken taken'
     → Adds answer old new (as_line (line_of n told) ∷ []) written written' taken taken'
 unfolding line_of
@@ -131,7 +131,7 @@ step_adds answer written written' taken taken' old new text n told serves added 
 
 pub shown_adds :
     (answer : Put) (written written' : Option (List ℕ)) (taken taken' old new : List (List ℕ)) (text : TraceText) (n : ℕ) (shown : Shown) (after : RegsFields)
-    → Serves text n shown.ppr shown.at shown.outcome after
+    → CanBeUsed text n shown.ppr shown.at shown.outcome after
     → Adds answer old new (kept_line text shown.ppr shown.word shown.at after ∷ []) written written' taken taken'
     → Adds answer old new (as_line (shown_line n shown after) ∷ []) written written' taken taken'
 unfolding shown_line
@@ -143,7 +143,7 @@ pub ruleset adding = (step_adds, shown_adds)
 
 pub shown_pushes :
     (done : Bool) (old new : List (List ℕ)) (text : TraceText) (n : ℕ) (shown : Shown) (after : RegsFields)
-    → Serves text n shown.ppr shown.at shown.outcome after
+    → CanBeUsed text n shown.ppr shown.at shown.outcome after
     → OnTrue done (new ≡ old ++ kept_line text shown.ppr shown.word shown.at after ∷ [])
     → OnTrue done (new ≡ old ++ as_line (shown_line n shown after) ∷ [])
 unfolding shown_line
@@ -157,8 +157,8 @@ pub ruleset pushing = (shown_pushes)
 pub set_serves :
     (short : Bool) (text : TraceText) (n : ℕ) (ppr : PprFields) (at : Option FinalFields) (outcome : Outcome) (after : RegsFields)
     → OnTrue short (text.number.next ≡ n + 1) → text.place.ring ≡ ppr.prr → text.place.seg ≡ ppr.psr
-    → HasFront text.address.ring text.address.seg at → text.a.of ≡ after.a → text.q.of ≡ after.q → outcome ≡ Next
-    → OnTrue short (Serves text n ppr at outcome after)
+    → HasRingSegment text.address.ring text.address.seg at → text.a.of ≡ after.a → text.q.of ≡ after.q → outcome ≡ Next
+    → OnTrue short (CanBeUsed text n ppr at outcome after)
 set_serves true text n ppr at outcome after number ring seg front a q next = record {
   number = number;
   ring = ring;

@@ -7,7 +7,7 @@ use Rattle.m36_model.specs.Registers.{RegsFields}
 use Rattle.m36_model.specs.declared.outcome.Outcome.{Outcome}
 use Rattle.m36_model.specs.declared.outcome.Outcome.TheVariants.{Next}
 use Rattle.m36_model.specs.declared.registers.Ind.{Ind}
-use Rattle.m36_trace.specs.Spaced.{spaced, kept_place, kept_final, HasFront}
+use Rattle.m36_trace.specs.Spaced.{spaced, kept_place, kept_final, HasRingSegment}
 use Rattle.m36_trace.specs.TraceLine.{instruction_text, indicators_text}
 use Rattle.m36_trace.specs.declared.text.TraceText.{TraceText}
 
@@ -31,12 +31,12 @@ kept_line text ppr word at after =
     text.address.ring text.address.seg text.a.of text.q.of ppr.ic word at after.ind
 
 -- The kept parts are those of the line of step n, and its outcome is Next.
-pub record Serves (text : TraceText) (n : ℕ) (ppr : PprFields) (at : Option FinalFields)
+pub record CanBeUsed (text : TraceText) (n : ℕ) (ppr : PprFields) (at : Option FinalFields)
     (outcome : Outcome) (after : RegsFields) : Type 0 where
   pub number : text.number.next ≡ n + 1
   pub ring : text.place.ring ≡ ppr.prr
   pub seg : text.place.seg ≡ ppr.psr
-  pub front : HasFront text.address.ring text.address.seg at
+  pub front : HasRingSegment text.address.ring text.address.seg at
   pub a : text.a.of ≡ after.a
   pub q : text.q.of ≡ after.q
   pub next : outcome ≡ Next

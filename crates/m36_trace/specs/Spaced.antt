@@ -13,14 +13,14 @@ unfoldable pub all_triples : List (List ℕ)
 all_triples = map (λ v. spaced (octal_text 3 v)) (range_with_len 0 512)
 
 -- a ring and a segment number with a character between them, and the bar before the word number
-abbrev pub front_text : ℕ → ℕ → ℕ → List ℕ
-front_text ring mark seg =
+abbrev pub ring_segment_text : ℕ → ℕ → ℕ → List ℕ
+ring_segment_text ring mark seg =
     octal_text 1 ring ++ (mark ∷ (octal_text segment_digits seg ++ codes "|"))
 
 -- a ring, a segment number and a word number, with a character after the ring and a bar before the
 -- word number
 abbrev pub kept_place : ℕ → ℕ → ℕ → ℕ → List ℕ
-kept_place ring mark seg word = front_text ring mark seg ++ half_text word
+kept_place ring mark seg word = ring_segment_text ring mark seg ++ half_text word
 
 -- an address with the kept ring and segment number, or the direct operand
 abbrev pub kept_operand : ℕ → ℕ → ℕ → Option ℕ → List ℕ
@@ -33,6 +33,6 @@ kept_final ring seg (Some end) = kept_operand ring seg end.at.word end.direct
 kept_final ring seg None = codes "-"
 
 -- the kept ring and segment number are those of the final address, if there is one
-abbrev pub HasFront : ℕ → ℕ → Option FinalFields → Type 0
-HasFront ring seg (Some end) = (ring ≡ end.at.ring) × (seg ≡ end.at.seg)
-HasFront ring seg None = Unit {0}
+abbrev pub HasRingSegment : ℕ → ℕ → Option FinalFields → Type 0
+HasRingSegment ring seg (Some end) = (ring ≡ end.at.ring) × (seg ≡ end.at.seg)
+HasRingSegment ring seg None = Unit {0}

@@ -31,7 +31,7 @@ pub fn add_step<S: Sink>(
     if text.set(n, &told.ppr, &told.at, &told.outcome, &told.after) {
         block.add_line(&StepLine { text, told }, out)
     } else {
-        add_other(n, told, block, out)
+        add_without_kept(n, told, block, out)
     }
 }
 
@@ -81,12 +81,12 @@ pub fn push_shown(
 
 // Adds a line without the kept parts.
 #[inline(never)]
-fn add_other<S: Sink>(n: u64, told: &StepRecord, block: &mut Block, out: &mut S) -> Put
+fn add_without_kept<S: Sink>(n: u64, told: &StepRecord, block: &mut Block, out: &mut S) -> Put
     ensures adds { Adds result block.old block.new (as_line (line_of n told.now) ∷ [])
         (S.written out.old) (S.written out.new) (S.taken out.old) (S.taken out.new) }
     ensures cause { PutHasCause result (S.faults out.old) (S.faults out.new) }
 {
-    add_whole(line(n, told), block, out)
+    add_line_text(line(n, told), block, out)
 }
 
 #[inline(never)]
@@ -101,11 +101,11 @@ fn add_other_shown<S: Sink>(
         (S.written out.old) (S.written out.new) (S.taken out.old) (S.taken out.new) }
     ensures cause { PutHasCause result (S.faults out.old) (S.faults out.new) }
 {
-    add_whole(shown_line(n, shown, after), block, out)
+    add_line_text(shown_line(n, shown, after), block, out)
 }
 
 // Adds a line that was made as a whole, with its line feed.
-fn add_whole<S: Sink>(mut line: ArrayString<160>, block: &mut Block, out: &mut S) -> Put
+fn add_line_text<S: Sink>(mut line: ArrayString<160>, block: &mut Block, out: &mut S) -> Put
     requires { length line.bytes < 160 }
     ensures adds { Adds result block.old block.new (as_line line.bytes ∷ [])
         (S.written out.old) (S.written out.new) (S.taken out.old) (S.taken out.new) }

@@ -4,7 +4,7 @@
 ghost use Rattle.std.specs.Prelude.{◌≡◌, ◌+◌, ◌-◌, ◌≤◌, ◌<◌, ◌^◌, ◌++◌, length, take, get_or};
 ghost use Rattle.std.specs.Bool.{OnTrue, OnFalse};
 ghost use Rattle.m36_text.specs.Digits.{decimal_text, word_text};
-ghost use Rattle.m36_trace.specs.Spaced.{spaced, front_text};
+ghost use Rattle.m36_trace.specs.Spaced.{spaced, ring_segment_text};
 
 use crate::digits::last_digit;
 use crate::triples::put_word;
@@ -138,16 +138,16 @@ fn put_digits(bytes: &mut [u8; 16], digits: &[u8]) -> usize
 
 /// A ring and a segment number with a character between them, and the bar before the word number.
 #[derive(Drop)]
-pub struct FrontPart<const MARK: u8> {
+pub struct RingSegmentPart<const MARK: u8> {
     pub bytes: [u8; 8],
     pub seg: u16,
     pub ring: u8,
-    ghost spelled: { bytes ≡ front_text ring MARK seg },
+    ghost spelled: { bytes ≡ ring_segment_text ring MARK seg },
 }
 
-impl<const MARK: u8> FrontPart<MARK> {
-    pub fn new() -> FrontPart<MARK> {
-        FrontPart {
+impl<const MARK: u8> RingSegmentPart<MARK> {
+    pub fn new() -> RingSegmentPart<MARK> {
+        RingSegmentPart {
             bytes: front::<MARK>(0, 0),
             seg: 0,
             ring: 0,
@@ -181,7 +181,7 @@ impl<const MARK: u8> FrontPart<MARK> {
 #[tactic(auto, unfolding(m36_text::specs::Digits::octal_text, m36_text::specs::Digits::digits))]
 fn front<const MARK: u8>(seg: u16, ring: u8) -> [u8; 8]
     requires { ring < 2 ^ 3 }
-    ensures { result ≡ front_text ring MARK seg }
+    ensures { result ≡ ring_segment_text ring MARK seg }
 {
     let s = seg as u64;
     [

@@ -8,7 +8,7 @@ ghost use Rattle.m36_text.specs.Lines.{as_line};
 ghost use Rattle.m36_trace.specs.TraceLine.{instruction_text, letter, indicators_text};
 ghost use Rattle.m36_trace.specs.Spaced.{spaced, kept_place, kept_final};
 
-use crate::parts::{FrontPart, NumberPart, WordPart};
+use crate::parts::{NumberPart, RingSegmentPart, WordPart};
 use crate::triples::{put_half, put_word};
 use m36_model::{Final, Ind};
 use m36_outside::spelled::put_at;
@@ -37,7 +37,7 @@ pub fn put_number(into: &mut [u8], number: &NumberPart) -> usize
 pub fn put_place<const MARK: u8>(
     into: &mut [u8],
     place: usize,
-    front: &FrontPart<MARK>,
+    front: &RingSegmentPart<MARK>,
     word: u32,
 ) -> usize
     requires { place + 15 ≤ length into.old }
@@ -91,7 +91,7 @@ fn put_operand(into: &mut [u8], place: usize, word: Word) -> usize
 pub fn put_final(
     into: &mut [u8],
     place: usize,
-    front: &FrontPart<COLON>,
+    front: &RingSegmentPart<COLON>,
     end: &Option<Final>,
 ) -> usize
     requires { place + 15 ≤ length into.old }

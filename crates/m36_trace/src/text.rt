@@ -2,10 +2,10 @@
 
 ghost use Rattle.std.specs.Prelude.{◌≡◌, ◌≤◌, length, take};
 ghost use Rattle.std.specs.Bool.{OnTrue};
-ghost use Rattle.m36_trace.specs.Spaced.{HasFront};
-ghost use Rattle.m36_trace.specs.Kept.{kept_line, Serves};
+ghost use Rattle.m36_trace.specs.Spaced.{HasRingSegment};
+ghost use Rattle.m36_trace.specs.Kept.{kept_line, CanBeUsed};
 
-use crate::parts::{FrontPart, NumberPart, WordPart};
+use crate::parts::{NumberPart, RingSegmentPart, WordPart};
 use crate::spelling::{
     COLON, SPACE, put_final, put_instruction, put_kept, put_last, put_number, put_place,
 };
@@ -19,8 +19,8 @@ use m36_word::Word;
 #[derive(Drop)]
 pub struct TraceText {
     number: NumberPart,
-    place: FrontPart<SPACE>,
-    address: FrontPart<COLON>,
+    place: RingSegmentPart<SPACE>,
+    address: RingSegmentPart<COLON>,
     a: WordPart,
     q: WordPart,
 }
@@ -30,8 +30,8 @@ impl TraceText {
     pub fn new() -> TraceText {
         TraceText {
             number: NumberPart::new(),
-            place: FrontPart::new(),
-            address: FrontPart::new(),
+            place: RingSegmentPart::new(),
+            address: RingSegmentPart::new(),
             a: WordPart::new(),
             q: WordPart::new(),
         }
@@ -48,7 +48,7 @@ impl TraceText {
         outcome: &Outcome,
         after: &Regs,
     ) -> bool
-        ensures { OnTrue result (Serves self.new n ppr.now at.now outcome.now after.now) }
+        ensures { OnTrue result (CanBeUsed self.new n ppr.now at.now outcome.now after.now) }
     {
         match outcome {
             Outcome::Next => {
@@ -64,8 +64,8 @@ impl TraceText {
 }
 
 #[inline(always)]
-fn set_address(front: &mut FrontPart<COLON>, end: &Option<Final>)
-    ensures { HasFront front.new.ring front.new.seg end.now }
+fn set_address(front: &mut RingSegmentPart<COLON>, end: &Option<Final>)
+    ensures { HasRingSegment front.new.ring front.new.seg end.now }
 {
     match end {
         Some(end) => front.set(end.at.seg, end.at.ring),

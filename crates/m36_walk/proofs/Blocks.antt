@@ -8,7 +8,7 @@ use Rattle.m36_model.specs.Core.{core_put}
 use Rattle.m36_model.specs.Place.{wrapped}
 use Rattle.m36_model.specs.Results.{words_of_pairs}
 use Rattle.m36_model.proofs.StepLaw.{core_quiet}
-use Rattle.m36_walk.specs.Runs.{LiesIn, words_from}
+use Rattle.m36_walk.specs.Runs.{IsInCore, words_from}
 use Rattle.m36_word.specs.Pairs.{pair_words}
 use Rattle.m36_walk.specs.Words.{run_changes}
 
@@ -16,20 +16,20 @@ use Rattle.m36_walk.specs.Words.{run_changes}
 abbrev pub pair_after : ℕ → ℕ
 pair_after a = wrapped (wrapped (a + 1) + 1)
 
-pub first_pair_lies : (size a n : ℕ) → 2 ≤ n → LiesIn size a n → LiesIn size a 2
-unfolding LiesIn
+pub first_pair_lies : (size a n : ℕ) → 2 ≤ n → IsInCore size a n → IsInCore size a 2
+unfolding IsInCore
 first_pair_lies size a zero k h = absurd (omega arith)
 first_pair_lies size a (suc zero) k h = absurd (omega arith)
 first_pair_lies size a (suc (suc n)) k h = (h.0, (h.1.0, tt))
 
-other_pairs_lie : (size a m : ℕ) → LiesIn size a (suc (suc m)) → LiesIn size (pair_after a) m
-unfolding LiesIn
+other_pairs_lie : (size a m : ℕ) → IsInCore size a (suc (suc m)) → IsInCore size (pair_after a) m
+unfolding IsInCore
 other_pairs_lie size a m h = h.1.1
 
-pub rest_lies : (size a n m : ℕ) → n ≡ m + 2 → LiesIn size a n → LiesIn size (pair_after a) m
+pub rest_lies : (size a n m : ℕ) → n ≡ m + 2 → IsInCore size a n → IsInCore size (pair_after a) m
 rest_lies size a n m e h =
     let f : n ≡ suc (suc m) = omega arith in
-    other_pairs_lie size a m (subst (λ (k : ℕ). LiesIn size a k) f h)
+    other_pairs_lie size a m (subst (λ (k : ℕ). IsInCore size a k) f h)
 
 words_step : (X : List ℕ) (a m : ℕ) (p : Pair) → words_from X a 2 ≡ pair_words p → words_from X a (suc (suc m)) ≡ pair_words p ++ words_from X (pair_after a) m
 unfolding words_from

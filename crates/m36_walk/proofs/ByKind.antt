@@ -11,10 +11,10 @@ use Rattle.m36_model.specs.Place.{core_sdw, core_marked, marks, is_write}
 use Rattle.m36_model.specs.declared.outcome.Fault.{Fault}
 use Rattle.m36_model.specs.declared.outcome.Refusal.{Refusal}
 use Rattle.m36_model.specs.declared.place.Reference.{Reference}
-use Rattle.m36_walk.specs.Reached.{reached, found_run, Marked}
+use Rattle.m36_walk.specs.ReferenceResult.{reached, found_run, Marked}
 use Rattle.m36_walk.specs.Runs.{run_from}
 use Rattle.m36_walk.specs.Served.{standing, request, served_by}
-use Rattle.m36_walk.specs.declared.reference.Found.{Found}
+use Rattle.m36_walk.specs.declared.reference.LookupResult.{LookupResult}
 use Rattle.m36_walk.proofs.Serving.{core_after, served_as, reached_is}
 
 module _ (g : RegsFields) (core new : List ℕ) (claims : List Spot) (refs : List Reference) (q : Request) (R : SdwFields → Option ℕ) where
@@ -22,7 +22,7 @@ module _ (g : RegsFields) (core new : List ℕ) (claims : List Spot) (refs : Lis
   P d = spots_of core_store core g.dbr d q.at.seg q.at.word q.count
 
   -- a reference that sets marks leaves core as its request does
-  marked_after : touches q.kind ≡ true → (result : Result Found Fault) → reached (λ d. allowed tt (R d)) P (core_sdw core g.dbr q.at.seg) q.at ≡ found_run q.count result → Marked g.dbr q.at (is_write q.kind) core new result → core_after core g.dbr q (found_run q.count result) ≡ new
+  marked_after : touches q.kind ≡ true → (result : Result LookupResult Fault) → reached (λ d. allowed tt (R d)) P (core_sdw core g.dbr q.at.seg) q.at ≡ found_run q.count result → Marked g.dbr q.at (is_write q.kind) core new result → core_after core g.dbr q (found_run q.count result) ≡ new
   unfolding core_marked marks
   marked_after t (Ok f) h m =
       let is : core_sdw core g.dbr q.at.seg ≡ Ok f.sdw = reached_is (λ d. allowed tt (R d)) P (core_sdw core g.dbr q.at.seg) q.at (record { sdw = f.sdw; spots = run_from f.place q.count }) h in
@@ -30,18 +30,18 @@ module _ (g : RegsFields) (core new : List ℕ) (claims : List Spot) (refs : Lis
   marked_after t (Err f) h m = sym m
 
   -- a reference that sets marks is served by what was found
-  pub referred : touches q.kind ≡ true → ((d : SdwFields) → denied q.kind d q.at.ring g.ppr.prr (q.at.seg == g.ppr.psr) q.at.word ≡ R d) → ((d : SdwFields) → places core_store core g.dbr d q ≡ P d) → (result : Result Found Fault)
+  pub referred : touches q.kind ≡ true → ((d : SdwFields) → denied q.kind d q.at.ring g.ppr.prr (q.at.seg == g.ppr.psr) q.at.word ≡ R d) → ((d : SdwFields) → places core_store core g.dbr d q ≡ P d) → (result : Result LookupResult Fault)
       → reached (λ d. allowed tt (R d)) P (core_sdw core g.dbr q.at.seg) q.at ≡ found_run q.count result → Marked g.dbr q.at (is_write q.kind) core new result
       → serve core_store g (standing core claims refs) q ≡ served_by q new claims refs (found_run q.count result)
   referred t e f result h m =
       served_as g core claims refs q R P (found_run q.count result) e f h ∙ ap (λ c. served_by q c claims refs (found_run q.count result)) (marked_after t result h m)
 
 -- The result of the walk for `count` words, by the rights that it has checked.
-abbrev pub FoundBy : (SdwFields → Option ℕ) → List ℕ → DbrFields → AtFields → ℕ → Result Found Fault → Type 0
+abbrev pub FoundBy : (SdwFields → Option ℕ) → List ℕ → DbrFields → AtFields → ℕ → Result LookupResult Fault → Type 0
 FoundBy R core dbr at count result =
     reached (λ d. allowed tt (R d)) (λ d. spots_of core_store core dbr d at.seg at.word count) (core_sdw core dbr at.seg) at ≡ found_run count result
 
-module _ (g : RegsFields) (dbr : DbrFields) (e : g.dbr ≡ dbr) (core new : List ℕ) (at : AtFields) (count : ℕ) (result : Result Found Fault) (claims : List Spot) (refs : List Reference) (puts : List Put) where
+module _ (g : RegsFields) (dbr : DbrFields) (e : g.dbr ≡ dbr) (core new : List ℕ) (at : AtFields) (count : ℕ) (result : Result LookupResult Fault) (claims : List Spot) (refs : List Reference) (puts : List Put) where
   module _ (psr : ℕ) (k : g.ppr.psr ≡ psr) (h : FoundBy (λ d. first_of (read_rows d at.ring (at.seg == psr))) core dbr at count result) (m : Marked dbr at false core new result) where
     same_psr : FoundBy (λ d. first_of (read_rows d at.ring (at.seg == g.ppr.psr))) core g.dbr at count result
     same_psr = subst (λ (p : ℕ). FoundBy (λ d. first_of (read_rows d at.ring (at.seg == p))) core g.dbr at count result) (sym k) (subst (λ (b : DbrFields). FoundBy (λ d. first_of (read_rows d at.ring (at.seg == psr))) core b at count result) (sym e) h)

@@ -10,7 +10,7 @@ use Rattle.m36_model.specs.Step.{puts_from}
 use Rattle.m36_model.specs.declared.outcome.Fault.{Fault}
 use Rattle.m36_model.proofs.StepLaw.{core_quiet}
 use Rattle.m36_walk.specs.Runs.{run_from}
-use Rattle.m36_walk.specs.Served.{request, served_by, at_place, IsWritten}
+use Rattle.m36_walk.specs.Served.{request, served_by, at_place, IsServedWrite}
 use Rattle.m36_walk.specs.Words.{run_changes}
 
 -- the claim after a list of others
@@ -36,17 +36,17 @@ unclaimed first (w ∷ words) = unclaimed (first + 1) words
 
 module _ (at : AtFields) (count : ℕ) (d : SdwFields) (words : List ℕ) where
   -- a Write that was refused
-  pub written_refused : (s : Served (List ℕ)) (new : List ℕ) (f : Fault) → s ≡ served_by (request Write at count []) new [] [] (at_place d count (Err f)) → IsWritten s new words (Err f)
+  pub written_refused : (s : Served (List ℕ)) (new : List ℕ) (f : Fault) → s ≡ served_by (request Write at count []) new [] [] (at_place d count (Err f)) → IsServedWrite s new words (Err f)
   written_refused s new f e =
       let nothing : core_put new (changes [] (puts_from Whole 0 words)) ≡ new = rw (unclaimed 0 words) (core_quiet new) in
-      subst (λ (t : Served (List ℕ)). IsWritten t new words (Err f)) (sym e) (record { told = refl; core = sym nothing })
+      subst (λ (t : Served (List ℕ)). IsServedWrite t new words (Err f)) (sym e) (record { told = refl; core = sym nothing })
 
   -- a Write that was answered, and whose words were written from its first address on
   pub written_answered : (s : Served (List ℕ)) (marked new : List ℕ) (a : ℕ) → s ≡ served_by (request Write at count []) marked [] [] (at_place d count (Ok a)) → length words ≡ count → new ≡ core_put marked (run_changes a words)
-      → IsWritten s new words (Ok tt)
+      → IsServedWrite s new words (Ok tt)
   written_answered s marked new a e n h =
       let put : changes (run_from a count) (puts_from Whole 0 words) ≡ run_changes a words = rw (← n) (changes_of_run [] a words) in
-      subst (λ (t : Served (List ℕ)). IsWritten t new words (Ok tt)) (sym e) (record { told = refl; core = h ∙ ap (core_put marked) (sym put) })
+      subst (λ (t : Served (List ℕ)). IsServedWrite t new words (Ok tt)) (sym e) (record { told = refl; core = h ∙ ap (core_put marked) (sym put) })
 
 -- one word that is written
 pub put_one_word : (core : List ℕ) (a w : ℕ) → slice_set core a w ≡ core_put core (run_changes a (w ∷ []))

@@ -9,14 +9,14 @@ use Rattle.m36_model.specs.Core.{core_store}
 use Rattle.m36_model.specs.Place.{core_sdw}
 use Rattle.m36_model.specs.Store.{spots_of, within, bound_only}
 use Rattle.m36_associative.specs.Right.{Answers, MayRead, MayWrite, MayFetch, MayGo}
-use Rattle.m36_walk.specs.Reached.{reached, Marked}
-use Rattle.m36_walk.specs.Runs.{run_from, LiesIn}
+use Rattle.m36_walk.specs.ReferenceResult.{reached, Marked}
+use Rattle.m36_walk.specs.Runs.{run_from, IsInCore}
 use Rattle.m36_walk.specs.Served.{sdw_by, sdw_in, at_target, ServesRun, ServesClaim, ServesAsked}
-use Rattle.m36_walk.specs.declared.reference.Found.{Found}
-use Rattle.m36_walk.proofs.Asked.{transfer_served}
+use Rattle.m36_walk.specs.declared.reference.LookupResult.{LookupResult}
+use Rattle.m36_walk.proofs.Targets.{transfer_served}
 use Rattle.m36_walk.proofs.ByKind.{FoundBy}
 use Rattle.m36_walk.proofs.Spots.{places_run, examined_inside, lies_inside}
-use Rattle.m36_walk.proofs.Told.{read_told, indirect_told, odd_told, fetch_told, write_told}
+use Rattle.m36_walk.proofs.ReturnedWords.{read_told, indirect_told, odd_told, fetch_told, write_told}
 
 -- what a page in front answers, at a word
 abbrev pub AnswersRead : List ℕ → DbrFields → ℕ → ℕ → ℕ → AtFields → Type 0
@@ -35,7 +35,7 @@ abbrev pub AnswersGo : List ℕ → DbrFields → AtFields → Type 0
 AnswersGo core dbr at = (a : ℕ) × Answers core dbr (MayGo at.ring) false at.seg at.word 1 a
 
 module _ (core : List ℕ) (dbr : DbrFields) (at : AtFields) (Rights : SdwFields → Type 0) (write : Bool) (count a : ℕ) (h : Answers core dbr Rights write at.seg at.word count a) where
-  abbrev found : Found
+  abbrev found : LookupResult
   found = record { sdw = h.sdw; place = a }
 
   -- its descriptor is that of the segment
@@ -53,7 +53,7 @@ module _ (core : List ℕ) (dbr : DbrFields) (at : AtFields) (Rights : SdwFields
   marked : Marked dbr at write core core (Ok found)
   marked = sym h.marked
 
-  pub lies : LiesIn (length core) a count
+  pub lies : IsInCore (length core) a count
   lies = lies_inside (length core) a count h.small h.inside
 
 module _ (core : List ℕ) (dbr : DbrFields) (at : AtFields) (ring count a : ℕ) (h : AnswersRead core dbr ring count a at) (s : 1 ≤ count) (b : at.word % 16 + count ≤ 16) (psr : ℕ) where

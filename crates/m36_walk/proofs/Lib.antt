@@ -3,8 +3,8 @@ pub mod MarksInOrder
 pub mod Serving
 pub mod ByKind
 pub mod Blocks
-pub mod Told
+pub mod ReturnedWords
 pub mod Claims
 pub mod Placing
-pub mod Asked
+pub mod Targets
 pub mod InFront

@@ -8,8 +8,8 @@ use Rattle.m36_model.specs.Place.{core_sdw, core_spot}
 use Rattle.m36_model.specs.Store.{Spot, Core_word, within, placed_one, place_within, when_ordered, place_by, place, spots_of, violation, fault_by}
 use Rattle.m36_model.specs.declared.outcome.Fault.{Fault}
 use Rattle.m36_model.specs.declared.outcome.Refusal.{Refusal}
-use Rattle.m36_walk.specs.Reached.{Reached, told, told_acv, reached, reached_sdw, reached_rights, reached_places}
-use Rattle.m36_walk.specs.Runs.{run_from, told_places}
+use Rattle.m36_walk.specs.ReferenceResult.{ReferenceResult, told, violation_as_fault, reached, reached_sdw, reached_rights, reached_places}
+use Rattle.m36_walk.specs.Runs.{run_from, places_as_fault}
 use Rattle.m36_walk.specs.Served.{at_place, ok_map}
 
 module _ (core : List ℕ) (dbr : DbrFields) (at : AtFields) (d' : SdwFields) where
@@ -20,7 +20,7 @@ module _ (core : List ℕ) (dbr : DbrFields) (at : AtFields) (d' : SdwFields) wh
   refused f (Ok a) e = cc
   refused f (Err x) e = cc
 
-  spots_in : Result Reached Fault → List Spot
+  spots_in : Result ReferenceResult Fault → List Spot
   spots_in (Ok r) = r.spots
   spots_in (Err f) = []
 
@@ -32,15 +32,15 @@ module _ (core : List ℕ) (dbr : DbrFields) (at : AtFields) (d' : SdwFields) wh
       ap Ok one
   answered d p (Err f) e = cc
 
-  by_spot : (d : SdwFields) (s : Result Spot Refusal) (result : Result ℕ Fault) → reached_places d (told_places at (placed_one true at.word s (Ok []))) ≡ at_place d' 1 result → Placed (told at s) result
+  by_spot : (d : SdwFields) (s : Result Spot Refusal) (result : Result ℕ Fault) → reached_places d (places_as_fault at (placed_one true at.word s (Ok []))) ≡ at_place d' 1 result → Placed (told at s) result
   by_spot d (Ok p) result e = answered d p result e
   by_spot d (Err why) result e = refused (fault_by why at) result e
 
-  by_bound : (d : SdwFields) (b : Bool) (s : Result Spot Refusal) (result : Result ℕ Fault) → reached_places d (told_places at (placed_one b at.word s (Ok []))) ≡ at_place d' 1 result → Placed (told at (place_within b s)) result
+  by_bound : (d : SdwFields) (b : Bool) (s : Result Spot Refusal) (result : Result ℕ Fault) → reached_places d (places_as_fault at (placed_one b at.word s (Ok []))) ≡ at_place d' 1 result → Placed (told at (place_within b s)) result
   by_bound d true s result e = by_spot d s result e
   by_bound d false s result e = refused (fault_by (violation 15) at) result e
 
-  by_order : (d : SdwFields) (o b : Bool) (s : Result Spot Refusal) (result : Result ℕ Fault) → reached_rights d (told_acv at (allowed tt (first_of ((not o, 0) ∷ [])))) (told_places at (placed_one b at.word s (Ok []))) ≡ at_place d' 1 result
+  by_order : (d : SdwFields) (o b : Bool) (s : Result Spot Refusal) (result : Result ℕ Fault) → reached_rights d (violation_as_fault at (allowed tt (first_of ((not o, 0) ∷ [])))) (places_as_fault at (placed_one b at.word s (Ok []))) ≡ at_place d' 1 result
       → Placed (told at (when_ordered o (place_within b s))) result
   by_order d true b s result e = by_bound d b s result e
   by_order d false b s result e = refused (fault_by (violation 0) at) result e

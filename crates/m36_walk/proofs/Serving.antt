@@ -13,24 +13,24 @@ use Rattle.m36_model.specs.Place.{core_sdw}
 use Rattle.m36_model.specs.declared.outcome.Fault.{Fault}
 use Rattle.m36_model.specs.declared.outcome.Refusal.{Refusal}
 use Rattle.m36_model.specs.declared.place.Reference.{Reference}
-use Rattle.m36_walk.specs.Reached.{Reached, told, told_acv, reached, reached_sdw, reached_rights, reached_places}
-use Rattle.m36_walk.specs.Runs.{told_places}
+use Rattle.m36_walk.specs.ReferenceResult.{ReferenceResult, told, violation_as_fault, reached, reached_sdw, reached_rights, reached_places}
+use Rattle.m36_walk.specs.Runs.{places_as_fault}
 use Rattle.m36_walk.specs.Served.{standing, served_by}
 
 -- core after a reference
-abbrev pub core_after : List ℕ → DbrFields → Request → Result Reached Fault → List ℕ
+abbrev pub core_after : List ℕ → DbrFields → Request → Result ReferenceResult Fault → List ℕ
 core_after core dbr q (Ok r) = after_marks core_store core dbr q
 core_after core dbr q (Err f) = core
 
 module _ (g : RegsFields) (core : List ℕ) (claims : List Spot) (refs : List Reference) (q : Request) where
-  abbrev answer : Result Reached Fault → Served (List ℕ)
+  abbrev answer : Result ReferenceResult Fault → Served (List ℕ)
   answer r = served_by q (core_after core g.dbr q r) claims refs r
 
-  by_places : (d : SdwFields) (r : Result (List Spot) (ℕ × Refusal)) → serve_places core_store g (standing core claims refs) q d r ≡ answer (reached_places d (told_places q.at r))
+  by_places : (d : SdwFields) (r : Result (List Spot) (ℕ × Refusal)) → serve_places core_store g (standing core claims refs) q d r ≡ answer (reached_places d (places_as_fault q.at r))
   by_places d (Ok spots) = refl
   by_places d (Err e) = refl
 
-  by_rights : (d : SdwFields) (o : Option ℕ) → serve_rights core_store g (standing core claims refs) q d o ≡ answer (reached_rights d (told_acv q.at (allowed tt o)) (told_places q.at (places core_store core g.dbr d q)))
+  by_rights : (d : SdwFields) (o : Option ℕ) → serve_rights core_store g (standing core claims refs) q d o ≡ answer (reached_rights d (violation_as_fault q.at (allowed tt o)) (places_as_fault q.at (places core_store core g.dbr d q)))
   by_rights d (Some acv) = refl
   by_rights d None = by_places d (places core_store core g.dbr d q)
 
@@ -46,7 +46,7 @@ module _ (g : RegsFields) (core : List ℕ) (claims : List Spot) (refs : List Re
   served = by_sdw (core_sdw core g.dbr q.at.seg)
 
   -- The rights and the places may be replaced by equal ones.
-  pub served_as : (R : SdwFields → Option ℕ) (P : SdwFields → Result (List Spot) (ℕ × Refusal)) (r : Result Reached Fault) → ((d : SdwFields) → rights d ≡ R d) → ((d : SdwFields) → places core_store core g.dbr d q ≡ P d)
+  pub served_as : (R : SdwFields → Option ℕ) (P : SdwFields → Result (List Spot) (ℕ × Refusal)) (r : Result ReferenceResult Fault) → ((d : SdwFields) → rights d ≡ R d) → ((d : SdwFields) → places core_store core g.dbr d q ≡ P d)
       → reached (λ d. allowed tt (R d)) P (core_sdw core g.dbr q.at.seg) q.at ≡ r
       → serve core_store g (standing core claims refs) q ≡ answer r
   served_as R P r e f h =
@@ -54,18 +54,18 @@ module _ (g : RegsFields) (core : List ℕ) (claims : List Spot) (refs : List Re
       served ∙ ap answer at_once
 
 -- An answered reference has found the descriptor of its segment.
-reached_places_sdw : (d : SdwFields) (p : Result (List Spot) Fault) (r : Reached) → reached_places d p ≡ Ok r → r.sdw ≡ d
+reached_places_sdw : (d : SdwFields) (p : Result (List Spot) Fault) (r : ReferenceResult) → reached_places d p ≡ Ok r → r.sdw ≡ d
 reached_places_sdw d (Ok spots) r e = cc
 reached_places_sdw d (Err f) r e = cc
 
-reached_rights_sdw : (d : SdwFields) (u : Result Unit Fault) (p : Result (List Spot) Fault) (r : Reached) → reached_rights d u p ≡ Ok r → r.sdw ≡ d
+reached_rights_sdw : (d : SdwFields) (u : Result Unit Fault) (p : Result (List Spot) Fault) (r : ReferenceResult) → reached_rights d u p ≡ Ok r → r.sdw ≡ d
 reached_rights_sdw d (Ok u) p r e = reached_places_sdw d p r e
 reached_rights_sdw d (Err f) p r e = cc
 
-reached_by : (R : SdwFields → Result Unit Acv) (P : SdwFields → Result (List Spot) (ℕ × Refusal)) (s : Result SdwFields Refusal) (at : AtFields) (r : Reached) → reached_sdw R P at (told at s) ≡ Ok r → s ≡ Ok r.sdw
-reached_by R P (Ok d) at r e = ap Ok (sym (reached_rights_sdw d (told_acv at (R d)) (told_places at (P d)) r e))
+reached_by : (R : SdwFields → Result Unit Acv) (P : SdwFields → Result (List Spot) (ℕ × Refusal)) (s : Result SdwFields Refusal) (at : AtFields) (r : ReferenceResult) → reached_sdw R P at (told at s) ≡ Ok r → s ≡ Ok r.sdw
+reached_by R P (Ok d) at r e = ap Ok (sym (reached_rights_sdw d (violation_as_fault at (R d)) (places_as_fault at (P d)) r e))
 reached_by R P (Err why) at r e = cc
 
-pub reached_is : (R : SdwFields → Result Unit Acv) (P : SdwFields → Result (List Spot) (ℕ × Refusal)) (s : Result SdwFields Refusal) (at : AtFields) (r : Reached) → reached R P s at ≡ Ok r → s ≡ Ok r.sdw
+pub reached_is : (R : SdwFields → Result Unit Acv) (P : SdwFields → Result (List Spot) (ℕ × Refusal)) (s : Result SdwFields Refusal) (at : AtFields) (r : ReferenceResult) → reached R P s at ≡ Ok r → s ≡ Ok r.sdw
 unfolding reached
 reached_is R P s at r e = reached_by R P s at r e

@@ -6,7 +6,7 @@ use Rattle.m36_model.specs.Core.{core_store}
 use Rattle.m36_model.specs.Place.{wrapped, frame_at, ptw_at, page_at, in_frame_by, word_place_by, core_spot, inside_core_by, store_fault}
 use Rattle.m36_model.specs.Store.{Core_word, within, placed_one, placed_next, spots_of, violation}
 use Rattle.m36_model.specs.declared.outcome.Refusal.{Refusal}
-use Rattle.m36_walk.specs.Runs.{run_from, examined, LiesIn}
+use Rattle.m36_walk.specs.Runs.{run_from, examined, IsInCore}
 
 -- the core address of a word of the segment
 abbrev pub place_in : List ℕ → SdwFields → ℕ → Result ℕ Refusal
@@ -83,8 +83,8 @@ whole_further size word a (suc n) k h f =
     let g : examined size (word + 1) (wrapped (a + 1)) n ≡ Ok (run_from (wrapped (a + 1)) n) = rw sub-one at f in
     further size word a n h ∙ ap (λ r. placed_next r (Core_word a)) g
 
-pub lies_further : (size a left : ℕ) → 0 < left → a < size → LiesIn size (wrapped (a + 1)) (left - 1) → LiesIn size a left
-unfolding LiesIn
+pub lies_further : (size a left : ℕ) → 0 < left → a < size → IsInCore size (wrapped (a + 1)) (left - 1) → IsInCore size a left
+unfolding IsInCore
 lies_further size a zero k h f = absurd (omega arith)
 lies_further size a (suc n) k h f = (h, rw sub-one at f)
 
@@ -100,8 +100,8 @@ unfolding examined run_from
 whole_at_last size word a zero h = refl
 whole_at_last size word a (suc n) h = absurd (omega arith)
 
-pub lies_at_last : (size a n : ℕ) → n ≤ 0 → LiesIn size a n
-unfolding LiesIn
+pub lies_at_last : (size a n : ℕ) → n ≤ 0 → IsInCore size a n
+unfolding IsInCore
 lies_at_last size a zero h = tt
 lies_at_last size a (suc n) h = absurd (omega arith)
 
@@ -117,7 +117,7 @@ examined_inside size word a (suc (suc n)) h k =
     whole_further size word a (suc (suc n)) (omega arith) (omega arith)
     (rw (one_further size a n h k, sub-one) (examined_inside size (word + 1) (a + 1) (suc n) h (omega arith)))
 
-pub lies_inside : (size a n : ℕ) → size ≤ 2 ^ 24 → a + n ≤ size → LiesIn size a n
+pub lies_inside : (size a n : ℕ) → size ≤ 2 ^ 24 → a + n ≤ size → IsInCore size a n
 lies_inside size a zero h k = lies_at_last size a 0 (omega arith)
 lies_inside size a (suc zero) h k = lies_further size a 1 (omega arith) (omega arith) (rw sub-one (lies_at_last size (wrapped (a + 1)) 0 (omega arith)))
 lies_inside size a (suc (suc n)) h k =

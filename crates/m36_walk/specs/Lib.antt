@@ -1,6 +1,6 @@
 pub mod Memory
 pub mod Runs
-pub mod Reached
+pub mod ReferenceResult
 pub mod Served
 pub mod Words
 pub mod Lending

@@ -27,14 +27,14 @@ examined size word a (suc n) =
     (examined size (word + 1) (wrapped (a + 1)) n)
 
 -- each word of the run is in core
-unfoldable pub LiesIn : ℕ → ℕ → ℕ → Type 0
-LiesIn size a zero = Unit {0}
-LiesIn size a (suc n) = (a < size) × LiesIn size (wrapped (a + 1)) n
+unfoldable pub IsInCore : ℕ → ℕ → ℕ → Type 0
+IsInCore size a zero = Unit {0}
+IsInCore size a (suc n) = (a < size) × IsInCore size (wrapped (a + 1)) n
 
 -- a refusal as a fault at the word that is refused
-abbrev pub told_places : AtFields → Result (List Spot) (ℕ × Refusal) → Result (List Spot) Fault
-told_places at (Ok spots) = Ok spots
-told_places at (Err e) = Err (fault_in at e.0 e.1)
+abbrev pub places_as_fault : AtFields → Result (List Spot) (ℕ × Refusal) → Result (List Spot) Fault
+places_as_fault at (Ok spots) = Ok spots
+places_as_fault at (Err e) = Err (fault_in at e.0 e.1)
 
 -- the run from the address that was found, or the word that is refused; `word` is the word number
 -- of the first

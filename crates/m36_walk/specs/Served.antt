@@ -6,7 +6,7 @@ use Rattle.m36_desc.specs.Descriptors.{sdw_of}
 use Rattle.m36_model.specs.Fields.{AtFields}
 use Rattle.m36_model.specs.Registers.{RegsFields}
 use Rattle.m36_model.specs.Act.{RequestKind, Read, Write, Whole, Put, Request, Answer}
-use Rattle.m36_model.specs.Store.{Spot, Change, Mid, Served, serve, changes, answered_with}
+use Rattle.m36_model.specs.Store.{Spot, Change, Midstep, Served, serve, changes, answered_with}
 use Rattle.m36_model.specs.Store.{with_reference}
 use Rattle.m36_model.specs.Core.{core_store, core_put}
 use Rattle.m36_model.specs.Place.{core_sdw}
@@ -15,7 +15,7 @@ use Rattle.m36_model.specs.declared.outcome.Fault.{Fault}
 use Rattle.m36_model.specs.declared.outcome.Refusal.{Refusal}
 use Rattle.m36_model.specs.declared.place.Reference.{Reference}
 use Rattle.m36_walk.specs.Memory.{Memory}
-use Rattle.m36_walk.specs.Reached.{Reached}
+use Rattle.m36_walk.specs.ReferenceResult.{ReferenceResult}
 use Rattle.m36_walk.specs.Runs.{run_from, words_from}
 use Rattle.m36_walk.specs.Words.{pending_changes}
 use Rattle.m36_walk.specs.declared.words.Pending.{Pending}
@@ -26,7 +26,7 @@ ok_map f (Ok a) = Ok (f a)
 ok_map f (Err e) = Err e
 
 -- the state within a step: core, what its Writes have claimed, and its completed references
-abbrev pub standing : List ℕ → List Spot → List Reference → Mid (List ℕ)
+abbrev pub standing : List ℕ → List Spot → List Reference → Midstep (List ℕ)
 standing core claims refs = record { store = core; claims = claims; refs = refs }
 
 -- a request for `count` words, which sees these pending writes
@@ -44,18 +44,18 @@ sdw_in m seg = sdw_by (core_sdw m.core m.dbr seg)
 
 -- The reply to a request and the state after it, by the result of the reference. An answered
 -- reference adds its claims and itself.
-abbrev pub served_by : Request → List ℕ → List Spot → List Reference → Result Reached Fault
+abbrev pub served_by : Request → List ℕ → List Spot → List Reference → Result ReferenceResult Fault
     → Served (List ℕ)
 served_by q new claims refs (Err f) = record { reply = Err f; mid = standing new claims refs }
 served_by q new claims refs (Ok r) = answered_with core_store new claims refs q r.sdw r.spots
 
 -- the result of a reference whose first word is at a core address
-abbrev pub at_place : SdwFields → ℕ → Result ℕ Fault → Result Reached Fault
+abbrev pub at_place : SdwFields → ℕ → Result ℕ Fault → Result ReferenceResult Fault
 at_place d count (Ok a) = Ok (record { sdw = d; spots = run_from a count })
 at_place d count (Err f) = Err f
 
 -- the result of a reference that checks a target and touches no word
-abbrev pub at_target : {A : Type 0} → SdwFields → Result A Fault → Result Reached Fault
+abbrev pub at_target : {A : Type 0} → SdwFields → Result A Fault → Result ReferenceResult Fault
 at_target d (Ok a) = Ok (record { sdw = d; spots = [] })
 at_target d (Err f) = Err f
 
@@ -140,7 +140,7 @@ replied s = ok_map (λ a. tt) s.reply
 
 -- A Write of words by itself: it is served, and the words are written to the spots that it has
 -- claimed. If it is refused, nothing has changed.
-pub record IsWritten (s : Served (List ℕ)) (new words : List ℕ)
+pub record IsServedWrite (s : Served (List ℕ)) (new words : List ℕ)
     (result : Result Unit Fault) : Type 0 where
   pub told : result ≡ replied s
   pub core : new ≡ written_by s words
@@ -149,12 +149,12 @@ pub record IsWritten (s : Served (List ℕ)) (new words : List ℕ)
 abbrev pub Writes : Memory → List ℕ → AtFields → ℕ → List ℕ → Result Unit Fault → Type 0
 Writes m new at count words result =
     (g : RegsFields) → g.dbr ≡ m.dbr
-    → IsWritten (serve core_store g (standing m.core [] []) (request Write at count []))
+    → IsServedWrite (serve core_store g (standing m.core [] []) (request Write at count []))
     new words result
 
 -- a request that checks a target, or asks for a place, is served and changes nothing
 abbrev pub ServesAsked : (RegsFields → Type 0) → RequestKind → Memory → AtFields
-    → Result Reached Fault → Type 0
+    → Result ReferenceResult Fault → Type 0
 ServesAsked Known kind m at r =
     (g : RegsFields) → g.dbr ≡ m.dbr → Known g
     → (claims : List Spot) (refs : List Reference) (puts : List Put)

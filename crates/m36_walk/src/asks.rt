@@ -6,7 +6,7 @@ ghost use Rattle.m36_model.specs.Act.{Transfer, Call, Locate};
 ghost use Rattle.m36_model.specs.Core.{core_store};
 ghost use Rattle.m36_model.specs.Sight.{content_in};
 ghost use Rattle.m36_model.specs.Store.{Core_word, place, first_ring};
-ghost use Rattle.m36_walk.specs.Reached.{told};
+ghost use Rattle.m36_walk.specs.ReferenceResult.{told};
 ghost use Rattle.m36_walk.specs.Served.{sdw_in, at_place, at_target, ok_map, ServesAsked};
 
 use crate::refusal::fault;
@@ -18,7 +18,7 @@ use m36_word::Word;
 
 impl Walk {
     /// The core address of a word, without access checks. No marks are set.
-    #[tactic(auto, unfolding(crate::specs::Runs::LiesIn))]
+    #[tactic(auto, unfolding(crate::specs::Runs::IsInCore))]
     pub fn place(&mut self, at: At) -> Result<u32, Fault>
         ensures value { ok_map Core_word result
             ≡ told at (place core_store self.old.core self.old.dbr at.seg at.word) }

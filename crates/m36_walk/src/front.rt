@@ -4,7 +4,7 @@
 ghost use Rattle.std.specs.Prelude.{ℕ, ◌≡◌, ◌+◌, ◌%◌, ◌<◌, ◌≤◌, ◌^◌, Ok, IfSome, IsTrue, length};
 ghost use Rattle.m36_associative.specs.Right.{AreRight};
 ghost use Rattle.m36_model.specs.Act.{Fetch, Indirect, Odd, Read, Transfer};
-ghost use Rattle.m36_walk.specs.Runs.{LiesIn};
+ghost use Rattle.m36_walk.specs.Runs.{IsInCore};
 ghost use Rattle.m36_walk.specs.Served.{sdw_in, at_target, ServesRun, ServesClaim, ServesAsked};
 
 use m36_associative::{
@@ -36,7 +36,7 @@ pub(crate) fn read_in_front(
     ensures ring { IfSome result (λ r. r.1
         ≡ (sdw_in (record { core = core.now; dbr = dbr }) at.seg).r1) }
     ensures ring_bound { IfSome result (λ r. r.1 < 2 ^ 3) }
-    ensures inside { IfSome result (λ r. LiesIn (length core.now) r.0 count) }
+    ensures inside { IfSome result (λ r. IsInCore (length core.now) r.0 count) }
     ensures run { IfSome result (λ r. r.0 + count ≤ length core.now) }
     ensures bound { IfSome result (λ r. r.0 + count ≤ 2 ^ 24) }
     ensures right { AreRight core.now dbr memories.new }
@@ -61,7 +61,7 @@ pub(crate) fn write_in_front(
     requires right { AreRight core.now dbr memories.old }
     ensures write { IfSome result (λ a. ServesClaim (record { core = core.now; dbr = dbr })
         core.now at count (Ok a)) }
-    ensures inside { IfSome result (λ a. LiesIn (length core.now) a count) }
+    ensures inside { IfSome result (λ a. IsInCore (length core.now) a count) }
     ensures run { IfSome result (λ a. a + count ≤ length core.now) }
     ensures bound { IfSome result (λ a. a + count ≤ 2 ^ 24) }
     ensures right { AreRight core.now dbr memories.new }

@@ -34,5 +34,5 @@ pub mod words;
 mod writes;
 
 pub use walk::Walk;
-pub use words::{Pending, Run};
+pub use words::{Pending, WordRun};
 pub use writes::first_at;

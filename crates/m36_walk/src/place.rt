@@ -6,7 +6,7 @@ ghost use Rattle.m36_model.specs.Core.{core_store};
 ghost use Rattle.m36_associative.specs.Right.{AreRight};
 ghost use Rattle.m36_model.specs.Place.{page_at, word_place, store_fault};
 ghost use Rattle.m36_model.specs.Store.{spots_of};
-ghost use Rattle.m36_walk.specs.Runs.{run_from, examined, LiesIn, run_by};
+ghost use Rattle.m36_walk.specs.Runs.{run_from, examined, IsInCore, run_by};
 ghost use Rattle.m36_tables.specs.Tables.{TableIn};
 
 use crate::refusal::Refused;
@@ -24,7 +24,7 @@ fn words_inside(size: u32, place: u32, count: u32) -> u32
         ≡ Ok (run_from place count) }
     ensures refused { result < count → (word : ℕ) → examined size word place count
         ≡ Err (word + result, store_fault) }
-    ensures inside { result ≡ count → LiesIn size place count }
+    ensures inside { result ≡ count → IsInCore size place count }
 {
     let mut left = count;
     let mut next = place;
@@ -50,7 +50,7 @@ fn run_inside(size: u32, place: u32, count: u32) -> u32
         ≡ Ok (run_from place count) }
     ensures refused { result < count → (word : ℕ) → examined size word place count
         ≡ Err (word + result, store_fault) }
-    ensures inside { result ≡ count → LiesIn size place count }
+    ensures inside { result ≡ count → IsInCore size place count }
 {
     if place + count <= size {
         return count;
@@ -65,7 +65,7 @@ fn run_in_core(size: u32, place: u32, count: u32) -> Result<u32, Refused>
     requires place { place < 2 ^ 24 }
     requires count { count ≤ 16 }
     ensures value { (word : ℕ) → examined size word place count ≡ run_by word count result }
-    ensures inside { IfOk result (λ a. LiesIn size a count) }
+    ensures inside { IfOk result (λ a. IsInCore size a count) }
     ensures bound { IfOk result (λ a. a < 2 ^ 24) }
     ensures further { IfErr result (λ r. r.further < count) }
 {
@@ -89,7 +89,7 @@ pub(crate) fn places(core: &Core, sdw: &Sdw, word: u32, count: u32) -> Result<u3
     requires block { word % 16 + count ≤ 16 }
     ensures value { (dbr : DbrFields) (seg : ℕ)
         → spots_of core_store core.now dbr sdw.now seg word count ≡ run_by word count result }
-    ensures inside { IfOk result (λ a. LiesIn (length core.now) a count) }
+    ensures inside { IfOk result (λ a. IsInCore (length core.now) a count) }
     ensures bound { IfOk result (λ a. a < 2 ^ 24) }
     ensures further { IfErr result (λ r. r.further < count) }
     ensures page { OnOk result (TableIn (length core.now) sdw.now.unpaged
@@ -109,7 +109,7 @@ pub(crate) fn places(core: &Core, sdw: &Sdw, word: u32, count: u32) -> Result<u3
 
 /// As `places`, with the page table word from the memories if they have it.
 #[tactic(auto, using(crate::proofs::Spots::by_first))]
-pub(crate) fn places_kept(
+pub(crate) fn cached_places(
     core: &Core,
     dbr: Dbr,
     memories: &mut Memories,
@@ -123,7 +123,7 @@ pub(crate) fn places_kept(
     requires right { AreRight core.now dbr memories.old }
     ensures value { (other : DbrFields) (seg : ℕ)
         → spots_of core_store core.now other sdw.now seg word count ≡ run_by word count result }
-    ensures inside { IfOk result (λ a. LiesIn (length core.now) a count) }
+    ensures inside { IfOk result (λ a. IsInCore (length core.now) a count) }
     ensures bound { IfOk result (λ a. a < 2 ^ 24) }
     ensures further { IfErr result (λ r. r.further < count) }
     ensures page { OnOk result (TableIn (length core.now) sdw.now.unpaged

@@ -40,7 +40,7 @@ pub(crate) fn block_at(at: At) -> At
 impl Walk {
     /// Fetches the instruction at a word, in the ring of `at`. The Boolean is the right to
     /// privileged instructions.
-    #[tactic(auto, unfolding(crate::specs::Runs::LiesIn))]
+    #[tactic(auto, unfolding(crate::specs::Runs::IsInCore))]
     pub fn fetch(&mut self, at: At) -> Result<(Word, bool), Fault>
         ensures serves { ServesWord (λ g. g.ppr.prr ≡ at.ring) Fetch self.old self.new.core at
             (ok_map (λ r. r.0) result) }
@@ -55,7 +55,7 @@ impl Walk {
 
     /// Reads an indirect word in the ring of `at`, for an instruction in segment `psr`. Also
     /// returns R1 of its segment.
-    #[tactic(auto, unfolding(crate::specs::Runs::LiesIn))]
+    #[tactic(auto, unfolding(crate::specs::Runs::IsInCore))]
     pub fn indirect(&mut self, at: At, psr: u16) -> Result<(Word, u8), Fault>
         ensures serves { ServesWord (λ g. g.ppr.psr ≡ psr) Indirect self.old self.new.core at
             (ok_map (λ r. r.0) result) }
@@ -69,7 +69,7 @@ impl Walk {
     }
 
     /// Reads the odd word of an indirect pair, as `indirect` reads the even one.
-    #[tactic(auto, unfolding(crate::specs::Runs::LiesIn))]
+    #[tactic(auto, unfolding(crate::specs::Runs::IsInCore))]
     pub fn odd(&mut self, at: At, psr: u16) -> Result<Word, Fault>
         ensures serves { ServesWord (λ g. g.ppr.psr ≡ psr) Odd self.old self.new.core at result }
         ensures dbr { self.new.dbr ≡ self.old.dbr }
@@ -81,7 +81,7 @@ impl Walk {
 
     /// Reads an operand word in the ring of `at`, for an instruction in segment `psr`. A pending
     /// word is read as if it were written.
-    #[tactic(auto, unfolding(crate::specs::Runs::LiesIn))]
+    #[tactic(auto, unfolding(crate::specs::Runs::IsInCore))]
     pub fn operand(&mut self, at: At, psr: u16, pending: &Option<Pending>) -> Result<Word, Fault>
         ensures serves { Reads self.old self.new.core psr at 1 pending.now
             (ok_map (λ w. w ∷ []) result) }

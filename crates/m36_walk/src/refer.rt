@@ -3,12 +3,12 @@
 ghost use Rattle.std.specs.Prelude.{ℕ, ◌≡◌, ◌+◌, ◌%◌, ◌<◌, ◌≤◌, ◌^◌, IfOk, IfErr, length};
 ghost use Rattle.m36_associative.specs.Right.{AreRight};
 ghost use Rattle.m36_model.specs.Act.{Fetch, Indirect, Odd, Read};
-ghost use Rattle.m36_walk.specs.Runs.{LiesIn};
+ghost use Rattle.m36_walk.specs.Runs.{IsInCore};
 ghost use Rattle.m36_walk.specs.Served.{sdw_in, ok_map, ServesRun, ServesClaim};
 
 use crate::front::{fetch_elsewhere, fetch_in_front, read_in_front, write_in_front};
-use crate::reference::{Found, fetch_by_tables, read_by_tables, write_by_tables};
-use crate::words::Run;
+use crate::reference::{LookupResult, fetch_by_tables, read_by_tables, write_by_tables};
+use crate::words::WordRun;
 use m36_associative::Memories;
 use m36_core::Core;
 use m36_desc::Dbr;
@@ -23,7 +23,7 @@ pub(crate) struct Reach {
 
 // The address of a word that was found, and R1 of its segment.
 #[inline(always)]
-fn reach_of(found: &Found) -> Reach
+fn reach_of(found: &LookupResult) -> Reach
     ensures place { result.place ≡ found.now.place }
     ensures ring { result.ring ≡ found.now.sdw.r1 }
     ensures bound { result.ring < 2 ^ 3 }
@@ -56,7 +56,7 @@ pub(crate) fn refer_read(
     ensures ring { IfOk result (λ r. r.ring
         ≡ (sdw_in (record { core = core.old; dbr = dbr }) at.seg).r1) }
     ensures ring_bound { IfOk result (λ r. r.ring < 2 ^ 3) }
-    ensures inside { IfOk result (λ r. LiesIn (length core.new) r.place count) }
+    ensures inside { IfOk result (λ r. IsInCore (length core.new) r.place count) }
     ensures bound { IfOk result (λ r. r.place < 2 ^ 24) }
     ensures stays { IfErr result (λ e. core.new ≡ core.old) }
     ensures len { length core.new ≡ length core.old }
@@ -79,24 +79,24 @@ pub(crate) fn refer_write(
     memories: &mut Memories,
     at: At,
     count: u32,
-) -> Result<Run, Fault>
+) -> Result<WordRun, Fault>
     requires some { 1 ≤ count }
     requires block { at.word % 16 + count ≤ 16 }
     requires right { AreRight core.old dbr memories.old }
     ensures write { ServesClaim (record { core = core.old; dbr = dbr }) core.new at count
         (ok_map (λ r. r.place) result) }
     ensures count { IfOk result (λ r. r.count ≡ count) }
-    ensures inside { IfOk result (λ r. LiesIn (length core.new) r.place count) }
+    ensures inside { IfOk result (λ r. IsInCore (length core.new) r.place count) }
     ensures bound { IfOk result (λ r. r.place < 2 ^ 24) }
     ensures stays { IfErr result (λ e. core.new ≡ core.old) }
     ensures len { length core.new ≡ length core.old }
     ensures right { AreRight core.new dbr memories.new }
 {
     if let Some(place) = write_in_front(core, dbr, memories, at, count) {
-        return Ok(Run { place, count });
+        return Ok(WordRun { place, count });
     }
     match write_by_tables(core, dbr, memories, at, count) {
-        Ok(found) => Ok(Run {
+        Ok(found) => Ok(WordRun {
             place: found.place,
             count,
         }),
@@ -107,7 +107,7 @@ pub(crate) fn refer_write(
 /// The core address of a fetched instruction, and whether its segment may execute privileged
 /// instructions.
 #[inline(always)]
-fn fetch_of(found: &Found) -> (u32, bool)
+fn fetch_of(found: &LookupResult) -> (u32, bool)
     ensures place { result.0 ≡ found.now.place }
     ensures privileged { result.1 ≡ found.now.sdw.privileged }
 {

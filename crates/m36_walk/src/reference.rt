@@ -7,13 +7,13 @@ ghost use Rattle.m36_associative.specs.Right.{AreRight};
 ghost use Rattle.m36_model.specs.Core.{core_store};
 ghost use Rattle.m36_model.specs.Place.{wrapped, core_sdw, directory_at, word_place, marks_by, with_marks};
 ghost use Rattle.m36_model.specs.Store.{spots_of};
-ghost use Rattle.m36_walk.specs.Reached.{told, told_acv, reached, reached_places, found_run, Marked};
-ghost use Rattle.m36_walk.specs.Runs.{LiesIn, told_places};
+ghost use Rattle.m36_walk.specs.ReferenceResult.{told, violation_as_fault, reached, reached_places, found_run, Marked};
+ghost use Rattle.m36_walk.specs.Runs.{IsInCore, places_as_fault};
 ghost use Rattle.m36_walk.specs.Served.{sdw_in};
 ghost use Rattle.m36_tables.specs.Tables.{TableIn};
 
 use crate::marks::set_marks;
-use crate::place::places_kept;
+use crate::place::cached_places;
 use crate::refusal::{fault, fault_further};
 use m36_associative::{Memories, enter};
 use m36_core::Core;
@@ -25,7 +25,7 @@ use m36_tables::{descriptor, violation};
 /// An answered reference: the descriptor through which its words were found, and the core address
 /// of the first.
 #[derive(Clone, Copy)]
-pub(crate) struct Found {
+pub(crate) struct LookupResult {
     pub(crate) sdw: Sdw,
     pub(crate) place: u32,
 }
@@ -46,7 +46,7 @@ pub(crate) fn described(core: &Core, dbr: Dbr, at: At) -> Result<Sdw, Fault>
 }
 
 /// As `described`, with the descriptor from the memories if they have it.
-fn described_kept(core: &Core, dbr: Dbr, memories: &mut Memories, at: At) -> Result<Sdw, Fault>
+fn cached_descriptor(core: &Core, dbr: Dbr, memories: &mut Memories, at: At) -> Result<Sdw, Fault>
     requires { AreRight core.now dbr memories.old }
     ensures value { result ≡ told at (core_sdw core.now dbr at.seg) }
     ensures directory { OnOk result (TableIn (length core.now) dbr.unpaged
@@ -62,7 +62,7 @@ fn described_kept(core: &Core, dbr: Dbr, memories: &mut Memories, at: At) -> Res
 /// The result of a check of rights, as a fault at a word.
 #[inline(always)]
 pub(crate) fn permitted(answer: Result<(), Acv>, at: At) -> Result<(), Fault>
-    ensures { result ≡ told_acv at answer }
+    ensures { result ≡ violation_as_fault at answer }
 {
     match answer {
         Ok(()) => Ok(()),
@@ -80,25 +80,25 @@ fn marked_run(
     at: At,
     count: u32,
     write: bool,
-) -> Result<Found, Fault>
+) -> Result<LookupResult, Fault>
     requires some { 1 ≤ count }
     requires block { at.word % 16 + count ≤ 16 }
     requires right { AreRight core.old dbr memories.old }
     requires directory { TableIn (length core.old) dbr.unpaged (directory_at dbr at.seg) }
     ensures run { reached_places sdw.now
-        (told_places at (spots_of core_store core.old dbr sdw.now at.seg at.word count))
+        (places_as_fault at (spots_of core_store core.old dbr sdw.now at.seg at.word count))
         ≡ found_run count result }
     ensures marked { Marked dbr at write core.old core.new result }
-    ensures inside { IfOk result (λ f. LiesIn (length core.new) f.place count) }
+    ensures inside { IfOk result (λ f. IsInCore (length core.new) f.place count) }
     ensures bound { IfOk result (λ f. f.place < 2 ^ 24) }
     ensures len { length core.new ≡ length core.old }
     ensures right { AreRight core.new dbr memories.new }
 {
-    match places_kept(core, dbr, memories, sdw, at.word, count) {
+    match cached_places(core, dbr, memories, sdw, at.word, count) {
         Ok(place) => {
             set_marks(core, memories, dbr, sdw, at.seg, at.word, write);
             enter(core, dbr, memories, at.seg, at.word);
-            Ok(Found { sdw: *sdw, place })
+            Ok(LookupResult { sdw: *sdw, place })
         }
         Err(refused) => Err(fault_further(refused, at)),
     }
@@ -107,7 +107,7 @@ fn marked_run(
 /// A reference by the tables that reads `count` words in the ring of `at`, for an instruction in
 /// segment `psr`.
 #[inline(never)]
-#[tactic(auto, unfolding(crate::specs::Reached::reached))]
+#[tactic(auto, unfolding(crate::specs::ReferenceResult::reached))]
 pub(crate) fn read_by_tables(
     core: &mut Core,
     dbr: Dbr,
@@ -115,7 +115,7 @@ pub(crate) fn read_by_tables(
     at: At,
     psr: u16,
     count: u32,
-) -> Result<Found, Fault>
+) -> Result<LookupResult, Fault>
     requires some { 1 ≤ count }
     requires block { at.word % 16 + count ≤ 16 }
     requires right { AreRight core.old dbr memories.old }
@@ -123,26 +123,26 @@ pub(crate) fn read_by_tables(
         (λ d. spots_of core_store core.old dbr d at.seg at.word count)
         (core_sdw core.old dbr at.seg) at ≡ found_run count result }
     ensures marked { Marked dbr at false core.old core.new result }
-    ensures inside { IfOk result (λ f. LiesIn (length core.new) f.place count) }
+    ensures inside { IfOk result (λ f. IsInCore (length core.new) f.place count) }
     ensures bound { IfOk result (λ f. f.place < 2 ^ 24) }
     ensures len { length core.new ≡ length core.old }
     ensures right { AreRight core.new dbr memories.new }
 {
-    let sdw = described_kept(core, dbr, memories, at)?;
+    let sdw = cached_descriptor(core, dbr, memories, at)?;
     permitted(may_read(&sdw, at.ring, at.seg == psr), at)?;
     marked_run(core, dbr, memories, &sdw, at, count, false)
 }
 
 /// A reference by the tables that will write `count` words, in the ring of `at`.
 #[inline(never)]
-#[tactic(auto, unfolding(crate::specs::Reached::reached))]
+#[tactic(auto, unfolding(crate::specs::ReferenceResult::reached))]
 pub(crate) fn write_by_tables(
     core: &mut Core,
     dbr: Dbr,
     memories: &mut Memories,
     at: At,
     count: u32,
-) -> Result<Found, Fault>
+) -> Result<LookupResult, Fault>
     requires some { 1 ≤ count }
     requires block { at.word % 16 + count ≤ 16 }
     requires right { AreRight core.old dbr memories.old }
@@ -150,36 +150,36 @@ pub(crate) fn write_by_tables(
         (λ d. spots_of core_store core.old dbr d at.seg at.word count)
         (core_sdw core.old dbr at.seg) at ≡ found_run count result }
     ensures marked { Marked dbr at true core.old core.new result }
-    ensures inside { IfOk result (λ f. LiesIn (length core.new) f.place count) }
+    ensures inside { IfOk result (λ f. IsInCore (length core.new) f.place count) }
     ensures bound { IfOk result (λ f. f.place < 2 ^ 24) }
     ensures len { length core.new ≡ length core.old }
     ensures right { AreRight core.new dbr memories.new }
 {
-    let sdw = described_kept(core, dbr, memories, at)?;
+    let sdw = cached_descriptor(core, dbr, memories, at)?;
     permitted(may_write(&sdw, at.ring), at)?;
     marked_run(core, dbr, memories, &sdw, at, count, true)
 }
 
 /// The fetch of an instruction by the tables, in the ring of `at`.
 #[inline(never)]
-#[tactic(auto, unfolding(crate::specs::Reached::reached))]
+#[tactic(auto, unfolding(crate::specs::ReferenceResult::reached))]
 pub(crate) fn fetch_by_tables(
     core: &mut Core,
     dbr: Dbr,
     memories: &mut Memories,
     at: At,
-) -> Result<Found, Fault>
+) -> Result<LookupResult, Fault>
     requires right { AreRight core.old dbr memories.old }
     ensures examined { reached (λ d. allowed tt (first_of (fetch_rows d at.ring)))
         (λ d. spots_of core_store core.old dbr d at.seg at.word 1)
         (core_sdw core.old dbr at.seg) at ≡ found_run 1 result }
     ensures marked { Marked dbr at false core.old core.new result }
-    ensures inside { IfOk result (λ f. LiesIn (length core.new) f.place 1) }
+    ensures inside { IfOk result (λ f. IsInCore (length core.new) f.place 1) }
     ensures bound { IfOk result (λ f. f.place < 2 ^ 24) }
     ensures len { length core.new ≡ length core.old }
     ensures right { AreRight core.new dbr memories.new }
 {
-    let sdw = described_kept(core, dbr, memories, at)?;
+    let sdw = cached_descriptor(core, dbr, memories, at)?;
     permitted(may_fetch(&sdw, at.ring), at)?;
     marked_run(core, dbr, memories, &sdw, at, 1, false)
 }

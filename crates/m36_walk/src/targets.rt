@@ -6,8 +6,8 @@ ghost use Rattle.m36_desc.specs.Access.{allowed, first_of, in_order, ordered_row
 ghost use Rattle.m36_model.specs.Core.{core_store};
 ghost use Rattle.m36_model.specs.Place.{core_sdw};
 ghost use Rattle.m36_model.specs.Store.{Core_word, within, when_ordered, bound_only, spots_of, place, first_ring};
-ghost use Rattle.m36_walk.specs.Reached.{told, told_acv, reached};
-ghost use Rattle.m36_walk.specs.Runs.{LiesIn, told_places};
+ghost use Rattle.m36_walk.specs.ReferenceResult.{told, violation_as_fault, reached};
+ghost use Rattle.m36_walk.specs.Runs.{IsInCore, places_as_fault};
 ghost use Rattle.m36_walk.specs.Served.{sdw_in, at_place, at_target, ok_map};
 
 use crate::place::places;
@@ -21,9 +21,9 @@ use m36_tables::{descriptor, in_order, violation, within};
 
 /// Checks that a target is within the bound.
 #[inline(always)]
-fn bounded(sdw: &Sdw, at: At) -> Result<(), Fault>
+fn check_bound(sdw: &Sdw, at: At) -> Result<(), Fault>
     ensures { ok_map (λ u. []) result
-        ≡ told_places at (bound_only (within sdw.now at.word) at.word) }
+        ≡ places_as_fault at (bound_only (within sdw.now at.word) at.word) }
 {
     if within(sdw, at.word) {
         Ok(())
@@ -34,7 +34,7 @@ fn bounded(sdw: &Sdw, at: At) -> Result<(), Fault>
 
 /// Checks the target of a transfer, in the ring of `at` from ring `prr`.
 #[inline(always)]
-#[tactic(auto, unfolding(crate::specs::Reached::reached))]
+#[tactic(auto, unfolding(crate::specs::ReferenceResult::reached))]
 pub(crate) fn find_transfer(core: &Core, dbr: Dbr, at: At, prr: u8) -> Result<(), Fault>
     ensures { reached (λ d. allowed tt (first_of (transfer_rows d at.ring prr)))
         (λ d. bound_only (within d at.word) at.word) (core_sdw core.now dbr at.seg) at
@@ -42,12 +42,12 @@ pub(crate) fn find_transfer(core: &Core, dbr: Dbr, at: At, prr: u8) -> Result<()
 {
     let sdw = described(core, dbr, at)?;
     permitted(may_transfer(&sdw, at.ring, prr), at)?;
-    bounded(&sdw, at)
+    check_bound(&sdw, at)
 }
 
 /// The ring in which a call continues, or a fault at its target.
 fn ring_permitted(answer: Result<u8, Acv>, at: At) -> Result<u8, Fault>
-    ensures { result ≡ told_acv at answer }
+    ensures { result ≡ violation_as_fault at answer }
 {
     match answer {
         Ok(ring) => Ok(ring),
@@ -57,7 +57,7 @@ fn ring_permitted(answer: Result<u8, Acv>, at: At) -> Result<u8, Fault>
 
 /// Checks the target of CALL6, in the ring of `at` from `ppr`. Returns the ring in which execution
 /// continues.
-#[tactic(auto, unfolding(crate::specs::Reached::reached))]
+#[tactic(auto, unfolding(crate::specs::ReferenceResult::reached))]
 pub(crate) fn find_call(core: &Core, dbr: Dbr, at: At, ppr: Ppr) -> Result<u8, Fault>
     ensures target { reached (λ d. allowed tt (first_of
         (call_rows d at.ring ppr.prr (at.seg == ppr.psr) at.word)))
@@ -72,7 +72,7 @@ pub(crate) fn find_call(core: &Core, dbr: Dbr, at: At, ppr: Ppr) -> Result<u8, F
         call_ring(&sdw, at.ring, ppr.prr, at.seg == ppr.psr, at.word),
         at,
     )?;
-    bounded(&sdw, at)?;
+    check_bound(&sdw, at)?;
     Ok(ring)
 }
 
@@ -88,12 +88,12 @@ fn ordered(sdw: &Sdw) -> Result<(), Refusal>
 }
 
 /// The core address of a word, without access checks.
-#[tactic(auto, unfolding(crate::specs::Reached::reached))]
+#[tactic(auto, unfolding(crate::specs::ReferenceResult::reached))]
 pub(crate) fn find_place(core: &Core, dbr: Dbr, at: At) -> Result<u32, Fault>
     ensures asked { reached (λ d. allowed tt (first_of (ordered_rows d [])))
         (λ d. spots_of core_store core.now dbr d at.seg at.word 1) (core_sdw core.now dbr at.seg) at
         ≡ at_place (sdw_in (record { core = core.now; dbr = dbr }) at.seg) 1 result }
-    ensures inside { IfOk result (λ a. LiesIn (length core.now) a 1) }
+    ensures inside { IfOk result (λ a. IsInCore (length core.now) a 1) }
 {
     let sdw = described(core, dbr, at)?;
     if let Err(why) = ordered(&sdw) {

@@ -6,7 +6,7 @@ ghost use Rattle.m36_associative.specs.Right.{AreRight};
 ghost use Rattle.m36_model.specs.Core.{core_put};
 ghost use Rattle.m36_model.specs.Place.{wrapped};
 ghost use Rattle.m36_model.specs.Results.{words_of_pairs};
-ghost use Rattle.m36_walk.specs.Runs.{LiesIn, words_from};
+ghost use Rattle.m36_walk.specs.Runs.{IsInCore, words_from};
 ghost use Rattle.m36_walk.specs.Words.{seen, run_changes};
 
 use m36_associative::{Memories, store};
@@ -26,7 +26,7 @@ pub struct Pending {
 
 /// Consecutive core words, modulo 2^24.
 #[derive(Clone, Copy, PartialEq, Eq)]
-pub struct Run {
+pub struct WordRun {
     /// The core address of the first word.
     pub place: u32,
     /// The number of words.
@@ -46,10 +46,10 @@ pub(crate) fn seen(core: &Core, pending: &Option<Pending>, a: u32) -> Word
 }
 
 /// The pair that begins at an address.
-#[tactic(auto, unfolding(crate::specs::Runs::words_from, crate::specs::Runs::LiesIn))]
+#[tactic(auto, unfolding(crate::specs::Runs::words_from, crate::specs::Runs::IsInCore))]
 pub(crate) fn seen_pair(core: &Core, pending: &Option<Pending>, a: u32) -> Pair
     requires place { a < 2 ^ 24 }
-    requires inside { LiesIn (length core.now) a 2 }
+    requires inside { IsInCore (length core.now) a 2 }
     ensures { words_from (seen core.now pending.now) a 2 ≡ pair_words result }
 {
     let even = seen(core, pending, a);
@@ -60,7 +60,7 @@ pub(crate) fn seen_pair(core: &Core, pending: &Option<Pending>, a: u32) -> Pair
 /// The block of 16 words that begins at an address.
 pub(crate) fn seen_block(core: &Core, pending: &Option<Pending>, a: u32) -> [Pair; 8]
     requires place { a < 2 ^ 24 }
-    requires inside { LiesIn (length core.now) a 16 }
+    requires inside { IsInCore (length core.now) a 16 }
     ensures { words_from (seen core.now pending.now) a 16 ≡ words_of_pairs result }
 {
     let mut pairs = [Pair {
@@ -76,10 +76,10 @@ pub(crate) fn seen_block(core: &Core, pending: &Option<Pending>, a: u32) -> [Pai
 }
 
 /// Writes the pair that begins at an address.
-#[tactic(auto, unfolding(m36_model::specs::Core::core_put, crate::specs::Runs::LiesIn))]
+#[tactic(auto, unfolding(m36_model::specs::Core::core_put, crate::specs::Runs::IsInCore))]
 pub(crate) fn put_pair(core: &mut Core, dbr: &Dbr, memories: &mut Memories, a: u32, pair: Pair)
     requires place { a < 2 ^ 24 }
-    requires inside { LiesIn (length core.old) a 2 }
+    requires inside { IsInCore (length core.old) a 2 }
     requires right { AreRight core.old dbr.now memories.old }
     ensures put { core.new ≡ core_put core.old (run_changes a (pair_words pair)) }
     ensures len { length core.new ≡ length core.old }
@@ -98,7 +98,7 @@ pub(crate) fn put_block(
     block: &[Pair; 8],
 )
     requires place { a < 2 ^ 24 }
-    requires inside { LiesIn (length core.old) a 16 }
+    requires inside { IsInCore (length core.old) a 16 }
     requires right { AreRight core.old dbr.now memories.old }
     ensures put { core.new ≡ core_put core.old (run_changes a (words_of_pairs block.now)) }
     ensures words { length (words_of_pairs block.now) ≡ 16 }

@@ -5,14 +5,14 @@ ghost use Rattle.m36_word.specs.Pairs.{pair_words};
 ghost use Rattle.m36_model.specs.Core.{core_put};
 ghost use Rattle.m36_model.specs.Results.{words_of_pairs};
 ghost use Rattle.m36_model.specs.Step.{aligned_at};
-ghost use Rattle.m36_walk.specs.Runs.{LiesIn};
+ghost use Rattle.m36_walk.specs.Runs.{IsInCore};
 ghost use Rattle.m36_walk.specs.Served.{IsCount, ok_map, ServesClaim, Writes};
 ghost use Rattle.m36_walk.specs.Words.{run_changes};
 
 use crate::reads::{block_at, pair_at};
 use crate::refer::refer_write;
 use crate::walk::Walk;
-use crate::words::{Run, put_block, put_pair};
+use crate::words::{WordRun, put_block, put_pair};
 use m36_associative::store;
 use m36_model::{At, Fault};
 use m36_word::{Pair, Word};
@@ -37,12 +37,12 @@ pub fn first_at(at: At, count: u8) -> At
 impl Walk {
     /// Checks a Write of 1, 2 or 16 words in the ring of `at`, sets its marks, and writes nothing.
     /// Returns the core words.
-    pub fn claim(&mut self, at: At, count: u8) -> Result<Run, Fault>
+    pub fn claim(&mut self, at: At, count: u8) -> Result<WordRun, Fault>
         requires { IsCount count }
         ensures serves { ServesClaim self.old self.new.core (aligned_at count at) count
             (ok_map (λ r. r.place) result) }
         ensures count { IfOk result (λ r. r.count ≡ count) }
-        ensures inside { IfOk result (λ r. LiesIn (length self.new.core) r.place count) }
+        ensures inside { IfOk result (λ r. IsInCore (length self.new.core) r.place count) }
         ensures bound { IfOk result (λ r. r.place < 2 ^ 24) }
         ensures dbr { self.new.dbr ≡ self.old.dbr }
         ensures len { length self.new.core ≡ length self.old.core }
@@ -60,7 +60,7 @@ impl Walk {
     pub fn hold(&mut self, at: At, count: u8) -> Result<u32, Fault>
         requires { IsCount count }
         ensures serves { ServesClaim self.old self.new.core (aligned_at count at) count result }
-        ensures inside { IfOk result (λ a. LiesIn (length self.new.core) a count) }
+        ensures inside { IfOk result (λ a. IsInCore (length self.new.core) a count) }
         ensures bound { IfOk result (λ a. a < 2 ^ 24) }
         ensures dbr { self.new.dbr ≡ self.old.dbr }
         ensures len { length self.new.core ≡ length self.old.core }
@@ -84,7 +84,7 @@ impl Walk {
     /// Writes the pair that begins at an address.
     pub fn store_pair(&mut self, place: u32, pair: Pair)
         requires place { place < 2 ^ 24 }
-        requires inside { LiesIn (length self.old.core) place 2 }
+        requires inside { IsInCore (length self.old.core) place 2 }
         ensures core { self.new.core
             ≡ core_put self.old.core (run_changes place (pair_words pair)) }
         ensures dbr { self.new.dbr ≡ self.old.dbr }
@@ -96,7 +96,7 @@ impl Walk {
     /// Writes the block that begins at an address.
     pub fn store_block(&mut self, place: u32, block: &[Pair; 8])
         requires place { place < 2 ^ 24 }
-        requires inside { LiesIn (length self.old.core) place 16 }
+        requires inside { IsInCore (length self.old.core) place 16 }
         ensures core { self.new.core
             ≡ core_put self.old.core (run_changes place (words_of_pairs block.now)) }
         ensures words { length (words_of_pairs block.now) ≡ 16 }
@@ -107,7 +107,7 @@ impl Walk {
     }
 
     /// Writes a word in the ring of `at`.
-    #[tactic(auto, unfolding(crate::specs::Runs::LiesIn))]
+    #[tactic(auto, unfolding(crate::specs::Runs::IsInCore))]
     pub fn write(&mut self, at: At, w: Word) -> Result<(), Fault>
         ensures writes { Writes self.old self.new.core at 1 (w ∷ []) result }
         ensures dbr { self.new.dbr ≡ self.old.dbr }

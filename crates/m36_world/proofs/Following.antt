@@ -7,8 +7,8 @@ use Rattle.m36_outside.specs.declared.lines.Piece.TheVariants as piece
 use Rattle.m36_outside.specs.declared.sink.Put.{Put}
 use Rattle.m36_outside.specs.declared.sink.Put.TheVariants as put
 use Rattle.m36_world.specs.Answers.{PutDid, PutBlockDid, NextPieceDid}
-use Rattle.m36_world.specs.Did.{Did}
-use Rattle.m36_world.specs.Noted.{put_events, block_events, input_events}
+use Rattle.m36_world.specs.Happened.{Happened}
+use Rattle.m36_world.specs.CallEvents.{put_events, block_events, input_events}
 use Rattle.m36_world.specs.Follow.{Next, Follow}
 use Rattle.m36_world.specs.Logs.{read_of, write_of, input_of, Takes, TakesAll, Logs}
 use Rattle.m36_world.specs.Seen.{Seen}
@@ -22,7 +22,7 @@ unfolding Follow
 follow_none old = refl
 
 -- one event
-pub follow_one : (event : Event) (old new : Seen) → Did event old new → Follow (event ∷ []) old new
+pub follow_one : (event : Event) (old new : Seen) → Happened event old new → Follow (event ∷ []) old new
 unfolding Follow
 follow_one event old new did = record { between = new; begins = did; goes_on = refl }
 
@@ -86,7 +86,7 @@ pub record LogsOne (event : Event) (old new : Seen) : Type 0 where
   pub outputs : Takes event old.outputs new.outputs
   pub references : new.references ≡ old.references
 
-logs_one : (event : Event) (old new : Seen) → Did event old new → LogsOne event old new
+logs_one : (event : Event) (old new : Seen) → Happened event old new → LogsOne event old new
 logs_one (FileRead name answer) old new did = record {
   all = ap (λ s. s.events) did.rest;
   reads = ap (λ s. s.reads) did.rest;

@@ -3,16 +3,16 @@ use Rattle.std.proofs.Common.{◌≡◌, ℕ, ◌≤◌, ◌<◌, ◌^◌, ◌�
 use Rattle.std.proofs.Common.{subst, ◌∙◌, inl, inr, arith, length-append}
 use Rattle.std.proofs.lemmas.List.{append-nil, append_assoc}
 use Rattle.m36_outside.specs.Passing.{joined, PutTakes, TakesLines, TakesSome}
-use Rattle.m36_outside.specs.Put.{PutSays, PutHasCause}
+use Rattle.m36_outside.specs.Put.{PutResult, PutHasCause}
 use Rattle.m36_outside.specs.Written.{appended, Grew}
 use Rattle.m36_outside.specs.declared.sink.Put.{Put}
 use Rattle.m36_outside.specs.declared.sink.Put.TheVariants.{Done, Failed}
 use Rattle.m36_outside.proofs.Grown.{appended-nil, appended-appended, grew_longer}
 use Rattle.m36_outside.proofs.LinesTaken.{takes_some_of_line}
 use Rattle.m36_world.specs.Answers.{PutDid, PutBlockDid}
-use Rattle.m36_world.specs.Did.{IsOutput}
+use Rattle.m36_world.specs.Happened.{IsOutput}
 use Rattle.m36_world.specs.Follow.{Follow, outputs}
-use Rattle.m36_world.specs.Noted.{put_events, block_events}
+use Rattle.m36_world.specs.CallEvents.{put_events, block_events}
 use Rattle.m36_world.specs.Seen.{Seen}
 use Rattle.m36_world.specs.declared.event.Event.{Event}
 use Rattle.m36_world.specs.declared.event.Event.TheVariants.{Output}
@@ -25,7 +25,7 @@ after_put old events outputs written faults =
 pub put_did :
     (answer : Put) (piece : List ℕ) (old : Seen)
     (events : List Event) (outputs : List (List ℕ)) (written : Option (List ℕ)) (faults : ℕ)
-    → PutSays answer old.written written piece → PutTakes answer old.written written old.outputs outputs piece
+    → PutResult answer old.written written piece → PutTakes answer old.written written old.outputs outputs piece
     → PutHasCause answer old.output_faults faults → old.output_faults ≤ faults → faults < 2 ^ 64
     → events ≡ old.events ++ put_events answer piece
     → PutDid answer piece old (after_put old events outputs written faults)
@@ -104,7 +104,7 @@ some_pieces old new pieces some =
 pub put_block_did :
     (answer : Put) (pieces : List (List ℕ)) (old : Seen)
     (events : List Event) (outputs : List (List ℕ)) (written : Option (List ℕ)) (faults : ℕ)
-    → PutSays answer old.written written (joined pieces) → TakesLines answer old.outputs outputs pieces
+    → PutResult answer old.written written (joined pieces) → TakesLines answer old.outputs outputs pieces
     → PutHasCause answer old.output_faults faults → old.output_faults ≤ faults
     → ((old.output_faults < 2 ^ 64) ⊎ (1 ≤ length pieces) → faults < 2 ^ 64)
     → events ≡ old.events ++ block_events answer pieces

@@ -5,7 +5,7 @@ use Rattle.m36_outside.specs.declared.lines.Piece.{Piece}
 use Rattle.m36_outside.specs.declared.lines.Piece.TheVariants as piece
 use Rattle.m36_outside.specs.declared.sink.Put.{Put}
 use Rattle.m36_outside.specs.declared.sink.Put.TheVariants as put
-use Rattle.m36_world.specs.Did.{IsOutput, IsOutputFailed, IsInput, IsInputFailed}
+use Rattle.m36_world.specs.Happened.{IsOutput, IsOutputFailed, IsInput, IsInputFailed}
 use Rattle.m36_world.specs.Follow.{Follow, outputs}
 use Rattle.m36_world.specs.Seen.{Seen}
 

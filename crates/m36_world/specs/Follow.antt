@@ -1,6 +1,6 @@
 -- Events, one after another.
 use Rattle.std.specs.Prelude.{ℕ, ◌≡◌, List, [], ◌∷◌, map}
-use Rattle.m36_world.specs.Did.{Did}
+use Rattle.m36_world.specs.Happened.{Happened}
 use Rattle.m36_world.specs.Seen.{Seen}
 use Rattle.m36_world.specs.declared.event.Event.{Event}
 use Rattle.m36_world.specs.declared.event.Event.TheVariants.{Output}
@@ -14,7 +14,7 @@ pub record Next (first rest : Seen → Seen → Type 0) (old new : Seen) : Type 
 -- These events happened, one after another.
 unfoldable pub Follow : List Event → Seen → Seen → Type 0
 Follow [] old new = new ≡ old
-Follow (event ∷ events) old new = Next (Did event) (Follow events) old new
+Follow (event ∷ events) old new = Next (Happened event) (Follow events) old new
 
 -- these pieces of output, each written whole
 abbrev pub outputs : List (List ℕ) → List Event

@@ -1,6 +1,6 @@
 pub mod Answers
-pub mod Did
+pub mod Happened
 pub mod Follow
 pub mod Logs
-pub mod Noted
+pub mod CallEvents
 pub mod Seen

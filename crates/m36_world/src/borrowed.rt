@@ -5,7 +5,7 @@ ghost use Rattle.std.specs.Prelude.{[], ◌∷◌, ◌≡◌};
 use crate::calls::{BlockCall, InputCall, PutCall, ReadCall, WriteCall};
 use crate::event::Event;
 use crate::world::World;
-use m36_outside::{Block, Folder, Lines, Passed, Piece, Put, ReadAnswer, Sink, WriteAnswer};
+use m36_outside::{Block, Folder, Lines, Log, Piece, Put, ReadAnswer, Sink, WriteAnswer};
 use std::alloc::Global;
 
 /// A folder, an input and an output of the caller, with the events since they were borrowed.
@@ -14,7 +14,7 @@ pub struct Borrowed<'a, F, L, S> {
     folder: &'a mut F,
     input: &'a mut L,
     output: &'a mut S,
-    events: Passed<Event>,
+    events: Log<Event>,
 }
 
 impl<'a, F: Folder, L: Lines, S: Sink> Borrowed<'a, F, L, S> {
@@ -32,7 +32,7 @@ impl<'a, F: Folder, L: Lines, S: Sink> Borrowed<'a, F, L, S> {
             folder,
             input,
             output,
-            events: Passed::new(),
+            events: Log::new(),
         }
     }
 }

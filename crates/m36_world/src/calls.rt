@@ -40,7 +40,7 @@ pub(crate) struct PutCall<'a> {
 }
 
 impl<'a> Entries<Event> for PutCall<'a> {
-    ghost use Rattle.m36_world.specs.Noted.{put_events};
+    ghost use Rattle.m36_world.specs.CallEvents.{put_events};
 
     ghost entries = { λ call. put_events call.answer call.piece.now };
 }
@@ -53,7 +53,7 @@ pub(crate) struct BlockCall<'a> {
 }
 
 impl<'a> Entries<Event> for BlockCall<'a> {
-    ghost use Rattle.m36_world.specs.Noted.{block_events};
+    ghost use Rattle.m36_world.specs.CallEvents.{block_events};
 
     ghost entries = { λ call. block_events call.answer call.block.now };
 }
@@ -66,7 +66,7 @@ pub(crate) struct InputCall<'a> {
 }
 
 impl<'a> Entries<Event> for InputCall<'a> {
-    ghost use Rattle.m36_world.specs.Noted.{input_events};
+    ghost use Rattle.m36_world.specs.CallEvents.{input_events};
 
     ghost entries = { λ call. input_events call.answer call.into.now };
 }

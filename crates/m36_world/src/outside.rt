@@ -5,7 +5,7 @@ ghost use Rattle.std.specs.Prelude.{[], ◌≡◌};
 use crate::calls::{BlockCall, InputCall, PutCall, ReadCall, WriteCall};
 use crate::event::Event;
 use crate::world::World;
-use m36_outside::{Block, Folder, Lines, Passed, Piece, Put, ReadAnswer, Sink, WriteAnswer};
+use m36_outside::{Block, Folder, Lines, Log, Piece, Put, ReadAnswer, Sink, WriteAnswer};
 use std::alloc::Global;
 
 /// A folder, an input and an output, with the events so far.
@@ -14,7 +14,7 @@ pub struct Outside<F, L, S> {
     folder: F,
     input: L,
     output: S,
-    events: Passed<Event>,
+    events: Log<Event>,
 }
 
 impl<F: Folder, L: Lines, S: Sink> Outside<F, L, S> {
@@ -29,7 +29,7 @@ impl<F: Folder, L: Lines, S: Sink> Outside<F, L, S> {
             folder,
             input,
             output,
-            events: Passed::new(),
+            events: Log::new(),
         }
     }
 

@@ -1,12 +1,12 @@
 //! Pieces of output in an event.
 
-use m36_outside::{Passed, Text};
+use m36_outside::{Log, Text};
 use std::marker::Model;
 
 /// A list of pieces that takes no memory; the view is that list.
 #[derive(Drop)]
 pub struct Pieces {
-    pieces: Passed<Text>,
+    pieces: Log<Text>,
 }
 
 impl Model for Pieces {

@@ -2,7 +2,7 @@
 
 ghost use Rattle.std.specs.Prelude.{◌≤◌, length};
 ghost use Rattle.m36_world.specs.Answers.{PutDid, PutBlockDid, NextPieceDid};
-ghost use Rattle.m36_world.specs.Did.{IsFileRead, IsFileWrite};
+ghost use Rattle.m36_world.specs.Happened.{IsFileRead, IsFileWrite};
 ghost use Rattle.m36_world.specs.Seen.{Seen};
 
 use m36_outside::{Block, Piece, Put, ReadAnswer, WriteAnswer};

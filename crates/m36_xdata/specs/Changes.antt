@@ -9,13 +9,13 @@ use Rattle.m36_model.specs.Effect.{refused_here}
 use Rattle.m36_model.specs.declared.effects.Held.{Held}
 use Rattle.m36_model.specs.declared.outcome.Fault.{Fault}
 use Rattle.m36_xdata.specs.declared.changes.Change.{Change}
-use Rattle.m36_xdata.specs.declared.changes.Taken.{Taken}
-use Rattle.m36_xdata.specs.declared.changes.Taken.TheVariants as taken_by
-use Rattle.m36_xdata.specs.declared.changes.Stored.{Stored}
-use Rattle.m36_xdata.specs.declared.changes.Stored.TheVariants as put_as
+use Rattle.m36_xdata.specs.declared.changes.NewValues.{NewValues}
+use Rattle.m36_xdata.specs.declared.changes.NewValues.TheVariants as taken_by
+use Rattle.m36_xdata.specs.declared.changes.WordsToWrite.{WordsToWrite}
+use Rattle.m36_xdata.specs.declared.changes.WordsToWrite.TheVariants as put_as
 
 -- the registers with the new values
-abbrev pub taken : Taken → RegsFields → RegsFields
+abbrev pub taken : NewValues → RegsFields → RegsFields
 taken taken_by.Nothing g = g
 taken (taken_by.A w) g = with_value A w g
 taken (taken_by.Q w) g = with_value Q w g
@@ -23,7 +23,7 @@ taken (taken_by.Aq p) g = record g { a = p.even; q = p.odd }
 taken (taken_by.X i) g = with_value (X i.n) i.value g
 
 -- the words to write, as a list
-abbrev pub stored : Stored → List ℕ
+abbrev pub stored : WordsToWrite → List ℕ
 stored put_as.Nothing = []
 stored (put_as.One w) = w ∷ []
 stored (put_as.Two p) = pair_words p
@@ -49,8 +49,8 @@ answer_changed (Err f) g = Err f
 -- The code changed the registers from g to g', and returned these words to write and whether there
 -- is an overflow. Together they are the effect that the definition gives. If the instruction is
 -- refused, the registers are unchanged.
-abbrev pub LeavesSo :
+abbrev pub Leaves :
     RegsFields → RegsFields → Held → Result Bool Fault → Result EffectFields Fault → Type 0
-LeavesSo g g' put (Ok overflow) definition =
+Leaves g g' put (Ok overflow) definition =
     Ok (record { regs = g'; put = words_of_held put; overflow = overflow }) ≡ definition
-LeavesSo g g' put (Err f) definition = (Err f ≡ definition) × (g' ≡ g)
+Leaves g g' put (Err f) definition = (Err f ≡ definition) × (g' ≡ g)

@@ -4,23 +4,23 @@ ghost use Rattle.std.specs.Prelude.{◌≡◌, ◌+◌, ◌%◌, ◌^◌};
 ghost use Rattle.m36_model.specs.Results.{with_indicators, moved_on, words_of_held};
 ghost use Rattle.m36_xdata.specs.Changes.{changed, stored, taken};
 
-use crate::changes::{Change, Stored, Taken};
+use crate::changes::{Change, NewValues, WordsToWrite};
 use m36_model::{Held, Ind, Regs};
 
 /// Stores the new value into its registers.
 #[tactic(auto, unfolding(m36_model::specs::Results::with_value))]
-fn take(new: Taken, regs: &mut Regs)
+fn take(new: NewValues, regs: &mut Regs)
     ensures { regs.new ≡ taken new regs.old }
 {
     match new {
-        Taken::Nothing => {}
-        Taken::A(w) => regs.a = w,
-        Taken::Q(w) => regs.q = w,
-        Taken::Aq(p) => {
+        NewValues::Nothing => {}
+        NewValues::A(w) => regs.a = w,
+        NewValues::Q(w) => regs.q = w,
+        NewValues::Aq(p) => {
             regs.a = p.even;
             regs.q = p.odd;
         }
-        Taken::X(i) => regs.x[i.n as usize] = i.value,
+        NewValues::X(i) => regs.x[i.n as usize] = i.value,
     }
 }
 
@@ -34,13 +34,13 @@ fn move_on(ind: Ind, regs: &mut Regs)
     regs.ppr.ic = (ic + 1) % (1 << 18);
 }
 
-fn held(put: Stored) -> Held
+fn held(put: WordsToWrite) -> Held
     ensures { words_of_held result ≡ stored put }
 {
     match put {
-        Stored::Nothing => Held::Empty,
-        Stored::One(w) => Held::One(w),
-        Stored::Two(p) => Held::Two(p),
+        WordsToWrite::Nothing => Held::Empty,
+        WordsToWrite::One(w) => Held::One(w),
+        WordsToWrite::Two(p) => Held::Two(p),
     }
 }
 

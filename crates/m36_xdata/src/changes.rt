@@ -19,7 +19,7 @@ pub struct NewIndex {
 
 /// The new values of registers.
 #[derive(Clone, Copy)]
-pub enum Taken {
+pub enum NewValues {
     Nothing,
     /// The accumulator.
     A(Word),
@@ -32,7 +32,7 @@ pub enum Taken {
 
 /// The words to write into the operand.
 #[derive(Clone, Copy)]
-pub enum Stored {
+pub enum WordsToWrite {
     Nothing,
     One(Word),
     Two(Pair),
@@ -41,8 +41,8 @@ pub enum Stored {
 /// What a data instruction changes, except for the instruction counter.
 #[derive(Clone, Copy)]
 pub struct Change {
-    pub taken: Taken,
-    pub put: Stored,
+    pub taken: NewValues,
+    pub put: WordsToWrite,
     /// The new indicators.
     pub ind: Ind,
     /// Whether overflow has to be reported.

@@ -9,10 +9,10 @@ ghost use Rattle.m36_xdata.specs.Registers.{working, IsRegister, HoldsNumber};
 ghost use Rattle.m36_xdata.specs.Changes.{Gives, stored};
 
 use crate::bits::{both, differing, first_alone};
-use crate::changes::{Change, Stored, Taken};
+use crate::changes::{Change, NewValues, WordsToWrite};
 use crate::conditions::{compared, zn};
 use crate::numbers::comparison;
-use crate::operands::number_got;
+use crate::operands::operand_number;
 use crate::registers::{Register, indicators, number_in};
 use crate::results::sets;
 use m36_model::{Operand36, Regs};
@@ -29,7 +29,7 @@ pub fn compare(r: Register, given: &Operand36, regs: &Regs) -> Change
 {
     sets(
         compared(
-            comparison(r, number_in(r, regs), number_got(r, given)),
+            comparison(r, number_in(r, regs), operand_number(r, given)),
             indicators(regs),
         ),
         regs,
@@ -46,12 +46,12 @@ pub fn test_and_clear(given: &Operand36, regs: &Regs) -> Change
 {
     let ind = zn(
         Register::A,
-        number_got(Register::A, given),
+        operand_number(Register::A, given),
         indicators(regs),
     );
     Change {
-        taken: Taken::Nothing,
-        put: Stored::One(Word::ZERO),
+        taken: NewValues::Nothing,
+        put: WordsToWrite::One(Word::ZERO),
         ind,
         overflow: false,
     }
@@ -69,7 +69,7 @@ pub fn compare_masked(given: &Operand36, regs: &Regs) -> Change
     let other = differing(
         Register::A,
         number_in(Register::A, regs),
-        number_got(Register::A, given),
+        operand_number(Register::A, given),
     );
     let seen = first_alone(Register::A, other, number_in(Register::Q, regs));
     sets(zn(Register::A, seen, indicators(regs)), regs)
@@ -87,7 +87,7 @@ pub fn test_and(r: Register, given: &Operand36, regs: &Regs) -> Change
     sets(
         zn(
             r,
-            both(r, number_in(r, regs), number_got(r, given)),
+            both(r, number_in(r, regs), operand_number(r, given)),
             indicators(regs),
         ),
         regs,
@@ -106,7 +106,7 @@ pub fn test_and_not(r: Register, given: &Operand36, regs: &Regs) -> Change
     sets(
         zn(
             r,
-            first_alone(r, number_in(r, regs), number_got(r, given)),
+            first_alone(r, number_in(r, regs), operand_number(r, given)),
             indicators(regs),
         ),
         regs,

@@ -9,7 +9,7 @@ ghost use Rattle.m36_model.specs.Fields.{FinalFields};
 ghost use Rattle.m36_model.specs.OperandHeld.{HoldsFor};
 ghost use Rattle.m36_model.specs.Results.{operand_fields, words_of_held};
 ghost use Rattle.m36_model.specs.Effect.{exec, answer_fields, refused_here};
-ghost use Rattle.m36_xdata.specs.Changes.{Gives, LeavesSo, stored};
+ghost use Rattle.m36_xdata.specs.Changes.{Gives, Leaves, stored};
 ghost use Rattle.m36_xdata.specs.DataInstructions.{is_never_refused};
 ghost use Rattle.m36_model.specs.WordsPut.{PutsFor};
 
@@ -25,7 +25,7 @@ use crate::sums::{
     add, add_logical, add_low, add_to_storage, add_with_carry, negate, subtract, subtract_logical,
     subtract_stored, subtract_with_carry,
 };
-use m36_frequent::{
+use m36_fastpath::{
     change_word_with_overflow, load_address, read_pair_with_overflow, read_word_with_overflow,
     shift, store_half, store_pair, store_word,
 };
@@ -123,7 +123,7 @@ pub fn exec_in_place(
     requires data { IsTrue (is_data row.now.effect) }
     requires reg { row.now.reg < 8 }
     requires got { HoldsFor (operand_of row.now.effect) operand.now.got }
-    ensures value { LeavesSo regs.old regs.new put.new result
+    ensures value { Leaves regs.old regs.new put.new result
         (refused_here regs.old
         (exec row.now.effect row.now.reg regs.old f.now (operand_fields operand.now))) }
     ensures put { IfOk result (λ o. PutsFor (operand_of row.now.effect) (words_of_held put.new)) }

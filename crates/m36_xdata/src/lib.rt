@@ -6,7 +6,7 @@
 //! or the quotient does not fit. [`exec_in_place`] does the same directly in the registers. The
 //! arithmetic is that of `m36_arith`.
 //!
-//! `m36_frequent` executes the frequent instructions, and this crate all others.
+//! `m36_fastpath` executes the frequent instructions, and this crate all others.
 //!
 //! Source: Multics Processor Manual AL39, "Fixed-point instructions" and "Boolean instructions".
 #![tactic(auto)]

@@ -8,10 +8,10 @@ ghost use Rattle.m36_model.specs.Loads.{load_indicators};
 ghost use Rattle.m36_xdata.specs.Registers.{working, IsRegister, HoldsNumber};
 ghost use Rattle.m36_xdata.specs.Changes.{Gives, stored};
 
-use crate::changes::{Change, Stored};
+use crate::changes::{Change, WordsToWrite};
 use crate::conditions::{zn, zn_overflow};
 use crate::numbers::negation;
-use crate::operands::{number_got, word_got};
+use crate::operands::{operand_number, operand_word};
 use crate::registers::{Register, indicators};
 use crate::results::{new_value, sets, takes};
 use m36_model::{Ind, Operand36, Regs};
@@ -26,7 +26,7 @@ pub fn load_complement(r: Register, given: &Operand36, regs: &Regs) -> Change
         (load_complement (working r) (operand (working r) (operand_fields given.now)) regs.now) }
     ensures put { length (stored result.put) ≡ 0 }
 {
-    let s = negation(r, number_got(r, given));
+    let s = negation(r, operand_number(r, given));
     takes(
         r,
         s.value,
@@ -45,10 +45,10 @@ pub fn load_and_clear(r: Register, given: &Operand36, regs: &Regs) -> Change
         (load_and_clear (working r) (operand (working r) (operand_fields given.now)) regs.now) }
     ensures put { length (stored result.put) ≡ 1 }
 {
-    let v = number_got(r, given);
+    let v = operand_number(r, given);
     Change {
         taken: new_value(r, v, regs),
-        put: Stored::One(Word::ZERO),
+        put: WordsToWrite::One(Word::ZERO),
         ind: zn(r, v, indicators(regs)),
         overflow: false,
     }
@@ -77,5 +77,5 @@ pub fn load_indicators(given: &Operand36, regs: &Regs) -> Change
         (load_indicators (word (operand_fields given.now)) regs.now) }
     ensures put { length (stored result.put) ≡ 0 }
 {
-    sets(indicators_of(word_got(given)), regs)
+    sets(indicators_of(operand_word(given)), regs)
 }

@@ -10,7 +10,7 @@ ghost use Rattle.m36_xdata.specs.Changes.{Gives, stored};
 use crate::bits::{both, differing, either};
 use crate::changes::Change;
 use crate::conditions::zn;
-use crate::operands::number_got;
+use crate::operands::operand_number;
 use crate::registers::{Register, indicators, number_in};
 use crate::results::{puts, takes_tested};
 use m36_model::{Operand36, Regs};
@@ -24,7 +24,11 @@ pub fn and_register(r: Register, given: &Operand36, regs: &Regs) -> Change
         (and_register (working r) (operand (working r) (operand_fields given.now)) regs.now) }
     ensures put { length (stored result.put) ≡ 0 }
 {
-    takes_tested(r, both(r, number_in(r, regs), number_got(r, given)), regs)
+    takes_tested(
+        r,
+        both(r, number_in(r, regs), operand_number(r, given)),
+        regs,
+    )
 }
 
 /// ORX: register OR operand, into the register.
@@ -36,7 +40,11 @@ pub fn or_register(r: Register, given: &Operand36, regs: &Regs) -> Change
         (or_register (working r) (operand (working r) (operand_fields given.now)) regs.now) }
     ensures put { length (stored result.put) ≡ 0 }
 {
-    takes_tested(r, either(r, number_in(r, regs), number_got(r, given)), regs)
+    takes_tested(
+        r,
+        either(r, number_in(r, regs), operand_number(r, given)),
+        regs,
+    )
 }
 
 /// ERX: register XOR operand, into the register.
@@ -50,7 +58,7 @@ pub fn xor_register(r: Register, given: &Operand36, regs: &Regs) -> Change
 {
     takes_tested(
         r,
-        differing(r, number_in(r, regs), number_got(r, given)),
+        differing(r, number_in(r, regs), operand_number(r, given)),
         regs,
     )
 }
@@ -73,7 +81,11 @@ pub fn and_storage(r: Register, given: &Operand36, regs: &Regs) -> Change
         (and_storage (working r) (operand (working r) (operand_fields given.now)) regs.now) }
     ensures put { PutsNumber r (stored result.put) }
 {
-    bits_into_operand(r, both(r, number_in(r, regs), number_got(r, given)), regs)
+    bits_into_operand(
+        r,
+        both(r, number_in(r, regs), operand_number(r, given)),
+        regs,
+    )
 }
 
 /// ORSA, ORSQ, ORSX: register OR operand, into the operand.
@@ -85,7 +97,11 @@ pub fn or_storage(r: Register, given: &Operand36, regs: &Regs) -> Change
         (or_storage (working r) (operand (working r) (operand_fields given.now)) regs.now) }
     ensures put { PutsNumber r (stored result.put) }
 {
-    bits_into_operand(r, either(r, number_in(r, regs), number_got(r, given)), regs)
+    bits_into_operand(
+        r,
+        either(r, number_in(r, regs), operand_number(r, given)),
+        regs,
+    )
 }
 
 /// ERSA, ERSQ, ERSX: register XOR operand, into the operand.
@@ -99,7 +115,7 @@ pub fn xor_storage(r: Register, given: &Operand36, regs: &Regs) -> Change
 {
     bits_into_operand(
         r,
-        differing(r, number_in(r, regs), number_got(r, given)),
+        differing(r, number_in(r, regs), operand_number(r, given)),
         regs,
     )
 }

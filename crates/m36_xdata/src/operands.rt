@@ -6,14 +6,14 @@ ghost use Rattle.m36_model.specs.Results.{operand_fields, half, operand, words, 
 ghost use Rattle.m36_xdata.specs.Registers.{working, HoldsNumber, PutsNumber};
 ghost use Rattle.m36_xdata.specs.Changes.{stored};
 
-use crate::changes::Stored;
+use crate::changes::WordsToWrite;
 use crate::numbers;
 use crate::registers::Register;
 use m36_model::Operand36;
 use m36_word::{Field, Word};
 
 /// The word that was read.
-pub fn word_got(given: &Operand36) -> Word
+pub fn operand_word(given: &Operand36) -> Word
     requires { IsTrue (is_word given.now.got) }
     ensures { result ≡ word (operand_fields given.now) }
 {
@@ -30,26 +30,26 @@ fn pair_got(given: &Operand36) -> u128
 
 /// The operand for a register: the word, the pair or, for an index register, bits 0 to 17 of the
 /// word.
-pub fn number_got(r: Register, given: &Operand36) -> u128
+pub fn operand_number(r: Register, given: &Operand36) -> u128
     requires { HoldsNumber r given.now.got }
     ensures value { result ≡ operand (working r) (operand_fields given.now) }
     ensures bound { result < 2 * half (working r) }
 {
     match r {
-        Register::A | Register::Q => word_got(given).value() as u128,
+        Register::A | Register::Q => operand_word(given).value() as u128,
         Register::Aq => pair_got(given),
-        Register::X(_) => Field::<0, 18>::get(word_got(given)) as u128,
+        Register::X(_) => Field::<0, 18>::get(operand_word(given)) as u128,
     }
 }
 
 /// The words to write for a number of a register's width.
-pub fn held(r: Register, v: u128) -> Stored
+pub fn held(r: Register, v: u128) -> WordsToWrite
     requires { v < 2 * half (working r) }
     ensures value { stored result ≡ words (working r) v }
     ensures put { PutsNumber r (stored result) }
 {
     match r {
-        Register::A | Register::Q | Register::X(_) => Stored::One(numbers::word(v)),
-        Register::Aq => Stored::Two(numbers::pair(v)),
+        Register::A | Register::Q | Register::X(_) => WordsToWrite::One(numbers::word(v)),
+        Register::Aq => WordsToWrite::Two(numbers::pair(v)),
     }
 }

@@ -8,13 +8,13 @@ ghost use Rattle.m36_model.specs.Products.{multiply, divide};
 ghost use Rattle.m36_model.specs.Effect.{refused_here};
 ghost use Rattle.m36_xdata.specs.Changes.{Gives, answer_changed, stored};
 
-use crate::changes::{Change, Stored, Taken};
+use crate::changes::{Change, NewValues, WordsToWrite};
 use crate::conditions::zn;
-use crate::operands::word_got;
+use crate::operands::operand_word;
 use crate::registers::{Register, indicators};
 use crate::results::takes_tested;
 use m36_arith::{div, mul};
-use m36_frequent::quotient;
+use m36_fastpath::quotient;
 use m36_model::{At, Fault, Operand36, Regs};
 use m36_word::Pair;
 
@@ -25,7 +25,7 @@ pub fn multiply(given: &Operand36, regs: &Regs) -> Change
     ensures value { Gives result regs.now (multiply (word (operand_fields given.now)) regs.now) }
     ensures put { length (stored result.put) ≡ 0 }
 {
-    let product = mul(quotient(regs), word_got(given));
+    let product = mul(quotient(regs), operand_word(given));
     takes_tested(Register::Aq, product.value(), regs)
 }
 
@@ -52,15 +52,15 @@ pub fn divide(given: &Operand36, regs: &Regs) -> Result<Change, Fault>
         ≡ refused_here regs.now (divide (word (operand_fields given.now)) regs.now) }
     ensures put { IfOk result (λ e. length (stored e.put) ≡ 0) }
 {
-    match div(quotient(regs), word_got(given)) {
+    match div(quotient(regs), operand_word(given)) {
         Ok((q, remainder)) => {
             let ind = zn(Register::Q, q.value() as u128, indicators(regs));
             Ok(Change {
-                taken: Taken::Aq(Pair {
+                taken: NewValues::Aq(Pair {
                     even: remainder,
                     odd: q,
                 }),
-                put: Stored::Nothing,
+                put: WordsToWrite::Nothing,
                 ind,
                 overflow: false,
             })

@@ -4,7 +4,7 @@ ghost use Rattle.std.specs.Prelude.{◌≡◌, ◌*◌, ◌^◌, ◌<◌};
 ghost use Rattle.m36_model.specs.Results.{half, value};
 ghost use Rattle.m36_xdata.specs.Registers.{working, IsRegister};
 
-use m36_frequent::pair;
+use m36_fastpath::pair;
 use m36_model::{Ind, Regs};
 
 /// A register: the accumulator, the quotient register, both as one number of 72 bits, or an index

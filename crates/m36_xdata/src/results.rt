@@ -6,7 +6,7 @@ ghost use Rattle.m36_model.specs.Results.{completes, completes_or_overflows};
 ghost use Rattle.m36_xdata.specs.Registers.{working, IsRegister, PutsNumber};
 ghost use Rattle.m36_xdata.specs.Changes.{Gives, stored, taken};
 
-use crate::changes::{Change, NewIndex, Stored, Taken};
+use crate::changes::{Change, NewIndex, NewValues, WordsToWrite};
 use crate::conditions::zn;
 use crate::numbers::{pair, word};
 use crate::operands::held;
@@ -15,16 +15,16 @@ use m36_model::{Ind, Regs};
 
 /// The change of a register to a number.
 #[tactic(auto, unfolding(m36_model::specs::Results::with_value))]
-pub fn new_value(r: Register, v: u128, regs: &Regs) -> Taken
+pub fn new_value(r: Register, v: u128, regs: &Regs) -> NewValues
     requires register { IsRegister r }
     requires number { v < 2 * half (working r) }
     ensures { taken result regs.now ≡ with_value (working r) v regs.now }
 {
     match r {
-        Register::A => Taken::A(word(v)),
-        Register::Q => Taken::Q(word(v)),
-        Register::Aq => Taken::Aq(pair(v)),
-        Register::X(n) => Taken::X(NewIndex { value: v as u32, n }),
+        Register::A => NewValues::A(word(v)),
+        Register::Q => NewValues::Q(word(v)),
+        Register::Aq => NewValues::Aq(pair(v)),
+        Register::X(n) => NewValues::X(NewIndex { value: v as u32, n }),
     }
 }
 
@@ -38,7 +38,7 @@ pub fn takes(r: Register, v: u128, ind: Ind, overflow: bool, regs: &Regs) -> Cha
 {
     Change {
         taken: new_value(r, v, regs),
-        put: Stored::Nothing,
+        put: WordsToWrite::Nothing,
         ind,
         overflow,
     }
@@ -60,8 +60,8 @@ pub fn sets(ind: Ind, regs: &Regs) -> Change
     ensures put { length (stored result.put) ≡ 0 }
 {
     Change {
-        taken: Taken::Nothing,
-        put: Stored::Nothing,
+        taken: NewValues::Nothing,
+        put: WordsToWrite::Nothing,
         ind,
         overflow: false,
     }
@@ -75,7 +75,7 @@ pub fn puts(r: Register, v: u128, ind: Ind, overflow: bool, regs: &Regs) -> Chan
     ensures put { PutsNumber r (stored result.put) }
 {
     Change {
-        taken: Taken::Nothing,
+        taken: NewValues::Nothing,
         put: held(r, v),
         ind,
         overflow,

@@ -9,11 +9,11 @@ ghost use Rattle.m36_model.specs.Stores.{store_where_zero, store_where_equal};
 ghost use Rattle.m36_model.specs.WordsPut.{IsHalf};
 ghost use Rattle.m36_xdata.specs.Changes.{Gives, stored};
 
-use crate::changes::{Change, Stored, Taken};
+use crate::changes::{Change, NewValues, WordsToWrite};
 use crate::conditions::with_zero;
-use crate::operands::word_got;
+use crate::operands::operand_word;
 use crate::registers::indicators;
-use m36_frequent::{accumulator, quotient};
+use m36_fastpath::{accumulator, quotient};
 use m36_model::{Ind, Operand36, Regs};
 use m36_word::Word;
 
@@ -46,8 +46,8 @@ pub fn store_indicators(regs: &Regs) -> Change
     ensures put { IsHalf (stored result.put) }
 {
     Change {
-        taken: Taken::Nothing,
-        put: Stored::One(indicators_half(indicators(regs))),
+        taken: NewValues::Nothing,
+        put: WordsToWrite::One(indicators_half(indicators(regs))),
         ind: indicators(regs),
         overflow: false,
     }
@@ -73,11 +73,11 @@ pub fn store_where_zero(given: &Operand36, regs: &Regs) -> Change
         (store_where_zero (word (operand_fields given.now)) regs.now) }
     ensures put { length (stored result.put) ≡ 1 }
 {
-    let old = word_got(given);
+    let old = operand_word(given);
     let free = are_equal(old, Word::ZERO);
     Change {
-        taken: Taken::Nothing,
-        put: Stored::One(chosen(free, accumulator(regs), old)),
+        taken: NewValues::Nothing,
+        put: WordsToWrite::One(chosen(free, accumulator(regs), old)),
         ind: with_zero(free, indicators(regs)),
         overflow: false,
     }
@@ -92,11 +92,11 @@ pub fn store_where_equal(given: &Operand36, regs: &Regs) -> Change
         (store_where_equal (word (operand_fields given.now)) regs.now) }
     ensures put { length (stored result.put) ≡ 1 }
 {
-    let old = word_got(given);
+    let old = operand_word(given);
     let equal = are_equal(old, quotient(regs));
     Change {
-        taken: Taken::Nothing,
-        put: Stored::One(chosen(equal, accumulator(regs), old)),
+        taken: NewValues::Nothing,
+        put: WordsToWrite::One(chosen(equal, accumulator(regs), old)),
         ind: with_zero(equal, indicators(regs)),
         overflow: false,
     }

@@ -14,7 +14,7 @@ ghost use Rattle.m36_xdata.specs.Changes.{Gives, stored};
 use crate::changes::Change;
 use crate::conditions::{zn_carry, zn_carry_overflow, zn_overflow};
 use crate::numbers::{Computed, difference, negation, sum};
-use crate::operands::{number_got, word_got};
+use crate::operands::{operand_number, operand_word};
 use crate::registers::{Register, indicators, number_in};
 use crate::results::{puts, takes};
 use m36_model::{Operand36, Regs};
@@ -86,7 +86,7 @@ pub fn add(r: Register, given: &Operand36, regs: &Regs) -> Change
         (add (working r) (operand (working r) (operand_fields given.now)) regs.now) }
     ensures put { length (stored result.put) ≡ 0 }
 {
-    add_number(r, number_got(r, given), regs)
+    add_number(r, operand_number(r, given), regs)
 }
 
 #[tactic(auto, unfolding(m36_model::specs::Sums::sign_extended))]
@@ -109,7 +109,7 @@ pub fn add_low(given: &Operand36, regs: &Regs) -> Change
         (add AQ (sign_extended (word (operand_fields given.now))) regs.now) }
     ensures put { length (stored result.put) ≡ 0 }
 {
-    add_number(Register::Aq, sign_extended(word_got(given)), regs)
+    add_number(Register::Aq, sign_extended(operand_word(given)), regs)
 }
 
 /// ADLA, ADLQ, ADLAQ, ADLX: register plus operand, into the register, without overflow.
@@ -123,7 +123,7 @@ pub fn add_logical(r: Register, given: &Operand36, regs: &Regs) -> Change
 {
     into_register_logical(
         r,
-        sum(r, number_in(r, regs), number_got(r, given), false),
+        sum(r, number_in(r, regs), operand_number(r, given), false),
         regs,
     )
 }
@@ -139,7 +139,7 @@ pub fn add_with_carry(r: Register, given: &Operand36, regs: &Regs) -> Change
 {
     into_register(
         r,
-        sum(r, number_in(r, regs), number_got(r, given), carry(regs)),
+        sum(r, number_in(r, regs), operand_number(r, given), carry(regs)),
         regs,
     )
 }
@@ -155,7 +155,7 @@ pub fn subtract(r: Register, given: &Operand36, regs: &Regs) -> Change
 {
     into_register(
         r,
-        difference(r, number_in(r, regs), number_got(r, given), false),
+        difference(r, number_in(r, regs), operand_number(r, given), false),
         regs,
     )
 }
@@ -171,7 +171,7 @@ pub fn subtract_logical(r: Register, given: &Operand36, regs: &Regs) -> Change
 {
     into_register_logical(
         r,
-        difference(r, number_in(r, regs), number_got(r, given), false),
+        difference(r, number_in(r, regs), operand_number(r, given), false),
         regs,
     )
 }
@@ -188,7 +188,12 @@ pub fn subtract_with_carry(r: Register, given: &Operand36, regs: &Regs) -> Chang
 {
     into_register(
         r,
-        difference(r, number_in(r, regs), number_got(r, given), !carry(regs)),
+        difference(
+            r,
+            number_in(r, regs),
+            operand_number(r, given),
+            !carry(regs),
+        ),
         regs,
     )
 }
@@ -204,7 +209,7 @@ pub fn add_to_storage(r: Register, given: &Operand36, regs: &Regs) -> Change
 {
     into_operand(
         r,
-        sum(r, number_in(r, regs), number_got(r, given), false),
+        sum(r, number_in(r, regs), operand_number(r, given), false),
         regs,
     )
 }
@@ -220,7 +225,7 @@ pub fn subtract_stored(r: Register, given: &Operand36, regs: &Regs) -> Change
 {
     into_operand(
         r,
-        difference(r, number_in(r, regs), number_got(r, given), false),
+        difference(r, number_in(r, regs), operand_number(r, given), false),
         regs,
     )
 }

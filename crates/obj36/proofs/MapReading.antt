@@ -6,7 +6,7 @@ use Rattle.std.proofs.lemmas.List.{length-append, get_or-append_right, take_at, 
 use Rattle.obj36_parts.specs.Fields.{LinkFields}
 use Rattle.obj36_parts.specs.Halves.{left, right, joined}
 use Rattle.obj36_parts.specs.ObjectSegment.{map_part, linkage_part, link_words}
-use Rattle.obj36_read.specs.Reading.{map_place, version_in, told_length, told_count, from_definition, from_linkage, from_statics, from_symbol, link_start, told_first, statics_in, bound_in}
+use Rattle.obj36_read.specs.Reading.{map_place, version_in, length_of_part, count_of_items, from_definition, from_linkage, from_statics, from_symbol, link_start, first_link_in_head, statics_in, bound_in}
 use Rattle.obj36.proofs.TableReading.{left_joined, right_joined}
 
 pub in_map : (front m : List ℕ) (i j : ℕ) → j ≡ length front + i → slice_index (front ++ m) j ≡ slice_index m i
@@ -14,10 +14,10 @@ in_map front m i j e = get_or-append_right front m (length front) j 0 refl (omeg
 
 pub record IsMapped (words : List ℕ) (newer : Bool) (t d k s b : ℕ) : Type 0 where
   pub version : version_in words ≡ cond newer 2 1
-  pub text : told_length words 1 ≡ t
-  pub definition : told_length words 2 ≡ d
-  pub linkage : told_length words 3 ≡ k
-  pub statics : newer ≡ true → told_length words 4 ≡ s
+  pub text : length_of_part words 1 ≡ t
+  pub definition : length_of_part words 2 ≡ d
+  pub linkage : length_of_part words 3 ≡ k
+  pub statics : newer ≡ true → length_of_part words 4 ≡ s
   pub bound : bound_in words ≡ b
 
 pub placed : (front m : List ℕ) (last : ℕ) → length m ≡ suc last → slice_index m last ≡ joined (length front) 0 → length front < 2 ^ 18 → map_place (front ++ m) ≡ length front
@@ -26,7 +26,7 @@ placed front m last e f lt =
     ap left (in_map front m last (length (front ++ m) - 1) (omega (arith, length-append front m)) ∙ f) ∙ left_joined (length front) 0 lt
 
 pub mapped : (newer : Bool) (front : List ℕ) (t d k s y b : ℕ) → t + d + k + s + y ≡ length front → length front < 2 ^ 18 → b < 2 ^ 18 → IsMapped (front ++ map_part newer t d k s y b) newer t d k s b
-unfolding map_part version_in told_length bound_in
+unfolding map_part version_in length_of_part bound_in
 mapped true front t d k s y b e lt small =
     let m = map_part true t d k s y b in
     let words = front ++ m in
@@ -63,29 +63,29 @@ mapped false front t d k s y b e lt small =
 -- ---- the sections
 
 pub record IsCut (words t d k s y m : List ℕ) : Type 0 where
-  pub text : take (told_length words 1) words ≡ t
+  pub text : take (length_of_part words 1) words ≡ t
   pub definition : from_definition words ≡ d ++ (k ++ (s ++ (y ++ m)))
   pub linkage : from_linkage words ≡ k ++ (s ++ (y ++ m))
   pub statics : from_statics words ≡ s ++ (y ++ m)
   pub symbol : from_symbol words ≡ y ++ m
 
-symbol_from : (newer : Bool) (words st s y m : List ℕ) → from_statics words ≡ s ++ (y ++ m) → s ≡ cond newer st [] → version_in words ≡ cond newer 2 1 → (newer ≡ true → told_length words 4 ≡ length s) → from_symbol words ≡ y ++ m
+symbol_from : (newer : Bool) (words st s y m : List ℕ) → from_statics words ≡ s ++ (y ++ m) → s ≡ cond newer st [] → version_in words ≡ cond newer 2 1 → (newer ≡ true → length_of_part words 4 ≡ length s) → from_symbol words ≡ y ++ m
 unfolding from_symbol
 symbol_from true words st s y m e f v told =
-    ap (λ n. cond (eqb n 2) (drop (told_length words 4) (from_statics words)) (from_statics words)) v
-    ∙ ap (drop (told_length words 4)) e ∙ drop_at s (y ++ m) (told_length words 4) (sym (told refl))
+    ap (λ n. cond (eqb n 2) (drop (length_of_part words 4) (from_statics words)) (from_statics words)) v
+    ∙ ap (drop (length_of_part words 4)) e ∙ drop_at s (y ++ m) (length_of_part words 4) (sym (told refl))
 symbol_from false words st s y m e f v told =
-    ap (λ n. cond (eqb n 2) (drop (told_length words 4) (from_statics words)) (from_statics words)) v
+    ap (λ n. cond (eqb n 2) (drop (length_of_part words 4) (from_statics words)) (from_statics words)) v
     ∙ e ∙ ap (λ (x : List ℕ). x ++ (y ++ m)) f
 
 pub cut : (newer : Bool) (words t d k st s y m : List ℕ) (b : ℕ) → words ≡ t ++ (d ++ (k ++ (s ++ (y ++ m)))) → s ≡ cond newer st [] → IsMapped words newer (length t) (length d) (length k) (length s) b → IsCut words t d k s y m
 unfolding from_definition from_linkage from_statics
 cut newer words t d k st s y m b e f told =
-    let definition : from_definition words ≡ d ++ (k ++ (s ++ (y ++ m))) = ap (drop (told_length words 1)) e ∙ drop_at t (d ++ (k ++ (s ++ (y ++ m)))) (told_length words 1) (sym told.text) in
-    let linkage : from_linkage words ≡ k ++ (s ++ (y ++ m)) = ap (drop (told_length words 2)) definition ∙ drop_at d (k ++ (s ++ (y ++ m))) (told_length words 2) (sym told.definition) in
-    let statics : from_statics words ≡ s ++ (y ++ m) = ap (drop (told_length words 3)) linkage ∙ drop_at k (s ++ (y ++ m)) (told_length words 3) (sym told.linkage) in
+    let definition : from_definition words ≡ d ++ (k ++ (s ++ (y ++ m))) = ap (drop (length_of_part words 1)) e ∙ drop_at t (d ++ (k ++ (s ++ (y ++ m)))) (length_of_part words 1) (sym told.text) in
+    let linkage : from_linkage words ≡ k ++ (s ++ (y ++ m)) = ap (drop (length_of_part words 2)) definition ∙ drop_at d (k ++ (s ++ (y ++ m))) (length_of_part words 2) (sym told.definition) in
+    let statics : from_statics words ≡ s ++ (y ++ m) = ap (drop (length_of_part words 3)) linkage ∙ drop_at k (s ++ (y ++ m)) (length_of_part words 3) (sym told.linkage) in
     record {
-      text = ap (take (told_length words 1)) e ∙ take_at t (d ++ (k ++ (s ++ (y ++ m)))) (told_length words 1) (sym told.text);
+      text = ap (take (length_of_part words 1)) e ∙ take_at t (d ++ (k ++ (s ++ (y ++ m)))) (length_of_part words 1) (sym told.text);
       definition = definition;
       linkage = linkage;
       statics = statics;
@@ -94,27 +94,27 @@ cut newer words t d k st s y m b e f told =
 
 -- ---- the heads of sections
 
-pub first_is : (words statics rest : List ℕ) (ls : List LinkFields) (x : ℕ) → from_linkage words ≡ linkage_part statics ls x ++ rest → 8 + length statics < 2 ^ 18 → told_first words ≡ 8 + length statics
-unfolding told_first link_start linkage_part
+pub first_is : (words statics rest : List ℕ) (ls : List LinkFields) (x : ℕ) → from_linkage words ≡ linkage_part statics ls x ++ rest → 8 + length statics < 2 ^ 18 → first_link_in_head words ≡ 8 + length statics
+unfolding first_link_in_head link_start linkage_part
 first_is words statics rest ls x e lt = ap (λ (ws : List ℕ). left (slice_index ws 1)) e ∙ left_joined (8 + length statics) (length ls) lt
 
 statics_by : (newer : Bool) (words st k rest : List ℕ) (ls : List LinkFields) (x : ℕ) → version_in words ≡ cond newer 2 1 → from_linkage words ≡ linkage_part (cond newer [] st) ls x ++ rest
-    → from_statics words ≡ cond newer st [] ++ k → (newer ≡ true → told_length words 4 ≡ length (cond newer st [])) → 8 + length (cond newer [] st) < 2 ^ 18 → statics_in words ≡ st
+    → from_statics words ≡ cond newer st [] ++ k → (newer ≡ true → length_of_part words 4 ≡ length (cond newer st [])) → 8 + length (cond newer [] st) < 2 ^ 18 → statics_in words ≡ st
 unfolding statics_in linkage_part
 statics_by true words st k rest ls x v e f told lt =
-    ap (λ n. cond (eqb n 2) (take (told_length words 4) (from_statics words)) (take (told_first words - 8) (drop 8 (from_linkage words)))) v
-    ∙ ap (take (told_length words 4)) f ∙ take_at st k (told_length words 4) (sym (told refl))
+    ap (λ n. cond (eqb n 2) (take (length_of_part words 4) (from_statics words)) (take (first_link_in_head words - 8) (drop 8 (from_linkage words)))) v
+    ∙ ap (take (length_of_part words 4)) f ∙ take_at st k (length_of_part words 4) (sym (told refl))
 statics_by false words st k rest ls x v e f told lt =
-    let count : told_first words - 8 ≡ length st = omega (arith, first_is words st rest ls x e lt) in
-    ap (λ n. cond (eqb n 2) (take (told_length words 4) (from_statics words)) (take (told_first words - 8) (drop 8 (from_linkage words)))) v
-    ∙ ap (λ (ws : List ℕ). take (told_first words - 8) (drop 8 ws)) e
-    ∙ ap (take (told_first words - 8)) (append_assoc st (link_words ls (8 + length st) x) rest)
-    ∙ take_at st (link_words ls (8 + length st) x ++ rest) (told_first words - 8) (sym count)
+    let count : first_link_in_head words - 8 ≡ length st = omega (arith, first_is words st rest ls x e lt) in
+    ap (λ n. cond (eqb n 2) (take (length_of_part words 4) (from_statics words)) (take (first_link_in_head words - 8) (drop 8 (from_linkage words)))) v
+    ∙ ap (λ (ws : List ℕ). take (first_link_in_head words - 8) (drop 8 ws)) e
+    ∙ ap (take (first_link_in_head words - 8)) (append_assoc st (link_words ls (8 + length st) x) rest)
+    ∙ take_at st (link_words ls (8 + length st) x ++ rest) (first_link_in_head words - 8) (sym count)
 
 pub statics_are : (newer : Bool) (words st k rest : List ℕ) (ls : List LinkFields) (x : ℕ) → version_in words ≡ cond newer 2 1 → from_linkage words ≡ linkage_part (cond newer [] st) ls x ++ rest
-    → from_statics words ≡ cond newer st [] ++ k → (newer ≡ true → told_length words 4 ≡ length (cond newer st [])) → 8 + length (cond newer [] st) < 2 ^ 18 → statics_in words ≡ st
+    → from_statics words ≡ cond newer st [] ++ k → (newer ≡ true → length_of_part words 4 ≡ length (cond newer st [])) → 8 + length (cond newer [] st) < 2 ^ 18 → statics_in words ≡ st
 statics_are newer words st k rest ls x v e f told lt = statics_by newer words st k rest ls x v e f told lt
 
-pub count_is : (words part : List ℕ) (i a n : ℕ) → slice_index part i ≡ joined a n → n ≤ length words → n < 2 ^ 18 → told_count words part i ≡ n
-unfolding told_count
+pub count_is : (words part : List ℕ) (i a n : ℕ) → slice_index part i ≡ joined a n → n ≤ length words → n < 2 ^ 18 → count_of_items words part i ≡ n
+unfolding count_of_items
 count_is words part i a n e le lt = let r : right (slice_index part i) ≡ n = ap right e ∙ right_joined a n lt in omega arith

@@ -7,8 +7,8 @@ use Rattle.std.proofs.lemmas.List.{length-append}
 use Rattle.m36_text.specs.Lines.{first_met}
 use Rattle.obj36_parts.specs.Halves.{left, right, joined}
 use Rattle.obj36_parts.specs.ObjectSegment.{map_part}
-use Rattle.obj36_read.specs.Reading.{map_place, version_in, told_length, bound_index}
-use Rattle.obj36_read.specs.MapFaults.{is_told, is_bound, fixed_fault, map_fault}
+use Rattle.obj36_read.specs.Reading.{map_place, version_in, length_of_part, bound_index}
+use Rattle.obj36_read.specs.MapFaults.{is_in_map, is_bound, fixed_fault, map_fault}
 use Rattle.obj36.specs.Faults.{outline_fault}
 use Rattle.obj36.specs.declared.fault.ObjectFault.TheVariants.{O1, O2}
 use Rattle.obj36.proofs.TableReading.{left_joined, right_joined}
@@ -19,7 +19,7 @@ unfolding first_met
 none_of_three a b c x y z e f g = λ i. cond (e i) (Some x) (cond (f i) (Some y) (cond (g i) (Some z) None))
 
 bound_right : (words : List ℕ) (w b t : ℕ) → w ≡ joined b 0 → slice_index words (map_place words + 1) ≡ joined 0 t → b ≤ t → t < 2 ^ 18 → is_bound words w ≡ true
-unfolding is_bound told_length
+unfolding is_bound length_of_part
 bound_right words w b t e f le lt =
     let none : right w ≡ 0 = ap right e ∙ right_joined b 0 (omega arith) in
     let bound : left w ≡ b = ap left e ∙ left_joined b 0 (omega arith) in
@@ -36,7 +36,7 @@ fixed_right words version x e f g =
     (map_place words) (map_place words + bound_index version) (length words - 1)
     (ap not (eq-eqb (slice_index words (map_place words)) version e)) (ap not f) (ap not (eq-eqb (right (slice_index words (length words - 1))) 0 last))
 
-map_told : (words : List ℕ) (version : ℕ) → is_told words ≡ true → version_in words ≡ version → fixed_fault words version ≡ None → map_fault words ≡ None
+map_told : (words : List ℕ) (version : ℕ) → is_in_map words ≡ true → version_in words ≡ version → fixed_fault words version ≡ None → map_fault words ≡ None
 unfolding map_fault
 map_told words version e f g =
     ap (λ b. cond b (fixed_fault words (version_in words)) (Some (length words - 1))) e ∙ ap (fixed_fault words) f ∙ g
@@ -47,14 +47,14 @@ outline_none words le e =
     (λ i. cond (le-ltb (length words) 7 le i) (Some (O1 (length words))) (option_map O2 (e i)))
 
 pub outline_right : (newer : Bool) (front : List ℕ) (t d k s y b : ℕ) → t + d + k + s + y ≡ length front → length front < 2 ^ 18 → b ≤ t → outline_fault (front ++ map_part newer t d k s y b) ≡ None
-unfolding map_part is_told joined
+unfolding map_part is_in_map joined
 outline_right true front t d k s y b e lt le =
     let m = map_part true t d k s y b in
     let words = front ++ m in
     let place : map_place words ≡ length front = placed front m 7 refl (ap (λ n. joined n 0) e) lt in
     let long : length words ≡ length front + 8 = length-append front m in
     let version : version_in words ≡ 2 = (mapped true front t d k s y b e lt (omega arith)).version in
-    let told : is_told words ≡ true =
+    let told : is_in_map words ≡ true =
     or_right (eqb (map_place words + 7) (length words)) (eqb (map_place words + 8) (length words)) (eq-eqb (map_place words + 8) (length words) (omega arith))
     in
     let text : slice_index words (map_place words + 1) ≡ joined 0 t = in_map front m 1 (map_place words + 1) (omega arith) in
@@ -70,7 +70,7 @@ outline_right false front t d k s y b e lt le =
     let place : map_place words ≡ length front = placed front m 6 refl (ap (λ n. joined n 0) e) lt in
     let long : length words ≡ length front + 7 = length-append front m in
     let version : version_in words ≡ 1 = (mapped false front t d k s y b e lt (omega arith)).version in
-    let told : is_told words ≡ true =
+    let told : is_in_map words ≡ true =
     or_left (eqb (map_place words + 7) (length words)) (eqb (map_place words + 8) (length words)) (eq-eqb (map_place words + 7) (length words) (omega arith))
     in
     let text : slice_index words (map_place words + 1) ≡ joined 0 t = in_map front m 1 (map_place words + 1) (omega arith) in

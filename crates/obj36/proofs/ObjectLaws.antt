@@ -3,10 +3,10 @@ use Rattle.std.proofs.Common.{ℕ, ◌≡◌, Bool, true, false, cond, ◌&&◌,
 use Rattle.std.proofs.lemmas.Bool.{cond-true, cond-false, and_parts, and_from, and_left, and_right}
 use Rattle.obj36_parts.specs.Names.{same}
 use Rattle.obj36_parts.specs.PartsFields.{PartsFields}
-use Rattle.obj36_parts.specs.ObjectSegment.{words_of, is_well_formed, Stands}
+use Rattle.obj36_parts.specs.ObjectSegment.{words_of, is_well_formed, Encodes}
 use Rattle.obj36_read.specs.Reading.{parts_of}
 use Rattle.obj36_parts.proofs.SizeLaws.{same_is, same_self}
-use Rattle.obj36.specs.Faults.{outline_fault, first_fault, IsFound}
+use Rattle.obj36.specs.Faults.{outline_fault, first_fault, IsValueOf}
 use Rattle.obj36.proofs.ReadingBack.{stands_back}
 use Rattle.obj36.proofs.ReaderLaws.{outline_stands}
 use Rattle.obj36.specs.ObjectOf.{value_of, or_fault, object_of, IsObjectOf}
@@ -19,7 +19,7 @@ no_value_of words parts b e f bad =
     sym (cond-false (is_well_formed (parts_of words) && same (words_of (parts_of words)) words) (Some (parts_of words)) None
     (and_left (is_well_formed (parts_of words)) (same (words_of (parts_of words)) words) (ap is_well_formed (sym e) ∙ sym f ∙ bad)))
 
-other_value : (words written : List ℕ) (parts : PartsFields) (b : Bool) → parts ≡ parts_of words → Stands parts written → b ≡ same written words → b ≡ false → None ≡ value_of words
+other_value : (words written : List ℕ) (parts : PartsFields) (b : Bool) → parts ≡ parts_of words → Encodes parts written → b ≡ same written words → b ≡ false → None ≡ value_of words
 unfolding value_of
 other_value words written parts b e t f other =
     sym (cond-false (is_well_formed (parts_of words) && same (words_of (parts_of words)) words) (Some (parts_of words)) None
@@ -36,7 +36,7 @@ outline_value words f e = by (is_well_formed (parts_of words) && same (words_of 
         let both = and_parts (is_well_formed (parts_of words)) (same (words_of (parts_of words)) words) g in
         absurd (outline_stands words f e (parts_of words) (record { formed = both.0; spelled = sym (same_is (words_of (parts_of words)) words both.1) }))
 
-own_value : (words written : List ℕ) (parts : PartsFields) (b : Bool) → parts ≡ parts_of words → Stands parts written → b ≡ same written words → b ≡ true → Some parts ≡ value_of words
+own_value : (words written : List ℕ) (parts : PartsFields) (b : Bool) → parts ≡ parts_of words → Encodes parts written → b ≡ same written words → b ≡ true → Some parts ≡ value_of words
 unfolding value_of
 own_value words written parts b e t f alike =
     ap Some e
@@ -45,17 +45,17 @@ own_value words written parts b e t f alike =
     (ap (λ (p : PartsFields). same (words_of p) words) (sym e) ∙ ap (λ (ws : List ℕ). same ws words) (sym t.spelled) ∙ sym f ∙ alike)))
 
 -- the cases of whether the list encodes its parts
-pub value_by : (words written : List ℕ) (parts : PartsFields) (b : Bool) → parts ≡ parts_of words → Stands parts written → b ≡ same written words → cond b (Some parts) None ≡ value_of words
+pub value_by : (words written : List ℕ) (parts : PartsFields) (b : Bool) → parts ≡ parts_of words → Encodes parts written → b ≡ same written words → cond b (Some parts) None ≡ value_of words
 value_by words written parts true e t f = own_value words written parts true e t f refl
 value_by words written parts false e t f = other_value words written parts false e t f refl
 
 -- the parts of a list that encodes some
-stands_value : (words : List ℕ) (p : PartsFields) → Stands p words → Some p ≡ value_of words
+stands_value : (words : List ℕ) (p : PartsFields) → Encodes p words → Some p ≡ value_of words
 stands_value words p s =
     own_value words (words_of p) p true (sym (stands_back p words s)) (record { formed = s.formed; spelled = refl })
     (sym (ap (λ (ws : List ℕ). same (words_of p) ws) s.spelled ∙ same_self (words_of p))) refl
 
-pub found_by_value : (words : List ℕ) (found : Option PartsFields) → found ≡ value_of words → IsFound words found
+pub found_by_value : (words : List ℕ) (found : Option PartsFields) → found ≡ value_of words → IsValueOf words found
 unfolding value_of
 found_by_value words found e = by (is_well_formed (parts_of words) && same (words_of (parts_of words)) words) refl found e
   where
@@ -64,12 +64,12 @@ found_by_value words found e = by (is_well_formed (parts_of words) && same (word
         let none : Some p ≡ None = e ∙ ap (λ (b : Bool). cond b (Some (parts_of words)) None) g in
         absurd cc
 
-    by : (b : Bool) → (is_well_formed (parts_of words) && same (words_of (parts_of words)) words) ≡ b → (found : Option PartsFields) → found ≡ cond b (Some (parts_of words)) None → IsFound words found
+    by : (b : Bool) → (is_well_formed (parts_of words) && same (words_of (parts_of words)) words) ≡ b → (found : Option PartsFields) → found ≡ cond b (Some (parts_of words)) None → IsValueOf words found
     by true g found e =
         let both = and_parts (is_well_formed (parts_of words)) (same (words_of (parts_of words)) words) g in
-        subst (IsFound words) (sym e) (record { formed = both.0; spelled = sym (same_is (words_of (parts_of words)) words both.1) })
+        subst (IsValueOf words) (sym e) (record { formed = both.0; spelled = sym (same_is (words_of (parts_of words)) words both.1) })
     by false g found e =
-        subst (IsFound words) (sym e) (λ p s. absurd (no_value words g p (stands_value words p s)))
+        subst (IsValueOf words) (sym e) (λ p s. absurd (no_value words g p (stands_value words p s)))
 
 pub object_there : (words : List ℕ) (parts : PartsFields) → Some parts ≡ value_of words → IsObjectOf words (Ok parts)
 unfolding object_of

@@ -4,10 +4,10 @@ use Rattle.std.proofs.lemmas.List.{length-take, length-drop}
 use Rattle.obj36_parts.specs.PartsFields.{PartsFields}
 use Rattle.obj36.specs.declared.fault.ObjectFault.{ObjectFault}
 use Rattle.obj36.specs.declared.fault.ObjectFault.TheVariants.{O1, O2, O3, O4, O5, O6, O7, O8, NoMemory}
-use Rattle.obj36_parts.specs.ObjectSegment.{Stands}
+use Rattle.obj36_parts.specs.ObjectSegment.{Encodes}
 use Rattle.obj36_parts.specs.Sizes.{HasShortLists}
-use Rattle.obj36_read.specs.Reading.{version_in, told_length, told_count, told_first, from_definition, from_linkage, from_statics, from_symbol, statics_in, definitions_in, links_in, relocations_in, parts_of}
-use Rattle.obj36.specs.Faults.{from_outline, outline_fault, fault_behind_map, first_fault, ReadSays, IsReadAs, IsFound}
+use Rattle.obj36_read.specs.Reading.{version_in, length_of_part, count_of_items, first_link_in_head, from_definition, from_linkage, from_statics, from_symbol, statics_in, definitions_in, links_in, relocations_in, parts_of}
+use Rattle.obj36.specs.Faults.{from_outline, outline_fault, fault_after_map, first_fault, ObjectResult, IsReadAs, IsValueOf}
 use Rattle.obj36_parts.proofs.Formed.{is_formed}
 use Rattle.obj36.proofs.ReadingBack.{outline_back, values_apart}
 
@@ -28,8 +28,8 @@ unfolding relocations_in
 relocations_few words at zero = refl
 relocations_few words at (suc count) = ap suc (relocations_few words (at + 1) count)
 
-count_few : (words part : List ℕ) (i : ℕ) → told_count words part i ≤ length words
-unfolding told_count
+count_few : (words part : List ℕ) (i : ℕ) → count_of_items words part i ≤ length words
+unfolding count_of_items
 count_few words part i = omega arith
 
 take_few : (n : ℕ) (xs : List ℕ) → length (take n xs) ≤ length xs
@@ -47,30 +47,30 @@ unfolding statics_in from_statics from_linkage from_definition
 statics_few words =
     let d = from_definition words in
     let k = from_linkage words in
-    let d_few : length d ≤ length words = drop_few (told_length words 1) words in
-    let k_few : length k ≤ length words = omega (arith, drop_few (told_length words 2) d) in
-    let s_few : length (from_statics words) ≤ length words = omega (arith, drop_few (told_length words 3) k) in
+    let d_few : length d ≤ length words = drop_few (length_of_part words 1) words in
+    let k_few : length k ≤ length words = omega (arith, drop_few (length_of_part words 2) d) in
+    let s_few : length (from_statics words) ≤ length words = omega (arith, drop_few (length_of_part words 3) k) in
     let inner_few : length (drop 8 k) ≤ length words = omega (arith, drop_few 8 k) in
-    statics_by words (from_statics words) (drop 8 k) (eqb (version_in words) 2) (told_length words 4) (told_first words - 8) s_few inner_few
+    statics_by words (from_statics words) (drop 8 k) (eqb (version_in words) 2) (length_of_part words 4) (first_link_in_head words - 8) s_few inner_few
 
 pub short_parts : (words : List ℕ) → length words < 2 ^ 32 → HasShortLists (parts_of words)
 unfolding parts_of
 short_parts words lt = record {
-  text = omega (arith, take_few (told_length words 1) words);
+  text = omega (arith, take_few (length_of_part words 1) words);
   statics = omega (arith, statics_few words);
-  definitions = omega (arith, definitions_few (from_definition words) 2 (told_count words (from_definition words) 0), count_few words (from_definition words) 0);
+  definitions = omega (arith, definitions_few (from_definition words) 2 (count_of_items words (from_definition words) 0), count_few words (from_definition words) 0);
   links =
       omega (
         arith,
-        links_few (from_definition words) (2 + 2 * told_count words (from_definition words) 0) (from_linkage words) (told_first words) (told_count words (from_definition words) 1),
+        links_few (from_definition words) (2 + 2 * count_of_items words (from_definition words) 0) (from_linkage words) (first_link_in_head words) (count_of_items words (from_definition words) 1),
         count_few words (from_definition words) 1,
       );
-  relocations = omega (arith, relocations_few (from_symbol words) 1 (told_count words (from_symbol words) 0), count_few words (from_symbol words) 0);
+  relocations = omega (arith, relocations_few (from_symbol words) 1 (count_of_items words (from_symbol words) 0), count_few words (from_symbol words) 0);
 }
 
 -- ---- the fault that is found before the parts are decoded
 
-pub outline_stands : (words : List ℕ) (f : ObjectFault) → Some f ≡ outline_fault words → (p : PartsFields) → Stands p words → ⊥
+pub outline_stands : (words : List ℕ) (f : ObjectFault) → Some f ≡ outline_fault words → (p : PartsFields) → Encodes p words → ⊥
 outline_stands words f e p s =
     let none : outline_fault words ≡ None = ap outline_fault s.spelled ∙ outline_back p (is_formed p s.formed) in
     let wrong : Some f ≡ None = e ∙ none in
@@ -78,15 +78,15 @@ outline_stands words f e p s =
 
 pub outline_first : (words : List ℕ) (f : ObjectFault) → Some f ≡ outline_fault words → f ≡ first_fault words
 unfolding first_fault
-outline_first words f e = ap (λ (o : Option ObjectFault). from_outline o (fault_behind_map words)) e
+outline_first words f e = ap (λ (o : Option ObjectFault). from_outline o (fault_after_map words)) e
 
-pub behind_first : (words : List ℕ) (f : ObjectFault) → None ≡ outline_fault words → f ≡ fault_behind_map words → f ≡ first_fault words
+pub behind_first : (words : List ℕ) (f : ObjectFault) → None ≡ outline_fault words → f ≡ fault_after_map words → f ≡ first_fault words
 unfolding first_fault
-behind_first words f none e = e ∙ ap (λ (o : Option ObjectFault). from_outline o (fault_behind_map words)) none
+behind_first words f none e = e ∙ ap (λ (o : Option ObjectFault). from_outline o (fault_after_map words)) none
 
 -- ---- the result
 
-pub refused : (words : List ℕ) (f : ObjectFault) → f ≡ first_fault words → IsFound words None → ReadSays words (Err f)
+pub refused : (words : List ℕ) (f : ObjectFault) → f ≡ first_fault words → IsValueOf words None → ObjectResult words (Err f)
 refused words (O1 place) e none = record { first = sym e; stands_for_none = none }
 refused words (O2 place) e none = record { first = sym e; stands_for_none = none }
 refused words (O3 place) e none = record { first = sym e; stands_for_none = none }
@@ -97,8 +97,8 @@ refused words (O7 place) e none = record { first = sym e; stands_for_none = none
 refused words (O8 place) e none = record { first = sym e; stands_for_none = none }
 refused words NoMemory e none = tt
 
-pub read_as : (words : List ℕ) (q p : PartsFields) → Stands q words → Stands p words → q ≡ p
+pub read_as : (words : List ℕ) (q p : PartsFields) → Encodes q words → Encodes p words → q ≡ p
 read_as words q p s t = values_apart q p words s t
 
-pub never_read : (words : List ℕ) (f : ObjectFault) → Some f ≡ outline_fault words → (p : PartsFields) → Stands p words → IsReadAs p (Err f)
+pub never_read : (words : List ℕ) (f : ObjectFault) → Some f ≡ outline_fault words → (p : PartsFields) → Encodes p words → IsReadAs p (Err f)
 never_read words f e p s = absurd (outline_stands words f e p s)

@@ -10,9 +10,9 @@ use Rattle.obj36_parts.specs.PartsFields.{PartsFields}
 use Rattle.obj36_parts.specs.declared.definition.Named.{Named}
 use Rattle.obj36_parts.specs.Halves.{joined}
 use Rattle.obj36_parts.specs.Names.{same, with_names, place_of, all_name_words}
-use Rattle.obj36_parts.specs.ObjectSegment.{is_newer, inner_statics, outer_statics, place_if_any, definition_names, all_link_names, definition_words, expression_words, definition_part, definition_section, link_words, linkage_part, linkage_section, symbol_part, symbol_section, map_words, words_of, is_definition, is_link, is_relocation, is_well_formed, Stands, ValuesApart}
+use Rattle.obj36_parts.specs.ObjectSegment.{is_newer, inner_statics, outer_statics, place_if_any, definition_names, all_link_names, definition_words, expression_words, definition_part, definition_section, link_words, linkage_part, linkage_section, symbol_part, symbol_section, map_words, words_of, is_definition, is_link, is_relocation, is_well_formed, Encodes, ValuesApart}
 use Rattle.obj36_parts.specs.Sizes.{names_length}
-use Rattle.obj36_read.specs.Reading.{version_in, told_count, from_definition, from_linkage, from_symbol, told_first, statics_in, definitions_in, links_in, relocations_in, parts_of}
+use Rattle.obj36_read.specs.Reading.{version_in, count_of_items, from_definition, from_linkage, from_symbol, first_link_in_head, statics_in, definitions_in, links_in, relocations_in, parts_of}
 use Rattle.obj36_parts.proofs.Formed.{IsFormed, is_formed}
 use Rattle.obj36_parts.proofs.SizeLaws.{any_among}
 use Rattle.obj36_parts.proofs.LengthLaws.{small_sections, length-definition_words, length-expression_words, length-definition_part, length-linkage_part, length-symbol_part, length-words_of, length-map_part, length-sections}
@@ -207,37 +207,37 @@ parts_back p e =
     let ls_few : length ls < 2 ^ 18 = omega (arith, f.fits, length-words_of p) in
     let rs_few : length rs < 2 ^ 18 = omega (arith, f.fits, length-sections p, length-symbol_part rs, map_length p) in
     let first_fits : 8 + length inner < 2 ^ 18 = omega (arith, f.fits, length-sections p, length-linkage_part inner ls expressions, map_length p) in
-    let count : told_count words (from_definition words) 0 ≡ length ds =
+    let count : count_of_items words (from_definition words) 0 ≡ length ds =
     count_is words (from_definition words) 0 (place_if_any (length ds) 2) (length ds) (ap (λ (ws : List ℕ). slice_index ws 0) definition ∙ counts_here ds ls tail) (omega (arith, length-words_of p)) ds_few
     in
-    let linked : told_count words (from_definition words) 1 ≡ length ls =
+    let linked : count_of_items words (from_definition words) 1 ≡ length ls =
     count_is words (from_definition words) 1 (place_if_any (length ls) expressions) (length ls) (ap (λ (ws : List ℕ). slice_index ws 1) definition ∙ counts_next ds ls tail) (omega (arith, length-words_of p)) ls_few
     in
-    let moved : told_count words (from_symbol words) 0 ≡ length rs =
+    let moved : count_of_items words (from_symbol words) 0 ≡ length rs =
     count_is words (from_symbol words) 0 0 (length rs) (ap (λ (ws : List ℕ). slice_index ws 0) symbol ∙ count_of_relocations rs (map_words p)) (omega (arith, length-words_of p)) rs_few
     in
-    let first : told_first words ≡ 8 + length inner = first_is words inner (s ++ (y ++ map_words p)) ls expressions linkage first_fits in
+    let first : first_link_in_head words ≡ 8 + length inner = first_is words inner (s ++ (y ++ map_words p)) ls expressions linkage first_fits in
     let version : version_in words ≡ p.version = m.version ∙ version_by p.version (is_newer p) refl f.version in
     let statics : statics_in words ≡ p.statics =
     statics_are (is_newer p) words p.statics (y ++ map_words p) (s ++ (y ++ map_words p)) ls expressions m.version linkage c.statics m.statics first_fits
     in
-    let defined : definitions_in (from_definition words) 2 (told_count words (from_definition words) 0) ≡ ds =
+    let defined : definitions_in (from_definition words) 2 (count_of_items words (from_definition words) 0) ≡ ds =
     ap (definitions_in (from_definition words) 2) count ∙ definitions_read p.version ds ls tail (from_definition words) definition small.definition f.definitions
     in
-    let links : links_in (from_definition words) (2 + 2 * told_count words (from_definition words) 0) (from_linkage words) (told_first words) (told_count words (from_definition words) 1) ≡ ls =
-    ap (λ n. links_in (from_definition words) (2 + 2 * n) (from_linkage words) (told_first words) (told_count words (from_definition words) 1)) count
-    ∙ ap (λ n. links_in (from_definition words) (2 + 2 * length ds) (from_linkage words) n (told_count words (from_definition words) 1)) first
+    let links : links_in (from_definition words) (2 + 2 * count_of_items words (from_definition words) 0) (from_linkage words) (first_link_in_head words) (count_of_items words (from_definition words) 1) ≡ ls =
+    ap (λ n. links_in (from_definition words) (2 + 2 * n) (from_linkage words) (first_link_in_head words) (count_of_items words (from_definition words) 1)) count
+    ∙ ap (λ n. links_in (from_definition words) (2 + 2 * length ds) (from_linkage words) n (count_of_items words (from_definition words) 1)) first
     ∙ ap (λ n. links_in (from_definition words) (2 + 2 * length ds) (from_linkage words) (8 + length inner) n) linked
     ∙ links_read p.version ds ls tail (from_definition words) inner (s ++ (y ++ map_words p)) (from_linkage words) definition small.definition linkage f.links
     in
-    let relocations : relocations_in (from_symbol words) 1 (told_count words (from_symbol words) 0) ≡ rs =
+    let relocations : relocations_in (from_symbol words) 1 (count_of_items words (from_symbol words) 0) ≡ rs =
     ap (relocations_in (from_symbol words) 1) moved
     ∙ relocations_read (length p.text) (length inner) (length s) p.version rs (map_words p) (from_symbol words) symbol f.relocations
     in
     λ i. record { text = c.text i; statics = statics i; definitions = defined i; links = links i; relocations = relocations i; entry_bound = m.bound i; version = version i }
 
 -- the list that encodes parts is read as these parts
-pub stands_back : (p : PartsFields) (words : List ℕ) → Stands p words → parts_of words ≡ p
+pub stands_back : (p : PartsFields) (words : List ℕ) → Encodes p words → parts_of words ≡ p
 stands_back p words s = ap parts_of s.spelled ∙ parts_back p s.formed
 
 pub values_apart : ValuesApart

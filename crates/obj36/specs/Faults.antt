@@ -3,7 +3,7 @@ use Rattle.std.specs.Prelude.{ℕ, ◌≡◌, nat_lt, if◌then◌else◌, List,
 use Rattle.std.specs.Prelude.{Result, Ok, Err}
 use Rattle.std.specs.Option.{option_map}
 use Rattle.obj36_parts.specs.PartsFields.{PartsFields}
-use Rattle.obj36_parts.specs.ObjectSegment.{Stands}
+use Rattle.obj36_parts.specs.ObjectSegment.{Encodes}
 use Rattle.obj36_read.specs.Reading.{older_map, version_in}
 use Rattle.obj36_read.specs.MapFaults.{map_fault, section_fault, shared_fault, extents_of}
 use Rattle.obj36_read.specs.MapFaults.{extent_words}
@@ -69,8 +69,8 @@ from_outline (Some fault) later = fault
 from_outline None later = later
 
 -- the first fault of a list whose map is valid, and which encodes no parts
-unfoldable pub fault_behind_map : List ℕ → ObjectFault
-fault_behind_map words =
+unfoldable pub fault_after_map : List ℕ → ObjectFault
+fault_after_map words =
     from_sections (section_fault words) (from_sharing (shared_fault words)
     (from_tables (definition_fault words)
     (from_names (spelling_fault words) (from_links (linking_fault words)))))
@@ -84,30 +84,30 @@ outline_fault words =
 
 -- the first fault of a list that encodes no parts
 unfoldable pub first_fault : List ℕ → ObjectFault
-first_fault words = from_outline (outline_fault words) (fault_behind_map words)
+first_fault words = from_outline (outline_fault words) (fault_after_map words)
 
 -- The list encodes no parts.
-abbrev pub StandsForNone : List ℕ → Type 0
-StandsForNone words = (p : PartsFields) → Stands p words → ⊥
+abbrev pub EncodesNothing : List ℕ → Type 0
+EncodesNothing words = (p : PartsFields) → Encodes p words → ⊥
 
 -- The list encodes no parts, and this is its first fault.
 pub record IsRefused (words : List ℕ) (fault : ObjectFault) : Type 0 where
   pub first : first_fault words ≡ fault
-  pub stands_for_none : StandsForNone words
+  pub stands_for_none : EncodesNothing words
 
 -- The result of reading a list: the parts that it encodes, or its first fault. It may be NoMemory
 -- whatever the list is.
-abbrev pub ReadSays : List ℕ → Result PartsFields ObjectFault → Type 0
-ReadSays words (Ok p) = Stands p words
-ReadSays words (Err (O1 place)) = IsRefused words (O1 place)
-ReadSays words (Err (O2 place)) = IsRefused words (O2 place)
-ReadSays words (Err (O3 place)) = IsRefused words (O3 place)
-ReadSays words (Err (O4 place)) = IsRefused words (O4 place)
-ReadSays words (Err (O5 place)) = IsRefused words (O5 place)
-ReadSays words (Err (O6 place)) = IsRefused words (O6 place)
-ReadSays words (Err (O7 place)) = IsRefused words (O7 place)
-ReadSays words (Err (O8 place)) = IsRefused words (O8 place)
-ReadSays words (Err NoMemory) = Unit {0}
+abbrev pub ObjectResult : List ℕ → Result PartsFields ObjectFault → Type 0
+ObjectResult words (Ok p) = Encodes p words
+ObjectResult words (Err (O1 place)) = IsRefused words (O1 place)
+ObjectResult words (Err (O2 place)) = IsRefused words (O2 place)
+ObjectResult words (Err (O3 place)) = IsRefused words (O3 place)
+ObjectResult words (Err (O4 place)) = IsRefused words (O4 place)
+ObjectResult words (Err (O5 place)) = IsRefused words (O5 place)
+ObjectResult words (Err (O6 place)) = IsRefused words (O6 place)
+ObjectResult words (Err (O7 place)) = IsRefused words (O7 place)
+ObjectResult words (Err (O8 place)) = IsRefused words (O8 place)
+ObjectResult words (Err NoMemory) = Unit {0}
 
 -- A list that encodes parts is read as these parts, unless memory runs out.
 abbrev pub IsReadAs : PartsFields → Result PartsFields ObjectFault → Type 0
@@ -123,6 +123,6 @@ IsReadAs p (Err (O7 place)) = ⊥
 IsReadAs p (Err (O8 place)) = ⊥
 
 -- The parts that a list encodes, or none.
-abbrev pub IsFound : List ℕ → Option PartsFields → Type 0
-IsFound words (Some p) = Stands p words
-IsFound words None = StandsForNone words
+abbrev pub IsValueOf : List ℕ → Option PartsFields → Type 0
+IsValueOf words (Some p) = Encodes p words
+IsValueOf words None = EncodesNothing words

@@ -4,13 +4,13 @@ ghost use Rattle.std.specs.Prelude.{ℕ, List, ◌≡◌, ◌+◌, ◌^◌, ◌<
 ghost use Rattle.std.specs.Prelude.{IfSome, IfOk};
 ghost use Rattle.obj36.specs.Faults.{told_definition, told_linkage, definition_fault};
 ghost use Rattle.obj36.specs.Faults.{spelling_fault, linking_fault, from_links, from_names};
-ghost use Rattle.obj36.specs.Faults.{fault_behind_map, outline_fault};
+ghost use Rattle.obj36.specs.Faults.{fault_after_map, outline_fault};
 
 use crate::fault::ObjectFault;
 use m36_word::{NoMemory, Word};
-use obj36_read::linking::{fault_of_links, place_behind};
+use obj36_read::linking::{fault_of_links, index_in_list};
 use obj36_read::map::{
-    extents_told, fault_of_map, fault_of_sections, fault_of_sharing, words_within,
+    extents_in_map, fault_of_map, fault_of_sections, fault_of_sharing, words_within,
 };
 use obj36_read::reading::version;
 use obj36_read::spelling::fault_of_names;
@@ -21,14 +21,14 @@ use std::alloc::Global;
 fn definition_told(words: &[Word]) -> &[Word]
     ensures { result.now ≡ told_definition words.now }
 {
-    words_within(words, extents_told(words).definition)
+    words_within(words, extents_in_map(words).definition)
 }
 
 #[tactic(auto, unfolding(crate::specs::Faults::told_linkage))]
-fn linkage_told(words: &[Word]) -> &[Word]
+fn linkage_words(words: &[Word]) -> &[Word]
     ensures { result.now ≡ told_linkage words.now }
 {
-    words_within(words, extents_told(words).linkage)
+    words_within(words, extents_in_map(words).linkage)
 }
 
 #[tactic(auto, unfolding(crate::specs::Faults::definition_fault))]
@@ -36,9 +36,9 @@ fn fault_of_definitions(alloc: Global, words: &[Word]) -> Result<Option<u64>, No
     ensures value { IfOk result (λ place. place ≡ definition_fault words.now) }
     ensures bound { IfOk result (λ place. IfSome place (λ p. p < 2 ^ 21)) }
 {
-    let from = extents_told(words).definition.from;
+    let from = extents_in_map(words).definition.from;
     let place = fault_of_tables(alloc, version(words), definition_told(words))?;
-    Ok(place_behind(from, place))
+    Ok(index_in_list(from, place))
 }
 
 #[tactic(auto, unfolding(crate::specs::Faults::spelling_fault))]
@@ -46,8 +46,8 @@ fn fault_of_spelling(words: &[Word]) -> Option<u64>
     ensures value { result ≡ spelling_fault words.now }
     ensures bound { IfSome result (λ p. p < 2 ^ 21) }
 {
-    let from = extents_told(words).definition.from;
-    place_behind(from, fault_of_names(definition_told(words)))
+    let from = extents_in_map(words).definition.from;
+    index_in_list(from, fault_of_names(definition_told(words)))
 }
 
 #[tactic(auto, unfolding(crate::specs::Faults::linking_fault))]
@@ -55,19 +55,19 @@ fn fault_of_linking(words: &[Word]) -> Option<u64>
     ensures value { result ≡ linking_fault words.now }
     ensures bound { IfSome result (λ p. p < 2 ^ 21) }
 {
-    let told = extents_told(words);
+    let told = extents_in_map(words);
     fault_of_links(
         version(words),
         told.definition.from,
         definition_told(words),
         told.linkage.from,
-        linkage_told(words),
+        linkage_words(words),
     )
 }
 
 // The fault of a list of words whose map, sections and tables are valid: of the names, of the
 // links, or O8.
-fn fault_behind_tables(words: &[Word]) -> ObjectFault
+fn fault_after_tables(words: &[Word]) -> ObjectFault
     ensures { result
         ≡ from_names (spelling_fault words.now) (from_links (linking_fault words.now)) }
 {
@@ -81,9 +81,9 @@ fn fault_behind_tables(words: &[Word]) -> ObjectFault
 }
 
 // The first fault of a list of words whose map is valid; O8 if no other code applies.
-#[tactic(auto, unfolding(crate::specs::Faults::fault_behind_map))]
+#[tactic(auto, unfolding(crate::specs::Faults::fault_after_map))]
 pub(crate) fn fault_behind(alloc: Global, words: &[Word]) -> Result<ObjectFault, NoMemory>
-    ensures { IfOk result (λ fault. fault ≡ fault_behind_map words.now) }
+    ensures { IfOk result (λ fault. fault ≡ fault_after_map words.now) }
 {
     if let Some(place) = fault_of_sections(words) {
         return Ok(ObjectFault::O3(place as u32));
@@ -93,7 +93,7 @@ pub(crate) fn fault_behind(alloc: Global, words: &[Word]) -> Result<ObjectFault,
     }
     match fault_of_definitions(alloc, words)? {
         Some(place) => Ok(ObjectFault::O5(place as u32)),
-        None => Ok(fault_behind_tables(words)),
+        None => Ok(fault_after_tables(words)),
     }
 }
 

@@ -6,12 +6,12 @@ ghost use Rattle.obj36_parts.specs.ObjectSegment.{is_newer, inner_statics, outer
 ghost use Rattle.obj36_parts.specs.ObjectSegment.{definition_section, linkage_section};
 ghost use Rattle.obj36_parts.specs.ObjectSegment.{symbol_section, section_words, map_part};
 ghost use Rattle.obj36_parts.specs.ObjectSegment.{words_of, is_well_formed, definition_named};
-ghost use Rattle.obj36_parts.specs.ObjectSegment.{Stands, IsObject};
+ghost use Rattle.obj36_parts.specs.ObjectSegment.{Encodes, IsObject};
 ghost use Rattle.obj36_parts.specs.Halves.{joined};
 ghost use Rattle.obj36_parts.specs.Sizes.{HasShortLists};
 ghost use Rattle.obj36.specs.Lengths.{AreSmall};
 ghost use Rattle.obj36_parts.specs.PartsFields.{PartsFields};
-ghost use Rattle.obj36.specs.Faults.{outline_fault, ReadSays, IsReadAs, IsFound};
+ghost use Rattle.obj36.specs.Faults.{outline_fault, ObjectResult, IsReadAs, IsValueOf};
 ghost use Rattle.obj36.specs.ObjectOf.{value_of, IsObjectOf};
 ghost use Rattle.obj36_read.specs.Reading.{parts_of};
 ghost use Rattle.std.specs.Cmp.Lexicographic.{pointwise};
@@ -161,7 +161,7 @@ fn push_sections(
 ) -> Result<(), NoMemory>
     requires empty { out.old ≡ [] }
     requires object { IsObject parts.now definition.now linkage.now symbol.now }
-    ensures { OnOk result (Stands parts.now out.new) }
+    ensures { OnOk result (Encodes parts.now out.new) }
 {
     let lengths = lengths_of(parts, definition, linkage, symbol);
     push_all(out, parts.text.slice())?;
@@ -181,7 +181,7 @@ fn joined_sections(
     symbol: &[Word],
 ) -> Result<Words, NoMemory>
     requires { IsObject parts.now definition.now linkage.now symbol.now }
-    ensures { IfOk result (λ words. Stands parts.now words) }
+    ensures { IfOk result (λ words. Encodes parts.now words) }
 {
     let mut out = Words::new(alloc);
     match push_sections(&mut out, parts, definition, linkage, symbol) {
@@ -280,7 +280,7 @@ fn object_with(parts: Parts, sections: Option<Sections>) -> Option<Object>
 fn object_in(alloc: Global, w: &[Word]) -> Result<Option<Object>, NoMemory>
     requires { length w.now < 2 ^ 32 }
     ensures value { IfOk result (λ found. found ≡ value_of w.now) }
-    ensures found { IfOk result (λ found. IsFound w.now found) }
+    ensures found { IfOk result (λ found. IsValueOf w.now found) }
 {
     let parts = parts_in(alloc, w)?;
     match sections_found(alloc, &parts, w) {
@@ -293,11 +293,11 @@ fn object_in(alloc: Global, w: &[Word]) -> Result<Option<Object>, NoMemory>
 }
 
 // The object that a list of words with a valid map encodes, or the first fault of the list.
-fn read_behind(alloc: Global, w: &[Word]) -> Result<Object, ObjectFault>
+fn read_with_map(alloc: Global, w: &[Word]) -> Result<Object, ObjectFault>
     requires few { length w.now < 2 ^ 32 }
     requires outline { outline_fault w.now ≡ None }
-    ensures says { ReadSays w.now result }
-    ensures accepts { (p : PartsFields) → Stands p w.now → IsReadAs p result }
+    ensures says { ObjectResult w.now result }
+    ensures accepts { (p : PartsFields) → Encodes p w.now → IsReadAs p result }
     ensures object { IsObjectOf w.now result }
 {
     match object_in(alloc, w)? {
@@ -312,13 +312,13 @@ impl Object {
     /// fault in the order of the codes. Any list may fail with `NoMemory`.
     pub fn read(alloc: Global, w: &[Word]) -> Result<Object, ObjectFault>
         requires { length w.now < 2 ^ 32 }
-        ensures says { ReadSays w.now result }
-        ensures accepts { (p : PartsFields) → Stands p w.now → IsReadAs p result }
+        ensures says { ObjectResult w.now result }
+        ensures accepts { (p : PartsFields) → Encodes p w.now → IsReadAs p result }
         ensures object { IsObjectOf w.now result }
     {
         match fault_of_outline(w) {
             Some(fault) => Err(fault),
-            None => read_behind(alloc, w),
+            None => read_with_map(alloc, w),
         }
     }
 
@@ -338,7 +338,7 @@ impl Object {
 
     /// The one list of words that encodes the object. Fails only with `NoMemory`.
     pub fn write(&self, alloc: Global) -> Result<Words, NoMemory>
-        ensures { IfOk result (λ words. Stands self.now words) }
+        ensures { IfOk result (λ words. Encodes self.now words) }
     {
         let definition = self.definition.slice();
         let linkage = self.linkage.slice();

@@ -5,7 +5,7 @@ use Rattle.obj36_parts.specs.Fields.{LinkFields, RelocFields}
 use Rattle.obj36_parts.specs.PartsFields.{PartsFields}
 use Rattle.obj36_parts.specs.declared.definition.Named.{Named}
 use Rattle.obj36_parts.specs.Names.{with_names, all_name_words}
-use Rattle.obj36_parts.specs.ObjectSegment.{is_newer, inner_statics, outer_statics, definition_names, all_link_names, definition_words, expression_words, definition_part, definition_section, head_words, definition_head, expressions_behind, link_words, linkage_part, linkage_section, relocation_words, symbol_part, symbol_section, map_part, map_words, words_of, is_well_formed}
+use Rattle.obj36_parts.specs.ObjectSegment.{is_newer, inner_statics, outer_statics, definition_names, all_link_names, definition_words, expression_words, definition_part, definition_section, head_words, definition_head, first_expression_at, link_words, linkage_part, linkage_section, relocation_words, symbol_part, symbol_section, map_part, map_words, words_of, is_well_formed}
 use Rattle.obj36_parts.specs.Sizes.{names_length, HasShortLists, StaticsPastLinks}
 use Rattle.obj36_parts.proofs.Formed.{is_formed}
 
@@ -23,7 +23,7 @@ pub length-definition_part : (ds : List Named) (ls : List LinkFields) → length
 unfolding definition_part names_length
 length-definition_part ds ls =
     let names = with_names [] (definition_names ds ++ all_link_names ls) in
-    let base = expressions_behind (length ds) + 2 * length ls in
+    let base = first_expression_at (length ds) + 2 * length ls in
     omega (
       arith,
       length-append (definition_words names base ds definition_head ++ expression_words names base ls) (all_name_words names),
@@ -52,7 +52,7 @@ unfolding linkage_section
 statics_past_links p newer =
     omega (
       arith,
-      length-linkage_part (inner_statics p) p.links (expressions_behind (length p.definitions)),
+      length-linkage_part (inner_statics p) p.links (first_expression_at (length p.definitions)),
       no_inner (is_newer p) p.statics newer,
     )
 
@@ -93,7 +93,7 @@ length-words_of p =
       length-append (p.text ++ d) k,
       length-append p.text d,
       length-definition_part p.definitions p.links,
-      length-linkage_part (inner_statics p) p.links (expressions_behind (length p.definitions)),
+      length-linkage_part (inner_statics p) p.links (first_expression_at (length p.definitions)),
       length-symbol_part p.relocations,
       length-map_part (is_newer p) (length p.text) (length d) (length k) (length (outer_statics p)) (length y) p.entry_bound,
       statics_once (is_newer p) p.statics,

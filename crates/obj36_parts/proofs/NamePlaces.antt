@@ -6,15 +6,15 @@ use Rattle.std.specs.Map.{lookup}
 use Rattle.std.proofs.lemmas.List.{length-append}
 use Rattle.indexmap.specs.IndexMap.{insert_entry}
 use Rattle.obj36_parts.specs.Names.{same, with_name, names_in, place_of, name_length, name_words, all_name_words}
-use Rattle.obj36_parts.specs.NameTables.{laid, IsLaid}
+use Rattle.obj36_parts.specs.NameTables.{laid, ArePlaced}
 use Rattle.obj36_parts.proofs.IndexLaws.{goes_last, names_in_last, looked}
 use Rattle.obj36_parts.proofs.NameTables.{one_more}
 use Rattle.obj36_parts.proofs.SizeLaws.{length-name_words, all_words_last}
 
-pub nothing_laid : (entries : List (List ℕ × ℕ)) (base : ℕ) → entries ≡ [] → base ≤ 2 ^ 40 → IsLaid entries base base
+pub nothing_laid : (entries : List (List ℕ × ℕ)) (base : ℕ) → entries ≡ [] → base ≤ 2 ^ 40 → ArePlaced entries base base
 unfolding laid all_name_words
 nothing_laid entries base e near =
-    let P : List (List ℕ × ℕ) → Type 0 = λ es. IsLaid es base base in
+    let P : List (List ℕ × ℕ) → Type 0 = λ es. ArePlaced es base base in
     subst P (sym e) (record { near = near; places = refl; behind = omega arith; small = omega arith })
 
 -- ---- a name that is not in the table is added at the end
@@ -31,8 +31,8 @@ laid_last (n ∷ names) name at =
     omega (arith, length-append (name_words n) (all_name_words names), length-name_words n) in
     ap (λ (es : List (List ℕ × ℕ)). (n, at) ∷ es) (laid_last names name (at + name_length n) ∙ ap (λ m. laid names (at + name_length n) ++ (name, m) ∷ []) k)
 
-pub laid_more : (entries new : List (List ℕ × ℕ)) (base next after n : ℕ) (name : List ℕ) → IsLaid entries base next → is_some (lookup (same name) entries) ≡ false
-    → new ≡ insert_entry same entries name next → n ≡ name_length name → n ≤ 9 → after ≡ next + n → IsLaid new base after
+pub laid_more : (entries new : List (List ℕ × ℕ)) (base next after n : ℕ) (name : List ℕ) → ArePlaced entries base next → is_some (lookup (same name) entries) ≡ false
+    → new ≡ insert_entry same entries name next → n ≡ name_length name → n ≤ 9 → after ≡ next + n → ArePlaced new base after
 laid_more entries new base next after n name h none e long short a =
     let all : new ≡ entries ++ (name, next) ∷ [] = e ∙ goes_last same entries name next none in
     let names : names_in new ≡ names_in entries ++ name ∷ [] = ap names_in all ∙ names_in_last entries name next in
@@ -81,6 +81,6 @@ place_told name (n ∷ names) at = by (same name n) (place_told name names (at +
         omega (arith, length-append (name_words n) (all_name_words names), length-name_words n) in k)
         ∙ later
 
-pub found_laid : (entries : List (List ℕ × ℕ)) (base next : ℕ) (name : List ℕ) → IsLaid entries base next
+pub found_laid : (entries : List (List ℕ × ℕ)) (base next : ℕ) (name : List ℕ) → ArePlaced entries base next
     → unwrap_or (lookup (same name) entries) next ≡ place_of name (names_in entries) base
 found_laid entries base next name h = (λ i. unwrap_or (lookup (same name) (h.places i)) (h.behind i)) ∙ place_told name (names_in entries) base

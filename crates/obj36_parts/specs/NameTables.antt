@@ -13,7 +13,7 @@ laid [] at = []
 laid (name ∷ names) at = (name, at) ∷ laid names (at + name_length name)
 
 -- The entries are names at their offsets, and `next` is the offset after the last.
-pub record IsLaid (entries : List (List ℕ × ℕ)) (base next : ℕ) : Type 0 where
+pub record ArePlaced (entries : List (List ℕ × ℕ)) (base next : ℕ) : Type 0 where
   pub near : base ≤ 2 ^ 40
   pub places : entries ≡ laid (names_in entries) base
   pub behind : next ≡ base + length (all_name_words (names_in entries))

@@ -33,8 +33,8 @@ abbrev pub evened : ℕ → ℕ
 evened n = n + n % 2
 
 -- words with a zero word added if their number is odd
-abbrev pub evened_words : List ℕ → List ℕ
-evened_words words = if nat_eq (length words % 2) 0 then words else words ++ 0 ∷ []
+abbrev pub padded_to_even : List ℕ → List ℕ
+padded_to_even words = if nat_eq (length words % 2) 0 then words else words ++ 0 ∷ []
 
 -- the static words of the linkage section
 abbrev pub inner_statics : PartsFields → List ℕ
@@ -57,8 +57,8 @@ abbrev pub symbol_head : ℕ
 symbol_head = 1
 
 -- the offset of the first expression of a link, after the head and the definitions
-abbrev pub expressions_behind : ℕ → ℕ
-expressions_behind definitions = definition_head + 2 * definitions
+abbrev pub first_expression_at : ℕ → ℕ
+first_expression_at definitions = definition_head + 2 * definitions
 
 -- the type of a link to a section of the own object
 abbrev pub to_section : ℕ
@@ -152,7 +152,7 @@ expression_words names base (l ∷ ls) =
 unfoldable pub definition_part : List Named → List LinkFields → List ℕ
 definition_part ds ls =
     let names = with_names [] (definition_names ds ++ all_link_names ls) in
-    let expressions = expressions_behind (length ds) in
+    let expressions = first_expression_at (length ds) in
     let base = expressions + 2 * length ls in
     joined (place_if_any (length ds) definition_head) (length ds)
     ∷ joined (place_if_any (length ls) expressions) (length ls)
@@ -183,12 +183,12 @@ link_words (l ∷ ls) at expression =
     link_head at ∷ joined expression l.modifier ∷ link_words ls (at + 2) (expression + 2)
 
 -- the offset of the first link after this many static words in the linkage section
-abbrev pub links_behind : ℕ → ℕ
-links_behind statics = head_words + statics
+abbrev pub first_link_at : ℕ → ℕ
+first_link_at statics = head_words + statics
 
 -- the offset of the first link by the version; in the newer one no static words are before it
 abbrev pub first_link_by : Bool → ℕ → ℕ
-first_link_by newer statics = if newer then head_words else links_behind statics
+first_link_by newer statics = if newer then head_words else first_link_at statics
 
 -- the offset of link i, counted from 0, if the first one is at `first`
 abbrev pub word_of_link : ℕ → ℕ → ℕ
@@ -196,22 +196,22 @@ word_of_link first i = first + 2 * i
 
 -- the number of words of a linkage section with this many static words and links
 abbrev pub linkage_length : ℕ → ℕ → ℕ
-linkage_length statics links = links_behind statics + 2 * links
+linkage_length statics links = first_link_at statics + 2 * links
 
 -- the head, the static words, and the links, whose expressions begin at an offset
 unfoldable pub linkage_part : List ℕ → List LinkFields → ℕ → List ℕ
 linkage_part statics ls expressions =
-    0 ∷ joined (links_behind (length statics)) (length ls) ∷ 0 ∷ 0 ∷ 0 ∷ 0 ∷ 0 ∷ 0 ∷ statics
-    ++ link_words ls (links_behind (length statics)) expressions
+    0 ∷ joined (first_link_at (length statics)) (length ls) ∷ 0 ∷ 0 ∷ 0 ∷ 0 ∷ 0 ∷ 0 ∷ statics
+    ++ link_words ls (first_link_at (length statics)) expressions
 
 -- the words of the linkage section
 unfoldable pub linkage_section : PartsFields → List ℕ
 linkage_section p =
-    linkage_part (inner_statics p) p.links (expressions_behind (length p.definitions))
+    linkage_part (inner_statics p) p.links (first_expression_at (length p.definitions))
 
 -- the offset of the first link of an object in its linkage section
 abbrev pub first_link : PartsFields → ℕ
-first_link p = links_behind (length (inner_statics p))
+first_link p = first_link_at (length (inner_statics p))
 
 -- ---- the symbol section
 
@@ -270,21 +270,21 @@ symbol_section p = symbol_part p.relocations
 -- ---- the map and the last word
 
 -- the offset at which the linkage section begins, by the lengths of the sections before it
-abbrev pub linkage_behind : ℕ → ℕ → ℕ
-linkage_behind text definition = text + definition
+abbrev pub linkage_at : ℕ → ℕ → ℕ
+linkage_at text definition = text + definition
 
 -- the offset at which the static section begins
-abbrev pub statics_behind : ℕ → ℕ → ℕ → ℕ
-statics_behind text definition linkage = linkage_behind text definition + linkage
+abbrev pub statics_at : ℕ → ℕ → ℕ → ℕ
+statics_at text definition linkage = linkage_at text definition + linkage
 
 -- the offset at which the symbol section begins
-abbrev pub symbol_behind : ℕ → ℕ → ℕ → ℕ → ℕ
-symbol_behind text definition linkage statics = statics_behind text definition linkage + statics
+abbrev pub symbol_at : ℕ → ℕ → ℕ → ℕ → ℕ
+symbol_at text definition linkage statics = statics_at text definition linkage + statics
 
 -- the offset at which the map begins
-abbrev pub map_behind : ℕ → ℕ → ℕ → ℕ → ℕ → ℕ
-map_behind text definition linkage statics symbol =
-    symbol_behind text definition linkage statics + symbol
+abbrev pub map_at : ℕ → ℕ → ℕ → ℕ → ℕ → ℕ
+map_at text definition linkage statics symbol =
+    symbol_at text definition linkage statics + symbol
 
 -- The map of sections of these lengths: the version, the offset and length of each section, and the
 -- entry bound. After it comes the last word, with the offset of the map.
@@ -293,11 +293,11 @@ map_part newer text definition linkage statics symbol bound =
     joined 0 (version_of newer)
     ∷ joined 0 text
     ∷ joined text definition
-    ∷ joined (linkage_behind text definition) linkage
-    ∷ (if newer then joined (statics_behind text definition linkage) statics ∷ [] else [])
-    ++ joined (symbol_behind text definition linkage statics) symbol
+    ∷ joined (linkage_at text definition) linkage
+    ∷ (if newer then joined (statics_at text definition linkage) statics ∷ [] else [])
+    ++ joined (symbol_at text definition linkage statics) symbol
     ∷ joined bound 0
-    ∷ joined (map_behind text definition linkage statics symbol) 0
+    ∷ joined (map_at text definition linkage statics symbol) 0
     ∷ []
 
 -- the map of the object of these parts, with the last word
@@ -384,7 +384,7 @@ is_link version l =
 unfoldable pub is_place : ℕ → ℕ → ℕ → Section → ℕ → Bool
 is_place text inner outer Text offset = nat_lt offset text
 is_place text inner outer Linkage offset =
-    nat_le head_words offset && nat_lt offset (links_behind inner)
+    nat_le head_words offset && nat_lt offset (first_link_at inner)
 is_place text inner outer Static offset = nat_lt offset outer
 is_place text inner outer Symbol offset = false
 
@@ -429,7 +429,7 @@ is_well_formed p =
     && are_in_order p.relocations
 
 -- The words are the object of the parts.
-pub record Stands (p : PartsFields) (words : List ℕ) : Type 0 where
+pub record Encodes (p : PartsFields) (words : List ℕ) : Type 0 where
   pub formed : is_well_formed p ≡ true
   pub spelled : words ≡ words_of p
 
@@ -454,4 +454,4 @@ pub record IsObject (p : PartsFields) (d k s : List ℕ) : Type 0 where
 -- Different parts have different words. That parts have at most one list of words is plain: it is
 -- `words_of` of them.
 abbrev pub ValuesApart : Type 0
-ValuesApart = (p q : PartsFields) (words : List ℕ) → Stands p words → Stands q words → p ≡ q
+ValuesApart = (p q : PartsFields) (words : List ℕ) → Encodes p words → Encodes q words → p ≡ q

@@ -182,7 +182,7 @@ fn may_follow(least: u64, barred: u64, place: u64) -> bool
 
 // The order number that must not occur after a relocation: after one of part 0, that of part 2 of
 // the same word.
-fn barred_behind(part: u8, place: u64, barred: u64) -> u64
+fn barred_after(part: u8, place: u64, barred: u64) -> u64
     requires { place < 2 ^ 40 }
     ensures { result ≡ (if nat_eq part left_part then place + offset_part else barred) }
 {
@@ -204,7 +204,7 @@ fn are_in_order(relocations: &[Reloc]) -> bool
             return false;
         }
         least = place + 1;
-        barred = barred_behind(first.part, place, barred);
+        barred = barred_after(first.part, place, barred);
         rest = others;
     }
     true

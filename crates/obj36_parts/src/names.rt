@@ -49,13 +49,13 @@ pub struct NameTable {
 
 impl Model for NameTable {
     ghost use Rattle.obj36_parts.specs.Names.{names_in};
-    ghost use Rattle.obj36_parts.specs.NameTables.{NameTableFields, IsLaid};
+    ghost use Rattle.obj36_parts.specs.NameTables.{NameTableFields, ArePlaced};
 
     ghost Value = { NameTableFields };
 
     ghost view = { λ t. record { names = names_in t.places.entries; base = t.base } };
 
-    ghost invariant = { λ t. IsLaid t.places.entries t.base t.next };
+    ghost invariant = { λ t. ArePlaced t.places.entries t.base t.next };
 }
 
 impl NameTable {

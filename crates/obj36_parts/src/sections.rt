@@ -6,11 +6,11 @@ ghost use Rattle.obj36_parts.specs.Halves.{joined};
 ghost use Rattle.obj36_parts.specs.Names.{place_of, with_names};
 ghost use Rattle.obj36_parts.specs.Sections.{class_number, place_number, is_text_section, rank};
 ghost use Rattle.obj36_parts.specs.Sections.{later_section};
-ghost use Rattle.obj36_parts.specs.ObjectSegment.{version_of, evened_words};
+ghost use Rattle.obj36_parts.specs.ObjectSegment.{version_of, padded_to_even};
 ghost use Rattle.obj36_parts.specs.ObjectSegment.{place_if_any};
 ghost use Rattle.obj36_parts.specs.ObjectSegment.{class_of};
 ghost use Rattle.obj36_parts.specs.ObjectSegment.{definition_words, subject_of, entry_place};
-ghost use Rattle.obj36_parts.specs.ObjectSegment.{definition_names, all_link_names, expressions_behind};
+ghost use Rattle.obj36_parts.specs.ObjectSegment.{definition_names, all_link_names, first_expression_at};
 ghost use Rattle.obj36_parts.specs.ObjectSegment.{expression_words, definition_part};
 ghost use Rattle.obj36_parts.specs.ObjectSegment.{linkage_part, relocation_word};
 ghost use Rattle.obj36_parts.specs.ObjectSegment.{symbol_part, definition_head};
@@ -153,7 +153,7 @@ pub fn push_zeros(out: &mut Words, count: u64) -> Result<(), NoMemory>
 
 /// Adds a zero word if the number of words is odd.
 pub fn push_evening(out: &mut Words) -> Result<(), NoMemory>
-    ensures { OnOk result (out.new ≡ evened_words out.old) }
+    ensures { OnOk result (out.new ≡ padded_to_even out.old) }
 {
     if out.slice().len() % 2 == 0 {
         return Ok(());
@@ -267,7 +267,7 @@ fn push_section(
     requires names { table.now.names
         ≡ with_names [] (definition_names definitions.now ++ all_link_names links.now) }
     requires base { table.now.base
-        ≡ expressions_behind (length definitions.now) + 2 * length links.now }
+        ≡ first_expression_at (length definitions.now) + 2 * length links.now }
     ensures { OnOk result (out.new ≡ out.old ++ definition_part definitions.now links.now) }
 {
     let expressions = 2 + 2 * definitions.len() as u64;
@@ -299,7 +299,7 @@ fn words_by_table(
     requires names { table.now.names
         ≡ with_names [] (definition_names definitions.now ++ all_link_names links.now) }
     requires base { table.now.base
-        ≡ expressions_behind (length definitions.now) + 2 * length links.now }
+        ≡ first_expression_at (length definitions.now) + 2 * length links.now }
     ensures { IfOk result (λ words. words ≡ definition_part definitions.now links.now) }
 {
     let mut out = Words::new(alloc);

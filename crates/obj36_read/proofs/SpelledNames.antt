@@ -7,7 +7,7 @@ use Rattle.std.proofs.Math.Seq.{drop-cons}
 use Rattle.obj36_parts.specs.Halves.{quarter}
 use Rattle.obj36_read.specs.Reading.{unit_at}
 use Rattle.obj36_read.specs.TableFaults.{lies_within, same_units}
-use Rattle.obj36_read.specs.Spelled.{whole_words, kept_parts, last_parts}
+use Rattle.obj36_read.specs.Spelled.{whole_words, count_leading_quarters, last_parts}
 
 -- two tests that imply each other
 either_way : (b c : Bool) → (b ≡ true → c ≡ true) → (c ≡ true → b ≡ true) → b ≡ c
@@ -96,8 +96,8 @@ four_parts w v = either_way _ _ there back
         (and_from _ _ (eq-eqb (w / 2 ^ 9 % 2 ^ 9) (v / 2 ^ 9 % 2 ^ 9) (ap (λ n. n / 2 ^ 9 % 2 ^ 9) h))
         (and_from _ true (eq-eqb (w % 2 ^ 9) (v % 2 ^ 9) (ap (λ n. n % 2 ^ 9) h)) refl)))
 
-same_kept : (w v r : ℕ) → r < 4 → same_parts w v 0 (r + 1) ≡ eqb (kept_parts w r) (kept_parts v r)
-unfolding kept_parts
+same_kept : (w v r : ℕ) → r < 4 → same_parts w v 0 (r + 1) ≡ eqb (count_leading_quarters w r) (count_leading_quarters v r)
+unfolding count_leading_quarters
 same_kept w v zero lt = one_part w v
 same_kept w v (suc zero) lt = two_parts w v
 same_kept w v (suc (suc zero)) lt = three_parts w v
@@ -159,14 +159,14 @@ module _ (d : List ℕ) (a b : ℕ) where
       ∙ (λ i. word_units j i && more i)
       ∙ (λ i. pointwise eqb (take (suc q) (sym first i)) (take (suc q) (sym second i)))
 
-  last_units : (q r : ℕ) → r < 4 → same_units d a b (4 * q) (r + 1) ≡ eqb (kept_parts (slice_index d (a + q)) r) (kept_parts (slice_index d (b + q)) r)
+  last_units : (q r : ℕ) → r < 4 → same_units d a b (4 * q) (r + 1) ≡ eqb (count_leading_quarters (slice_index d (a + q)) r) (count_leading_quarters (slice_index d (b + q)) r)
   last_units q r lt =
       ap (λ m. same_units d a b m (r + 1)) (let e : 4 * q ≡ 4 * q + 0 = omega arith in e) ∙ units_parts q 0 (r + 1) (omega (arith, lt))
       ∙ same_kept (slice_index d (a + q)) (slice_index d (b + q)) r lt
 
   all_units : (n : ℕ) → a + n / 4 + 1 ≤ length d → b + n / 4 + 1 ≤ length d
       → same_units d a b 0 (n + 1) ≡ (pointwise eqb (take (n / 4) (drop a d)) (take (n / 4) (drop b d))
-      && eqb (kept_parts (slice_index d (a + n / 4)) (n % 4)) (kept_parts (slice_index d (b + n / 4)) (n % 4)))
+      && eqb (count_leading_quarters (slice_index d (a + n / 4)) (n % 4)) (count_leading_quarters (slice_index d (b + n / 4)) (n % 4)))
   all_units n la lb =
       let q = n / 4 in
       ap (λ m. same_units d a b 0 m) (let e : n + 1 ≡ 4 * (n / 4) + (n % 4 + 1) = omega arith in e)
@@ -192,7 +192,7 @@ module _ (d : List ℕ) (a b : ℕ) where
 
       by : (t : Bool) → eqb (unit_at d a 0) (unit_at d b 0) ≡ t
           → same_units d a b 0 (unit_at d a 0 + 1) ≡ (pointwise eqb (take (unit_at d a 0 / 4) (drop a d)) (take (unit_at d b 0 / 4) (drop b d))
-          && (t && eqb (kept_parts (slice_index d (a + unit_at d a 0 / 4)) (unit_at d a 0 % 4)) (kept_parts (slice_index d (b + unit_at d b 0 / 4)) (unit_at d b 0 % 4))))
+          && (t && eqb (count_leading_quarters (slice_index d (a + unit_at d a 0 / 4)) (unit_at d a 0 % 4)) (count_leading_quarters (slice_index d (b + unit_at d b 0 / 4)) (unit_at d b 0 % 4))))
       by false e =
           ap (λ m. same_units d a b 0 m) (let k : unit_at d a 0 + 1 ≡ suc (unit_at d a 0) = omega arith in k)
           ∙ ap (λ t. t && same_units d a b 1 (unit_at d a 0)) e
@@ -202,4 +202,4 @@ module _ (d : List ℕ) (a b : ℕ) where
           let alike : unit_at d a 0 ≡ unit_at d b 0 = eqb-true (unit_at d a 0) (unit_at d b 0) e in
           all_units n (within a la) (omega (arith, within b lb, ap (λ m. m / 4) alike))
           ∙ (λ i. pointwise eqb (take (n / 4) (drop a d)) (take (alike i / 4) (drop b d))
-          && eqb (kept_parts (slice_index d (a + n / 4)) (n % 4)) (kept_parts (slice_index d (b + alike i / 4)) (alike i % 4)))
+          && eqb (count_leading_quarters (slice_index d (a + n / 4)) (n % 4)) (count_leading_quarters (slice_index d (b + alike i / 4)) (alike i % 4)))

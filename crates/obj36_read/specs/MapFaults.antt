@@ -8,7 +8,7 @@ use Rattle.obj36_parts.specs.Halves.{left, right}
 use Rattle.obj36_parts.specs.ObjectSegment.{is_newer_version, head_words}
 use Rattle.obj36_parts.specs.ObjectSegment.{definition_head, symbol_head}
 use Rattle.obj36_read.specs.Reading.{older_map, newer_map, map_place, map_word, version_in}
-use Rattle.obj36_read.specs.Reading.{told_length, text_index, definition_index, linkage_index, statics_index}
+use Rattle.obj36_read.specs.Reading.{length_of_part, text_index, definition_index, linkage_index, statics_index}
 use Rattle.obj36_read.specs.Reading.{symbol_index, bound_index}
 use Rattle.obj36_read.specs.declared.map.Extent.{Extent}
 use Rattle.obj36_read.specs.declared.map.Extents.{Extents}
@@ -17,8 +17,8 @@ use Rattle.obj36_read.specs.declared.map.Extents.{Extents}
 
 -- whether the map begins where the last word says: it then has the length of a map of either
 -- version
-unfoldable pub is_told : List ℕ → Bool
-is_told words =
+unfoldable pub is_in_map : List ℕ → Bool
+is_in_map words =
     nat_eq (map_place words + older_map) (length words)
     || nat_eq (map_place words + newer_map) (length words)
 
@@ -27,7 +27,7 @@ is_told words =
 unfoldable pub is_bound : List ℕ → ℕ → Bool
 is_bound words bound =
     nat_eq (right bound) 0
-    && nat_le (left bound) (told_length words text_index)
+    && nat_le (left bound) (length_of_part words text_index)
 
 -- The first invalid word of a map with a valid length. Its first word has only the version. Its
 -- last word has 0 in its right half.
@@ -46,7 +46,7 @@ fixed_fault words version =
 -- the first word with which O2 refuses a list
 unfoldable pub map_fault : List ℕ → Option ℕ
 map_fault words =
-    if is_told words then fixed_fault words (version_in words) else Some (length words - 1)
+    if is_in_map words then fixed_fault words (version_in words) else Some (length words - 1)
 
 -- ---- sections that end past the map or are too short: O3
 
@@ -54,7 +54,7 @@ map_fault words =
 unfoldable pub extent_at : List ℕ → ℕ → Extent
 extent_at words i = record {
   from = left (map_word words i);
-  count = told_length words i;
+  count = length_of_part words i;
 }
 
 -- an absent section

@@ -10,7 +10,7 @@ use Rattle.obj36_parts.specs.Halves.{left, right, quarter}
 use Rattle.obj36_parts.specs.ObjectSegment.{is_newer_version, version_of, has_name, has_entry}
 use Rattle.obj36_parts.specs.ObjectSegment.{head_words, definition_head, symbol_head}
 use Rattle.obj36_parts.specs.Sections.{entry_mark}
-use Rattle.obj36_parts.specs.ObjectSegment.{expressions_behind, section_unit}
+use Rattle.obj36_parts.specs.ObjectSegment.{first_expression_at, section_unit}
 use Rattle.obj36_parts.specs.ObjectSegment.{part_unit, target_unit}
 use Rattle.obj36_parts.specs.declared.section.Section.{Section}
 use Rattle.obj36_parts.specs.declared.section.Section.TheVariants.{Text, Linkage, Symbol, Static}
@@ -154,30 +154,30 @@ abbrev pub map_word : List ℕ → ℕ → ℕ
 map_word words i = slice_index words (map_place words + i)
 
 -- the length that a word of the map has
-unfoldable pub told_length : List ℕ → ℕ → ℕ
-told_length words i = right (map_word words i)
+unfoldable pub length_of_part : List ℕ → ℕ → ℕ
+length_of_part words i = right (map_word words i)
 
 -- a number of items, at most the number of words of the list
-unfoldable pub told_count : List ℕ → List ℕ → ℕ → ℕ
-told_count words part i = min (right (slice_index part i)) (length words)
+unfoldable pub count_of_items : List ℕ → List ℕ → ℕ → ℕ
+count_of_items words part i = min (right (slice_index part i)) (length words)
 
 -- the rest of the list from the definition section on
 unfoldable pub from_definition : List ℕ → List ℕ
-from_definition words = drop (told_length words text_index) words
+from_definition words = drop (length_of_part words text_index) words
 
 -- the rest of the list from the linkage section on
 unfoldable pub from_linkage : List ℕ → List ℕ
-from_linkage words = drop (told_length words definition_index) (from_definition words)
+from_linkage words = drop (length_of_part words definition_index) (from_definition words)
 
 -- the rest of the list after the linkage section
 unfoldable pub from_statics : List ℕ → List ℕ
-from_statics words = drop (told_length words linkage_index) (from_linkage words)
+from_statics words = drop (length_of_part words linkage_index) (from_linkage words)
 
 -- the rest of the list from the symbol section on
 unfoldable pub from_symbol : List ℕ → List ℕ
 from_symbol words =
     if is_newer_version (version_in words)
-    then drop (told_length words statics_index) (from_statics words)
+    then drop (length_of_part words statics_index) (from_statics words)
     else from_statics words
 
 -- the offset of the first link, which the head of the linkage section has
@@ -185,16 +185,16 @@ unfoldable pub link_start : List ℕ → ℕ
 link_start k = left (slice_index k 1)
 
 -- the offset of the first link in the linkage section of a list
-unfoldable pub told_first : List ℕ → ℕ
-told_first words = link_start (from_linkage words)
+unfoldable pub first_link_in_head : List ℕ → ℕ
+first_link_in_head words = link_start (from_linkage words)
 
 -- the static words: in version 1 those before the links, and in version 2 those of the static
 -- section
 unfoldable pub statics_in : List ℕ → List ℕ
 statics_in words =
     if is_newer_version (version_in words)
-    then take (told_length words statics_index) (from_statics words)
-    else take (told_first words - head_words) (drop head_words (from_linkage words))
+    then take (length_of_part words statics_index) (from_statics words)
+    else take (first_link_in_head words - head_words) (drop head_words (from_linkage words))
 
 -- the entry bound, which a word of the map has
 unfoldable pub bound_in : List ℕ → ℕ
@@ -204,15 +204,15 @@ bound_in words = left (map_word words (bound_index (version_in words)))
 unfoldable pub parts_of : List ℕ → PartsFields
 parts_of words =
     let definition = from_definition words in
-    let count = told_count words definition 0 in
+    let count = count_of_items words definition 0 in
     record {
-      text = take (told_length words text_index) words;
+      text = take (length_of_part words text_index) words;
       statics = statics_in words;
       definitions = definitions_in definition definition_head count;
-      links = links_in definition (expressions_behind count) (from_linkage words)
-          (told_first words) (told_count words definition 1);
+      links = links_in definition (first_expression_at count) (from_linkage words)
+          (first_link_in_head words) (count_of_items words definition 1);
       relocations = relocations_in (from_symbol words) symbol_head
-          (told_count words (from_symbol words) 0);
+          (count_of_items words (from_symbol words) 0);
       entry_bound = bound_in words;
       version = version_in words;
     }

@@ -8,12 +8,12 @@ unfoldable pub whole_words : List ℕ → ℕ → List ℕ
 whole_words d at = take (unit_at d at 0 / 4) (drop at d)
 
 -- the first n + 1 parts of nine bits of a word, as one number
-unfoldable pub kept_parts : ℕ → ℕ → ℕ
-kept_parts w zero = w / 2 ^ 27
-kept_parts w (suc zero) = w / 2 ^ 18
-kept_parts w (suc (suc zero)) = w / 2 ^ 9
-kept_parts w (suc (suc (suc n))) = w
+unfoldable pub count_leading_quarters : ℕ → ℕ → ℕ
+count_leading_quarters w zero = w / 2 ^ 27
+count_leading_quarters w (suc zero) = w / 2 ^ 18
+count_leading_quarters w (suc (suc zero)) = w / 2 ^ 9
+count_leading_quarters w (suc (suc (suc n))) = w
 
 -- the parts of the last word of a name that belong to the name
 unfoldable pub last_parts : List ℕ → ℕ → ℕ
-last_parts d at = kept_parts (slice_index d (at + unit_at d at 0 / 4)) (unit_at d at 0 % 4)
+last_parts d at = count_leading_quarters (slice_index d (at + unit_at d at 0 / 4)) (unit_at d at 0 % 4)

@@ -7,7 +7,7 @@ use Rattle.obj36_parts.specs.Halves.{left, right}
 use Rattle.obj36_parts.specs.Names.{is_name_character}
 use Rattle.obj36_parts.specs.ObjectSegment.{has_name, has_entry, last_class}
 use Rattle.obj36_parts.specs.Sections.{entry_mark}
-use Rattle.obj36_parts.specs.ObjectSegment.{expressions_behind}
+use Rattle.obj36_parts.specs.ObjectSegment.{first_expression_at}
 use Rattle.obj36_read.specs.Reading.{unit_at}
 
 -- the lesser of two places, or the one that there is
@@ -51,7 +51,7 @@ chain_fault d (suc count) holder at =
 -- head.
 unfoldable pub count_fault : List ℕ → Option ℕ
 count_fault d =
-    if nat_lt (length d) (expressions_behind (definition_count d))
+    if nat_lt (length d) (first_expression_at (definition_count d))
     then Some 0
     else chain_fault d (definition_count d) 0 (first_definition d)
 

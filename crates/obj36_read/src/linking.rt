@@ -124,7 +124,7 @@ fn fault_of_linkage(version: u8, d: &[Word], k: &[Word]) -> Option<u64>
 }
 
 /// An index in a section that begins at the word `from`, as an index in the whole list.
-pub fn place_behind(from: u64, place: Option<u64>) -> Option<u64>
+pub fn index_in_list(from: u64, place: Option<u64>) -> Option<u64>
     requires from { from < 2 ^ 18 }
     requires place { IfSome place (λ p. p < 2 ^ 20) }
     ensures value { result ≡ behind from place }
@@ -160,7 +160,7 @@ pub fn fault_of_links(version: u8, d_from: u64, d: &[Word], k_from: u64, k: &[Wo
     ensures value { result ≡ links_fault version d_from d.now k_from k.now }
     ensures bound { IfSome result (λ p. p < 2 ^ 21) }
 {
-    let types = place_behind(d_from, fault_of_types(version, d));
-    let links = place_behind(k_from, fault_of_linkage(version, d, k));
+    let types = index_in_list(d_from, fault_of_types(version, d));
+    let links = index_in_list(k_from, fault_of_linkage(version, d, k));
     first_place(types, links)
 }

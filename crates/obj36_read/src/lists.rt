@@ -4,8 +4,8 @@ ghost use Rattle.std.specs.Prelude.{ℕ, [], ◌++◌, ◌≡◌, ◌^◌, ◌<�
 ghost use Rattle.obj36_read.specs.Reading.{parts_of};
 
 use crate::reading::{
-    bound, count_told, definition_on, first_told, front, length_told, linkage_on, read_definitions,
-    read_links, read_relocations, statics, symbol_on, version,
+    bound, count_in_head, definition_on, first_link_offset, front, length_in_map, linkage_on,
+    read_definitions, read_links, read_relocations, statics, symbol_on, version,
 };
 use m36_text::HashSeed;
 use m36_word::{NoMemory, Word, Words};
@@ -52,15 +52,15 @@ fn read_tables(definitions: &mut Defs, links: &mut Links, words: &[Word]) -> Res
     ensures links { OnOk result (links.new ≡ links.old ++ (parts_of words.now).links) }
 {
     let from = definition_on(words);
-    let count = count_told(words, from, 0);
+    let count = count_in_head(words, from, 0);
     read_definitions(definitions, from, count)?;
     read_links(
         links,
         from,
         2 + 2 * count,
         linkage_on(words),
-        first_told(words),
-        count_told(words, from, 1),
+        first_link_offset(words),
+        count_in_head(words, from, 1),
     )
 }
 
@@ -78,10 +78,14 @@ pub(crate) fn read_lists(lists: &mut Lists, words: &[Word]) -> Result<(), NoMemo
         (lists.new.relocations ≡ lists.old.relocations ++ (parts_of words.now).relocations) }
 {
     let symbol = symbol_on(words);
-    push_all(&mut lists.text, front(words, length_told(words, 1)))?;
+    push_all(&mut lists.text, front(words, length_in_map(words, 1)))?;
     push_all(&mut lists.statics, statics(words))?;
     read_tables(&mut lists.definitions, &mut lists.links, words)?;
-    read_relocations(&mut lists.relocations, symbol, count_told(words, symbol, 0))
+    read_relocations(
+        &mut lists.relocations,
+        symbol,
+        count_in_head(words, symbol, 0),
+    )
 }
 
 // The parts with these lists, and with the entry bound and the version of a list of words.

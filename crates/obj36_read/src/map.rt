@@ -4,7 +4,7 @@ ghost use Rattle.std.specs.Prelude.{ℕ, ◌≡◌, ◌+◌, ◌-◌, ◌^◌, �
 ghost use Rattle.std.specs.Prelude.{length, Option, Some, None};
 ghost use Rattle.std.specs.Prelude.{IfSome, if◌then◌else◌};
 ghost use Rattle.obj36_parts.specs.ObjectSegment.{is_newer_version};
-ghost use Rattle.obj36_read.specs.MapFaults.{extent_at, is_told, is_bound};
+ghost use Rattle.obj36_read.specs.MapFaults.{extent_at, is_in_map, is_bound};
 ghost use Rattle.obj36_read.specs.Reading.{symbol_index, statics_index, newer_map};
 ghost use Rattle.obj36_read.specs.MapFaults.{nowhere, fixed_fault, map_fault};
 ghost use Rattle.obj36_read.specs.MapFaults.{is_outside, section_fault, extents_of, covers};
@@ -12,7 +12,7 @@ ghost use Rattle.obj36_read.specs.MapFaults.{covering, first_shared, shared_faul
 ghost use Rattle.obj36_read.specs.Near.{AreNear};
 
 use crate::reading::{
-    NEWER_MAP, OLDER_MAP, behind, front, index_of_bound, length_told, place_of_map, version,
+    NEWER_MAP, OLDER_MAP, behind, front, index_of_bound, length_in_map, place_of_map, version,
     word_at,
 };
 use m36_word::Word;
@@ -40,8 +40,8 @@ pub struct Extents {
 }
 
 // Where a section is, as word i of the map says.
-#[tactic(auto, unfolding(crate::specs::MapFaults::extent_at, crate::specs::Reading::told_length))]
-fn extent_told(words: &[Word], i: u64) -> Extent
+#[tactic(auto, unfolding(crate::specs::MapFaults::extent_at, crate::specs::Reading::length_of_part))]
+fn extent_in_map(words: &[Word], i: u64) -> Extent
     requires { i < newer_map }
     ensures value { result ≡ extent_at words.now i }
     ensures from { result.from < 2 ^ 18 }
@@ -57,9 +57,9 @@ fn extent_told(words: &[Word], i: u64) -> Extent
 // ---- the map
 
 // Whether the map has the length of a map of either version.
-#[tactic(auto, unfolding(crate::specs::MapFaults::is_told))]
-fn is_map_told(words: &[Word]) -> bool
-    ensures { result ≡ is_told words.now }
+#[tactic(auto, unfolding(crate::specs::MapFaults::is_in_map))]
+fn has_map_length(words: &[Word]) -> bool
+    ensures { result ≡ is_in_map words.now }
 {
     let map = place_of_map(words);
     let count = words.len() as u64;
@@ -71,7 +71,7 @@ fn is_map_told(words: &[Word]) -> bool
 fn is_good_bound(words: &[Word], bound: Word) -> bool
     ensures { result ≡ is_bound words.now bound }
 {
-    right_of(bound) == 0 && left_of(bound) <= length_told(words, 1)
+    right_of(bound) == 0 && left_of(bound) <= length_in_map(words, 1)
 }
 
 // The first invalid word of a map with a valid length.
@@ -106,7 +106,7 @@ pub fn fault_of_map(words: &[Word]) -> Option<u64>
     ensures value { result ≡ map_fault words.now }
     ensures bound { IfSome result (λ p. p < 2 ^ 32) }
 {
-    if is_map_told(words) {
+    if has_map_length(words) {
         fault_of_fixed(words, version(words))
     } else {
         Some(words.len() as u64 - 1)
@@ -134,7 +134,7 @@ fn extent_of_statics(words: &[Word], version: u8) -> Extent
     ensures count { result.count < 2 ^ 18 }
 {
     if version == 2 {
-        extent_told(words, 4)
+        extent_in_map(words, 4)
     } else {
         Extent { from: 0, count: 0 }
     }
@@ -142,17 +142,17 @@ fn extent_of_statics(words: &[Word], version: u8) -> Extent
 
 /// The sections that the map describes.
 #[tactic(auto, unfolding(crate::specs::MapFaults::extents_of))]
-pub fn extents_told(words: &[Word]) -> Extents
+pub fn extents_in_map(words: &[Word]) -> Extents
     ensures value { result ≡ extents_of words.now }
     ensures small { AreNear result }
 {
     let version = version(words);
     Extents {
-        text: extent_told(words, 1),
-        definition: extent_told(words, 2),
-        linkage: extent_told(words, 3),
+        text: extent_in_map(words, 1),
+        definition: extent_in_map(words, 2),
+        linkage: extent_in_map(words, 3),
         statics: extent_of_statics(words, version),
-        symbol: extent_told(words, index_of_symbol(version)),
+        symbol: extent_in_map(words, index_of_symbol(version)),
     }
 }
 
@@ -174,7 +174,7 @@ pub fn fault_of_sections(words: &[Word]) -> Option<u64>
     ensures bound { IfSome result (λ p. p < 2 ^ 32) }
 {
     let map = place_of_map(words);
-    let e = extents_told(words);
+    let e = extents_in_map(words);
     if leaves(map, e.text, 0) {
         return Some(map + 1);
     }
@@ -224,7 +224,7 @@ pub fn fault_of_sharing(words: &[Word]) -> Option<u64>
     ensures value { result ≡ shared_fault words.now }
     ensures bound { IfSome result (λ p. p < 2 ^ 32) }
 {
-    let e = extents_told(words);
+    let e = extents_in_map(words);
     for at in 0..place_of_map(words) {
         if 2 <= sections_with(&e, at) {
             return Some(at);

@@ -7,8 +7,8 @@ ghost use Rattle.obj36_parts.specs.Halves.{quarter};
 ghost use Rattle.obj36_read.specs.Reading.{unit_at, characters, name_at, class_with};
 ghost use Rattle.obj36_read.specs.Reading.{section_with, definition_at, definitions_in, link_at};
 ghost use Rattle.obj36_read.specs.Reading.{links_in, relocation_in, relocations_in, map_place};
-ghost use Rattle.obj36_read.specs.Reading.{version_in, told_length, told_count, from_definition};
-ghost use Rattle.obj36_read.specs.Reading.{from_linkage, from_statics, from_symbol, told_first};
+ghost use Rattle.obj36_read.specs.Reading.{version_in, length_of_part, count_of_items, from_definition};
+ghost use Rattle.obj36_read.specs.Reading.{from_linkage, from_statics, from_symbol, first_link_in_head};
 ghost use Rattle.obj36_read.specs.Reading.{statics_in, bound_index, bound_in, parts_of, newer_map};
 ghost use Rattle.m36_text.specs.Texts.{name_limit};
 ghost use Rattle.obj36_parts.specs.ObjectSegment.{definition_head, symbol_head};
@@ -305,19 +305,19 @@ pub fn version(words: &[Word]) -> u8
 }
 
 /// The length of a section, which word `i` of the map has.
-#[tactic(auto, unfolding(crate::specs::Reading::told_length))]
-pub fn length_told(words: &[Word], i: u64) -> u64
+#[tactic(auto, unfolding(crate::specs::Reading::length_of_part))]
+pub fn length_in_map(words: &[Word], i: u64) -> u64
     requires { i < newer_map }
-    ensures value { result ≡ told_length words.now i }
+    ensures value { result ≡ length_of_part words.now i }
     ensures bound { result < 2 ^ 18 }
 {
     right_of(word_at(words, place_of_map(words) + i))
 }
 
 // A number of items that word i of a section has, at most the number of words of the list.
-#[tactic(auto, unfolding(crate::specs::Reading::told_count))]
-pub(crate) fn count_told(words: &[Word], part: &[Word], i: u64) -> u64
-    ensures value { result ≡ told_count words.now part.now i }
+#[tactic(auto, unfolding(crate::specs::Reading::count_of_items))]
+pub(crate) fn count_in_head(words: &[Word], part: &[Word], i: u64) -> u64
+    ensures value { result ≡ count_of_items words.now part.now i }
     ensures bound { result < 2 ^ 18 }
 {
     right_of(word_at(part, i)).min(words.len() as u64)
@@ -328,7 +328,7 @@ pub(crate) fn count_told(words: &[Word], part: &[Word], i: u64) -> u64
 pub(crate) fn definition_on(words: &[Word]) -> &[Word]
     ensures { result.now ≡ from_definition words.now }
 {
-    behind(words, length_told(words, 1))
+    behind(words, length_in_map(words, 1))
 }
 
 // The rest of the list from the linkage section on.
@@ -336,7 +336,7 @@ pub(crate) fn definition_on(words: &[Word]) -> &[Word]
 pub(crate) fn linkage_on(words: &[Word]) -> &[Word]
     ensures { result.now ≡ from_linkage words.now }
 {
-    behind(definition_on(words), length_told(words, 2))
+    behind(definition_on(words), length_in_map(words, 2))
 }
 
 // The rest of the list after the linkage section.
@@ -344,7 +344,7 @@ pub(crate) fn linkage_on(words: &[Word]) -> &[Word]
 fn statics_on(words: &[Word]) -> &[Word]
     ensures { result.now ≡ from_statics words.now }
 {
-    behind(linkage_on(words), length_told(words, 3))
+    behind(linkage_on(words), length_in_map(words, 3))
 }
 
 // The rest of the list from the symbol section on.
@@ -353,16 +353,16 @@ pub(crate) fn symbol_on(words: &[Word]) -> &[Word]
     ensures { result.now ≡ from_symbol words.now }
 {
     if version(words) == 2 {
-        behind(statics_on(words), length_told(words, 4))
+        behind(statics_on(words), length_in_map(words, 4))
     } else {
         statics_on(words)
     }
 }
 
 // The offset of the first link in the linkage section.
-#[tactic(auto, unfolding(crate::specs::Reading::told_first, crate::specs::Reading::link_start))]
-pub(crate) fn first_told(words: &[Word]) -> u64
-    ensures value { result ≡ told_first words.now }
+#[tactic(auto, unfolding(crate::specs::Reading::first_link_in_head, crate::specs::Reading::link_start))]
+pub(crate) fn first_link_offset(words: &[Word]) -> u64
+    ensures value { result ≡ first_link_in_head words.now }
     ensures bound { result < 2 ^ 18 }
 {
     left_of(word_at(linkage_on(words), 1))
@@ -374,10 +374,10 @@ pub(crate) fn statics(words: &[Word]) -> &[Word]
     ensures { result.now ≡ statics_in words.now }
 {
     if version(words) == 2 {
-        front(statics_on(words), length_told(words, 4))
+        front(statics_on(words), length_in_map(words, 4))
     } else {
         let inner = behind(linkage_on(words), HEAD_WORDS);
-        front(inner, first_told(words).saturating_sub(HEAD_WORDS))
+        front(inner, first_link_offset(words).saturating_sub(HEAD_WORDS))
     }
 }
 

@@ -6,7 +6,7 @@ ghost use Rattle.std.specs.Option.{option_map};
 ghost use Rattle.obj36_read.specs.Reading.{unit_at};
 ghost use Rattle.obj36_read.specs.TableFaults.{earlier, where_bad, definition_count};
 ghost use Rattle.obj36_read.specs.TableFaults.{first_definition, same_name, repeats};
-ghost use Rattle.obj36_read.specs.Spelled.{whole_words, kept_parts, last_parts};
+ghost use Rattle.obj36_read.specs.Spelled.{whole_words, count_leading_quarters, last_parts};
 ghost use Rattle.obj36_read.specs.Repeated.{least_with};
 
 use crate::reading::{behind, front, unit, word_at};
@@ -31,10 +31,10 @@ struct Spelling<'a> {
 }
 
 // The first `count` + 1 parts of nine bits of a word, as one number.
-#[tactic(auto, unfolding(crate::specs::Spelled::kept_parts))]
-fn parts_kept(word: Word, count: u64) -> u64
+#[tactic(auto, unfolding(crate::specs::Spelled::count_leading_quarters))]
+fn leading_quarters(word: Word, count: u64) -> u64
     requires { count < 4 }
-    ensures { result ≡ kept_parts word count }
+    ensures { result ≡ count_leading_quarters word count }
 {
     let value = word.value();
     match count {
@@ -61,7 +61,7 @@ fn parts_of_last(d: &[Word], at: u64) -> u64
     ensures { result ≡ last_parts d.now at }
 {
     let length = unit(d, at, 0);
-    parts_kept(word_at(d, at + length / 4), length % 4)
+    leading_quarters(word_at(d, at + length / 4), length % 4)
 }
 
 // The name at an offset, by the words and numbers in which equal names agree.
@@ -114,7 +114,7 @@ fn note<'a>(
 }
 
 // The least place of a name that two definitions have. The map of places is empty at first.
-fn repeats_noted<'a>(
+fn find_repeats<'a>(
     d: &'a [Word],
     places: &mut IndexMap<Spelling<'a>, u64, HashSeed>,
 ) -> Result<Option<u64>, NoMemory>
@@ -141,7 +141,7 @@ pub(crate) fn fault_of_repeats(alloc: Global, d: &[Word]) -> Result<Option<u64>,
 {
     let seed = HashSeed::of_words(alloc, d)?;
     let mut places = IndexMap::with_hasher(alloc, seed);
-    let found = repeats_noted(d, &mut places);
+    let found = find_repeats(d, &mut places);
     // Dropped explicitly, so that the drop is proved once for its type.
     drop(places);
     found

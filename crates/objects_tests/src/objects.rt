@@ -250,7 +250,7 @@ fn read_as(alloc: Global, words: &[Word]) -> Result<Object, ObjectFault> {
 
 /// The expected result of reading words.
 #[derive(Clone, Copy)]
-enum Due<'a> {
+enum Expected<'a> {
     /// An object that encodes to these words.
     Words(&'a [u64]),
     /// The object of `CALLER`.
@@ -291,29 +291,29 @@ fn is_caller(object: &Object) -> bool {
     has_numbers_of_caller(object) && has_sections_of_caller(object) && has_names_of_caller(object)
 }
 
-fn is_so(alloc: Global, object: &Object, due: Due) -> bool {
+fn is_as_expected(alloc: Global, object: &Object, due: Expected) -> bool {
     match due {
-        Due::Words(values) => is_written_as(alloc, object, values),
-        Due::Caller => is_caller(object),
-        Due::Refused(_) => false,
+        Expected::Words(values) => is_written_as(alloc, object, values),
+        Expected::Caller => is_caller(object),
+        Expected::Refused(_) => false,
     }
 }
 
 // Whether an object is as expected. Drops the object.
-fn was_so(alloc: Global, object: Object, due: Due) -> bool {
-    let told = is_so(alloc, &object, due);
+fn drops_as_expected(alloc: Global, object: Object, due: Expected) -> bool {
+    let told = is_as_expected(alloc, &object, due);
     drop(object);
     told
 }
 
-fn is_refused(fault: ObjectFault, due: Due) -> bool {
-    matches!(due, Due::Refused(expected) if expected == fault)
+fn is_refused(fault: ObjectFault, due: Expected) -> bool {
+    matches!(due, Expected::Refused(expected) if expected == fault)
 }
 
 // Whether reading the words gives the expected result.
-fn answers(alloc: Global, words: &[Word], due: Due) -> bool {
+fn answers(alloc: Global, words: &[Word], due: Expected) -> bool {
     match read_as(alloc, words) {
-        Ok(object) => was_so(alloc, object, due),
+        Ok(object) => drops_as_expected(alloc, object, due),
         Err(fault) => is_refused(fault, due),
     }
 }
@@ -323,7 +323,7 @@ fn are_answered(
     alloc: Global,
     values: &[u64],
     change: Option<(usize, u64)>,
-    due: Due,
+    due: Expected,
 ) -> Result<bool, NoMemory> {
     let words = changed(alloc, values, change)?;
     let told = answers(alloc, words.slice(), due);
@@ -333,7 +333,7 @@ fn are_answered(
 
 #[test]
 fn values_of_a_caller(rt: HostRuntime) -> Result<(), NoMemory> {
-    assert!(rt; are_answered(rt.alloc(), CALLER, None, Due::Caller)?);
+    assert!(rt; are_answered(rt.alloc(), CALLER, None, Expected::Caller)?);
     object_laws();
     Ok(())
 }
@@ -341,7 +341,7 @@ fn values_of_a_caller(rt: HostRuntime) -> Result<(), NoMemory> {
 #[test]
 fn objects_are_read(rt: HostRuntime) -> Result<(), NoMemory> {
     for values in [EMPTY, COUNTER, CALLER, NEWER].iter() {
-        assert!(rt; are_answered(rt.alloc(), values, None, Due::Words(values))?);
+        assert!(rt; are_answered(rt.alloc(), values, None, Expected::Words(values))?);
     }
     Ok(())
 }
@@ -349,7 +349,12 @@ fn objects_are_read(rt: HostRuntime) -> Result<(), NoMemory> {
 // Whether the changed words are refused with the fault of the change.
 fn are_refused(alloc: Global, values: &[u64], change: Change) -> Result<bool, NoMemory> {
     let (place, value, fault) = change;
-    are_answered(alloc, values, Some((place, value)), Due::Refused(fault))
+    are_answered(
+        alloc,
+        values,
+        Some((place, value)),
+        Expected::Refused(fault),
+    )
 }
 
 // The index of the first change with which the words are not refused as expected, if there is one.
@@ -377,6 +382,6 @@ fn changes_are_refused(rt: HostRuntime) -> Result<(), NoMemory> {
 #[test]
 fn few_words_are_refused(rt: HostRuntime) -> Result<(), NoMemory> {
     let few = EMPTY.get(..6).unwrap_or_default();
-    assert!(rt; are_answered(rt.alloc(), few, None, Due::Refused(ObjectFault::O1(6)))?);
+    assert!(rt; are_answered(rt.alloc(), few, None, Expected::Refused(ObjectFault::O1(6)))?);
     Ok(())
 }

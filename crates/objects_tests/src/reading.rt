@@ -4,7 +4,7 @@ use crate::objects::words_of;
 use m36_word::{NoMemory, Word};
 use obj36_read::linking::fault_of_links;
 use obj36_read::map::{
-    extents_told, fault_of_map, fault_of_sections, fault_of_sharing, words_within,
+    extents_in_map, fault_of_map, fault_of_sections, fault_of_sharing, words_within,
 };
 use obj36_read::reading::parts_in;
 use obj36_read::spelling::fault_of_names;
@@ -47,14 +47,14 @@ fn has_right_map(words: &[Word]) -> bool {
 }
 
 fn has_right_sections(alloc: Global, words: &[Word]) -> Result<bool, NoMemory> {
-    let told = extents_told(words);
+    let told = extents_in_map(words);
     let definition = words_within(words, told.definition);
     let tables = fault_of_tables(alloc, 1, definition)?;
     Ok(tables.is_none() && fault_of_names(definition).is_none())
 }
 
 fn has_right_links(words: &[Word]) -> bool {
-    let told = extents_told(words);
+    let told = extents_in_map(words);
     let definition = words_within(words, told.definition);
     fault_of_links(1, 1, definition, 6, words_within(words, told.linkage)).is_none()
 }

@@ -1,8 +1,8 @@
 -- From what a call did to a world, the clauses of the trait of the object that was called.
 use Rattle.std.proofs.Common.{◌≡◌, ℕ, ◌≤◌, ◌<◌, ◌^◌, ◌⊎◌, List, [], length, Option, Some, None, refl, sym, ap, arith}
 use Rattle.m36_outside.specs.Passing.{joined, PieceGives, PutTakes, TakesLines}
-use Rattle.m36_outside.specs.Piece.{preceded, PieceSays, PieceHasCause}
-use Rattle.m36_outside.specs.Put.{PutSays, PutHasCause}
+use Rattle.m36_outside.specs.Piece.{preceded, PieceResult, PieceHasCause}
+use Rattle.m36_outside.specs.Put.{PutResult, PutHasCause}
 use Rattle.m36_outside.specs.declared.lines.Piece.{Piece}
 use Rattle.m36_outside.specs.declared.lines.Piece.TheVariants as piece
 use Rattle.m36_outside.specs.declared.sink.Put.{Put}
@@ -17,7 +17,7 @@ same_count old new is = omega (arith, is)
 -- ---- a put
 
 pub record IsPut (answer : Put) (whole : List ℕ) (old new : Seen) : Type 0 where
-  pub says : PutSays answer old.written new.written whole
+  pub says : PutResult answer old.written new.written whole
   pub took : PutTakes answer old.written new.written old.outputs new.outputs whole
   pub cause : PutHasCause answer old.output_faults new.output_faults
   pub count : old.output_faults ≤ new.output_faults
@@ -43,7 +43,7 @@ is_put put.Failed whole old new did = record {
 -- ---- a put of a block
 
 pub record IsPutBlock (answer : Put) (pieces : List (List ℕ)) (old new : Seen) : Type 0 where
-  pub says : PutSays answer old.written new.written (joined pieces)
+  pub says : PutResult answer old.written new.written (joined pieces)
   pub took : TakesLines answer old.outputs new.outputs pieces
   pub cause : PutHasCause answer old.output_faults new.output_faults
   pub count : old.output_faults ≤ new.output_faults
@@ -75,7 +75,7 @@ left_kept old None is = sym is
 left_kept old (Some left) is = sym is
 
 pub record IsNextPiece (answer : Piece) (into : List ℕ) (old new : Seen) : Type 0 where
-  pub says : PieceSays answer old.left new.left into
+  pub says : PieceResult answer old.left new.left into
   pub gives : PieceGives answer old.inputs new.inputs into
   pub cause : PieceHasCause answer old.input_faults new.input_faults
   pub count : old.input_faults ≤ new.input_faults

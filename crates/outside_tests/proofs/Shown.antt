@@ -9,7 +9,7 @@ use Rattle.m36_outside.specs.declared.sink.Put.{Put}
 use Rattle.m36_outside.specs.declared.sink.Put.TheVariants as put
 use Rattle.m36_world.specs.Follow.{Follow}
 use Rattle.m36_world.specs.Logs.{TakesAll}
-use Rattle.m36_world.specs.Noted.{put_events}
+use Rattle.m36_world.specs.CallEvents.{put_events}
 use Rattle.m36_world.specs.Seen.{Seen}
 use Rattle.m36_world.specs.declared.event.Event.TheVariants.{FileRead, Output, OutputFailed}
 use Rattle.m36_world.proofs.Following.{follow_logs}

@@ -3,10 +3,10 @@
 
 ghost use Rattle.std.specs.Prelude.{ℕ, [], ◌∷◌, ◌++◌, ◌≡◌, List, Option, Some, IfSome, IfOk, IfErr, MatchResult};
 ghost use Rattle.m36_outside.specs.Passing.{TakesLines};
-ghost use Rattle.m36_outside.specs.Put.{PutSays, PutHasCause};
-ghost use Rattle.m36_outside.specs.ReadAnswer.{ReadSays, ReadHasCause};
+ghost use Rattle.m36_outside.specs.Put.{PutResult, PutHasCause};
+ghost use Rattle.m36_outside.specs.ReadAnswer.{ReadResult, ReadHasCause};
 
-use crate::answers::{Due, is_due};
+use crate::answers::{Expected, is_expected};
 use m36_outside::{Folder, MemFolder, MemSink, Put, ReadAnswer, Sink, SureFolder, SureSink};
 use m36_word::NoMemory;
 use std::alloc::Global;
@@ -33,8 +33,8 @@ fn put_file<F: Folder, S: Sink>(
         × (S.taken out.new ≡ S.taken out.old)) }
     ensures says { IfSome (F.files folder.old) (λ files. MatchResult result
         (λ put. (bytes : List ℕ) × (files name.now ≡ Some bytes)
-        × PutSays put (S.written out.old) (S.written out.new) (bytes ++ END.now))
-        (λ answer. ReadSays answer (files name.now) × (S.written out.new ≡ S.written out.old))) }
+        × PutResult put (S.written out.old) (S.written out.new) (bytes ++ END.now))
+        (λ answer. ReadResult answer (files name.now) × (S.written out.new ≡ S.written out.old))) }
     ensures read_cause { IfErr result (λ answer.
         ReadHasCause answer (F.read_faults folder.old) (F.read_faults folder.new)) }
     ensures write_cause { IfOk result (λ put.
@@ -50,7 +50,7 @@ fn put_file<F: Folder, S: Sink>(
 fn put_lines<S: Sink>(line: &[u8], out: &mut S) -> Put
     ensures through { TakesLines result
         (S.taken out.old) (S.taken out.new) (line.now ∷ END.now ∷ []) }
-    ensures says { PutSays result (S.written out.old) (S.written out.new) (line.now ++ END.now) }
+    ensures says { PutResult result (S.written out.old) (S.written out.new) (line.now ++ END.now) }
     ensures cause { PutHasCause result (S.faults out.old) (S.faults out.new) }
 {
     match out.put(line) {
@@ -78,12 +78,12 @@ fn comes_to<F: Folder, S: Sink>(
     name: &[u8],
     folder: &mut F,
     out: &mut S,
-    want: Result<Put, Due>,
+    want: Result<Put, Expected>,
 ) -> bool {
     let answer = put_file(alloc, name, folder, out);
     let told = match (&answer, want) {
         (Ok(put), Ok(want)) => *put == want,
-        (Err(answer), Err(due)) => is_due(answer, due),
+        (Err(answer), Err(due)) => is_expected(answer, due),
         _ => false,
     };
     drop(answer);
@@ -101,7 +101,7 @@ fn answers(
     let (room, fail, want, written) = row;
     let mut out = MemSink::new(alloc, *room, &[*fail])?;
     let mut told = true;
-    for want in [Ok(*want), Err(Due::Failed)] {
+    for want in [Ok(*want), Err(Expected::Failed)] {
         told = told && comes_to(alloc, b"a", folder, &mut out, want) && out.bytes() == *written;
     }
     drop(out);
@@ -133,7 +133,7 @@ fn puts_whole(alloc: Global, folder: &mut SureFolder) -> Result<bool, NoMemory> 
     folder.add(b"a", b"dis\n")?;
     let mut out = SureSink::new();
     let mut told = true;
-    for (name, want) in [(b"a", Ok(Put::Done)), (b"b", Err(Due::Absent))] {
+    for (name, want) in [(b"a", Ok(Put::Done)), (b"b", Err(Expected::Absent))] {
         told = told && comes_to(alloc, name, folder, &mut out, want);
     }
     Ok(told)

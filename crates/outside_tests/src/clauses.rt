@@ -3,10 +3,10 @@
 
 ghost use Rattle.std.specs.Prelude.{[], ◌∷◌, ◌++◌, ◌≡◌, ◌≤◌, ◌<◌, ◌^◌, ◌⊎◌, IfSome, length};
 ghost use Rattle.m36_outside.specs.Passing.{PieceGives, PutTakes, TakesLines, joined};
-ghost use Rattle.m36_outside.specs.Piece.{PieceSays, PieceHasCause};
-ghost use Rattle.m36_outside.specs.Put.{PutSays, PutHasCause};
-ghost use Rattle.m36_outside.specs.ReadAnswer.{ReadSays, IsWithinLimit, ReadHasCause};
-ghost use Rattle.m36_outside.specs.WriteAnswer.{WriteSays, WriteHasCause};
+ghost use Rattle.m36_outside.specs.Piece.{PieceResult, PieceHasCause};
+ghost use Rattle.m36_outside.specs.Put.{PutResult, PutHasCause};
+ghost use Rattle.m36_outside.specs.ReadAnswer.{ReadResult, IsWithinLimit, ReadHasCause};
+ghost use Rattle.m36_outside.specs.WriteAnswer.{WriteResult, WriteHasCause};
 
 use m36_outside::{Block, Piece, Put, ReadAnswer, WriteAnswer};
 use m36_world::World;
@@ -15,7 +15,7 @@ use std::alloc::Global;
 /// The clauses of `Folder::read`.
 pub fn read<W: World>(alloc: Global, name: &[u8], world: &mut W) -> ReadAnswer
     ensures told { let old = W.seen world.old in
-        IfSome old.files (λ files. ReadSays result (files name.now)) }
+        IfSome old.files (λ files. ReadResult result (files name.now)) }
     ensures limit { IsWithinLimit result }
     ensures files { (W.seen world.new).files ≡ (W.seen world.old).files }
     ensures asked { let old = W.seen world.old in
@@ -33,7 +33,7 @@ pub fn read<W: World>(alloc: Global, name: &[u8], world: &mut W) -> ReadAnswer
 /// The clauses of `Folder::write`.
 pub fn write<W: World>(alloc: Global, name: &[u8], content: &[u8], world: &mut W) -> WriteAnswer
     ensures says { let old = W.seen world.old in
-        WriteSays result old.files (W.seen world.new).files name.now content.now }
+        WriteResult result old.files (W.seen world.new).files name.now content.now }
     ensures wrote { let old = W.seen world.old in
         (W.seen world.new).writes ≡ old.writes ++ (name.now, content.now, result) ∷ [] }
     ensures asked { (W.seen world.new).reads ≡ (W.seen world.old).reads }
@@ -49,7 +49,7 @@ pub fn write<W: World>(alloc: Global, name: &[u8], content: &[u8], world: &mut W
 /// The clauses of `Sink::put`.
 pub fn put<W: World>(piece: &[u8], world: &mut W) -> Put
     ensures says { let old = W.seen world.old in
-        PutSays result old.written (W.seen world.new).written piece.now }
+        PutResult result old.written (W.seen world.new).written piece.now }
     ensures took { let old = W.seen world.old in let new = W.seen world.new in
         PutTakes result old.written new.written old.outputs new.outputs piece.now }
     ensures cause { let old = W.seen world.old in
@@ -63,7 +63,7 @@ pub fn put<W: World>(piece: &[u8], world: &mut W) -> Put
 /// The clauses of `Sink::put_block`.
 pub fn put_block<W: World>(block: &Block, world: &mut W) -> Put
     ensures says { let old = W.seen world.old in
-        PutSays result old.written (W.seen world.new).written (joined block.now) }
+        PutResult result old.written (W.seen world.new).written (joined block.now) }
     ensures took { let old = W.seen world.old in
         TakesLines result old.outputs (W.seen world.new).outputs block.now }
     ensures cause { let old = W.seen world.old in
@@ -79,7 +79,7 @@ pub fn put_block<W: World>(block: &Block, world: &mut W) -> Put
 pub fn next_piece<W: World>(into: &mut [u8], world: &mut W) -> Piece
     requires room { 1 ≤ length into.old }
     ensures says { let old = W.seen world.old in
-        PieceSays result old.left (W.seen world.new).left into.new }
+        PieceResult result old.left (W.seen world.new).left into.new }
     ensures gives { let old = W.seen world.old in
         PieceGives result old.inputs (W.seen world.new).inputs into.new }
     ensures cause { let old = W.seen world.old in

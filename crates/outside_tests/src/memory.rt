@@ -1,7 +1,7 @@
 //! Files, input and output in memory, with calls that fail. Expected values were worked out by
 //! hand.
 
-use crate::answers::{Due, reads};
+use crate::answers::{Expected, reads};
 use m36_outside::{
     Block, Folder, Lines, MemFolder, MemLines, MemSink, Piece, Put, Sink, SureLines, Text,
     WriteAnswer,
@@ -42,7 +42,7 @@ fn text_grows_at_its_end(rt: HostRuntime) -> Result<(), NoMemory> {
 #[derive(Clone, Copy)]
 enum Call<'a> {
     /// The name of a file, and the answer of a read.
-    Reads(&'a [u8], Due<'a>),
+    Reads(&'a [u8], Expected<'a>),
     /// The name of a file, its new content, and the answer of a write.
     Writes(&'a [u8], &'a [u8], WriteAnswer),
 }
@@ -50,17 +50,17 @@ enum Call<'a> {
 /// Calls of a folder with the file `boot`. The second read fails, and so do the first write and the
 /// third.
 const CALLS: &[Call] = &[
-    Call::Reads(b"boot", Due::Content(b"frames 24\n")),
-    Call::Reads(b"boot", Due::Failed),
-    Call::Reads(b"boo", Due::Absent),
+    Call::Reads(b"boot", Expected::Content(b"frames 24\n")),
+    Call::Reads(b"boot", Expected::Failed),
+    Call::Reads(b"boo", Expected::Absent),
     Call::Writes(b"main", b"x", WriteAnswer::Failed),
-    Call::Reads(b"main", Due::Absent),
+    Call::Reads(b"main", Expected::Absent),
     Call::Writes(b"main", b"y", WriteAnswer::Written),
     Call::Writes(b"main", b"z", WriteAnswer::Failed),
-    Call::Reads(b"main", Due::Content(b"y")),
+    Call::Reads(b"main", Expected::Content(b"y")),
     Call::Writes(b"boot", b"frames 25\n", WriteAnswer::Written),
-    Call::Reads(b"boot", Due::Content(b"frames 25\n")),
-    Call::Reads(b"main", Due::Content(b"y")),
+    Call::Reads(b"boot", Expected::Content(b"frames 25\n")),
+    Call::Reads(b"main", Expected::Content(b"y")),
 ];
 
 /// Whether a call gives its expected answer.

@@ -1,7 +1,7 @@
 //! Files of the current directory, devices, standard output and standard input. The standard input
 //! is empty in tests.
 
-use crate::answers::{Due, reads};
+use crate::answers::{Expected, reads};
 use m36_outside::{
     Block, DirFolder, FILE_LIMIT, Folder, Lines, Piece, Put, Sink, StdLines, StdSink, WriteAnswer,
 };
@@ -22,13 +22,16 @@ fn keeps<'a, F: Folder>(
 ) -> bool {
     let name = b"m36_outside_file";
     let rows = [
-        (b"bare words\n".as_slice(), Due::Content(b"bare words\n")),
-        (b"", Due::Content(b"")),
-        (b"\0\xff", Due::Content(b"\0\xff")),
-        (largest, Due::Content(largest)),
-        (too_large, Due::TooLarge),
+        (
+            b"bare words\n".as_slice(),
+            Expected::Content(b"bare words\n"),
+        ),
+        (b"", Expected::Content(b"")),
+        (b"\0\xff", Expected::Content(b"\0\xff")),
+        (largest, Expected::Content(largest)),
+        (too_large, Expected::TooLarge),
     ];
-    let mut told = reads(folder, alloc, name, Due::Absent);
+    let mut told = reads(folder, alloc, name, Expected::Absent);
     for (content, due) in rows {
         told = told
             && folder.write(alloc, name, content) == WriteAnswer::Written
@@ -64,13 +67,13 @@ fn folder_keeps_a_file(rt: HostRuntime) -> Result<(), Fail> {
 
 /// Names, and the answers of reads. The first four are no names of files, so the file is absent.
 /// The last two are refused by the operating system: a directory, and a name with a zero byte.
-const NAMES: &[(&[u8], Due)] = &[
-    (b"", Due::Absent),
-    (b"/dev/null", Due::Absent),
-    (b"./x", Due::Absent),
-    (b"\xff", Due::Absent),
-    (b".", Due::Failed),
-    (b"a\0b", Due::Failed),
+const NAMES: &[(&[u8], Expected)] = &[
+    (b"", Expected::Absent),
+    (b"/dev/null", Expected::Absent),
+    (b"./x", Expected::Absent),
+    (b"\xff", Expected::Absent),
+    (b".", Expected::Failed),
+    (b"a\0b", Expected::Failed),
 ];
 
 /// Asserts that a read of each name gives the expected answer, and that a write fails.
@@ -118,15 +121,15 @@ fn link_is_replaced<F: Folder>(
             folder,
             alloc,
             b"m36_outside_link",
-            Due::Content(b"object\n"),
+            Expected::Content(b"object\n"),
         )
         && reads(
             folder,
             alloc,
             b"m36_outside_source",
-            Due::Content(b"source\n"),
+            Expected::Content(b"source\n"),
         )
-        && reads(folder, alloc, b"m36_outside_gone", Due::Absent);
+        && reads(folder, alloc, b"m36_outside_gone", Expected::Absent);
     fs::remove_file(rt, "m36_outside_link")?;
     fs::remove_file(rt, "m36_outside_source")?;
     Ok(told)
@@ -160,10 +163,10 @@ fn spares_are_kept<F: Folder>(rt: &impl Files, alloc: Global, folder: &mut F) ->
         fs::write(rt, spare, b"kept\n")?;
     }
     let told = folder.write(alloc, name, b"object\n") == WriteAnswer::Written
-        && reads(folder, alloc, name, Due::Content(b"object\n"))
-        && reads(folder, alloc, b".m36-000", Due::Content(b"kept\n"))
-        && reads(folder, alloc, b".m36-001", Due::Content(b"kept\n"))
-        && reads(folder, alloc, b".m36-002", Due::Absent);
+        && reads(folder, alloc, name, Expected::Content(b"object\n"))
+        && reads(folder, alloc, b".m36-000", Expected::Content(b"kept\n"))
+        && reads(folder, alloc, b".m36-001", Expected::Content(b"kept\n"))
+        && reads(folder, alloc, b".m36-002", Expected::Absent);
     for file in [".m36-000", ".m36-001", "m36_outside_spared"] {
         fs::remove_file(rt, file)?;
     }
@@ -182,7 +185,7 @@ fn failure_changes_nothing<F: Folder>(
     fs::create_dir(rt, "m36_outside_directory")?;
     let told = folder.write(alloc, b"m36_outside_directory", b"x") == WriteAnswer::Failed
         && fs::symlink_metadata(rt, "m36_outside_directory")?.is_dir()
-        && reads(folder, alloc, b".m36-000", Due::Absent);
+        && reads(folder, alloc, b".m36-000", Expected::Absent);
     fs::remove_dir(rt, "m36_outside_directory")?;
     Ok(told)
 }

@@ -3,9 +3,9 @@
 ghost use Rattle.std.specs.Prelude.{ℕ, [], ◌∷◌, ◌++◌, ◌≡◌, List, MatchResult};
 ghost use Rattle.m36_outside.specs.Passing.{TakesLines};
 ghost use Rattle.m36_world.specs.Follow.{Follow};
-ghost use Rattle.m36_world.specs.Noted.{put_events};
+ghost use Rattle.m36_world.specs.CallEvents.{put_events};
 
-use crate::answers::{Due, is_due};
+use crate::answers::{Expected, is_expected};
 use m36_outside::{
     Block, Folder, Lines, MemFolder, MemLines, MemSink, Piece, Put, ReadAnswer, Sink, SureFolder,
     SureLines, WriteAnswer,
@@ -72,7 +72,7 @@ fn is_shown(
     let second = show_from(alloc, b"b", folder, input, &mut output);
     let holds = output.bytes() == *written
         && matches!(&first, Ok(put) if *put == *want)
-        && matches!(&second, Err(answer) if is_due(answer, Due::Absent));
+        && matches!(&second, Err(answer) if is_expected(answer, Expected::Absent));
     drop(first);
     drop(second);
     drop(output);
@@ -163,7 +163,7 @@ fn keeps_a_file<W: World>(alloc: Global, world: &mut W) -> bool {
         return false;
     }
     let answer = world.read(alloc, b"x");
-    let holds = is_due(&answer, Due::Content(b"2"));
+    let holds = is_expected(&answer, Expected::Content(b"2"));
     drop(answer);
     holds
 }

@@ -26,7 +26,7 @@ fn are(words: &[Word], expected: &[u64]) -> bool {
 
 /// What an object is expected to have.
 #[derive(Clone, Copy)]
-enum Due<'a> {
+enum Expected<'a> {
     /// These words.
     Words(&'a [u64]),
     /// This text section.
@@ -42,25 +42,25 @@ fn is_written_as(alloc: Global, object: &Object, expected: &[u64]) -> bool {
     }
 }
 
-fn is_so(alloc: Global, object: &Object, due: Due) -> bool {
+fn is_as_expected(alloc: Global, object: &Object, due: Expected) -> bool {
     match due {
-        Due::Words(expected) => is_written_as(alloc, object, expected),
-        Due::Text(expected) => are(object.parts().text.slice(), expected),
-        Due::Parts => are_right(object.parts()),
+        Expected::Words(expected) => is_written_as(alloc, object, expected),
+        Expected::Text(expected) => are(object.parts().text.slice(), expected),
+        Expected::Parts => are_right(object.parts()),
     }
 }
 
 // Whether an object is as expected. Drops the object.
-fn was_so(alloc: Global, object: Object, due: Due) -> bool {
-    let told = is_so(alloc, &object, due);
+fn drops_as_expected(alloc: Global, object: Object, due: Expected) -> bool {
+    let told = is_as_expected(alloc, &object, due);
     // Dropped by a call, so that the drop is proved once for its type.
     drop(object);
     told
 }
 
-fn makes(alloc: Global, source: &[u8], due: Due) -> bool {
+fn makes(alloc: Global, source: &[u8], due: Expected) -> bool {
     match object_of(alloc, source) {
-        Ok(object) => was_so(alloc, object, due),
+        Ok(object) => drops_as_expected(alloc, object, due),
         Err(_) => false,
     }
 }
@@ -86,7 +86,7 @@ const OBJECTS: &[(&[u8], &[u64])] = &[
 fn objects(rt: HostRuntime) {
     for (source, expected) in OBJECTS {
         assert!(rt;
-            makes(rt.alloc(), source, Due::Words(expected)),
+            makes(rt.alloc(), source, Expected::Words(expected)),
             "{source:?}"
         );
     }
@@ -153,7 +153,7 @@ const TEXTS: &[(&[u8], &[u64])] = &[
 fn texts(rt: HostRuntime) {
     for (source, expected) in TEXTS {
         assert!(rt;
-            makes(rt.alloc(), source, Due::Text(expected)),
+            makes(rt.alloc(), source, Expected::Text(expected)),
             "{source:?}"
         );
     }
@@ -315,5 +315,5 @@ fn are_right(parts: &Parts) -> bool {
 
 #[test]
 fn parts(rt: HostRuntime) {
-    assert!(rt; makes(rt.alloc(), PARTS, Due::Parts));
+    assert!(rt; makes(rt.alloc(), PARTS, Expected::Parts));
 }

@@ -2,7 +2,7 @@
 
 use alm_tokens::modifiers::tag_of;
 use alm_tokens::pieces::pieces_of;
-use alm_tokens::{Parter, Piece, Span};
+use alm_tokens::{Separator, Span, TextPiece};
 use m36_word::NoMemory;
 use std::alloc::Global;
 
@@ -25,7 +25,7 @@ fn modifiers(rt: HostRuntime) {
 }
 
 // How many pieces a text has between separators. A text of over 4000 bytes answers 0.
-fn count(alloc: Global, parter: Parter, text: &[u8]) -> Result<usize, NoMemory> {
+fn count(alloc: Global, parter: Separator, text: &[u8]) -> Result<usize, NoMemory> {
     if text.len() > 4000 {
         return Ok(0);
     }
@@ -33,16 +33,16 @@ fn count(alloc: Global, parter: Parter, text: &[u8]) -> Result<usize, NoMemory> 
         from: 0,
         to: text.len() as u32,
     };
-    let pieces = pieces_of(alloc, parter, text, Piece { span, minus: false })?;
+    let pieces = pieces_of(alloc, parter, text, TextPiece { span, minus: false })?;
     Ok(pieces.items().len())
 }
 
 /// The separator, a text, and the number of its pieces.
-const PIECES: &[(Parter, &[u8], usize)] = &[
-    (Parter::Comma, b"a,b", 2),
-    (Parter::Comma, b"", 1),
-    (Parter::Sign, b"a+5-x", 3),
-    (Parter::Sign, b"a,b", 1),
+const PIECES: &[(Separator, &[u8], usize)] = &[
+    (Separator::Comma, b"a,b", 2),
+    (Separator::Comma, b"", 1),
+    (Separator::Sign, b"a+5-x", 3),
+    (Separator::Sign, b"a,b", 1),
 ];
 
 #[test]

@@ -114,7 +114,7 @@ fn are_alike(machine: &Machine, other: &Machine) -> bool {
 }
 
 /// Whether two step records agree in the instruction, its address, the outcome and the references.
-fn are_told_alike(told: &StepRecord, other: &StepRecord) -> bool {
+fn have_equal_records(told: &StepRecord, other: &StepRecord) -> bool {
     told.word == other.word
         && told.at == other.at
         && told.outcome == other.outcome
@@ -236,7 +236,7 @@ fn leaves_what_is_refused_to_the_step(rt: HostRuntime) -> Result<(), NoMemory> {
         assert!(rt; machine.hurry(1) == 0, "{instruction:o}");
         assert!(rt; are_alike(&machine, &other), "{instruction:o}");
         assert!(rt;
-            are_told_alike(&machine.step(), &other.step()),
+            have_equal_records(&machine.step(), &other.step()),
             "{instruction:o}"
         );
         assert!(rt; are_alike(&machine, &other), "{instruction:o}");

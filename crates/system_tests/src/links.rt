@@ -1,7 +1,7 @@
 //! Links of small objects: the pairs that they become, and links that are refused.
 
 use m36_dir::{Catalog, CatalogFault};
-use m36_link::{File, Known, Laid, LinkFault, link_laws};
+use m36_link::{File, Known, LinkFault, PlacedSection, link_laws};
 use m36_model::{At, LinkCode};
 use m36_outside::Text;
 use m36_text::Name;
@@ -379,14 +379,14 @@ fn leads(
 }
 
 // Whether exactly the linkage sections of `m` and `q` are laid.
-fn are_laid(laid: &[Laid]) -> bool {
-    let m = Laid {
+fn are_laid(laid: &[PlacedSection]) -> bool {
+    let m = PlacedSection {
         base: 0o2000,
         size: 28,
         seg: 0o100,
         ring: 4,
     };
-    let q = Laid {
+    let q = PlacedSection {
         base: 1052,
         size: 8,
         seg: 0o101,

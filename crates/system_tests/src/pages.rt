@@ -63,7 +63,7 @@ const PLACES: &[(u32, u16, u32, bool)] = &[
     (2, 1, 0, false),
 ];
 
-fn may_stand(alloc: Global, at: u32, pages: u16, first: u32) -> Result<bool, NoMemory> {
+fn are_placed_at(alloc: Global, at: u32, pages: u16, first: u32) -> Result<bool, NoMemory> {
     let mut tables = Vec::new(alloc);
     tables.push(table(alloc, 5, 0, 0, 1)?)?;
     let mut other = table(alloc, 6, at, 0, 1)?;
@@ -76,7 +76,7 @@ fn may_stand(alloc: Global, at: u32, pages: u16, first: u32) -> Result<bool, NoM
 fn tables_in_places(rt: HostRuntime) -> Result<(), NoMemory> {
     for (at, pages, first, placed) in PLACES {
         assert!(rt;
-            may_stand(rt.alloc(), *at, *pages, *first)? == *placed,
+            are_placed_at(rt.alloc(), *at, *pages, *first)? == *placed,
             "{at}"
         );
     }

@@ -6,7 +6,7 @@ use m36_dir::Catalog;
 use m36_model::StepRecord;
 use m36_outside::Text;
 use m36_step::{BackAnswer, Stepper, Turn};
-use m36_super::{Coming, Super, are_short};
+use m36_super::{NextEvent, Super, are_short};
 use m36_word::{NoMemory, Word, Words};
 use std::alloc::Global;
 use std::process::Abort;
@@ -177,7 +177,7 @@ fn turns(rt: &impl Abort, system: &mut Super) -> bool {
 }
 
 /// A segment, a word of it, and its value after the run.
-const BEHIND: &[(u16, u32, Option<u64>)] = &[
+const AFTER: &[(u16, u32, Option<u64>)] = &[
     (16, 65, Some(0o000020002000)),
     (20, 65, Some(0)),
     (66, 0, None),
@@ -189,9 +189,9 @@ fn number_at(system: &Super, seg: u16, word: u32) -> Option<u64> {
 }
 
 // Asserts the state after the run.
-fn behind(rt: &impl Abort, system: &mut Super) {
+fn check_after(rt: &impl Abort, system: &mut Super) {
     assert!(rt; system.regs().ppr.ic == 1);
-    for (seg, word, number) in BEHIND {
+    for (seg, word, number) in AFTER {
         assert!(rt; number_at(system, *seg, *word) == *number);
     }
     assert!(rt; system.back(1) == BackAnswer::Unable);
@@ -200,7 +200,7 @@ fn behind(rt: &impl Abort, system: &mut Super) {
 // Takes all turns, and checks the state after them.
 fn run(rt: &impl Abort, system: &mut Super) {
     if turns(rt, system) {
-        behind(rt, system);
+        check_after(rt, system);
     }
 }
 
@@ -230,7 +230,7 @@ fn is_step(told: &StepRecord, turn: &Turn) -> bool {
 // of a step of the first system. Returns false if memory ran out.
 fn both(rt: &impl Abort, one: &mut Super, told: &mut StepRecord, other: &mut Super) -> bool {
     match one.coming() {
-        Coming::Step => {
+        NextEvent::Step => {
             one.step_told(told);
             assert!(rt; is_step(told, &other.turn()));
             true

@@ -102,9 +102,9 @@ fn put(core: &mut Core, place: u32, word: Word) {
 }
 
 /// A place, or the number of a fault and of its access violation (0 if there is none).
-type Told = Result<u32, (u8, u8)>;
+type PlaceOrFault = Result<u32, (u8, u8)>;
 
-fn told(place: Result<u32, Refusal>) -> Told {
+fn told(place: Result<u32, Refusal>) -> PlaceOrFault {
     match place {
         Ok(place) => Ok(place),
         Err(refusal) => Err((refusal.number, refusal.acv)),
@@ -112,7 +112,7 @@ fn told(place: Result<u32, Refusal>) -> Told {
 }
 
 /// A segment, a word of it, and the place of that word.
-const PLACES: &[(u16, u32, Told)] = &[
+const PLACES: &[(u16, u32, PlaceOrFault)] = &[
     (1, 0, Ok(0o2000)),
     (1, 0o17, Ok(0o2017)),
     (1, 0o20, Err((20, 15))),

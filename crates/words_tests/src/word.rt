@@ -87,7 +87,7 @@ fn last_bits(rt: HostRuntime) {
 }
 
 /// Whether the pair has these two values, and is made again from the unsigned one plus 2^72.
-fn stands_for(even: u64, odd: u64, value: u128, signed: i128) -> bool {
+fn has_values(even: u64, odd: u64, value: u128, signed: i128) -> bool {
     let pair = Pair {
         even: word(even),
         odd: word(odd),
@@ -100,7 +100,7 @@ fn stands_for(even: u64, odd: u64, value: u128, signed: i128) -> bool {
 #[test]
 fn pairs(rt: HostRuntime) {
     for (even, odd, value, signed) in PAIRS {
-        assert!(rt; stands_for(*even, *odd, *value, *signed), "at {even:o}");
+        assert!(rt; has_values(*even, *odd, *value, *signed), "at {even:o}");
     }
 }
 

@@ -2,7 +2,7 @@ use Rattle.std.proofs.Common.{◌≡◌, ◌≤◌, length}
 use Rattle.obj36_parts.specs.ObjectSegment.{section_limit}
 use Rattle.alm_lines.specs.Spots.{start, HasRoom}
 use Rattle.alm_asm.specs.Links.{links_from}
-use Rattle.alm_asm.specs.Seen.{seen_from}
+use Rattle.alm_asm.specs.LineValues.{seen_from}
 use Rattle.alm_asm.specs.Growth.{growth_refusal}
 use Rattle.alm_asm.proofs.growth.take_lines.Given as goal
 

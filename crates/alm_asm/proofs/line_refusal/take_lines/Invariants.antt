@@ -1,7 +1,7 @@
 use Rattle.std.proofs.Common.{◌≡◌, length}
 use Rattle.alm_lines.specs.Spots.{start, HasRoom}
 use Rattle.alm_asm.specs.LineRefusals.{lines_refusal}
-use Rattle.alm_asm.specs.Seen.{seen_from}
+use Rattle.alm_asm.specs.LineValues.{seen_from}
 use Rattle.alm_asm.proofs.line_refusal.take_lines.Given as goal
 
 -- no line so far is refused, and the first refusal of the rest is the first of all

@@ -1,7 +1,7 @@
 -- The rest of the list begins with the values of the line.
 use Rattle.std.proofs.Common.{◌≡◌, ◌∷◌, ◌∙◌}
 use Rattle.alm_lines.specs.Spots.{below}
-use Rattle.alm_asm.specs.Seen.{seen_of, seen_from}
+use Rattle.alm_asm.specs.LineValues.{seen_of, seen_from}
 use Rattle.alm_asm.proofs.SeenLaws.{some_with, rest_of}
 use Rattle.alm_asm.proofs.seen.next_of_some.Goals as goal
 

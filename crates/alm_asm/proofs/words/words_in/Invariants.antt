@@ -1,6 +1,6 @@
 use Rattle.std.proofs.Common.{◌≡◌, [], length}
 use Rattle.alm_lines.specs.Spots.{start, HasRoom}
-use Rattle.alm_asm.specs.Seen.{seen_from}
+use Rattle.alm_asm.specs.LineValues.{seen_from}
 use Rattle.alm_asm.specs.Words.{words_from}
 use Rattle.alm_asm.proofs.words.words_in.Given as goal
 

@@ -1,5 +1,5 @@
 use Rattle.std.proofs.Common.{◌≡◌, ◌+◌}
-use Rattle.m36_super.specs.declared.coming.Coming.TheVariants.{Step}
+use Rattle.m36_super.specs.declared.coming.NextEvent.TheVariants.{Step}
 use Rattle.m36_super.specs.SuperFields.{booted_of}
 use Rattle.cmd_make.specs.QuietRun.{run_from}
 use Rattle.cmd_make.proofs.RunLoop.{Left}

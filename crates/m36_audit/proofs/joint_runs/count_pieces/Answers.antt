@@ -1,6 +1,6 @@
 use Rattle.std.proofs.Common.{◌≡◌, ◌*◌, ◌+◌, ◌≤◌, ℕ, length, subst, arith}
 use Rattle.m36_audit.specs.Runs.{run_by, AreCounted}
-use Rattle.m36_audit.specs.Shares.{joint_run, piece_count}
+use Rattle.m36_audit.specs.WordOwners.{joint_run, piece_count}
 use Rattle.m36_audit.proofs.SegmentRuns.{starts_room, stops_room}
 use Rattle.m36_audit.proofs.JointRuns.{piece_counted, pieces_done}
 use Rattle.m36_audit.proofs.joint_runs.count_pieces.Goals as goal

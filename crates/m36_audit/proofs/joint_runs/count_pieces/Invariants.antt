@@ -1,6 +1,6 @@
 use Rattle.std.proofs.Common.{◌+◌, ◌*◌, length}
 use Rattle.m36_audit.specs.Runs.{AreCounted}
-use Rattle.m36_audit.specs.Shares.{joint_run}
+use Rattle.m36_audit.specs.WordOwners.{joint_run}
 use Rattle.m36_audit.proofs.joint_runs.count_pieces.Given as goal
 
 -- The runs before this one are counted.

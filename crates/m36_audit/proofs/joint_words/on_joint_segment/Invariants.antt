@@ -1,7 +1,7 @@
 use Rattle.std.proofs.Common.{ℕ, ◌*◌, ◌<◌, ◌^◌, length}
 use Rattle.m36_model.specs.JointAudit.{IsJointSegment}
 use Rattle.m36_audit.specs.Runs.{AreOpen}
-use Rattle.m36_audit.specs.Shares.{joint_run}
+use Rattle.m36_audit.specs.WordOwners.{joint_run}
 use Rattle.m36_audit.proofs.joint_words.on_joint_segment.Given as goal
 
 -- No earlier word breaks the condition.

@@ -1,5 +1,5 @@
 use Rattle.std.proofs.Common.{◌*◌, ◌^◌, length, arith}
-use Rattle.m36_audit.specs.Shares.{joint_run}
+use Rattle.m36_audit.specs.WordOwners.{joint_run}
 use Rattle.m36_audit.proofs.JointSegments.{joint_in_order}
 use Rattle.m36_audit.proofs.Covering.{open_most, open_enough, open_covers, open_next}
 use Rattle.m36_audit.proofs.joint_words.open_joint.Goals as goal

@@ -1,4 +1,4 @@
-use Rattle.m36_bindfile.specs.BindFile.{BindSays}
+use Rattle.m36_bindfile.specs.BindFile.{BindResult}
 use Rattle.m36_bind.specs.Bound.{bound_of}
 use Rattle.m36_bind.proofs.BindingLaws.{text_goes}
 use Rattle.m36_bind.proofs.BoundMeans.{means_of}
@@ -9,7 +9,7 @@ returns c =
     let text = c.args.bindfile.now in
     let names = c.args.names.now in
     let objects = c.args.objects.now in
-    let says : BindSays c.bound_of_lines.result (bound_of text names objects) =
+    let says : BindResult c.bound_of_lines.result (bound_of text names objects) =
     text_goes text names objects c.in_ok-given.given c.in_ok-lines.lines c.items.result.now c.bound_of_lines.result
     c.in_ok-lines.ensures.says c.items.ensures c.in_ok-given.ensures c.bound_of_lines.ensures
     in

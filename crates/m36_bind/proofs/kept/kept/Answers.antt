@@ -12,7 +12,7 @@ loop-line-preserved c =
     let line = c.line-item.result in
     record {
       told =
-          keep_goes exports c.loop-line.kept c.keep_line.new.kept c.loop-line.n line (drop (i + 1) lines) (drop i lines) (kept_from exports [] 1 lines)
+          keep_goes exports c.loop-line.kept c.retain_line.new.kept c.loop-line.n line (drop (i + 1) lines) (drop i lines) (kept_from exports [] 1 lines)
           (first_left lines i line c.loop-line-test.true c.line-item.is) c.in-Ok.ensures c.loop-line.invariant.told;
       count = omega (arith, c.loop-line.invariant.count);
     }

@@ -1,6 +1,6 @@
 -- The files were booted, or not.
 use Rattle.std.proofs.Common.{◌≡◌, ℕ, List, refl, subst, rules}
-use Rattle.m36_boot.specs.Refusals.{Told, boot_answer}
+use Rattle.m36_boot.specs.Refusals.{ReportsFault, boot_answer}
 use Rattle.m36_super.specs.Library.{Library}
 use Rattle.m36_super.specs.BootSays.{IsBooted}
 use Rattle.m36_booted.specs.declared.reading.BootedFolder.{BootedFolder}
@@ -13,7 +13,7 @@ returns-in-Err-clause-gives c =
     let given : FolderFields = record { lib = record { catalog = c.args.catalog; files = c.args.files }; denied = c.args.denied } in
     let same : c.files.inside.items.items ≡ c.args.files = search rules in
     booted_not given c.in-Err.fault c.refuse_fault.result
-    (subst (λ (files : List (List ℕ)). Told c.in-Err.fault (boot_answer c.args.catalog files)) same c.in-Err.ensures.says)
+    (subst (λ (files : List (List ℕ)). ReportsFault c.in-Err.fault (boot_answer c.args.catalog files)) same c.in-Err.ensures.says)
     c.refuse_fault.ensures
 
 pub returns-in-Ok-clause-gives : goal.returns-in-Ok-clause-gives

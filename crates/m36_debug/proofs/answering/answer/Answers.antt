@@ -1,6 +1,6 @@
 use Rattle.std.proofs.Common.{ℕ, [], ◌∷◌, Option, refl, sym, subst}
 use Rattle.m36_model.specs.Registers.{RegsFields}
-use Rattle.m36_debug.specs.declared.commands.Command.TheVariants as commands
+use Rattle.m36_debug.specs.declared.commands.TurnCommand.TheVariants as commands
 use Rattle.m36_debug.specs.declared.session_line.SessionLine.TheVariants as session
 use Rattle.m36_debug.specs.Commands.{run_of, go_limit}
 use Rattle.m36_debug.specs.Putting.{pending, PutsPieces}

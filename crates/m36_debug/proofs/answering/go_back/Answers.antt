@@ -4,7 +4,7 @@ use Rattle.m36_step.specs.declared.turns.BackAnswer.TheVariants as back
 use Rattle.m36_debug.specs.Putting.{pending, PutsPieces}
 use Rattle.m36_debug.specs.Session.{turning, standing, Waiting}
 use Rattle.m36_debug.specs.SessionTexts.{where_line}
-use Rattle.m36_debug.specs.Sitting.{SittingFields}
+use Rattle.m36_debug.specs.SessionState.{SittingFields}
 use Rattle.m36_debug.proofs.AnswerLaws.{went_told, went_starved}
 use Rattle.m36_debug.proofs.answering.go_back.Goals as goal
 

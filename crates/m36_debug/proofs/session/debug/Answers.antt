@@ -6,9 +6,9 @@ use Rattle.m36_program.specs.Performs.{Performs}
 use Rattle.m36_debug.specs.LinesTaken.{IsUnbroken}
 use Rattle.m36_debug.specs.Session.{turning, standing, Waiting}
 use Rattle.m36_debug.specs.SessionProgram.{session, ended_by}
-use Rattle.m36_debug.specs.Sitting.{SittingFields}
+use Rattle.m36_debug.specs.SessionState.{SittingFields}
 use Rattle.m36_debug.specs.declared.fault.SessionFault.{SessionFault}
-use Rattle.m36_debug.specs.declared.turning.Ends.TheVariants as ends
+use Rattle.m36_debug.specs.declared.turning.LineResult.TheVariants as ends
 use Rattle.m36_debug.proofs.SessionSteps.{session_starts, session_next, session_quits, session_starved, session_cut, unread, unread_last, input_ended, input_ended_last, one_too_many, says_empty, end_empty}
 use Rattle.m36_debug.specs.SessionSays.{SaysInWorld}
 use Rattle.m36_debug.proofs.HeldLaws.{held_start, held_on, held_quit, held_starved, held_cut, held_unread, held_too_long, held_end}

@@ -1,10 +1,10 @@
 use Rattle.std.proofs.Common.{◌≡◌, ◌+◌, ◌≤◌, true, []}
 use Rattle.std.specs.Prelude.{if◌then◌else◌}
 use Rattle.m36_outside.specs.declared.sink.Put.TheVariants.{Done}
-use Rattle.m36_debug.specs.Parts.{Part}
+use Rattle.m36_debug.specs.Parts.{SessionPart}
 use Rattle.m36_debug.specs.Putting.{pending}
 use Rattle.m36_debug.specs.Session.{turning, standing, Running}
-use Rattle.m36_step.specs.Answers.{IsService, Interrupts}
+use Rattle.m36_step.specs.Answers.{IsService, PrecludesStep}
 use Rattle.m36_debug.proofs.TurnLaws.{WasMade}
 use Rattle.m36_debug.proofs.turning.run_command.Given as goal
 
@@ -19,8 +19,8 @@ invariant-turns g l =
     let m = g.M.Stepper in
     let o = turning m.regs m.content m.next m.went in
     record {
-      part : Part o (standing l.fn.sitting (Running l.fn.first)) l.fn.m [] (standing l.sitting (Running l.run)) l.m Done (pending l.fn.block (world.seen l.fn.world)) (pending l.block (world.seen l.world));
+      part : SessionPart o (standing l.fn.sitting (Running l.fn.first)) l.fn.m [] (standing l.sitting (Running l.run)) l.m Done (pending l.fn.block (world.seen l.fn.world)) (pending l.block (world.seen l.world));
       count : l.sitting.taken + l.run.left ≤ l.fn.sitting.taken + l.fn.first.left;
       service : l.served ≡ true → WasMade o IsService l.m;
-      interrupted : l.run.left ≡ 0 → WasMade o Interrupts l.m;
+      interrupted : l.run.left ≡ 0 → WasMade o PrecludesStep l.m;
     }

@@ -1,5 +1,5 @@
 use Rattle.m36_dir.proofs.Kept.{reads_into_catalogs}
-use Rattle.m36_dir.proofs.NamesStand.{names_stand}
+use Rattle.m36_dir.proofs.NamesAreThoseOfTheText.{names_stand}
 use Rattle.m36_dir.proofs.NamesOnce.{names_once}
 use Rattle.m36_dir.proofs.laws.catalog_laws.Goals as goal
 

@@ -3,7 +3,7 @@ use Rattle.std.proofs.lemmas.Bool.{ne_eqb}
 use Rattle.std.proofs.lemmas.Result.{err_from_is_err_and}
 use Rattle.m36_model.specs.Modification.{Point}
 use Rattle.m36_model.specs.Tally.{Counted}
-use Rattle.m36_walk.specs.Runs.{LiesIn}
+use Rattle.m36_walk.specs.Runs.{IsInCore}
 use Rattle.m36_ea.proofs.Runs.{counts_refused, counts_indirect_only, counts_write_refused, counts_claimed}
 use Rattle.m36_ea.proofs.indirect.count.Goals as goal
 
@@ -40,7 +40,7 @@ returns-clause-counts c =
     (λ next. counts_claimed c.args.regs.now c.args.tpr.now c.args.walk.now c.indirect_word.new.walk c.args.refs.now.items next c.in_ok-word.word (rw y at (c.in_ok-word.ensures {u = tt}).serves) c.hold.new.self.core (sym (c.indirect_word.ensures.dbr ∙ c.requires.dbr)) c.in_ok-place.place (ne_eqb _ _ (rw tag at c.if-td-eq-INDIRECT_ONLY.false)) (rw (c.at-at.ensures, y) at (c.in_ok-place.ensures {u = tt}).serves))
 
 pub returns-clause-lies : goal.returns-clause-lies
-unfolding LiesIn
+unfolding IsInCore
 returns-clause-lies c =
     let lies = (c.in_ok-place.ensures {u = tt}).inside in
     (lies.0, (c.complete.new.refs.items, c.complete-2.ensures.items))

@@ -22,4 +22,4 @@ returns-clause-forms c = λ refs.
     let runs_out = ap (λ (x : Counted). x.runs_out) counted in
     rw (c.end_at.ensures, address, word, runs_out, c.at-at.ensures, y) (ap (λ (p : Point). run core_store g (chain 16 g p) m) (sym c.first-tpr.ensures.value)
     ∙ chain_reads g p m 16 15 Counts refl (c.counts_word.ensures.moves c.if-not-counts_word.false)
-    ∙ counts_claimed g p walk walk refs (chain 15 g) c.in-Some.found.0 (rw y at (c.in-Some.ensures {u = tt}).serves) walk.core (sym c.requires.dbr) c.in-Some-quick_write.place (c.counts_word.ensures.counts c.if-not-counts_word.false) (rw (c.word_in_front.ensures.same, c.at-at.ensures, y) at (c.in-Some-quick_write.ensures {u = tt}).serves))
+    ∙ counts_claimed g p walk walk refs (chain 15 g) c.in-Some.found.0 (rw y at (c.in-Some.ensures {u = tt}).serves) walk.core (sym c.requires.dbr) c.in-Some-quick_write.place (c.counts_word.ensures.counts c.if-not-counts_word.false) (rw (c.word_from_front.ensures.same, c.at-at.ensures, y) at (c.in-Some-quick_write.ensures {u = tt}).serves))

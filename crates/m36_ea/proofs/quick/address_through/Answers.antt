@@ -12,8 +12,8 @@ returns-clause-forms c = λ refs.
     let g = c.args.regs.now in
     let m = standing c.args.walk.now.core [] refs in
     let read = c.in-Some.read in
-    let followed = c.in-Some-follow_in_front.followed in
+    let followed = c.in-Some-follow_from_front.followed in
     rw c.at-at.ensures (ap (λ (p : Point). run core_store g (chain 16 g p) m) (sym c.first-tpr.ensures.value)
     ∙ chain_reads g c.first-tpr.result m 16 15 (Reads read.0 read.1) refl (c.in-Some.ensures {u = tt}).moves
-    ∙ (c.in-Some-follow_in_front.ensures {u = tt}).follows refs (chain 15 g)
+    ∙ (c.in-Some-follow_from_front.ensures {u = tt}).follows refs (chain 15 g)
     ∙ chain_ends g followed.0 _ 15 c.in-Some-end_by_register.last (c.in-Some-end_by_register.ensures {u = tt}).ends)

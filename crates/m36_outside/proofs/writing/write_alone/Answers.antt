@@ -1,11 +1,11 @@
 -- The log of the writer is appended to the log that was there.
 use Rattle.m36_outside.proofs.Signalled.{put_error_behind}
-use Rattle.m36_outside.proofs.Takes.{put_says_behind}
+use Rattle.m36_outside.proofs.Takes.{put_result_after}
 use Rattle.m36_outside.proofs.writing.write_alone.Goals as goal
 
 pub returns-clause-taken : goal.returns-clause-taken
 returns-clause-taken g c =
-    put_says_behind c.write_whole-answer.result c.args.taken.now.entries c.note.new.self.entries c.new-notes.result.taken.entries c.write_whole-answer.new.notes.taken.entries c.args.bytes.now
+    put_result_after c.write_whole-answer.result c.args.taken.now.entries c.note.new.self.entries c.new-notes.result.taken.entries c.write_whole-answer.new.notes.taken.entries c.args.bytes.now
     c.write_whole-answer.ensures.taken c.new-notes.ensures.taken c.note.ensures
 
 pub returns-clause-error : goal.returns-clause-error

@@ -2,7 +2,7 @@
 use Rattle.std.proofs.Common.{◌≡◌, ℕ, [], ◌∷◌, ◌++◌, ◌≤◌, take, ap, subst, ◌∙◌, append-nil, rules, arith}
 use Rattle.std.specs.Io.KnownBytes.{Appends}
 use Rattle.std.specs.declared.io.ErrorKind.TheVariants.{Interrupted}
-use Rattle.m36_outside.proofs.Appended.{keeps_by_nothing, appends_behind}
+use Rattle.m36_outside.proofs.Appended.{keeps_by_nothing, appends_after}
 use Rattle.m36_outside.proofs.Consumed.{keeps_on}
 use Rattle.m36_outside.proofs.Signalled.{signals_same, signals_more, turns_more, gives_up_at, gives_up_last}
 use Rattle.m36_outside.proofs.writing.write_some.Goals as goal
@@ -35,7 +35,7 @@ returns-in-Some-clause-taken g c =
 pub returns-in-Some-clause-inner : goal.returns-in-Some-clause-inner
 returns-in-Some-clause-inner g c =
     let held = g.W.Write.contents in
-    appends_behind (held c.args.writer.now) (held c.loop-turn.writer) (held c.write.new.writer) (take c.in-Some.count c.args.bytes.now) c.loop-turn.invariant.inner c.in-Some.ensures.inner
+    appends_after (held c.args.writer.now) (held c.loop-turn.writer) (held c.write.new.writer) (take c.in-Some.count c.args.bytes.now) c.loop-turn.invariant.inner c.in-Some.ensures.inner
 
 pub returns-in-Some-clause-sure : goal.returns-in-Some-clause-sure
 returns-in-Some-clause-sure g c =

@@ -5,7 +5,7 @@ use Rattle.std.proofs.lemmas.Bool.{eqb-false}
 use Rattle.std.proofs.lemmas.List.{append-nil}
 use Rattle.std.specs.List.{repeat}
 use Rattle.m36_procs.specs.ProcsFile.{are_named}
-use Rattle.m36_procs.specs.ReaderSays.{stands_of}
+use Rattle.m36_procs.specs.ReaderSays.{parse_state_of}
 use Rattle.m36_procs.proofs.Taking.{turns_taken, length-repeated}
 use Rattle.m36_procs.proofs.reader.take_turns.Goals as goal
 
@@ -19,7 +19,7 @@ returns-in_ok-push_turns c =
     let pushed = c.in_ok-push_turns.ensures in
     let events : length c.push_turns.new.schedule.items ≡ length reader.schedule.items + turns.times * length turns.order = ap length pushed ∙ length-append reader.schedule.items (repeat turns.times turns.order) ∙ ap (λ n. length reader.schedule.items + n) (length-repeated turns.times turns.order) in
     record {
-      stands = turns_taken (stands_of reader) turns (length c.push_turns.new.schedule.items) some most named events;
+      stands = turns_taken (parse_state_of reader) turns (length c.push_turns.new.schedule.items) some most named events;
       regs = sym (append-nil reader.regs.items);
       core = refl;
       schedule = pushed;

@@ -1,10 +1,10 @@
 use Rattle.std.proofs.Common.{◌≡◌, length}
-use Rattle.m36_relocate.specs.Words.{words_moved}
+use Rattle.m36_relocate.specs.Words.{relocated_words}
 use Rattle.m36_relocate.proofs.words.move_words.Given as goal
 
 -- the rest completes the whole
 abbrev pub invariant-loop-rest : goal.invariant-loop-rest
-invariant-loop-rest l = words_moved l.m l.statics l.rest l.words ≡ words_moved l.m l.statics l.relocations l.fn.words
+invariant-loop-rest l = relocated_words l.m l.statics l.rest l.words ≡ relocated_words l.m l.statics l.relocations l.fn.words
 
 abbrev pub decreases-loop-rest : goal.decreases-loop-rest
 decreases-loop-rest l = length l.rest

@@ -8,11 +8,11 @@ use Rattle.m36_step.proofs.machine.take_step.Goals as goal
 pub returns-clause-told : goal.returns-clause-told
 returns-clause-told c =
     let s : State (List ℕ) = record { regs = c.args.regs.now; store = c.args.walk.now.core } in
-    let ends = c.told_step.ensures.ends in
-    rw (c.told_step.ensures.ppr, ap (λ (x : RegsFields). x.ppr) c.regs.view_is, c.copy_registers.ensures.copied) (sym (step_told s c.told_step.new.walk.core c.told_step.new.told.refs.items c.told_step.new.regs (ended_of c.told_step.new.told) ends))
+    let ends = c.record_step.ensures.ends in
+    rw (c.record_step.ensures.ppr, ap (λ (x : RegsFields). x.ppr) c.regs.view_is, c.copy_registers.ensures.copied) (sym (step_told s c.record_step.new.walk.core c.record_step.new.told.refs.items c.record_step.new.regs (ended_of c.record_step.new.told) ends))
 
 pub returns-clause-state : goal.returns-clause-state
 returns-clause-state c =
     let s : State (List ℕ) = record { regs = c.args.regs.now; store = c.args.walk.now.core } in
-    let ends = c.told_step.ensures.ends in
-    sym (step_left s c.told_step.new.walk.core c.told_step.new.told.refs.items c.told_step.new.regs (ended_of c.told_step.new.told) ends)
+    let ends = c.record_step.ensures.ends in
+    sym (step_left s c.record_step.new.walk.core c.record_step.new.told.refs.items c.record_step.new.regs (ended_of c.record_step.new.told) ends)

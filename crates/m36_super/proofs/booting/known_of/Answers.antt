@@ -2,7 +2,7 @@ use Rattle.std.proofs.Common.{◌≡◌, ◌∙◌, sym, ap, subst}
 use Rattle.m36_link.specs.Fields.{KnownFields}
 use Rattle.m36_link.specs.Known.{nothing_known}
 use Rattle.m36_link.specs.Accepted.{accepted}
-use Rattle.m36_link.specs.Laws.{IsMade}
+use Rattle.m36_link.specs.Laws.{IsConsistent}
 use Rattle.m36_super.proofs.BootTurns.{start_made}
 use Rattle.m36_super.proofs.booting.known_of.Goals as goal
 
@@ -10,4 +10,4 @@ pub returns-clause-made : goal.returns-clause-made
 returns-clause-made c =
     let made = start_made c.args.catalog.now c.args.files.now c.args.snap.now c.link_laws.ensures.made_from c.requires in
     let now : c.accept.new.self ≡ accepted nothing_known c.args.snap.now = c.in_ok-accept.ensures.ok ∙ ap (λ (k : KnownFields). accepted k c.args.snap.now) c.in_ok-known.ensures in
-    subst (λ (k : KnownFields). IsMade c.args.catalog.now c.args.files.now k) (sym now) made
+    subst (λ (k : KnownFields). IsConsistent c.args.catalog.now c.args.files.now k) (sym now) made

@@ -1,6 +1,6 @@
 use Rattle.std.proofs.Common.{refl, ap}
 use Rattle.m36_step.specs.declared.turns.Turn.TheVariants.{Linked}
-use Rattle.m36_super.specs.Coming.{Step}
+use Rattle.m36_super.specs.NextEvent.{Step}
 use Rattle.m36_super.proofs.LinkTurns.{linked}
 use Rattle.m36_super.proofs.linking.snapped.Goals as goal
 

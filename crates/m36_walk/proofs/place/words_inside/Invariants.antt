@@ -1,6 +1,6 @@
 use Rattle.std.proofs.Common.{ℕ, ◌≡◌, ◌+◌, ◌-◌, ◌<◌, ◌≤◌, ◌^◌, Ok, Err}
 use Rattle.m36_model.specs.declared.outcome.Refusal.{Refusal}
-use Rattle.m36_walk.specs.Runs.{run_from, examined, LiesIn}
+use Rattle.m36_walk.specs.Runs.{run_from, examined, IsInCore}
 use Rattle.m36_walk.proofs.place.words_inside.Given as goal
 
 -- What holds of the rest of the words holds of all words.
@@ -8,7 +8,7 @@ abbrev pub invariant-loop-left : goal.invariant-loop-left
 invariant-loop-left l = record {
   refused : (word : ℕ) (e : ℕ × Refusal) → examined l.size (word + (l.count - l.left)) l.next l.left ≡ Err e → examined l.size word l.place l.count ≡ Err e;
   whole : (word : ℕ) → examined l.size (word + (l.count - l.left)) l.next l.left ≡ Ok (run_from l.next l.left) → examined l.size word l.place l.count ≡ Ok (run_from l.place l.count);
-  inside : LiesIn l.size l.next l.left → LiesIn l.size l.place l.count;
+  inside : IsInCore l.size l.next l.left → IsInCore l.size l.place l.count;
   left : l.left ≤ l.count;
   next : l.next < 2 ^ 24;
 }

@@ -1,6 +1,6 @@
 use Rattle.std.proofs.Common.{Ok, Err, ap, sym, ◌∙◌}
-use Rattle.m36_walk.specs.Runs.{LiesIn}
-use Rattle.m36_walk.proofs.Told.{found_sdw, fetch_told}
+use Rattle.m36_walk.specs.Runs.{IsInCore}
+use Rattle.m36_walk.proofs.ReturnedWords.{found_sdw, fetch_told}
 use Rattle.m36_walk.proofs.refer.refer_fetch.Goals as goal
 
 pub returns-in-Ok-clause-fetch : goal.returns-in-Ok-clause-fetch
@@ -15,5 +15,5 @@ pub returns-in-Ok-clause-privileged : goal.returns-in-Ok-clause-privileged
 returns-in-Ok-clause-privileged c = c.fetch_of.ensures.privileged ∙ ap (λ d. d.privileged) (sym (found_sdw _ c.args.core.now c.args.dbr c.args.at 1 c.in-Ok.found c.in-Ok.ensures.examined))
 
 pub returns-in-Ok-clause-inside : goal.returns-in-Ok-clause-inside
-unfolding LiesIn
+unfolding IsInCore
 returns-in-Ok-clause-inside c = rw c.fetch_of.ensures.place c.in-Ok.ensures.inside.0

@@ -1,5 +1,5 @@
 use Rattle.std.proofs.Common.{Ok, Err, ap, sym, ◌∙◌}
-use Rattle.m36_walk.proofs.Told.{found_sdw, read_told, indirect_told, odd_told}
+use Rattle.m36_walk.proofs.ReturnedWords.{found_sdw, read_told, indirect_told, odd_told}
 use Rattle.m36_walk.proofs.refer.refer_read.Goals as goal
 
 pub returns-in-Ok-clause-read : goal.returns-in-Ok-clause-read

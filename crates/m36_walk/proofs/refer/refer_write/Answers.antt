@@ -1,5 +1,5 @@
 use Rattle.std.proofs.Common.{Ok, Err, refl}
-use Rattle.m36_walk.proofs.Told.{write_told}
+use Rattle.m36_walk.proofs.ReturnedWords.{write_told}
 use Rattle.m36_walk.proofs.refer.refer_write.Goals as goal
 
 pub returns-in-Ok-clause-write : goal.returns-in-Ok-clause-write

@@ -1,7 +1,7 @@
 -- A read, and then a put.
 use Rattle.std.proofs.Common.{[], ◌∷◌}
 use Rattle.m36_outside.specs.declared.folder.ReadAnswer.TheVariants.{Read}
-use Rattle.m36_world.specs.Noted.{put_events}
+use Rattle.m36_world.specs.CallEvents.{put_events}
 use Rattle.m36_world.specs.declared.event.Event.TheVariants.{FileRead}
 use Rattle.m36_world.proofs.Following.{follow_one, follow_on, follow_put}
 use Rattle.outside_tests.proofs.world.show.Goals as goal

@@ -2,7 +2,7 @@
 use Rattle.std.proofs.Common.{ℕ, ◌≤◌, [], ◌∷◌, ◌++◌, ap, subst, ◌∙◌}
 use Rattle.m36_outside.specs.Put.{PutHasCause}
 use Rattle.m36_outside.specs.System.{PutHasError}
-use Rattle.m36_outside.specs.Told.{SinkTold}
+use Rattle.m36_outside.specs.SystemModels.{OutputModel}
 use Rattle.m36_outside.proofs.Takes.{put_says, put_takes}
 use Rattle.m36_outside.proofs.standard_output.StdSinkSink.put.Goals as goal
 
@@ -11,28 +11,28 @@ returns-clause-says g c =
     let after = c.write_alone-answer.new.taken.entries in
     put_says c.write_alone-answer.result c.args.self.now.taken c.note.new.self.entries c.args.piece.now c.new-taken.result.entries after
     c.write_alone-answer.ensures.taken c.new-taken.ensures
-    (c.note.ensures ∙ ap (λ (s : SinkTold). s.taken ++ after ∷ []) c.self.view_is)
+    (c.note.ensures ∙ ap (λ (s : OutputModel). s.taken ++ after ∷ []) c.self.view_is)
 
 pub returns-clause-took : goal.returns-clause-took
 returns-clause-took g c =
     let after = c.write_alone-answer.new.taken.entries in
     put_takes c.write_alone-answer.result c.args.self.now.taken c.note.new.self.entries c.args.piece.now c.new-taken.result.entries after
     c.write_alone-answer.ensures.taken c.new-taken.ensures
-    (c.note.ensures ∙ ap (λ (s : SinkTold). s.taken ++ after ∷ []) c.self.view_is)
+    (c.note.ensures ∙ ap (λ (s : OutputModel). s.taken ++ after ∷ []) c.self.view_is)
 
 pub returns-clause-cause : goal.returns-clause-cause
 returns-clause-cause g c =
-    subst (λ n. PutHasCause c.write_alone-answer.result n c.after_put-self-inside.result) (ap (λ (s : SinkTold). s.faults) c.self.view_is)
+    subst (λ n. PutHasCause c.write_alone-answer.result n c.after_put-self-inside.result) (ap (λ (s : OutputModel). s.faults) c.self.view_is)
     c.after_put-self-inside.ensures.cause
 
 pub returns-clause-error : goal.returns-clause-error
 returns-clause-error g c =
-    subst (λ l. PutHasError c.write_alone-answer.result l c.write_alone-answer.new.errors.entries) (ap (λ (s : SinkTold). s.errors) c.self.view_is)
+    subst (λ l. PutHasError c.write_alone-answer.result l c.write_alone-answer.new.errors.entries) (ap (λ (s : OutputModel). s.errors) c.self.view_is)
     c.write_alone-answer.ensures.error
 
 pub returns-clause-count : goal.returns-clause-count
 returns-clause-count g c =
-    subst (λ (n : ℕ). n ≤ c.after_put-self-inside.result) (ap (λ (s : SinkTold). s.faults) c.self.view_is) c.after_put-self-inside.ensures.later
+    subst (λ (n : ℕ). n ≤ c.after_put-self-inside.result) (ap (λ (s : OutputModel). s.faults) c.self.view_is) c.after_put-self-inside.ensures.later
 
 pub returns-clause-count_bound : goal.returns-clause-count_bound
 returns-clause-count_bound g c = c.after_put-self-inside.ensures.bound

@@ -1,9 +1,9 @@
 -- What was written is logged in pieces.
 use Rattle.std.proofs.Common.{ℕ, ◌≤◌, ◌<◌, ◌++◌, Some, length, ap, subst, ◌∙◌, rules, arith}
 use Rattle.m36_outside.specs.Block.{parts}
-use Rattle.m36_outside.specs.Put.{PutSays, PutHasCause}
+use Rattle.m36_outside.specs.Put.{PutResult, PutHasCause}
 use Rattle.m36_outside.specs.System.{PutHasError}
-use Rattle.m36_outside.specs.Told.{SinkTold}
+use Rattle.m36_outside.specs.SystemModels.{OutputModel}
 use Rattle.m36_outside.proofs.Blocks.{block_says, block_takes}
 use Rattle.m36_outside.proofs.standard_output.StdSinkSink.put_block.Goals as goal
 
@@ -14,9 +14,9 @@ returns-clause-says g c =
     let after = c.write_alone-answer.new.taken.entries in
     let pieces = c.args.block.now in
     block_says c.write_alone-answer.result c.args.self.now.taken c.note.new.self.entries pieces before after
-    (subst (λ l. PutSays c.write_alone-answer.result (Some before) (Some after) l) c.bytes.ensures c.write_alone-answer.ensures.taken)
+    (subst (λ l. PutResult c.write_alone-answer.result (Some before) (Some after) l) c.bytes.ensures c.write_alone-answer.ensures.taken)
     c.new-taken.ensures some
-    (c.note.ensures ∙ ap (λ (s : SinkTold). s.taken ++ parts after pieces) c.self.view_is)
+    (c.note.ensures ∙ ap (λ (s : OutputModel). s.taken ++ parts after pieces) c.self.view_is)
 
 pub returns-clause-took : goal.returns-clause-took
 returns-clause-took g c =
@@ -25,23 +25,23 @@ returns-clause-took g c =
     let after = c.write_alone-answer.new.taken.entries in
     let pieces = c.args.block.now in
     block_takes c.write_alone-answer.result c.args.self.now.taken c.note.new.self.entries pieces before after
-    (subst (λ l. PutSays c.write_alone-answer.result (Some before) (Some after) l) c.bytes.ensures c.write_alone-answer.ensures.taken)
+    (subst (λ l. PutResult c.write_alone-answer.result (Some before) (Some after) l) c.bytes.ensures c.write_alone-answer.ensures.taken)
     c.new-taken.ensures some
-    (c.note.ensures ∙ ap (λ (s : SinkTold). s.taken ++ parts after pieces) c.self.view_is)
+    (c.note.ensures ∙ ap (λ (s : OutputModel). s.taken ++ parts after pieces) c.self.view_is)
 
 pub returns-clause-cause : goal.returns-clause-cause
 returns-clause-cause g c =
-    subst (λ n. PutHasCause c.write_alone-answer.result n c.after_put-self-inside.result) (ap (λ (s : SinkTold). s.faults) c.self.view_is)
+    subst (λ n. PutHasCause c.write_alone-answer.result n c.after_put-self-inside.result) (ap (λ (s : OutputModel). s.faults) c.self.view_is)
     c.after_put-self-inside.ensures.cause
 
 pub returns-clause-error : goal.returns-clause-error
 returns-clause-error g c =
-    subst (λ l. PutHasError c.write_alone-answer.result l c.write_alone-answer.new.errors.entries) (ap (λ (s : SinkTold). s.errors) c.self.view_is)
+    subst (λ l. PutHasError c.write_alone-answer.result l c.write_alone-answer.new.errors.entries) (ap (λ (s : OutputModel). s.errors) c.self.view_is)
     c.write_alone-answer.ensures.error
 
 pub returns-clause-count : goal.returns-clause-count
 returns-clause-count g c =
-    subst (λ (n : ℕ). n ≤ c.after_put-self-inside.result) (ap (λ (s : SinkTold). s.faults) c.self.view_is) c.after_put-self-inside.ensures.later
+    subst (λ (n : ℕ). n ≤ c.after_put-self-inside.result) (ap (λ (s : OutputModel). s.faults) c.self.view_is) c.after_put-self-inside.ensures.later
 
 pub returns-clause-count_bound : goal.returns-clause-count_bound
 returns-clause-count_bound g c = λ _. c.after_put-self-inside.ensures.bound

@@ -1,7 +1,7 @@
 -- Missing words are zero.
 use Rattle.std.proofs.Common.{ℕ, List, ◌*◌, subst}
 use Rattle.m36_page.specs.Copied.{IsCopied}
-use Rattle.m36_page.proofs.ZerosBehind.{given-filled}
+use Rattle.m36_page.proofs.ZerosAfter.{given-filled}
 use Rattle.m36_page.proofs.kept.KeptWords.give_page.Goals as goal
 
 pub returns : goal.returns

@@ -1,6 +1,6 @@
 use Rattle.std.proofs.Common.{List, length, inl, inr, sym, ap, subst, ◌∙◌, arith}
 use Rattle.m36_model.specs.declared.place.Reference.{Reference}
-use Rattle.m36_page.specs.Residence.{frame_of, IsSettled}
+use Rattle.m36_page.specs.Residence.{frame_of, IsConsistent}
 use Rattle.m36_page.specs.Changes.{IsBrought, AllPinned}
 use Rattle.m36_page.proofs.Moves.{marks_settled, marks_frame, taken_settled}
 use Rattle.m36_page.proofs.Room.{few_frames}
@@ -20,14 +20,14 @@ returns-then-is_some-clause-free c =
 
 pub empty-requires-clause-settled : goal.empty-requires-clause-settled
 empty-requires-clause-settled c =
-    let settled : IsSettled c.args.self.now c.args.core.now =
+    let settled : IsConsistent c.args.self.now c.args.core.now =
     settled_by c.args.self.now c.args.core.now c.spot-spot.ensures.pager c.requires.reads c.requires.frames c.len.ensures.most in
     marks_settled c.args.self.now c.args.core.now c.choose.new.core settled
     (marks_of c.args.self.now c.as_slice.result.now c.args.core.now c.choose.new.core c.spot-spot.ensures.pager c.choose.ensures.marks)
 
 pub take_in-requires-clause-out : goal.take_in-requires-clause-out
 take_in-requires-clause-out c =
-    let settled : IsSettled c.args.self.now c.args.core.now =
+    let settled : IsConsistent c.args.self.now c.args.core.now =
     settled_by c.args.self.now c.args.core.now c.spot-spot.ensures.pager c.requires.reads c.requires.frames c.len.ensures.most in
     c.empty.ensures.out c.args.seg c.args.page c.requires.page
     (marks_frame c.args.self.now c.args.core.now c.choose.new.core c.args.seg c.args.page settled
@@ -47,7 +47,7 @@ returns-in_default-clause-room c =
 
 pub returns-clause-ok : goal.returns-clause-ok
 returns-clause-ok c =
-    let settled : IsSettled c.args.self.now c.args.core.now =
+    let settled : IsConsistent c.args.self.now c.args.core.now =
     settled_by c.args.self.now c.args.core.now c.spot-spot.ensures.pager c.requires.reads c.requires.frames c.len.ensures.most in
     let P : List Reference → Type 0 = λ refs. IsBrought c.args.self.now c.args.core.now c.take_in.new.self c.take_in.new.core c.args.seg c.args.page refs in
     subst P c.as_slice.ensures.value

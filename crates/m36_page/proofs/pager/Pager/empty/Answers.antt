@@ -3,5 +3,5 @@ use Rattle.m36_page.proofs.pager.Pager.empty.Goals as goal
 
 pub returns-in-Some : goal.returns-in-Some
 returns-in-Some c =
-    emptied c.args.self.now c.args.core.now c.put_page_away.new.self c.put_page_away.new.core c.args.k c.in-Some.seg c.in-Some.page
-    c.requires.settled c.put_page_away.ensures
+    emptied c.args.self.now c.args.core.now c.evict_page.new.self c.evict_page.new.core c.args.k c.in-Some.seg c.in-Some.page
+    c.requires.settled c.evict_page.ensures

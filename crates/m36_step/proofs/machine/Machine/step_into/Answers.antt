@@ -11,4 +11,4 @@ use Rattle.m36_step.proofs.machine.Machine.step_into.Goals as goal
 pub returns-clause-kept : goal.returns-clause-kept
 returns-clause-kept c audited other =
     let left = c.take_step.ensures.state ∙ ap (λ (m : MachineFields). state_after core_store m.state) c.self.view_is in
-    subst (λ (s : State (List ℕ)). IsAudited s.store s.regs.dbr) (sym left) (c.law_kept.ensures c.args.self.now.state audited other)
+    subst (λ (s : State (List ℕ)). IsAudited s.store s.regs.dbr) (sym left) (c.law_audit_preserved.ensures c.args.self.now.state audited other)

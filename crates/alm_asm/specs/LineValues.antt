@@ -1,0 +1,58 @@
+-- Values that are computed once for each line: that of its first argument, and the index of its
+-- link.
+use Rattle.std.specs.Prelude.{ℕ, ◌≡◌, ◌<◌, Bool, true, false, nat_lt, List, [], ◌∷◌, ◌++◌, length, Option, Some, None}
+use Rattle.std.specs.List.{position}
+use Rattle.alm_parse.specs.declared.args.Arg.{Arg}
+use Rattle.alm_parse.specs.declared.line.Line36.{Line36}
+use Rattle.obj36_parts.specs.Fields.{LinkFields}
+use Rattle.obj36_parts.specs.Indexes.{same_link, has_link}
+use Rattle.alm_lines.specs.Arguments.{first_arg, terms_in}
+use Rattle.alm_lines.specs.Spots.{below}
+use Rattle.alm_lines.specs.Values.{evaluated}
+use Rattle.alm_lines.specs.declared.sum.Sum.{Sum}
+use Rattle.alm_lines.specs.SpotFields.{LocationCounter}
+use Rattle.alm_asm.specs.Links.{operand_args, link_in}
+use Rattle.alm_asm.specs.declared.seen.LineValues.{LineValues}
+
+-- the index of a link in a list
+abbrev pub place_in : List LinkFields → Option LinkFields → Option ℕ
+place_in links None = None
+place_in links (Some link) = position (same_link link) links
+
+-- the value of the first argument of a line, and the index of its link
+unfoldable pub seen_of : List ℕ → List (List ℕ × Sum) → List LinkFields → LocationCounter → Line36 → LineValues
+seen_of text symbols links spot line =
+    record {
+      value = evaluated text symbols spot (terms_in (first_arg line.args));
+      place = place_in links
+          (link_in text symbols spot (first_arg (operand_args line.deed line.args)));
+    }
+
+-- The entry of a line, before those of later lines. Only a line with arguments has an entry; any
+-- other has no value and no link.
+unfoldable pub seen_with : List Arg → LineValues → List LineValues → List LineValues
+seen_with [] seen later = later
+seen_with (argument ∷ arguments) seen later = seen ∷ later
+
+-- the entries of earlier lines, with that of a line if it has arguments
+unfoldable pub with_seen : List LineValues → List Arg → LineValues → List LineValues
+with_seen before [] seen = before
+with_seen before (argument ∷ arguments) seen = before ++ seen ∷ []
+
+-- the entries of these lines, in order
+unfoldable pub seen_from : List ℕ → List (List ℕ × Sum) → List LinkFields → LocationCounter → List Line36
+    → List LineValues
+seen_from text symbols links spot [] = []
+seen_from text symbols links spot (line ∷ lines) =
+    seen_with line.args (seen_of text symbols links spot line)
+    (seen_from text symbols links (below text spot line) lines)
+
+-- whether there is an index, and it is below a count
+abbrev pub is_below : Option ℕ → ℕ → Bool
+is_below None count = false
+is_below (Some place) count = nat_lt place count
+
+-- Each link whose index among all links is below the length of `some` is in `some`.
+pub record AreFirst (some all : List LinkFields) : Type 0 where
+  pub each : (l : LinkFields) (place : ℕ) → position (same_link l) all ≡ Some place
+      → place < length some → has_link l some ≡ true

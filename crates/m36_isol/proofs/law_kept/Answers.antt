@@ -1,5 +1,0 @@
-use Rattle.m36_isol.proofs.CoreReach.{core_kept}
-use Rattle.m36_isol.proofs.law_kept.Goals as goal
-
-pub returns : goal.returns
-returns c = core_kept

@@ -1,0 +1,183 @@
+-- The target of a link, or the code with which it is refused.
+use Rattle.std.specs.Prelude.{ℕ, ◌+◌, ◌%◌, ◌^◌, Bool, true, false, not, ◌&&◌, ◌||◌, nat_le}
+use Rattle.std.specs.Prelude.{nat_lt, if◌then◌else◌, List, length, Option, Some, None, Result, Ok}
+use Rattle.std.specs.Prelude.{Err}
+use Rattle.m36_word.specs.declared.pair.Pair.{Pair}
+use Rattle.m36_text.specs.Results.{and_then}
+use Rattle.m36_desc.specs.Descriptors.{its_pair}
+use Rattle.m36_model.specs.declared.endings.LinkCode.{LinkCode}
+use Rattle.m36_model.specs.declared.endings.LinkCode.TheVariants.{L3, L4, L5, L6}
+use Rattle.m36_dir.specs.Fields.{SegmentFields}
+use Rattle.m36_dir.specs.declared.segment.SegKind.{SegKind}
+use Rattle.m36_dir.specs.declared.segment.SegKind.TheVariants.{Object, Gate, Plain}
+use Rattle.obj36_parts.specs.Fields.{DefFields, LinkFields}
+use Rattle.obj36_parts.specs.PartsFields.{PartsFields}
+use Rattle.obj36_parts.specs.Sections.{later_section}
+use Rattle.obj36_parts.specs.ObjectSegment.{has_name, has_entry, linkage_section}
+use Rattle.obj36_parts.specs.ObjectSegment.{definition_named, segment_limit}
+use Rattle.obj36_parts.specs.declared.section.Section.{Section}
+use Rattle.obj36_parts.specs.declared.section.Section.TheVariants.{Text, Linkage, Symbol, Static}
+use Rattle.obj36.specs.ObjectOf.{object_of}
+use Rattle.obj36.specs.declared.fault.ObjectFault.{ObjectFault}
+use Rattle.obj36.specs.declared.fault.ObjectFault.TheVariants.{O1, O2, O3, O4, O5, O6, O7, O8}
+use Rattle.obj36.specs.declared.fault.ObjectFault.TheVariants.{NoMemory}
+use Rattle.m36_link.specs.Fields.{LaidFields, LandingFields}
+use Rattle.m36_link.specs.Known.{linkage_segment, section_ring, laid_in, base_of, laid_words}
+use Rattle.m36_link.specs.declared.points.ObjectPlace.{ObjectPlace}
+use Rattle.m36_link.specs.declared.sections.Placement.{Placement}
+
+-- ---- the place in an object that a link names
+
+-- the section that a link's value refers to if its entry does not say
+abbrev pub section_of : LinkFields → Section
+section_of link = if has_name link.kind then Text else link.section
+
+-- L3: the entry is not defined
+abbrev pub point_by : Section → Option DefFields → Result ObjectPlace LinkCode
+point_by section None = Err L3
+point_by section (Some d) =
+    Ok (record { section = later_section section d.section; value = d.value })
+
+-- the place in its target object that a link names, or L3
+unfoldable pub point_of : LinkFields → PartsFields → Result ObjectPlace LinkCode
+point_of link o =
+    if has_entry link.kind
+    then point_by (section_of link) (definition_named link.entry o.definitions)
+    else Ok (record { section = section_of link; value = 0 })
+
+-- ---- the pair
+
+-- the pair to a word of a segment, with the ring and the modifier of the link
+unfoldable pub pair_to : ℕ → ℕ → ℕ → LinkFields → Pair
+pair_to seg ring word link =
+    its_pair (record { seg = seg; ring = ring; word = word % 2 ^ 18; bit = 0; tag = link.modifier })
+
+-- A value is relative to word 0 of the segment or, in a laid section, to its place: in the linkage
+-- section to its first word, and in the static section to the word after the linkage section,
+-- which has `linkage` words.
+abbrev pub pair_from : Section → ℕ → ℕ → LaidFields → ℕ → LinkFields → Pair
+pair_from Text value ring l linkage link = pair_to l.seg ring (value + link.expr) link
+pair_from Symbol value ring l linkage link = pair_to l.seg ring (value + link.expr) link
+pair_from Linkage value ring l linkage link =
+    pair_to (linkage_segment l.ring) ring (l.base + value + link.expr) link
+pair_from Static value ring l linkage link =
+    pair_to (linkage_segment l.ring) ring
+    (l.base + linkage + value + link.expr) link
+
+-- the pair to a place of an object whose section is laid
+unfoldable pub pair_of : ObjectPlace → ℕ → LaidFields → ℕ → LinkFields → Pair
+pair_of point ring l linkage link = pair_from point.section point.value ring l linkage link
+
+-- ---- the section of a segment in a ring: laid already, or to be laid after the others
+
+-- L6: the section would end past the linkage segment
+abbrev pub new_home : ℕ → ℕ → ℕ → ℕ → Result Placement LinkCode
+new_home ring seg base size =
+    if nat_le (base + size) segment_limit then
+    Ok (record {
+      section = record { ring = ring; seg = seg; base = base; size = size };
+      is_new = true;
+    })
+    else Err (L6 base size)
+
+-- the section that is laid already, or a new one
+abbrev pub placement_by : Option LaidFields → List LaidFields → ℕ → ℕ → PartsFields
+    → Result Placement LinkCode
+placement_by (Some l) laid ring seg o = Ok (record { section = l; is_new = false })
+placement_by None laid ring seg o = new_home ring seg (base_of laid ring) (length (laid_words o))
+
+-- the section of a segment in a ring, and whether it still has to be laid; or L6
+unfoldable pub home_of : List LaidFields → ℕ → ℕ → PartsFields → Result Placement LinkCode
+home_of laid ring seg o = placement_by (laid_in laid ring seg) laid ring seg o
+
+-- ---- types 1 and 5: the link's own object, whose section has the link
+
+-- the target of a link to its own object, given the place that it names
+abbrev pub own_by : ℕ → LaidFields → PartsFields → LinkFields → Result ObjectPlace LinkCode
+    → Result LandingFields LinkCode
+own_by ring l o link found =
+    and_then found
+    (λ point.
+    Ok (record {
+      pair = pair_of point ring l (length (linkage_section o)) link;
+      target = l.seg;
+      lay = None;
+    }))
+
+-- the target of a link of type 1 or 5
+unfoldable pub own_landing : ℕ → LaidFields → PartsFields → LinkFields
+    → Result LandingFields LinkCode
+own_landing ring l o link = own_by ring l o link (point_of link o)
+
+-- ---- types 3 and 4: a segment that was found
+
+-- L4: the ring may not use the segment
+abbrev pub may_not_use : ℕ → SegmentFields → Bool
+may_not_use ring s = nat_lt s.r3 ring || (nat_lt s.r2 ring && not s.mode.executable)
+
+-- the segment is plain words, neither an object nor a gate
+abbrev pub is_plain : SegKind → Bool
+is_plain Plain = true
+is_plain Object = false
+is_plain Gate = false
+
+-- the number in a code of objects
+abbrev pub fault_number : ObjectFault → ℕ
+fault_number (O1 at) = 1
+fault_number (O2 at) = 2
+fault_number (O3 at) = 3
+fault_number (O4 at) = 4
+fault_number (O5 at) = 5
+fault_number (O6 at) = 6
+fault_number (O7 at) = 7
+fault_number (O8 at) = 8
+fault_number NoMemory = 0
+
+-- plain words define no entries, and no section is laid for them
+unfoldable pub plain_landing : ℕ → ℕ → LinkFields → Result LandingFields LinkCode
+plain_landing ring seg link =
+    if has_entry link.kind then Err L3
+    else Ok (record { pair = pair_to seg ring link.expr link; target = seg; lay = None })
+
+-- a section that still has to be laid
+abbrev pub lay_if : Bool → LaidFields → Option LaidFields
+lay_if true l = Some l
+lay_if false l = None
+
+-- the target of a link to an object, given the place that it names and the object's section
+abbrev pub landing_in : ℕ → ℕ → PartsFields → LinkFields → ObjectPlace → Result Placement LinkCode
+    → Result LandingFields LinkCode
+landing_in ring seg o link point found =
+    and_then found
+    (λ home.
+    Ok (record {
+      pair = pair_of point ring home.section (length (linkage_section o)) link;
+      target = seg;
+      lay = lay_if home.is_new home.section;
+    }))
+
+-- as `landing_in`, given the place or its refusal, and all sections that are laid
+abbrev pub landing_at : List LaidFields → ℕ → ℕ → ℕ → PartsFields → LinkFields
+    → Result ObjectPlace LinkCode → Result LandingFields LinkCode
+landing_at laid ring section_ring seg o link found =
+    and_then found (λ point. landing_in ring seg o link point (home_of laid section_ring seg o))
+
+-- an object whose section is in the ring `section_ring`, which may differ from that of the link
+unfoldable pub object_landing : List LaidFields → ℕ → ℕ → ℕ → PartsFields → LinkFields
+    → Result LandingFields LinkCode
+object_landing laid ring section_ring seg o link =
+    landing_at laid ring section_ring seg o link (point_of link o)
+
+-- L5: the file is not an object
+abbrev pub landing_by : List LaidFields → ℕ → ℕ → SegmentFields → LinkFields
+    → Result PartsFields ObjectFault → Result LandingFields LinkCode
+landing_by laid ring seg s link (Err fault) = Err (L5 (fault_number fault))
+landing_by laid ring seg s link (Ok o) = object_landing laid ring (section_ring ring s) seg o link
+
+-- the target of a link of type 3 or 4 to the segment that was found
+unfoldable pub target_landing : List LaidFields → ℕ → ℕ → SegmentFields → List ℕ → LinkFields
+    → Result LandingFields LinkCode
+target_landing laid ring seg s words link =
+    if may_not_use ring s then Err L4
+    else if is_plain s.kind then plain_landing ring seg link
+    else landing_by laid ring seg s link (object_of words)

@@ -1,0 +1,64 @@
+-- The result of a reference to core: its descriptor and places, or the fault of the first check
+-- that fails: descriptor, rights, places, in this order.
+use Rattle.std.specs.Prelude.{ℕ, Bool, ◌≡◌, List, Result, Ok, Err}
+use Rattle.m36_desc.specs.Fields.{SdwFields, DbrFields}
+use Rattle.m36_desc.specs.declared.access.Acv.{Acv}
+use Rattle.m36_model.specs.Fields.{AtFields}
+use Rattle.m36_model.specs.Store.{Spot, violation, fault_by}
+use Rattle.m36_model.specs.Place.{marks_by, with_marks}
+use Rattle.m36_model.specs.declared.outcome.Fault.{Fault}
+use Rattle.m36_model.specs.declared.outcome.Refusal.{Refusal}
+use Rattle.m36_walk.specs.Runs.{run_from, places_as_fault}
+use Rattle.m36_walk.specs.declared.reference.LookupResult.{LookupResult}
+
+-- a refusal as a fault at a word
+abbrev pub told : {A : Type 0} → AtFields → Result A Refusal → Result A Fault
+told at (Ok a) = Ok a
+told at (Err why) = Err (fault_by why at)
+
+-- an access violation as a fault at a word
+abbrev pub violation_as_fault : {A : Type 0} → AtFields → Result A Acv → Result A Fault
+violation_as_fault at (Ok a) = Ok a
+violation_as_fault at (Err acv) = Err (fault_by (violation acv.0) at)
+
+-- an answered reference: the descriptor through which its words were found, and their spots
+pub record ReferenceResult : Type 0 where
+  pub sdw : SdwFields
+  pub spots : List Spot
+
+-- the reference, given its descriptor and the spots of its words
+abbrev pub reached_places : SdwFields → Result (List Spot) Fault → Result ReferenceResult Fault
+reached_places d (Ok spots) = Ok (record { sdw = d; spots = spots })
+reached_places d (Err f) = Err f
+
+-- the reference, if the descriptor gives the right to it
+abbrev pub reached_rights : SdwFields → Result Unit Fault → Result (List Spot) Fault
+    → Result ReferenceResult Fault
+reached_rights d (Ok u) places = reached_places d places
+reached_rights d (Err f) places = Err f
+
+-- the reference, if its segment has a descriptor: the first fault of descriptor, rights and places
+abbrev pub reached_sdw : (SdwFields → Result Unit Acv)
+    → (SdwFields → Result (List Spot) (ℕ × Refusal)) → AtFields → Result SdwFields Fault
+    → Result ReferenceResult Fault
+reached_sdw rights places at (Ok d) = reached_rights d (violation_as_fault at (rights d))
+    (places_as_fault at (places d))
+reached_sdw rights places at (Err f) = Err f
+
+-- a reference from its parts: the descriptor of the segment, the rights that it gives, and the
+-- places of the words
+unfoldable pub reached : (SdwFields → Result Unit Acv)
+    → (SdwFields → Result (List Spot) (ℕ × Refusal)) → Result SdwFields Refusal → AtFields
+    → Result ReferenceResult Fault
+reached rights places sdw at = reached_sdw rights places at (told at sdw)
+
+-- the result of the code: the spots are a run of `count` words
+abbrev pub found_run : ℕ → Result LookupResult Fault → Result ReferenceResult Fault
+found_run count (Ok f) = Ok (record { sdw = f.sdw; spots = run_from f.place count })
+found_run count (Err f) = Err f
+
+-- an answered reference has set its marks, and a refused one has changed nothing
+abbrev pub Marked : DbrFields → AtFields → Bool → List ℕ → List ℕ → Result LookupResult Fault → Type 0
+Marked dbr at write old new (Ok f) =
+    new ≡ with_marks old (marks_by dbr at.seg write at.word (Ok f.sdw))
+Marked dbr at write old new (Err f) = new ≡ old
