@@ -13,7 +13,7 @@ use Rattle.m36_walk.specs.ReferenceResult.{reached, Marked}
 use Rattle.m36_walk.specs.Runs.{run_from, IsInCore}
 use Rattle.m36_walk.specs.Served.{sdw_by, sdw_in, at_target, ServesRun, ServesClaim, ServesAsked}
 use Rattle.m36_walk.specs.declared.reference.LookupResult.{LookupResult}
-use Rattle.m36_walk.proofs.Targets.{transfer_served}
+use Rattle.m36_walk.proofs.TargetLaws.{transfer_served}
 use Rattle.m36_walk.proofs.ByKind.{FoundBy}
 use Rattle.m36_walk.proofs.Spots.{places_run, examined_inside, lies_inside}
 use Rattle.m36_walk.proofs.ReturnedWords.{read_told, indirect_told, odd_told, fetch_told, write_told}

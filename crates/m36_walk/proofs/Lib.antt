@@ -6,5 +6,5 @@ pub mod Blocks
 pub mod ReturnedWords
 pub mod Claims
 pub mod Placing
-pub mod Targets
+pub mod TargetLaws
 pub mod InFront

@@ -1,4 +1,4 @@
-use Rattle.m36_walk.proofs.Targets.{call_served}
+use Rattle.m36_walk.proofs.TargetLaws.{call_served}
 use Rattle.m36_walk.proofs.walk.Walk.call.Goals as goal
 
 pub returns-clause-serves : goal.returns-clause-serves

@@ -1,5 +1,5 @@
 use Rattle.std.proofs.Common.{sym}
-use Rattle.m36_walk.proofs.Targets.{locate_served}
+use Rattle.m36_walk.proofs.TargetLaws.{locate_served}
 use Rattle.m36_walk.proofs.Placing.{place_told}
 use Rattle.m36_walk.proofs.walk.Walk.place.Goals as goal
 

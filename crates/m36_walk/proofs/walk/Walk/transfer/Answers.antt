@@ -1,4 +1,4 @@
-use Rattle.m36_walk.proofs.Targets.{transfer_served}
+use Rattle.m36_walk.proofs.TargetLaws.{transfer_served}
 use Rattle.m36_walk.proofs.walk.Walk.transfer.Goals as goal
 
 pub returns-clause-serves : goal.returns-clause-serves
