@@ -101,7 +101,7 @@ pieces_done may (piece ∷ pieces) events result ended (inr failed) =
     (goes_failed {may = may} (puts piece (puts_all pieces (done tt))) (piece ∷ failed.pieces) result
     (inr (record { pieces = failed.pieces; only = refl; rest = failed.rest }))) ended)
 
-text_done :
+pub text_done :
     (may : May) (text : List ℕ) (events : List Event) (result : Result (Unit {0}) Status) → IsEnd result
     → Goes {may = may} (put_text text) events result → result ≡ Ok tt
 unfolding put_text
@@ -124,7 +124,7 @@ files_done (file ∷ files) rest events result ended on goes =
     write_done goes.answer (λ more. Goes (writes_all refl files rest) more result) goes.more result ended
     (λ after. files_done files rest goes.more result ended on after) goes.rest
 
-report_done :
+pub report_done :
     (told : ToldFields) (events : List Event) (result : Result (Unit {0}) Status) → IsEnd result
     → Goes (write_report told) events result → result ≡ Ok tt
 unfolding write_report
