@@ -3,4 +3,5 @@ pub mod AuditPuts
 pub mod ImageSteps
 pub mod TextLaws
 pub mod ImageGoes
-pub mod Bridge
+pub mod ImageReads
+pub mod ImageEnded
