@@ -1,8 +1,8 @@
 -- How a command on an image ends: by the findings of its audit, of which there is one list; with Done, if its needs are
 -- met; and what it means that its text begins with `audit yes`.
-use Rattle.std.proofs.Common.{◌≡◌, ◌⊎◌, ℕ, Bool, true, false, ◌||◌, List, [], ◌∷◌, ◌++◌, Result, Ok, Err, refl, sym, ap, subst, ◌∙◌}
+use Rattle.std.proofs.Common.{◌≡◌, ◌⊎◌, ℕ, Bool, true, false, List, [], ◌∷◌, ◌++◌, Result, Ok, Err, refl, sym, ap, subst, ◌∙◌}
 use Rattle.std.proofs.Common.{inl, inr}
-use Rattle.std.proofs.lemmas.List.{append-nil, append_assoc}
+use Rattle.std.proofs.lemmas.List.{append-nil}
 use Rattle.std.proofs.lemmas.List.Folds.{concat-append as joined_on}
 use Rattle.m36_outside.specs.Passing.{joined}
 use Rattle.m36_model.specs.Store.{State}
@@ -11,16 +11,15 @@ use Rattle.m36_model.specs.declared.outcome.Outcome.TheVariants.{Stopped}
 use Rattle.m36_model.specs.declared.outcome.Stop.TheVariants.{Dis}
 use Rattle.m36_isol.proofs.CoreIsolated.{core_isolated}
 use Rattle.m36_isol.proofs.Findings.{findings_law}
-use Rattle.m36_world.specs.Follow.{outputs}
 use Rattle.m36_world.specs.declared.event.Event.{Event}
 use Rattle.m36_reading.specs.declared.status.Status.{Status}
-use Rattle.m36_reading.specs.declared.status.Status.TheVariants.{Done, WriteFault, NoMemory}
+use Rattle.m36_reading.specs.declared.status.Status.TheVariants.{Done, NoMemory}
 use Rattle.m36_program.specs.Alike.{IsEnd}
 use Rattle.m36_program.specs.Early.{early}
 use Rattle.m36_program.specs.Ended.{HasEnd, StartsWith}
 use Rattle.m36_program.specs.Goes.{Ends, Chosen, Goes}
 use Rattle.m36_program.specs.Trail.{pieces_of}
-use Rattle.m36_program.proofs.PieceLaws.{PutsBy, PutsWhole, PutsPart, pieces_put}
+use Rattle.m36_program.proofs.PieceLaws.{PutsBy}
 use Rattle.m36_ran.specs.AuditText.{yes_line, audit_pieces, audit_text}
 use Rattle.m36_ran.specs.Output.{run_pieces, status_after}
 use Rattle.m36_ran.specs.Ran.{passes, is_run, audit_status, IsIsolated, PassesAudit}
@@ -31,35 +30,10 @@ use Rattle.m36_ran.specs.declared.command.ImageCommand.TheVariants.{Bare, Audit}
 use Rattle.m36_ran.proofs.SomeFindings.{some_findings}
 use Rattle.m36_ran.proofs.YesAnswers.{none_found}
 use Rattle.cmd_image.specs.ImageProgram.{AreAuditFindings, by_command, on_image}
-use Rattle.cmd_image.specs.ImageEnds.{EndsWith, bare_pieces, image_pieces, bare_status, image_status, EndsByFindings, EndsByFinding, ImageEndLaw}
+use Rattle.cmd_image.specs.ImageEnds.{bare_pieces, image_pieces, bare_status, image_status, EndsByFindings, EndsByFinding, ImageEndLaw}
 use Rattle.cmd_image.specs.Needs.{MayRun, ImageNeeds}
-use Rattle.cmd_image.proofs.ImageGoes.{found_puts, SomeEnd, found_end}
-
--- ---- what a program put, by how it ended
-
-abbrev as_result : Status → Result (Unit {0}) Status
-as_result s = Err s
-
--- A call that ends put all of its pieces.
-whole_ends : (pieces : List (List ℕ)) (s : Status) (events : List Event) (result : Result (Unit {0}) Status)
-    → IsEnd result → PutsBy pieces s events result → EndsWith pieces s events result
-whole_ends pieces s events result end (inl whole) = record { events_are = whole.events_are; result_is = whole.result_is }
-whole_ends pieces s events result end (inr part) =
-    let no : IsEnd (as_result WriteFault) = subst IsEnd part.result_is end in
-    absurd no
-
--- Memory ran out, so the call did not end.
-pub none_ends : {P : Type 0} (events : List Event) (result : Result (Unit {0}) Status) → IsEnd result → Ends (Err NoMemory) events result → P
-none_ends events result end ends =
-    let no : IsEnd (as_result NoMemory) = subst IsEnd ends.result_is end in
-    absurd no
-
--- What was put is a prefix of the pieces.
-pub pieces_begin : (pieces : List (List ℕ)) (s : Status) (events : List Event) (result : Result (Unit {0}) Status)
-    → PutsBy pieces s events result → (left : List (List ℕ)) × (pieces ≡ pieces_of events ++ left)
-pieces_begin pieces s events result (inl whole) =
-    ([], sym (append-nil pieces) ∙ sym (pieces_put pieces []) ∙ ap pieces_of (append-nil (outputs pieces)) ∙ ap pieces_of (sym whole.events_are) ∙ sym (append-nil (pieces_of events)))
-pieces_begin pieces s events result (inr part) = (part.left, part.is)
+use Rattle.cmd_image.proofs.ImageGoes.{found_puts, found_end}
+use Rattle.cmd_image.proofs.PutEnds.{whole_ends, none_ends, pieces_begin, both_end, starts_longer, none_starts, SomeEnd}
 
 -- ---- by the findings
 
@@ -146,12 +120,6 @@ ends_same :
     → findings ≡ others → EndsByFindings command state findings events result → EndsByFindings command state others events result
 ends_same command state findings others events result same ends =
     subst (λ f. EndsByFindings command state f events result) same ends
-
-both_end :
-    (pieces : List (List ℕ)) (s : Status) (events others : List Event) (result other : Result (Unit {0}) Status)
-    → EndsWith pieces s events result → EndsWith pieces s others other → (events ≡ others) × (result ≡ other)
-both_end pieces s events others result other one two =
-    (one.events_are ∙ sym two.events_are, one.result_is ∙ sym two.result_is)
 
 image_one :
     (command : ImageCommand) (state : State (List ℕ)) (events others : List Event) (result other : Result (Unit {0}) Status)
@@ -247,19 +215,6 @@ text_begins :
     → (more : List ℕ) × (joined (image_pieces command state findings) ≡ audit_text findings ++ more)
 text_begins (Bare bare) state findings = bare_begins (is_run findings bare.unaudited) bare.steps state findings
 text_begins Audit state findings = ([], sym (append-nil (audit_text findings)))
-
--- If a prefix of some pieces begins with a text, so do the pieces.
-pub starts_longer :
-    (text : List ℕ) (pieces first left : List (List ℕ)) → pieces ≡ first ++ left → StartsWith text first → StartsWith text pieces
-starts_longer text pieces first left is starts = record {
-  rest = starts.rest ++ joined left;
-  is = ap joined is ∙ joined_on first left ∙ ap (λ t. t ++ joined left) starts.is ∙ append_assoc text starts.rest (joined left);
-}
-
-none_starts : {P : Type 0} (events : List Event) → events ≡ [] → StartsWith yes_line (pieces_of events) → P
-none_starts events none starts =
-    let no : [] ≡ yes_line ++ starts.rest = sym (ap (λ e. joined (pieces_of e)) none) ∙ starts.is in
-    absurd (cc)
 
 found_passes :
     (command : ImageCommand) (state : State (List ℕ)) (findings : List (ℕ × ℕ)) → AreAuditFindings state findings

@@ -9,17 +9,13 @@ use Rattle.m36_model.specs.declared.record.StepRecord.{StepRecord}
 use Rattle.m36_step.specs.MachineTurn.{ended_by}
 use Rattle.m36_trace.specs.EndLine.{end_line_of}
 use Rattle.m36_trace.specs.TraceLine.{line_of}
-use Rattle.m36_world.specs.Follow.{outputs}
 use Rattle.m36_world.specs.declared.event.Event.{Event}
 use Rattle.m36_reading.specs.declared.status.Status.{Status}
-use Rattle.m36_reading.specs.declared.status.Status.TheVariants as status
-use Rattle.m36_program.specs.Alike.{IsEnd}
-use Rattle.m36_program.specs.Early.{early, MayEnd, ends}
+use Rattle.m36_program.specs.Early.{MayEnd, ends}
 use Rattle.m36_program.specs.Goes.{Goes}
 use Rattle.m36_program.specs.Program.{quiet, Program, puts, puts_all}
 use Rattle.m36_program.proofs.PieceLaws.{PutsBy, puts_ended}
-use Rattle.m36_program.proofs.ProgramLaws.{goes_ends}
-use Rattle.m36_program.proofs.PutLaws.{goes_puts, puts_both, puts_one}
+use Rattle.m36_program.proofs.PutLaws.{puts_both, puts_one}
 use Rattle.m36_ran.specs.AuditText.{audit_pieces}
 use Rattle.m36_ran.specs.Machine.{told, after}
 use Rattle.m36_ran.specs.Output.{pieces_from, run_pieces, status_after}
@@ -31,6 +27,7 @@ use Rattle.m36_ran.proofs.RunLaws.{run_more, run_none, pieces_next, pieces_last,
 use Rattle.cmd_image.specs.ImageProgram.{may_end_by, run_status, run_ends, after_step, run_from}
 use Rattle.cmd_image.specs.ImageProgram.{audit_may_end, audit_only, audit_and_run, bare_by, by_command}
 use Rattle.cmd_image.specs.ImageEnds.{bare_pieces, image_pieces, bare_status, image_status}
+use Rattle.cmd_image.proofs.PutEnds.{SomeEnd, puts_end}
 
 -- ---- a run puts the pieces of its records
 
@@ -137,32 +134,6 @@ found_puts (Bare bare) state findings events result goes =
 found_puts Audit state findings events result goes = audit_puts findings events result goes
 
 -- ---- some call ends
-
--- Some events end the program: it puts all of its pieces.
-pub record SomeEnd (p : Program quiet (Unit {0})) : Type 0 where
-  pub events : List Event
-  pub result : Result (Unit {0}) Status
-  pub goes : Goes p events result
-  pub is_end : IsEnd result
-
-early_ends : (s : Status) → MayEnd s → IsEnd (early s)
-early_ends status.Done own = tt
-early_ends status.Usage own = absurd own
-early_ends status.ReadFault own = absurd own
-early_ends status.WriteFault own = absurd own
-early_ends (status.BadFile bad) own = tt
-early_ends status.AuditNo own = tt
-early_ends (status.MachineStop end) own = tt
-early_ends status.Steps own = tt
-early_ends status.NoMemory own = absurd own
-
-pub puts_end : (pieces : List (List ℕ)) (s : Status) (own : MayEnd s) → SomeEnd (puts_all pieces (ends s own))
-puts_end pieces s own = record {
-  events = outputs pieces ++ [];
-  result = early s;
-  goes = goes_puts pieces (ends s own) [] (early s) (goes_ends quiet s own);
-  is_end = early_ends s own;
-}
 
 audit_end : (findings : List (ℕ × ℕ)) → SomeEnd (audit_only findings)
 unfolding audit_only
