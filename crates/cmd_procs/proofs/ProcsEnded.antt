@@ -27,8 +27,6 @@ use Rattle.m36_program.proofs.PutLaws.{puts_both}
 use Rattle.m36_ran.specs.AuditText.{yes_line}
 use Rattle.m36_ran.specs.Ran.{is_run, audit_status}
 use Rattle.m36_ran.proofs.SomeFindings.{some_find, some_findings}
-use Rattle.cmd_image.specs.ImageEnds.{EndsWith}
-use Rattle.cmd_image.specs.Needs.{MayRun}
 use Rattle.cmd_image.proofs.PutEnds.{whole_ends, none_ends, pieces_begin, both_end, starts_longer, none_starts, SomeEnd, puts_end}
 use Rattle.cmd_procs.specs.JointText.{process_line, between_line, line_by, found_pieces, joint_pieces, joint_text}
 use Rattle.cmd_procs.specs.Scheduled.{dbrs_of, SchedulesAreIsolated, PassesJoint}
