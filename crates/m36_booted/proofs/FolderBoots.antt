@@ -1,7 +1,6 @@
 -- The catalog and the files of a folder boot, or are refused.
 use Rattle.std.proofs.Common.{◌≡◌, ℕ, List, Ok, Err, sym, ap, subst, ◌∙◌}
-use Rattle.m36_boot.specs.Refusals.{boot_answer}
-use Rattle.m36_boot.specs.Refusals as boot_refusals
+use Rattle.m36_boot.specs.Refusals.{ReportsFault, boot_answer}
 use Rattle.m36_boot.specs.declared.fault.BootFault.{BootFault}
 use Rattle.m36_boot.specs.declared.fault.BootFault.TheVariants as boot
 use Rattle.m36_super.specs.Library.{Library}
@@ -27,7 +26,7 @@ booted_given given b is same =
 
 pub booted_not :
     (given : FolderFields) (fault : BootFault) (r : Refusal)
-    → boot_refusals.Told fault (boot_answer given.lib.catalog given.lib.files) → Refuses r (fault_refused fault)
+    → ReportsFault fault (boot_answer given.lib.catalog given.lib.files) → Refuses r (fault_refused fault)
     → Gives (given_in (Err r)) (boots given)
 unfolding boots
 booted_not given boot.U1 r told refuses = gives_by FolderFields r (fault_refused boot.U1) (boots given) (ap (booted_by given) told) refuses
