@@ -1,5 +1,5 @@
 -- Segments boot one system, and plain turns of it are one run.
-use Rattle.std.proofs.Common.{◌≡◌, ℕ, ◌⊎◌, List, length, refl, sym, inl, inr}
+use Rattle.std.proofs.Common.{◌≡◌, ℕ, List, length, refl, sym, inl, inr}
 use Rattle.m36_model.specs.StoreLaw.{Each}
 use Rattle.m36_step.specs.declared.turns.Turn.{Turn}
 use Rattle.m36_super.specs.Library.{Library}
