@@ -24,9 +24,9 @@ files_reader may access =
     reader_rule may (each_onto segment_words [] access.catalog.segments) (λ files. boots (folder_with access files))
     (each_reader may segment_words [] access.catalog.segments (λ s. segment_reader may s))
 
-pub folder_reader : {may : May} (user : Option (List ℕ)) → IsReader {may = may} (folder_given user)
+pub folder_reader : (may : May) (user : Option (List ℕ)) → IsReader {may = may} (folder_given user)
 unfolding folder_given
-folder_reader {may} user =
+folder_reader may user =
     reader_then (catalog_access user) (λ access. files_booted access) (access_reader may user) (λ access. files_reader may access)
 
 segment_alike : (may : May) (s : SegmentFields) → Alike {may = may} (segment_words s) (segment_words s)

@@ -1,12 +1,20 @@
 -- The events of a program that puts pieces and then continues.
 use Rattle.std.proofs.Common.{◌≡◌, ◌⊎◌, ℕ, List, [], ◌∷◌, ◌++◌, Result, Err, refl, sym, ap, subst, ◌∙◌, inl, inr}
+use Rattle.std.proofs.lemmas.List.{append-nil}
+use Rattle.m36_world.specs.Follow.{outputs}
 use Rattle.m36_world.specs.declared.event.Event.{Event}
-use Rattle.m36_world.specs.declared.event.Event.TheVariants.{Output, OutputFailed}
+use Rattle.m36_world.specs.declared.event.Event.TheVariants.{OutputFailed}
 use Rattle.m36_reading.specs.declared.status.Status.{Status}
 use Rattle.m36_reading.specs.declared.status.Status.TheVariants.{WriteFault}
 use Rattle.m36_program.specs.Goes.{FailsWith, Goes}
 use Rattle.m36_program.specs.Program.{quiet, Program, puts_all}
 use Rattle.m36_program.specs.Trail.{pieces_of}
+use Rattle.m36_program.proofs.PieceLaws.{pieces_put}
+
+-- the pieces of a call that put these
+pub pieces_all : (pieces : List (List ℕ)) (events : List Event) → events ≡ outputs pieces → pieces_of events ≡ pieces
+pieces_all pieces events is =
+    ap pieces_of (is ∙ sym (append-nil (outputs pieces))) ∙ pieces_put pieces [] ∙ append-nil pieces
 
 -- All of them are pieces of the call, and the rest of the program had the other pieces.
 pub record PutsOn (pieces : List (List ℕ)) (rest : Program quiet (Unit {0})) (events : List Event) (result : Result (Unit {0}) Status)

@@ -29,7 +29,7 @@ use Rattle.m36_booted.specs.Runs.{IsEvent, Finishes}
 use Rattle.m36_booted.specs.Runs as runs
 use Rattle.m36_booted.proofs.Serving.{IsStep, IsLink, link_is}
 use Rattle.cmd_folder.specs.RunProgram.{Running, IsMade, FindsMemory, finish_may_end, run_ends, puts_turn, after_service, then_on, serve_by, serve, run_from}
-use Rattle.cmd_folder.proofs.RunGoes.{written, no_turns, turn_written, is_step, step_counts, linked_made, PrintMade, print_made}
+use Rattle.cmd_folder.proofs.RunGoes.{written, from_start, no_turns, turn_written, is_step, step_counts, linked_made, PrintMade, print_made}
 use Rattle.cmd_folder.proofs.Serving.{ended_pieces, print_over}
 
 -- The program puts these pieces, and ends with the status of the finish.
@@ -284,6 +284,6 @@ pub run_calls :
     (run : Running) (limit : ℕ) (first : Booted) (turns : List Turn) (last : Booted) (how : Finish)
     → first.coming ≡ Step → runs.Goes run.lib limit first turns last → Finishes how run.lib limit turns last
     → Goes (run_from run 0 limit first) (outputs (run_pieces run.denied run.output turns (Some how))) (early (finish_status (Some how)))
-unfolding run_pieces
 run_calls run limit first turns last how next goes finishes =
-    run_writes run limit 0 first turns last how next (record { goes = goes; finishes = finishes })
+    subst (λ l. Writes (run_from run 0 limit first) l how) (from_start run turns (Some how))
+    (run_writes run limit 0 first turns last how next (record { goes = goes; finishes = finishes }))

@@ -2,7 +2,6 @@
 use Rattle.std.proofs.Common.{◌≡◌, ◌≢◌, ◌⊎◌, ℕ, zero, suc, ◌+◌, ◌≤◌, Bool, true, false, List, [], ◌∷◌, ◌++◌, Option, Some, None, Result, Ok, Err, refl, sym, ap, subst, ◌∙◌, inl, inr, arith, append_assoc, add-zero}
 use Rattle.std.proofs.lemmas.List.{append-nil}
 use Rattle.m36_world.specs.declared.event.Event.{Event}
-use Rattle.m36_world.specs.Follow.{outputs}
 use Rattle.m36_model.specs.Fields.{AtFields}
 use Rattle.m36_model.specs.StoreLaw.{Each}
 use Rattle.m36_model.specs.declared.endings.End.{End}
@@ -24,7 +23,7 @@ use Rattle.m36_program.specs.Early.{early}
 use Rattle.m36_program.specs.Goes.{Ends, Goes}
 use Rattle.m36_program.specs.Program.{quiet, Program, puts_all}
 use Rattle.m36_program.specs.Trail as trail
-use Rattle.m36_program.proofs.PieceLaws.{PutsBy, puts_ended, pieces_put}
+use Rattle.m36_program.proofs.PieceLaws.{PutsBy, puts_ended}
 use Rattle.m36_booted.specs.declared.running.Finish.{Finish}
 use Rattle.m36_booted.specs.declared.running.Finish.TheVariants.{Over, Limit}
 use Rattle.m36_booted.specs.RunText.{steps_of, steps_in, pieces_of, pieces_from, end_pieces, run_pieces, finish_status}
@@ -33,7 +32,7 @@ use Rattle.m36_booted.specs.Runs as runs
 use Rattle.m36_booted.proofs.Serving.{IsStep, IsLink, step_is}
 use Rattle.cmd_folder.specs.RunIs.{FinishesAs, StopsAs, RunIs}
 use Rattle.cmd_folder.specs.RunProgram.{Running, finish_may_end, run_ends, after_service, then_on, serve_by, serve, run_from}
-use Rattle.cmd_folder.proofs.PutsSplit.{PutsSplit, puts_split}
+use Rattle.cmd_folder.proofs.PutsSplit.{pieces_all, PutsSplit, puts_split}
 use Rattle.cmd_folder.proofs.Serving.{ended_pieces}
 
 -- the pieces of turns and of an end; `taken` steps were taken before them
@@ -53,9 +52,17 @@ pub record RunGoes (run : Running) (taken left : ℕ) (b : Booted) (events : Lis
   pub pieces : written run taken turns how ≡ trail.pieces_of events ++ unput
   pub stops : StopsAs how last unput result
 
+-- before which no step was taken
+pub from_start :
+    (run : Running) (turns : List Turn) (how : Option Finish) → written run 0 turns how ≡ run_pieces run.denied run.output turns how
+unfolding run_pieces
+from_start run turns how =
+    let none : 0 + steps_in turns ≡ steps_in turns = omega arith in
+    ap (λ n. pieces_from run.output 0 turns ++ end_pieces run.denied how n) none
+
 -- ---- no turn
 
-no_turns : (run : Running) (taken : ℕ) (how : Option Finish) → written run taken [] how ≡ end_pieces run.denied how taken
+pub no_turns : (run : Running) (taken : ℕ) (how : Option Finish) → written run taken [] how ≡ end_pieces run.denied how taken
 unfolding pieces_from steps_in
 no_turns run taken how = ap (λ n. end_pieces run.denied how n) (add-zero taken)
 
@@ -75,9 +82,8 @@ ended_by run taken left b how events result finishes (inl whole) =
       goes = stay run.lib left b;
       finishes = finishes;
       unput = [];
-      pieces = no_turns run taken (Some how) ∙ sym (ap (λ e. trail.pieces_of e ++ [])
-          (whole.events_are ∙ sym (append-nil (outputs pieces))) ∙ ap (λ l. l ++ []) (pieces_put pieces [] ∙ append-nil pieces)
-          ∙ append-nil pieces);
+      pieces = no_turns run taken (Some how)
+          ∙ sym (append-nil (trail.pieces_of events) ∙ pieces_all pieces events whole.events_are);
       stops = inl (refl, whole.result_is);
     }
 ended_by run taken left b how events result finishes (inr part) = record {
@@ -384,7 +390,6 @@ run_goes run (suc left) taken b events result next goes =
 pub run_is :
     (run : Running) (limit : ℕ) (first : Booted) (events : List Event) (result : Result (Unit {0}) Status)
     → first.coming ≡ Step → Goes (run_from run 0 limit first) events result → RunIs run limit first events result
-unfolding run_pieces
 run_is run limit first events result next goes =
     let ran = run_goes run limit 0 first events result next goes in record {
       turns = ran.turns;
@@ -393,6 +398,6 @@ run_is run limit first events result next goes =
       goes = ran.goes;
       finishes = ran.finishes;
       unput = ran.unput;
-      pieces = ran.pieces;
+      pieces = sym (from_start run ran.turns ran.how) ∙ ran.pieces;
       stops = ran.stops;
     }

@@ -35,11 +35,13 @@
 
 pub mod answering;
 pub mod calling;
+pub mod laws;
 mod lines;
 pub mod reading;
 pub mod running;
 
 pub use answering::folder_booted;
 pub use calling::folder_command;
+pub use laws::{law_booted, law_folder};
 pub use reading::read_system;
 pub use running::run;
