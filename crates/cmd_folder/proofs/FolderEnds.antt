@@ -1,6 +1,6 @@
 -- A call on a booted folder that ends has the result Done, if the needs of its command are met; and what it means that
 -- its text begins with `audit yes`.
-use Rattle.std.proofs.Common.{◌≡◌, ◌⊎◌, ℕ, Bool, true, false, List, [], ◌∷◌, ◌++◌, Option, Some, None, Result, Ok, Err, refl, sym, ap, subst, ◌∙◌, inl, inr}
+use Rattle.std.proofs.Common.{◌≡◌, ◌⊎◌, ℕ, Bool, true, false, List, [], ◌∷◌, Option, Some, None, Result, Ok, Err, refl, sym, ap, subst, ◌∙◌, inl, inr}
 use Rattle.std.proofs.lemmas.List.{append-nil}
 use Rattle.std.proofs.lemmas.List.Folds.{concat-append as joined_on}
 use Rattle.m36_outside.specs.Passing.{joined}
@@ -13,7 +13,6 @@ use Rattle.m36_super.specs.Library.{Library}
 use Rattle.m36_super.specs.declared.coming.NextEvent.TheVariants.{Step}
 use Rattle.m36_super.specs.BootedRun.{Booted}
 use Rattle.m36_super.specs.SuperFields.{SuperFields, booted_of}
-use Rattle.m36_super.specs.BootSays.{IsBooted}
 use Rattle.m36_super.proofs.BootTurns.{start_next}
 use Rattle.m36_reading.specs.declared.status.Status.{Status}
 use Rattle.m36_reading.specs.declared.status.Status.TheVariants.{WriteFault, NoMemory}
@@ -21,7 +20,7 @@ use Rattle.m36_program.specs.Alike.{IsEnd}
 use Rattle.m36_program.specs.Early.{early}
 use Rattle.m36_program.specs.Ended.{StartsWith}
 use Rattle.m36_program.specs.Goes.{Ends, Goes}
-use Rattle.m36_program.specs.Program.{quiet, Program, puts_all}
+use Rattle.m36_program.specs.Program.{quiet, Program}
 use Rattle.m36_program.specs.Trail.{pieces_of}
 use Rattle.m36_program.proofs.PieceLaws.{puts_ended}
 use Rattle.m36_ran.specs.AuditText.{yes_line, audit_pieces, audit_text}
@@ -43,7 +42,7 @@ use Rattle.cmd_image.proofs.PutEnds.{whole_ends, none_ends, starts_longer, none_
 use Rattle.cmd_folder.specs.FolderLaw.{Agree}
 use Rattle.cmd_folder.specs.Needs.{EndsWithDis, RunNeeds, SystemNeeds, FolderNeeds}
 use Rattle.cmd_folder.specs.OnFolder.{audit_and_run, run_by, by_command, running, on_folder}
-use Rattle.cmd_folder.specs.RunIs.{FinishesAs, StopsAs, RunIs}
+use Rattle.cmd_folder.specs.RunIs.{FinishesAs, StopsAs}
 use Rattle.cmd_folder.specs.RunProgram.{Running, run_from}
 use Rattle.cmd_folder.proofs.FolderFound.{Found, folder_found}
 use Rattle.cmd_folder.proofs.PutsSplit.{PutsSplit, puts_split}

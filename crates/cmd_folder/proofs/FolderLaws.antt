@@ -14,7 +14,6 @@ use Rattle.m36_model.specs.declared.endings.End.TheVariants as endings
 use Rattle.m36_model.specs.declared.outcome.Stop.TheVariants.{Dis}
 use Rattle.m36_isol.proofs.Findings.{findings_law}
 use Rattle.m36_step.specs.declared.turns.Turn.{Turn}
-use Rattle.m36_super.specs.Library.{Library}
 use Rattle.m36_super.specs.BootedRun.{Booted}
 use Rattle.m36_super.specs.SuperFields.{SuperFields, booted_of}
 use Rattle.m36_super.specs.TurnLaws.{IsPlainTurn}
@@ -22,17 +21,17 @@ use Rattle.m36_super.specs.BootSays.{IsBooted}
 use Rattle.m36_super.specs.declared.coming.NextEvent.TheVariants.{Step}
 use Rattle.m36_super.proofs.BootTurns.{start_next}
 use Rattle.m36_reading.specs.declared.status.Status.{Status}
-use Rattle.m36_reading.specs.declared.status.Status.TheVariants.{WriteFault, NoMemory}
+use Rattle.m36_reading.specs.declared.status.Status.TheVariants.{NoMemory}
 use Rattle.m36_program.specs.Alike.{Alike, IsEnd, OneText}
-use Rattle.m36_program.specs.Early.{early, MayEnd, ends}
+use Rattle.m36_program.specs.Early.{early, ends}
 use Rattle.m36_program.specs.Ended.{HasEnd}
 use Rattle.m36_program.specs.Goes.{Ends, Goes}
 use Rattle.m36_program.specs.Performs.{Performs}
-use Rattle.m36_program.specs.Program.{quiet, Program, puts_all, some}
+use Rattle.m36_program.specs.Program.{quiet, Program, some}
 use Rattle.m36_program.specs.Reader.{outcome_in}
 use Rattle.m36_program.specs.Split.{BothGo, FirstEnds}
 use Rattle.m36_program.specs.Trail.{pieces_of}
-use Rattle.m36_program.proofs.AlikeLaws.{alike_wants, alike_then, alike_puts, alike_one, has_one_text}
+use Rattle.m36_program.proofs.AlikeLaws.{alike_wants, alike_then, alike_one, has_one_text}
 use Rattle.m36_program.proofs.PieceLaws.{PutsBy, puts_ended}
 use Rattle.m36_program.proofs.PutLaws.{goes_puts}
 use Rattle.m36_program.proofs.ReaderLaws.{reader_pieces, reader_outcome, reader_split}
@@ -52,17 +51,17 @@ use Rattle.m36_booted.specs.Runs.{Finishes}
 use Rattle.m36_booted.specs.Runs as runs
 use Rattle.m36_booted.proofs.OneSystem.{one_system}
 use Rattle.m36_booted.proofs.OneRunLaws.{one_run_here}
+use Rattle.cmd_image.specs.ImageEnds.{EndsWith}
 use Rattle.cmd_image.specs.ImageProgram.{audit_may_end, audit_only}
-use Rattle.cmd_image.proofs.PutEnds.{pieces_begin, puts_end, SomeEnd, early_ends}
+use Rattle.cmd_image.proofs.PutEnds.{whole_ends, pieces_begin, both_end, puts_end, SomeEnd, early_ends}
 use Rattle.cmd_image.proofs.TextLaws.{audit_alike}
-use Rattle.cmd_folder.specs.FolderLaw.{run_command, is_unaudited, GoesByFindings, IsPrefix, Agree, ArePlain, plain_pieces, whole_pieces, whole_status, HasTextOf, FolderLaw}
+use Rattle.cmd_folder.specs.FolderLaw.{run_command, is_unaudited, IsPrefix, Agree, ArePlain, plain_pieces, whole_pieces, whole_status, HasTextOf, FolderLaw}
 use Rattle.cmd_folder.specs.FolderProgram.{folder_given, folder_program}
 use Rattle.cmd_folder.specs.Needs.{OneEndsWithDis}
 use Rattle.cmd_folder.specs.OnFolder.{AreFolderFindings, audit_and_run, run_by, by_command, running, on_system, on_folder}
-use Rattle.cmd_folder.specs.RunIs.{RunIs}
 use Rattle.cmd_folder.specs.RunProgram.{Running, finish_may_end, run_from}
 use Rattle.cmd_folder.proofs.FolderEnds.{unput_ends, starved_ends}
-use Rattle.cmd_folder.proofs.FolderFound.{GoesBy, known_goes, goes_known, passed_goes, failed_goes}
+use Rattle.cmd_folder.proofs.FolderFound.{Found, folder_found, GoesBy, known_goes, goes_known, passed_goes, failed_goes}
 use Rattle.cmd_folder.proofs.FolderReader.{folder_reader, folder_alike}
 use Rattle.cmd_folder.proofs.PlainRuns.{run_agrees, run_text}
 use Rattle.cmd_folder.proofs.PutsSplit.{pieces_all, PutsSplit, puts_split}
@@ -87,6 +86,48 @@ audit_program_alike : (user : Option (List ℕ)) → Alike (folder_program Audit
 unfolding folder_program
 audit_program_alike user =
     alike_then (folder_given user) (folder_given user) (on_folder Audit) (on_folder Audit) (folder_alike quiet user) booted_alike
+
+audit_puts :
+    (findings : List (ℕ × ℕ)) (events : List Event) (result : Result (Unit {0}) Status)
+    → Goes (audit_only findings) events result → PutsBy (audit_pieces findings) (audit_status (passes findings)) events result
+unfolding audit_only
+audit_puts findings events result goes =
+    puts_ended quiet (audit_pieces findings) (audit_status (passes findings)) (audit_may_end (passes findings)) events result goes
+
+-- What `audit` puts on a booted folder, and its status, by the findings.
+record IsAuditBy (given : FolderFields) (events : List Event) (result : Result (Unit {0}) Status) : Type 0 where
+  pub system : SuperFields
+  pub booted : IsBooted given.lib system
+  pub findings : List (ℕ × ℕ)
+  pub found : AreFindings system.core booted_dbr findings
+  pub ends : EndsWith (audit_pieces findings) (audit_status (passes findings)) events result
+
+audit_by :
+    (given : FolderFields) (events : List Event) (result : Result (Unit {0}) Status)
+    → Found Audit given events result ⊎ Ends (Err NoMemory) events result → IsEnd result → IsAuditBy given events result
+audit_by given events result (inl found) end = record {
+  system = found.system;
+  booted = found.booted;
+  findings = found.findings;
+  found = found.are.found;
+  ends = whole_ends (audit_pieces found.findings) (audit_status (passes found.findings)) events result end
+      (audit_puts found.findings events result found.goes);
+}
+audit_by given events result (inr none) end = starved_ends result none.result_is end
+
+one_audit :
+    (given : FolderFields) (events others : List Event) (result other : Result (Unit {0}) Status)
+    → Goes (on_folder Audit given) events result → IsEnd result → Goes (on_folder Audit given) others other → IsEnd other
+    → (events ≡ others) × (result ≡ other)
+one_audit given events others result other goes end goes' end' =
+    let one = audit_by given events result (folder_found Audit given events result goes) end in
+    let two = audit_by given others other (folder_found Audit given others other goes') end' in
+    let system : one.system ≡ two.system = one_system given.lib one.system two.system one.booted two.booted in
+    let same : one.findings ≡ two.findings =
+    findings_law.unique two.system.core booted_dbr one.findings two.findings
+    (subst (λ (s : SuperFields). AreFindings s.core booted_dbr one.findings) system one.found) two.found in
+    both_end (audit_pieces two.findings) (audit_status (passes two.findings)) events others result other
+    (subst (λ f. EndsWith (audit_pieces f) (audit_status (passes f)) events result) same one.ends) two.ends
 
 -- ---- some call ends
 
@@ -164,13 +205,6 @@ longer before one other (inr first) =
 -- What was put is a prefix of the pieces of the audit.
 within : (put pieces more left : List (List ℕ)) → pieces ≡ put ++ left → IsPrefix put (pieces ++ more)
 within put pieces more left is = record { left = left ++ more; is = ap (λ l. l ++ more) is ∙ append_assoc put left more }
-
-audit_puts :
-    (findings : List (ℕ × ℕ)) (events : List Event) (result : Result (Unit {0}) Status)
-    → Goes (audit_only findings) events result → PutsBy (audit_pieces findings) (audit_status (passes findings)) events result
-unfolding audit_only
-audit_puts findings events result goes =
-    puts_ended quiet (audit_pieces findings) (audit_status (passes findings)) (audit_may_end (passes findings)) events result goes
 
 split_agrees :
     (run : Running) (steps : ℕ) (system : SuperFields) (findings : List (ℕ × ℕ)) (turns : List Turn) (last : Booted) (events : List Event)
@@ -421,6 +455,7 @@ one_ends_with_dis lib limit system turns last booted goes ends plain same end ho
 pub folder_law : FolderLaw
 folder_law = record {
   audit = λ user. has_one_text (folder_program Audit user) refl (audit_program_alike user);
+  one_audit = one_audit;
   some_audit = λ given system booted. ends_by Audit given system booted (λ findings found. audit_end findings);
   some_failed = λ command given system booted fails is.
       ends_by command given system booted (λ findings found. failed_end command given system findings (fails_with system findings found fails) is);

@@ -1,6 +1,6 @@
 -- Plain turns of a system, and a call of the program of its run: what both write agrees; and if the turns are a whole
 -- run, the call has its text.
-use Rattle.std.proofs.Common.{◌≡◌, ◌⊎◌, ℕ, ◌+◌, List, [], ◌∷◌, ◌++◌, Option, Some, None, Result, Err, refl, sym, ap, subst, ◌∙◌, inl, inr, arith, append_assoc, add-zero}
+use Rattle.std.proofs.Common.{◌≡◌, ℕ, ◌+◌, List, [], ◌∷◌, ◌++◌, Option, Some, None, Result, refl, sym, ap, subst, ◌∙◌, inl, inr, arith, append_assoc, add-zero}
 use Rattle.std.proofs.lemmas.List.{append-nil}
 use Rattle.m36_world.specs.declared.event.Event.{Event}
 use Rattle.m36_model.specs.StoreLaw.{Each}
@@ -93,8 +93,7 @@ short (Some h) run limit first last last' turns same put unput result on goes fi
 short None run limit first last last' turns same put unput result on goes finishes are stops =
     let more = pieces_on run.output same turns (on.next ∷ on.more) on.is in
     let put_is : pieces_from run.output 0 same ≡ put ++ unput =
-    sym (append-nil (pieces_from run.output 0 same)) ∙ sym (pieces_end run.denied run.output same None) ∙ are in
-    (
+    sym (append-nil (pieces_from run.output 0 same)) ∙ sym (pieces_end run.denied run.output same None) ∙ are in (
       record {
         left = unput ++ more.left;
         is = more.is ∙ ap (λ l. l ++ more.left) put_is ∙ append_assoc put unput more.left;

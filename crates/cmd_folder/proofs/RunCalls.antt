@@ -1,11 +1,9 @@
 -- Each booted run that finishes is a call of its program, which puts all of its pieces.
-use Rattle.std.proofs.Common.{◌≡◌, ◌≢◌, ℕ, zero, suc, ◌+◌, ◌≤◌, List, [], ◌∷◌, ◌++◌, Some, Ok, Err, refl, sym, ap, subst, ◌∙◌, inl, inr, arith, add-zero}
+use Rattle.std.proofs.Common.{◌≡◌, ◌≢◌, ℕ, zero, suc, ◌+◌, List, [], ◌∷◌, ◌++◌, Some, refl, sym, ap, subst, ◌∙◌, inl, inr, arith}
 use Rattle.std.proofs.lemmas.List.{append-nil}
-use Rattle.m36_world.specs.declared.event.Event.{Event}
 use Rattle.m36_world.specs.declared.event.Event.TheVariants.{Output}
 use Rattle.m36_world.specs.Follow.{outputs}
 use Rattle.m36_model.specs.Fields.{AtFields}
-use Rattle.m36_model.specs.StoreLaw.{Each}
 use Rattle.m36_model.specs.declared.endings.End.{End}
 use Rattle.m36_link.specs.Snap.{snap_of}
 use Rattle.m36_step.specs.declared.turns.Turn.{Turn}
@@ -18,7 +16,7 @@ use Rattle.m36_super.specs.BootedRun.{Booted, IsTurnBy, IsTurn, AreTurns}
 use Rattle.m36_super.specs.SuperTurn.{IsQuiet}
 use Rattle.m36_program.specs.Early.{early}
 use Rattle.m36_program.specs.Goes.{Goes}
-use Rattle.m36_program.specs.Program.{quiet, Program, puts_all, some, wants}
+use Rattle.m36_program.specs.Program.{quiet, Program, puts_all, some}
 use Rattle.m36_program.proofs.Performing.{goes_some, goes_wants}
 use Rattle.m36_program.proofs.ProgramLaws.{goes_ends}
 use Rattle.m36_program.proofs.PutLaws.{goes_puts}
@@ -27,7 +25,7 @@ use Rattle.m36_booted.specs.declared.running.Finish.TheVariants.{Over, Limit}
 use Rattle.m36_booted.specs.RunText.{steps_of, steps_in, pieces_of, end_pieces, run_pieces, finish_status}
 use Rattle.m36_booted.specs.Runs.{IsEvent, Finishes}
 use Rattle.m36_booted.specs.Runs as runs
-use Rattle.m36_booted.proofs.Serving.{IsStep, IsLink, link_is}
+use Rattle.m36_booted.proofs.Serving.{link_is}
 use Rattle.cmd_folder.specs.RunProgram.{Running, IsMade, FindsMemory, finish_may_end, run_ends, puts_turn, after_service, then_on, serve_by, serve, run_from}
 use Rattle.cmd_folder.proofs.RunGoes.{written, from_start, no_turns, turn_written, is_step, step_counts, linked_made, PrintMade, print_made}
 use Rattle.cmd_folder.proofs.Serving.{ended_pieces, print_over}

@@ -1,9 +1,8 @@
 -- The events of the program of a booted run: they put what is written of the turns and the end of some booted run.
-use Rattle.std.proofs.Common.{◌≡◌, ◌≢◌, ◌⊎◌, ℕ, zero, suc, ◌+◌, ◌≤◌, Bool, true, false, List, [], ◌∷◌, ◌++◌, Option, Some, None, Result, Ok, Err, refl, sym, ap, subst, ◌∙◌, inl, inr, arith, append_assoc, add-zero}
+use Rattle.std.proofs.Common.{◌≡◌, ◌≢◌, ◌⊎◌, ℕ, zero, suc, ◌+◌, Bool, true, false, List, [], ◌∷◌, ◌++◌, Option, Some, None, Result, Ok, Err, refl, sym, ap, subst, ◌∙◌, inl, inr, arith, append_assoc, add-zero}
 use Rattle.std.proofs.lemmas.List.{append-nil}
 use Rattle.m36_world.specs.declared.event.Event.{Event}
 use Rattle.m36_model.specs.Fields.{AtFields}
-use Rattle.m36_model.specs.StoreLaw.{Each}
 use Rattle.m36_model.specs.declared.endings.End.{End}
 use Rattle.m36_model.specs.declared.endings.End.TheVariants as end
 use Rattle.m36_model.specs.declared.outcome.Fault.{Fault}
@@ -19,7 +18,6 @@ use Rattle.m36_super.specs.BootedRun.{Booted, IsLinkTurn, IsConsoleTurn, IsTurnB
 use Rattle.m36_super.specs.SuperTurn.{IsQuiet, link_quiet}
 use Rattle.m36_reading.specs.declared.status.Status.{Status}
 use Rattle.m36_reading.specs.declared.status.Status.TheVariants.{NoMemory}
-use Rattle.m36_program.specs.Early.{early}
 use Rattle.m36_program.specs.Goes.{Ends, Goes}
 use Rattle.m36_program.specs.Program.{quiet, Program, puts_all}
 use Rattle.m36_program.specs.Trail as trail

@@ -17,7 +17,7 @@ use Rattle.m36_super.specs.BootSays.{IsBooted}
 use Rattle.m36_super.specs.declared.coming.NextEvent.TheVariants.{Step}
 use Rattle.m36_reading.specs.declared.status.Status.{Status}
 use Rattle.m36_reading.specs.declared.status.Status.TheVariants.{NoMemory}
-use Rattle.m36_program.specs.Alike.{OneText}
+use Rattle.m36_program.specs.Alike.{IsEnd, OneText}
 use Rattle.m36_program.specs.Early.{early}
 use Rattle.m36_program.specs.Ended.{HasEnd}
 use Rattle.m36_program.specs.Goes.{Ends, Goes}
@@ -118,8 +118,15 @@ HasTextOf run output given findings turns how events result =
 -- ---- the law
 
 pub record FolderLaw : Type 0 where
-  -- `audit` has one text over the same files, and some call of it ends on each folder that boots.
+  -- `audit` has one text over the same files. On a folder that boots, all calls of it that end put
+  -- the same pieces and have the same result, and some call ends.
   pub audit : (user : Option (List ℕ)) → HasOneText (folder_program Audit user)
+  pub one_audit :
+      (given : FolderFields) (events others : List Event)
+      (result other : Result (Unit {0}) Status)
+      → Goes (on_folder Audit given) events result → IsEnd result
+      → Goes (on_folder Audit given) others other → IsEnd other
+      → (events ≡ others) × (result ≡ other)
   pub some_audit :
       (given : FolderFields) (system : SuperFields) → IsBooted given.lib system
       → HasEnd (on_folder Audit given)
