@@ -3,7 +3,7 @@ use Rattle.std.specs.Prelude.{ℕ, List, [], Option, Some, None, Result, Ok, Err
 use Rattle.m36_reading.specs.declared.setting.Set.{Set}
 use Rattle.m36_reading.specs.declared.status.Status.{Status}
 use Rattle.m36_program.specs.Program.{quiet, Program, wants}
-use Rattle.cmd_make.specs.Reader.{outcome_in}
+use Rattle.m36_program.specs.Reader.{outcome_in}
 use Rattle.m36_booted.specs.Folder.{FolderFields}
 use Rattle.m36_booted.specs.Promise.{PassesBooted}
 use Rattle.cmd_folder.specs.FolderProgram.{folder_given}
