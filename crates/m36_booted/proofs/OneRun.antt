@@ -1,5 +1,5 @@
 -- A run of plain turns, and any run from a system with the same flat state, make the same turns and end the same way.
-use Rattle.std.proofs.Common.{◌≡◌, ℕ, ◌+◌, ◌≤◌, Bool, false, ◌⊎◌, List, [], ◌∷◌, length, refl, sym, ap, subst, ◌∙◌, arith, inl, inr}
+use Rattle.std.proofs.Common.{◌≡◌, ℕ, ◌+◌, ◌≤◌, Bool, false, ◌⊎◌, List, [], ◌∷◌, ◌++◌, length, refl, sym, ap, subst, ◌∙◌, arith, inl, inr}
 use Rattle.m36_model.specs.StoreLaw.{Each}
 use Rattle.m36_model.specs.Flat.{flat_store}
 use Rattle.m36_model.specs.Step.{record_of}
@@ -296,7 +296,7 @@ turns_meet lib other r s last last' (turn ∷ more) (turn' ∷ more') alike look
 
 steps_both : (turns more : List Turn) → steps_in (turns ++ more) ≡ steps_in turns + steps_in more
 unfolding steps_in
-steps_both [] more = refl
+steps_both [] more = omega arith
 steps_both (turn ∷ turns) more = omega (arith, steps_both turns more)
 
 steps_on : (turns same more : List Turn) (next : Turn) → same ≡ turns ++ (next ∷ more) → steps_in same ≡ steps_in turns + (steps_of next + steps_in more)
