@@ -84,7 +84,7 @@ pub booted_in :
     → Goes (boot_files sets) [] result
 unfolding boot_files
 booted_in sets files result old new performs are is none =
-    reads_in_memory (files_in sets) (folder_given {may = quiet} None) result old new (folder_reader None)
+    reads_in_memory (files_in sets) (folder_given {may = quiet} None) result old new (folder_reader quiet None)
     (is ∙ ap (λ (f : Files). Some f) are) none performs
 
 -- memory ran out for the folder

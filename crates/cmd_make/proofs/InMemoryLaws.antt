@@ -1,5 +1,5 @@
 -- A reader whose files are in memory: it has no events, and ends as the reader does over these files.
-use Rattle.std.proofs.Common.{◌≡◌, ◌⊎◌, ℕ, List, [], Option, Some, None, Result, Ok, Err, refl, sym, ap, subst, inl, inr, arith}
+use Rattle.std.proofs.Common.{◌≡◌, ◌⊎◌, ℕ, List, [], Some, Result, Ok, Err, refl, sym, ap, subst, inl, inr, arith}
 use Rattle.m36_outside.specs.Counts.{Rose}
 use Rattle.m36_outside.specs.Files.{Files}
 use Rattle.m36_world.specs.Seen.{Seen}

@@ -1,26 +1,21 @@
 -- If the files of the seed boot to a system with what it needs, `make` ends with Done.
-use Rattle.std.proofs.Common.{◌≡◌, ℕ, List, [], Some, Result, Ok, ap, subst, ◌∙◌, inl, inr}
+use Rattle.std.proofs.Common.{◌≡◌, ℕ, List, [], Some, Result, Ok, ap, subst, ◌∙◌}
 use Rattle.m36_model.specs.BootedCore.{booted_dbr}
 use Rattle.m36_isol.proofs.Findings.{findings_law}
 use Rattle.m36_super.specs.Library.{Library}
 use Rattle.m36_super.specs.SuperFields.{SuperFields, booted_of}
-use Rattle.m36_world.specs.Seen.{Seen}
 use Rattle.m36_world.specs.declared.event.Event.{Event}
 use Rattle.m36_reading.specs.declared.setting.Set.{Set}
 use Rattle.m36_reading.specs.declared.status.Status.{Status}
 use Rattle.m36_program.specs.Early.{early}
-use Rattle.m36_program.specs.Ended.{NoneRose, IsDoneOrNoMemory}
-use Rattle.m36_program.specs.Performs.{Performs}
-use Rattle.m36_program.proofs.ReaderLaws.{performs_unless}
 use Rattle.m36_booted.specs.declared.running.Finish.{Finish}
 use Rattle.m36_booted.specs.RunText.{finish_status}
 use Rattle.cmd_folder.specs.Needs.{EndsWithDis}
 use Rattle.cmd_make.specs.MadeLaw.{GoesToEnd, PutsRun}
-use Rattle.cmd_make.specs.MakeProgram.{write_and_boot, make_program}
-use Rattle.cmd_make.specs.Making.{sets_of}
+use Rattle.cmd_make.specs.MakeProgram.{write_and_boot}
 use Rattle.cmd_make.specs.Needs.{MadeNeeds}
 use Rattle.cmd_make.specs.Summary.{run_limit}
-use Rattle.cmd_make.proofs.MadeEnds.{made_by, ends_found}
+use Rattle.cmd_make.proofs.MadeEnds.{ends_found}
 use Rattle.cmd_make.proofs.SummaryEnds.{PutsFor}
 
 run_done :
@@ -29,7 +24,8 @@ run_done :
 run_done sets lib system events result dis run =
     run.puts.result_is ∙ ap (λ (h : Finish). early (finish_status (Some h))) (dis run.turns run.last run.how run.goes run.finishes)
 
-ends_done :
+-- A call that ends by itself ends with Done.
+pub ends_done :
     (sets : List Set) (events : List Event) (result : Result (Unit {0}) Status)
     → MadeNeeds sets → GoesToEnd (write_and_boot sets) events result → result ≡ Ok tt
 ends_done sets events result needs goes =
@@ -39,15 +35,3 @@ ends_done sets events result needs goes =
     let none : f.findings ≡ [] = findings_law.complete f.system.core booted_dbr f.findings so.0 f.found in
     run_done sets lib f.system events result so.1
     (subst (λ (l : List (ℕ × ℕ)). PutsFor l sets lib (booted_of f.system) events result) none f.puts)
-
--- If no count of faults rose, it ends with Done, or memory runs out.
-pub make_done :
-    (seed : ℕ) (sets : List Set) (result : Result (Unit {0}) Status) (old new : Seen)
-    → sets_of seed ≡ Ok sets → MadeNeeds sets → NoneRose old new
-    → Performs (make_program seed) result old new → IsDoneOrNoMemory result
-make_done seed sets result old new is needs none performs =
-    elim (performs_unless (make_program seed) result old new none performs) [
-      | inl ended ↦ inl (ends_done sets performs.events result needs
-          (made_by seed sets performs.events result is (record { goes = performs.goes; is_end = ended })))
-      | inr memory ↦ inr memory
-    ]

@@ -1,5 +1,5 @@
 -- What a call of `make` that ends by itself writes and puts; that there is one; and the laws of both.
-use Rattle.std.proofs.Common.{◌≡◌, ◌⊎◌, ℕ, false, List, [], ◌∷◌, ◌++◌, Some, Result, Ok, Err, refl, sym, ap, subst, ◌∙◌, inl, inr}
+use Rattle.std.proofs.Common.{◌≡◌, ◌⊎◌, ℕ, false, List, [], ◌∷◌, ◌++◌, Some, Result, Ok, Err, sym, ap, subst, ◌∙◌, inl, inr}
 use Rattle.std.proofs.lemmas.List.{append-nil}
 use Rattle.m36_model.specs.Audit.{AreFindings, IsAudited}
 use Rattle.m36_model.specs.BootedCore.{booted_dbr}
@@ -47,11 +47,11 @@ use Rattle.cmd_folder.specs.RunProgram.{finish_may_end}
 use Rattle.cmd_folder.proofs.FolderSteps.{found_passes}
 use Rattle.cmd_make.specs.Made.{boots_from}
 use Rattle.cmd_make.specs.MadeLaw.{GoesToEnd, HasOneEnd, all_written, WritesAndPuts, PutsRun, PutsFindings, BootsTo, MadeLaw}
-use Rattle.cmd_make.specs.MakeProgram.{summed_up, run_summed, found_told, boot_made, write_and_boot, make_program}
+use Rattle.cmd_make.specs.MakeProgram.{summed_up, run_summed, found_told, write_and_boot, make_program}
 use Rattle.cmd_make.specs.Making.{sets_of}
 use Rattle.cmd_make.specs.QuietRun.{Ran, run_from}
 use Rattle.cmd_make.specs.Summary.{run_limit, segment_count, head_pieces, end_pieces}
-use Rattle.cmd_make.proofs.MakeGoes.{made_goes, made_then, WritesAndBoots, WriteEnds, write_split, write_then, BootsThen, BootsNot, BootSplit, boot_split, boot_then, boot_stop, refused_is_end, SystemFound, booted_split, booted_then}
+use Rattle.cmd_make.proofs.MakeGoes.{made_goes, made_then, WritesAndBoots, WriteEnds, write_split, write_then, BootsThen, BootSplit, boot_split, boot_then, boot_stop, refused_is_end, SystemFound, booted_split, booted_then}
 use Rattle.cmd_make.proofs.RunGone.{Gone, run_ends}
 use Rattle.cmd_make.proofs.SummaryEnds.{end_is, PutsFor, found_puts}
 

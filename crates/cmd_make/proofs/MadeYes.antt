@@ -1,30 +1,26 @@
 -- If what `make` puts begins with the count of segments and `audit yes`, the system that was made passes its audit.
-use Rattle.std.proofs.Common.{◌≡◌, ◌⊎◌, ℕ, List, [], ◌∷◌, ◌++◌, Some, Result, Ok, Err, refl, sym, ap, subst, ◌∙◌, inl, inr, append_assoc}
+use Rattle.std.proofs.Common.{◌≡◌, ◌⊎◌, ℕ, List, [], ◌∷◌, ◌++◌, Result, Err, sym, ap, subst, ◌∙◌, inl, inr, append_assoc}
 use Rattle.std.proofs.lemmas.List.{append-nil, append_cancel_left}
 use Rattle.std.proofs.lemmas.List.Folds.{concat-append}
 use Rattle.m36_outside.specs.Passing.{joined}
 use Rattle.m36_super.specs.SuperFields.{SuperFields, booted_of}
-use Rattle.m36_world.specs.Seen.{Seen}
 use Rattle.m36_world.specs.declared.event.Event.{Event}
 use Rattle.m36_reading.specs.declared.setting.Set.{Set}
 use Rattle.m36_reading.specs.declared.status.Status.{Status}
 use Rattle.m36_reading.specs.declared.status.Status.TheVariants.{NoMemory}
-use Rattle.m36_program.specs.Ended.{StartsWith, SaysYes}
+use Rattle.m36_program.specs.Ended.{StartsWith}
 use Rattle.m36_program.specs.Goes.{Ends, Goes}
-use Rattle.m36_program.specs.Performs.{Performs}
 use Rattle.m36_program.specs.Trail.{pieces_of}
-use Rattle.m36_program.proofs.ReaderLaws.{performs_starts}
 use Rattle.m36_ran.specs.AuditText.{yes_line, audit_text}
 use Rattle.m36_ran.specs.Ran.{passes}
 use Rattle.m36_ran.proofs.YesAnswers.{none_found}
 use Rattle.m36_booted.specs.Folder.{FolderFields}
 use Rattle.m36_booted.specs.Promise.{PassesBooted}
 use Rattle.cmd_folder.proofs.PutsSplit.{PutsSplit, puts_split}
-use Rattle.cmd_make.specs.Made.{boots_from, PassesBy, PassesMade, head_by, head_of}
-use Rattle.cmd_make.specs.MakeProgram.{runs_or_ends, found_told, write_and_boot, make_program}
-use Rattle.cmd_make.specs.Making.{sets_of}
+use Rattle.cmd_make.specs.Made.{PassesBy, PassesMade, head_by, head_of}
+use Rattle.cmd_make.specs.MakeProgram.{runs_or_ends, found_told, write_and_boot}
 use Rattle.cmd_make.specs.Summary.{head_line, segment_count, head_pieces}
-use Rattle.cmd_make.proofs.MakeGoes.{made_goes, WritesAndBoots, WriteEnds, write_split, pieces_written, BootSplit, boot_split, SystemFound, booted_split}
+use Rattle.cmd_make.proofs.MakeGoes.{WritesAndBoots, WriteEnds, write_split, pieces_written, BootSplit, boot_split, SystemFound, booted_split}
 
 -- the first line and `audit yes`, after any line
 abbrev yes_after : List ℕ → List ℕ
@@ -111,19 +107,10 @@ write_yes sets events result starts (inl then) =
     (boot_split sets then.more result then.goes)
 write_yes sets events result starts (inr ends) = nothing_put (head_of sets) (pieces_of events) ends.none starts
 
-seed_yes :
+-- If what is put begins so, the system passes.
+pub seed_yes :
     (sets : List Set) (events : List Event) (result : Result (Unit {0}) Status)
     → StartsWith (yes_after (head_of sets)) (pieces_of events)
     → Goes (write_and_boot sets) events result ⊎ Ends (Err NoMemory) events result → PassesMade sets
 seed_yes sets events result starts (inl goes) = write_yes sets events result starts (write_split sets events result goes)
 seed_yes sets events result starts (inr ends) = nothing_put (head_of sets) (pieces_of events) (ap pieces_of ends.none) starts
-
--- If what was written begins with the count of segments and `audit yes`, the system that was made passes its audit.
-pub make_yes :
-    (seed : ℕ) (sets : List Set) (result : Result (Unit {0}) Status) (old new : Seen)
-    → sets_of seed ≡ Ok sets → SaysYes (head_of sets ++ yes_line) old.written new.written
-    → Performs (make_program seed) result old new → PassesMade sets
-make_yes seed sets result old new is says performs =
-    seed_yes sets performs.events result
-    (performs_starts (make_program seed) result (head_of sets ++ yes_line) old new performs says)
-    (made_goes seed sets performs.events result is performs.goes)

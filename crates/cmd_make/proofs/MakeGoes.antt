@@ -31,7 +31,7 @@ use Rattle.cmd_make.specs.Made.{boot_files, boots_from}
 use Rattle.cmd_make.specs.MakeProgram.{found_told, on_system, on_booted, boot_made, write_and_boot, make_program}
 use Rattle.cmd_make.specs.Making.{files_in, sets_of}
 use Rattle.cmd_make.specs.Within.{within}
-use Rattle.cmd_make.proofs.InMemoryLaws.{EndsInMemory, in_memory_reader, in_memory_ends, in_memory_goes, outcome_end}
+use Rattle.cmd_make.proofs.InMemoryLaws.{in_memory_reader, in_memory_ends, in_memory_goes, outcome_end}
 use Rattle.cmd_make.proofs.SummaryEnds.{end_is}
 use Rattle.cmd_make.proofs.WithinLaws.{goes_within, goes_quiet}
 
@@ -159,7 +159,7 @@ boots_reader : (sets : List Set) → IsReader (boot_files sets)
 unfolding boot_files
 boots_reader sets =
     reader_wants (in_memory (files_in sets) (folder_given None))
-    (in_memory_reader (files_in sets) (folder_given {may = quiet} None) (folder_reader None))
+    (in_memory_reader (files_in sets) (folder_given {may = quiet} None) (folder_reader quiet None))
 
 -- There are no events. Memory ran out, or the result is what the files boot to.
 boots_end :
@@ -168,7 +168,7 @@ boots_end :
     → (events ≡ []) × ((result ≡ Err NoMemory) ⊎ (boots_from sets ≡ Some result))
 unfolding Goes boot_files boots_from
 boots_end sets events result (inl goes) =
-    in_memory_ends (files_in sets) (folder_given {may = quiet} None) events result (folder_reader None) goes
+    in_memory_ends (files_in sets) (folder_given {may = quiet} None) events result (folder_reader quiet None) goes
 boots_end sets events result (inr ends) = (ends.none, inl ends.result_is)
 
 boots_goes :

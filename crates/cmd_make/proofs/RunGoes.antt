@@ -1,5 +1,5 @@
 -- The program of a quiet run has no events. If it gives a value, its turns are those of a booted run that ended.
-use Rattle.std.proofs.Common.{◌≡◌, ◌≢◌, ◌⊎◌, ℕ, zero, suc, ◌+◌, ◌≤◌, Bool, true, false, List, [], ◌∷◌, Result, Ok, Err, refl, sym, ap, subst, ◌∙◌, inl, inr, arith, add-zero}
+use Rattle.std.proofs.Common.{◌≡◌, ◌≢◌, ◌⊎◌, ℕ, zero, suc, ◌+◌, Bool, true, false, List, [], ◌∷◌, Result, Ok, Err, refl, sym, ap, subst, ◌∙◌, inl, inr, arith, add-zero}
 use Rattle.m36_world.specs.declared.event.Event.{Event}
 use Rattle.m36_model.specs.Fields.{AtFields}
 use Rattle.m36_model.specs.declared.endings.End.{End}

@@ -1,5 +1,5 @@
 -- If turns of a booted system are a run that ends, the program of a quiet run ends.
-use Rattle.std.proofs.Common.{◌≡◌, ◌⊎◌, ℕ, zero, suc, ◌+◌, List, [], ◌∷◌, Result, Ok, refl, sym, ap, subst, ◌∙◌, inl, inr, arith}
+use Rattle.std.proofs.Common.{◌≡◌, ℕ, zero, suc, ◌+◌, List, [], ◌∷◌, Ok, refl, sym, subst, inl, inr, arith}
 use Rattle.m36_model.specs.Fields.{AtFields}
 use Rattle.m36_model.specs.StoreLaw.{Each}
 use Rattle.m36_model.specs.declared.endings.End.{End}
@@ -19,7 +19,7 @@ use Rattle.m36_booted.specs.declared.running.Finish.{Finish}
 use Rattle.m36_booted.specs.declared.running.Finish.TheVariants.{Over, Limit}
 use Rattle.m36_booted.specs.RunText.{steps_of, steps_in}
 use Rattle.m36_booted.specs.Runs.{IsEvent, Finishes}
-use Rattle.m36_booted.proofs.Serving.{IsStep, IsLink, link_is}
+use Rattle.m36_booted.proofs.Serving.{link_is}
 use Rattle.cmd_make.specs.QuietRun.{Ran, ran, after_service, serve_by, serve, run_from}
 use Rattle.cmd_make.proofs.RunGoes.{is_step, step_counts, IsServiceMade, linked_made, PrintMade, print_made}
 
