@@ -14,12 +14,14 @@ use Rattle.m36_world.specs.declared.event.Event.{Event}
 use Rattle.m36_world.specs.declared.event.Event.TheVariants.{FileRead, FileWrite, Output, OutputFailed, Input}
 use Rattle.m36_world.specs.declared.event.Event.TheVariants.{InputFailed}
 use Rattle.m36_reading.specs.declared.status.Status.{Status}
-use Rattle.m36_program.specs.Program.{Found, May, Program, then_with, puts_all}
+use Rattle.m36_program.specs.Program.{Found, Content, Absent, TooLarge, May, Program, then_with, puts_all}
 use Rattle.m36_program.specs.Program.{done, stops, reads, writes, puts, takes, some, wants}
 use Rattle.m36_program.specs.Performs.{Performs}
 use Rattle.m36_program.specs.Trail.{Trail, pieces_of, put_of, output_of}
 use Rattle.m36_program.specs.Alike.{EndsAlike, ReadsAlike, WritesAlike, PutsAlike, TakesAlike, Alike, IsEnd, OneText}
 use Rattle.m36_program.specs.Alike.{SameInput, inputs_of}
+use Rattle.m36_program.specs.OneText.{HasOneText}
+use Rattle.m36_program.specs.Readers.{refuses, bytes_found, file_bytes}
 use Rattle.m36_program.proofs.TrailLaws.{goes_trail}
 use Rattle.m36_program.proofs.KeptLaws.{after_read, after_write, false_true}
 use Rattle.m36_program.proofs.OneText.{one_text}
@@ -221,3 +223,24 @@ performs_written p files result end old new old' new' never alike ended told tol
     let text = performs_quiet_text p files result end old new old' new' never alike ended told told' one other in
     written_within (put_of one.events) (pieces_of one.events) (pieces_of other.events) text.left
     (output_of old) (output_of new) text.is (performs_text p result old new one)
+
+pub has_one_text : {may : May} (p : Program may (Unit {0})) → may.takes ≡ false → Alike p p → HasOneText p
+has_one_text p never alike = record {
+  alike = alike;
+  one_text = λ files result end old new old' new' ended told told' one other.
+      performs_quiet_text p files result end old new old' new' never alike ended told told' one other;
+  written = λ files result end old new old' new' ended told told' one other.
+      performs_written p files result end old new old' new' never alike ended told told' one other;
+}
+
+-- the bytes of a file
+found_alike :
+    (may : May) (name : List ℕ) (found : Found) → Alike {may = may} (bytes_found name found) (bytes_found name found)
+unfolding Alike refuses
+found_alike may name (Content bytes) = refl
+found_alike may name Absent = refl
+found_alike may name TooLarge = refl
+
+pub bytes_alike : (may : May) (name : List ℕ) → Alike {may = may} (file_bytes name) (file_bytes name)
+unfolding Alike file_bytes
+bytes_alike may name = (refl, λ found. found_alike may name found)

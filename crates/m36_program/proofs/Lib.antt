@@ -14,6 +14,7 @@ pub mod PieceLaws
 pub mod ProgramLaws
 pub mod PutLaws
 pub mod ReadLaws
+pub mod ReaderLaws
 pub mod SplitLaws
 pub mod TextLaws
 pub mod ToldLaws

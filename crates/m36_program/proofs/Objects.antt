@@ -1,5 +1,6 @@
 -- A call that performs a program over a world of three references performs it over the three objects.
-use Rattle.std.proofs.Common.{◌≡◌, ℕ, false, List, ◌++◌, Option, Result, sym, ap, subst, ◌∙◌, refl}
+use Rattle.std.proofs.Common.{◌≡◌, ℕ, false, List, ◌++◌, Option, Result, Ok, Err, sym, ap, subst, ◌∙◌, refl, inl, inr}
+use Rattle.m36_outside.specs.Counts.{Rose}
 use Rattle.m36_outside.specs.Files.{Files}
 use Rattle.m36_outside.specs.FolderCalls.{Asked, Wrote}
 use Rattle.m36_world.specs.declared.event.Event.{Event}
@@ -7,14 +8,15 @@ use Rattle.m36_world.specs.Follow.{Follow}
 use Rattle.m36_world.specs.Seen.{Seen}
 use Rattle.m36_world.proofs.Following.{follow_logs}
 use Rattle.m36_reading.specs.declared.status.Status.{Status}
+use Rattle.m36_reading.specs.declared.status.Status.TheVariants as status
 use Rattle.m36_reading.specs.Doing.{Kind, Does}
 use Rattle.m36_reading.specs.Reading.{Reading, Early}
 use Rattle.m36_program.specs.Early.{early, status_by}
 use Rattle.m36_program.specs.Goes.{Goes}
 use Rattle.m36_program.specs.Performs.{Performs}
 use Rattle.m36_program.specs.Program.{May, Program}
-use Rattle.m36_program.specs.Trail.{InputKept}
-use Rattle.m36_program.proofs.ProgramLaws.{early_given, performs_given, performs_input}
+use Rattle.m36_program.specs.Trail.{NoneFailed, HasCause, FilesKept, InputKept}
+use Rattle.m36_program.proofs.ProgramLaws.{early_given, performs_given, performs_cause, performs_files, performs_input}
 use Rattle.m36_program.specs.Objects.{objects, PerformsOver, outside_by}
 
 -- The two states have the same records of the objects.
@@ -122,3 +124,113 @@ untaken_over program result old new old' new' never same_old same_new performs =
       inputs = sym same_new.inputs ∙ kept.inputs ∙ same_old.inputs;
       faults = sym same_new.input_faults ∙ kept.faults ∙ same_old.input_faults;
     }
+
+-- ---- what a call over the three objects does, as a call over a world
+
+-- the two states of a world that has these objects
+abbrev pub world_before :
+    {may : May} {A : Type 0} {program : Program may A} {result : Result A Status} {old new : Seen}
+    → PerformsOver program result old new → Seen
+world_before {old = old} over = record old { references = over.references }
+
+abbrev pub world_after :
+    {may : May} {A : Type 0} {program : Program may A} {result : Result A Status} {old new : Seen}
+    → PerformsOver program result old new → Seen
+world_after {old = old} {new = new} over =
+    record new { events = old.events ++ over.events; references = over.references }
+
+pub over_performs :
+    {may : May} {A : Type 0} {program : Program may A} {result : Result A Status} {old new : Seen}
+    (over : PerformsOver program result old new)
+    → Performs program result (world_before over) (world_after over)
+over_performs over = record { events = over.events; follow = over.follow; goes = over.goes }
+
+-- The counts of faults of two pairs of states are the same.
+record SameCounts (old new old' new' : Seen) : Type 0 where
+  read : old.read_faults ≡ old'.read_faults
+  read' : new.read_faults ≡ new'.read_faults
+  write : old.write_faults ≡ old'.write_faults
+  write' : new.write_faults ≡ new'.write_faults
+  output : old.output_faults ≡ old'.output_faults
+  output' : new.output_faults ≡ new'.output_faults
+  input : old.input_faults ≡ old'.input_faults
+  input' : new.input_faults ≡ new'.input_faults
+
+rose_same : (old new old' new' : ℕ) → old ≡ old' → new ≡ new' → Rose old new → Rose old' new'
+rose_same old new old' new' same same' rose = subst (λ n. Rose n new') same (subst (λ n. Rose old n) same' rose)
+
+stood_same : (old new old' new' : ℕ) → old ≡ old' → new ≡ new' → new ≡ old → new' ≡ old'
+stood_same old new old' new' same same' stood = sym same' ∙ stood ∙ same
+
+none_same : (old new old' new' : Seen) → SameCounts old new old' new' → NoneFailed old new → NoneFailed old' new'
+none_same old new old' new' same none = record {
+  reads = stood_same _ _ _ _ same.read same.read' none.reads;
+  writes = stood_same _ _ _ _ same.write same.write' none.writes;
+  outputs = stood_same _ _ _ _ same.output same.output' none.outputs;
+  inputs = stood_same _ _ _ _ same.input same.input' none.inputs;
+}
+
+cause_same :
+    {A : Type 0} (result : Result A Status) (old new old' new' : Seen) → SameCounts old new old' new'
+    → HasCause result old new → HasCause result old' new'
+cause_same (Err status.ReadFault) old new old' new' same (inl failed) = inl (record {
+  reads = rose_same _ _ _ _ same.read same.read' failed.reads;
+  writes = stood_same _ _ _ _ same.write same.write' failed.writes;
+  outputs = stood_same _ _ _ _ same.output same.output' failed.outputs;
+  inputs = stood_same _ _ _ _ same.input same.input' failed.inputs;
+})
+cause_same (Err status.ReadFault) old new old' new' same (inr failed) = inr (record {
+  reads = stood_same _ _ _ _ same.read same.read' failed.reads;
+  writes = stood_same _ _ _ _ same.write same.write' failed.writes;
+  outputs = stood_same _ _ _ _ same.output same.output' failed.outputs;
+  inputs = rose_same _ _ _ _ same.input same.input' failed.inputs;
+})
+cause_same (Err status.WriteFault) old new old' new' same (inl failed) = inl (record {
+  reads = stood_same _ _ _ _ same.read same.read' failed.reads;
+  writes = rose_same _ _ _ _ same.write same.write' failed.writes;
+  outputs = stood_same _ _ _ _ same.output same.output' failed.outputs;
+  inputs = stood_same _ _ _ _ same.input same.input' failed.inputs;
+})
+cause_same (Err status.WriteFault) old new old' new' same (inr failed) = inr (record {
+  reads = stood_same _ _ _ _ same.read same.read' failed.reads;
+  writes = stood_same _ _ _ _ same.write same.write' failed.writes;
+  outputs = rose_same _ _ _ _ same.output same.output' failed.outputs;
+  inputs = stood_same _ _ _ _ same.input same.input' failed.inputs;
+})
+cause_same (Ok a) old new old' new' same none = none_same old new old' new' same none
+cause_same (Err status.Done) old new old' new' same none = none_same old new old' new' same none
+cause_same (Err status.Usage) old new old' new' same none = none_same old new old' new' same none
+cause_same (Err (status.BadFile bad)) old new old' new' same none = none_same old new old' new' same none
+cause_same (Err status.AuditNo) old new old' new' same none = none_same old new old' new' same none
+cause_same (Err (status.MachineStop end)) old new old' new' same none = none_same old new old' new' same none
+cause_same (Err status.Steps) old new old' new' same none = none_same old new old' new' same none
+cause_same (Err status.NoMemory) old new old' new' same none = none_same old new old' new' same none
+
+pub over_cause :
+    {may : May} {A : Type 0} (program : Program may A) (result : Result A Status) (old new : Seen)
+    → PerformsOver program result old new → HasCause result old new
+over_cause program result old new over =
+    cause_same result (world_before over) (world_after over) old new (record {
+      read = refl;
+      read' = refl;
+      write = refl;
+      write' = refl;
+      output = refl;
+      output' = refl;
+      input = refl;
+      input' = refl;
+    }) (performs_cause program result (world_before over) (world_after over) (over_performs over))
+
+pub over_files :
+    {may : May} {A : Type 0} (program : Program may A) (result : Result A Status) (old new : Seen)
+    → may.writes ≡ false → PerformsOver program result old new → FilesKept old new
+over_files program result old new never over =
+    let kept = performs_files program result (world_before over) (world_after over) never (over_performs over) in
+    record { files = kept.files; writes = kept.writes; faults = kept.faults }
+
+pub over_input :
+    {may : May} {A : Type 0} (program : Program may A) (result : Result A Status) (old new : Seen)
+    → may.takes ≡ false → PerformsOver program result old new → InputKept old new
+over_input program result old new never over =
+    let kept = performs_input program result (world_before over) (world_after over) never (over_performs over) in
+    record { left = kept.left; inputs = kept.inputs; faults = kept.faults }

@@ -36,7 +36,7 @@ write_map write.NoMemory goes goes' more result on rest = rest
 
 -- ---- `Trail` holds for each program
 
-own_unfailed : (A : Type 0) (s : Status) → IsOwn s → IsUnfailed {A = A} (Err s)
+pub own_unfailed : (A : Type 0) (s : Status) → IsOwn s → IsUnfailed {A = A} (Err s)
 own_unfailed A status.Done own = absurd own
 own_unfailed A status.Usage own = absurd own
 own_unfailed A status.ReadFault own = absurd own
@@ -45,7 +45,7 @@ own_unfailed A status.NoMemory own = absurd own
 own_unfailed A _ own = tt
 
 -- no more events
-trail_ends :
+pub trail_ends :
     {A : Type 0} (may : May) (value : Result A Status) (events : List Event) (result : Result A Status)
     → IsUnfailed value → Ends value events result → Trail may events result
 trail_ends may value events result unfailed ends =

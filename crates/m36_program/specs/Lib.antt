@@ -1,12 +1,15 @@
 pub mod Alike
 pub mod Early
+pub mod Ended
 pub mod Found
 pub mod Gathered
 pub mod Goes
 pub mod Lives
 pub mod Objects
+pub mod OneText
 pub mod Performs
 pub mod Program
+pub mod Reader
 pub mod Readers
 pub mod Split
 pub mod Trail

@@ -65,7 +65,10 @@
 //! | `performs_text` | what is written grows by the pieces, or by a prefix of them |
 //! | `performs_written` | over the same files, without input, all write prefixes of one text |
 //! | `reads_told` | over known files a program continues by what they have under the name |
-//! | `lives_comes` | a program without a dead end has a call that ends |
+//! | `live_end` | a program without a dead end has events that lead it to an end |
+//! | `reader_comes_done` | when a program that begins with a reader ends with Done |
+//! | `reader_says_yes` | what the first bytes of its output say of what it read |
+//! | `over_cause`, `over_files`, `over_input` | the first three for calls over the three objects |
 //! | `performs_over`, `does_over` | what a call does over a world, it does over the three objects |
 //! | `idle_does` | a call that reads and then puts an answer satisfies `Does` of the old layer |
 //!
