@@ -1,3 +1,3 @@
-pub mod SessionEnds
 pub mod DebugSteps
-pub mod Bridge
+pub mod DebugCalls
+pub mod DebugText

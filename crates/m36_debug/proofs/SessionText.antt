@@ -28,6 +28,7 @@ use Rattle.m36_debug.specs.SessionText.{IsTooLong, IsHeld, IsDeterministic, Sess
 use Rattle.m36_debug.proofs.FirstLines.{first_all, first_longer, first_both, first_agree, whole_first, open_first}
 use Rattle.m36_debug.proofs.SessionBridge.{Held, Puts, session_held}
 use Rattle.m36_debug.proofs.TextLaws.{IsFurther, first_texts}
+use Rattle.m36_debug.proofs.Unreading.{session_unread}
 
 -- ---- the bytes of the input
 
@@ -330,11 +331,14 @@ pub is_held :
     → Performs (session o m) result old new → IsHeld o m result old new
 is_held o m result old new performs =
     let held = session_held o m result old new performs in
+    let unread = session_unread o m result old new performs in
     record {
       ended = held.ended;
       result_is = held.result_is;
       later = held.later;
       says = record { lines = held.lines; session = held.session; wrote = held.wrote };
+      reads = unread.reads;
+      read_faults = unread.faults;
     }
 
 pub session_law : {M : Type 0} (o : Turning M) → SessionLaw o

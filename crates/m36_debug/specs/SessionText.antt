@@ -24,13 +24,16 @@ pub record IsTooLong (bytes : List ℕ) : Type 0 where
   pub none : All IsNotQuit (whole_lines (take bytes_limit bytes))
 
 -- A session over machine m ended with this result. Its lines are those of the bytes that were
--- taken, and what was put is what its events write, or a prefix of it if the output failed.
+-- taken, and what was put is what its events write, or a prefix of it if the output failed. No file
+-- was read.
 pub record IsHeld {M : Type 0} (o : Turning M) (m : M) (result : Result (Unit {0}) Status)
     (old new : Seen) : Type 0 where
   pub ended : Result (Unit {0}) SessionFault
   pub result_is : result ≡ ended_by ended
   pub later : M
   pub says : SaysInWorld o ended m later old new
+  pub reads : new.reads ≡ old.reads
+  pub read_faults : new.read_faults ≡ old.read_faults
 
 -- Two answers of a machine, and the machine after each, are equal, unless memory ran out in one of
 -- the two.
