@@ -1,4 +1,4 @@
--- The text of a session follows from the bytes of its input, if its machine is deterministic.
+-- The text of a session follows from the bytes of its input, if its machine is deterministic, or if its turns are plain.
 use Rattle.std.proofs.Common.{◌≡◌, ◌+◌, ◌-◌, ◌<◌, ◌≤◌, ◌⊎◌, ℕ, List, [], ◌∷◌, ◌++◌, length, take, drop, All, Option, Some, None, Result, Ok, Err}
 use Rattle.std.proofs.Common.{refl, sym, ap, subst, ◌∙◌, inl, inr, arith, length-append}
 use Rattle.std.specs.Io.KnownBytes.{IsAtEnd}
@@ -9,6 +9,7 @@ use Rattle.m36_outside.specs.Passing.{joined}
 use Rattle.m36_outside.specs.Piece.{preceded}
 use Rattle.m36_outside.specs.declared.sink.Put.TheVariants.{Done}
 use Rattle.m36_text.specs.Lines.{open_lines_of}
+use Rattle.m36_step.specs.declared.turns.Turn.{Turn}
 use Rattle.m36_world.specs.Seen.{Seen}
 use Rattle.m36_world.specs.declared.event.Event.{Event}
 use Rattle.m36_reading.specs.declared.status.Status.{Status}
@@ -24,10 +25,10 @@ use Rattle.m36_debug.specs.SessionLines.{session_line, IsNotQuit}
 use Rattle.m36_debug.specs.SessionProgram.{session, ended_by}
 use Rattle.m36_debug.specs.SessionSays.{LinesSeen, IsSession, TookBy, TookSome, TookWhole, HasEnded, CountBy, EndInQuit, bytes_limit, last_put_of}
 use Rattle.m36_debug.specs.SessionState.{new_sitting}
-use Rattle.m36_debug.specs.SessionText.{IsTooLong, IsHeld, IsDeterministic, SessionLaw}
+use Rattle.m36_debug.specs.SessionText.{IsTooLong, IsHeld, IsDeterministic, EachTurn, SessionLaw}
 use Rattle.m36_debug.proofs.FirstLines.{first_all, first_longer, first_both, first_agree, whole_first, open_first}
 use Rattle.m36_debug.proofs.SessionBridge.{Held, Puts, session_held}
-use Rattle.m36_debug.proofs.TextLaws.{IsFurther, first_texts}
+use Rattle.m36_debug.proofs.TextLaws.{AnyTurn, IsFurther, StayAlike, any_turn, deterministic_alike, first_texts}
 use Rattle.m36_debug.proofs.Unreading.{session_unread}
 
 -- ---- the bytes of the input
@@ -195,12 +196,13 @@ took_further (Err fault.NoMemory) pieces lines taken doing bytes after is_end to
 
 -- What the first writes is a prefix of what the second writes, if that ends.
 session_first :
-    {M : Type 0} (o : Turning M) (ended ended' : Result (Unit {0}) SessionFault) (m m1 m2 : M) (before after before' after' : LinesSeen)
+    {M : Type 0} (o : Turning M) (Plain : Turn → Type 0) (Alike : M → M → Type 0) → StayAlike o Plain Alike
+    → (ended ended' : Result (Unit {0}) SessionFault) (m n m1 m2 : M) (before after before' after' : LinesSeen)
     (lines others : List (List ℕ)) (bytes : List ℕ)
-    → IsDeterministic o → IsEnd (ended_by ended') → before.left ≡ Some bytes → before'.left ≡ Some bytes
-    → IsSession o ended m m1 before after lines → IsSession o ended' m m2 before' after' others
+    → Alike m n → IsEnd (ended_by ended') → before.left ≡ Some bytes → before'.left ≡ Some bytes
+    → IsSession o ended m m1 before after lines → (second : IsSession o ended' n m2 before' after' others) → EachTurn Plain second.events
     → IsFirstPart lines others
-session_first o ended ended' m m1 m2 before after before' after' lines others bytes one is_end left left' first second =
+session_first o Plain Alike stay ended ended' m n m1 m2 before after before' after' lines others bytes alike is_end left left' first second plain =
     let k = known (joined first.pieces) bytes before.left after.left left first.came in
     let k' = known (joined second.pieces) bytes before'.left after'.left left' second.came in
     let taken = lines_in first.events in
@@ -211,7 +213,7 @@ session_first o ended ended' m m1 m2 before after before' after' lines others by
     (λ more. took_within ended first.pieces taken first.stands.doing bytes after first.took k first.count more) in
     subst (λ l. IsFirstPart l others) (sym first.said)
     (subst (IsFirstPart (texts_of o (standing new_sitting Waiting) first.events)) (sym second.said)
-    (first_texts o one new_sitting Waiting m first.events second.events first.stands m1 second.stands m2 first.follow second.follow
+    (first_texts o Plain Alike stay new_sitting Waiting m n first.events second.events first.stands m1 second.stands m2 alike plain first.follow second.follow
     (first_agree taken others_taken (open_lines_of bytes) opened opened') further))
 
 -- an end says whether the input is too long
@@ -299,7 +301,8 @@ pieces_first o m bytes result end old new old' new' events others one is_end lef
     let ends : IsEnd (ended_by second.ended) = subst IsEnd second.result_is is_end in
     first_longer (pieces_of events) first.lines (pieces_of others) (some_put first.ended events first.lines first.puts)
     (subst (IsFirstPart first.lines) (all_put second.ended others second.lines ends second.puts)
-    (session_first o first.ended second.ended m first.later second.later _ _ _ _ first.lines second.lines bytes one ends left left' first.session second.session))
+    (session_first o AnyTurn (λ k l. k ≡ l) (deterministic_alike o one) first.ended second.ended m m first.later second.later _ _ _ _ first.lines second.lines bytes
+    refl ends left left' first.session second.session (any_turn second.session.events)))
 
 pub session_one_text :
     {M : Type 0} (o : Turning M) (m : M) (bytes : List ℕ) (result end : Result (Unit {0}) Status) (old new old' new' : Seen)
@@ -323,6 +326,19 @@ session_one_text o m bytes result end old new old' new' one is_end left left' ca
             ∙ sym held'.result_is,
       );
     }
+
+-- What a call puts is a prefix of what another session writes that ends, whose turns are plain.
+pub session_plain_text :
+    {M : Type 0} (o : Turning M) (Plain : Turn → Type 0) (Alike : M → M → Type 0) → StayAlike o Plain Alike
+    → (m n : M) (bytes : List ℕ) (result end : Result (Unit {0}) Status) (old new old' new' : Seen)
+    → Alike m n → IsEnd end → old.left ≡ Some bytes → old'.left ≡ Some bytes
+    → (one : Performs (session o m) result old new) (other : IsHeld o n end old' new') → EachTurn Plain other.says.session.events
+    → IsFirstPart (pieces_of one.events) other.says.lines
+session_plain_text o Plain Alike stay m n bytes result end old new old' new' alike is_end left left' one other plain =
+    let held = session_held o m result old new one in
+    first_longer (pieces_of one.events) held.lines other.says.lines (some_put held.ended one.events held.lines held.puts)
+    (session_first o Plain Alike stay held.ended other.ended m n held.later other.later _ _ _ _ held.lines other.says.lines bytes
+    alike (subst IsEnd other.result_is is_end) left left' held.session other.says.session plain)
 
 -- ---- the law
 

@@ -1,7 +1,7 @@
 -- Laws of sessions: that a call which performs the program of a session is a session by its events;
 -- when its input is too long; and that over one machine the same bytes of input have one text,
 -- whatever the pieces in which they come.
-use Rattle.std.specs.Prelude.{ℕ, ◌≡◌, ◌<◌, ◌⊎◌, List, All, length, take, Some, Result}
+use Rattle.std.specs.Prelude.{ℕ, ◌≡◌, ◌<◌, ◌⊎◌, ⊤, List, [], ◌∷◌, All, length, take, Some, Result}
 use Rattle.m36_world.specs.Seen.{Seen}
 use Rattle.m36_step.specs.declared.turns.Turn.{Turn}
 use Rattle.m36_step.specs.declared.turns.Turn.TheVariants as turns
@@ -13,7 +13,7 @@ use Rattle.m36_program.specs.Performs.{Performs}
 use Rattle.m36_program.specs.Trail.{pieces_of}
 use Rattle.m36_debug.specs.declared.fault.SessionFault.{SessionFault}
 use Rattle.m36_debug.specs.LinesTaken.{whole_lines}
-use Rattle.m36_debug.specs.Session.{Turning}
+use Rattle.m36_debug.specs.Session.{Turning, EventKind, Took, Turned, Went, SessionEvent}
 use Rattle.m36_debug.specs.SessionLines.{IsNotQuit}
 use Rattle.m36_debug.specs.SessionProgram.{session, ended_by}
 use Rattle.m36_debug.specs.SessionSays.{SaysInWorld, bytes_limit}
@@ -49,6 +49,17 @@ pub record IsDeterministic {M : Type 0} (o : Turning M) : Type 0 where
   pub goes_back :
       (before m m' : M) (n : ℕ) (one other : BackAnswer)
       → o.went before n one m → o.went before n other m' → OneAnswer back.NoMemory one other m m'
+
+-- The turn of an event, if it is one, has this property.
+abbrev pub TurnIs : (Turn → Type 0) → EventKind → Type 0
+TurnIs Is (Took line) = ⊤
+TurnIs Is (Turned turn) = Is turn
+TurnIs Is (Went answer) = ⊤
+
+-- Each turn in these events has this property.
+abbrev pub EachTurn : {M : Type 0} → (Turn → Type 0) → List (SessionEvent M) → Type 0
+EachTurn Is [] = ⊤
+EachTurn Is (e ∷ events) = TurnIs Is e.happened × EachTurn Is events
 
 -- What holds of each call that performs the program of a session.
 pub record SessionLaw {M : Type 0} (o : Turning M) : Type 0 where
