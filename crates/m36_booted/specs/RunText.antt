@@ -19,7 +19,6 @@ use Rattle.m36_trace.specs.EndLine.{end_line_of}
 use Rattle.m36_turns.specs.TurnLines.{run_end_line_of, turn_pieces}
 use Rattle.m36_reading.specs.declared.status.Status.{Status}
 use Rattle.m36_reading.specs.declared.status.Status.TheVariants as status
-use Rattle.m36_reading.specs.Answers.{Answer, answer_with}
 use Rattle.m36_ran.specs.Output.{status_by}
 use Rattle.m36_booted.specs.declared.command.RunOutput.{RunOutput}
 use Rattle.m36_booted.specs.declared.command.RunOutput.TheVariants as output
@@ -121,7 +120,3 @@ unfoldable pub run_pieces :
     List (List ℕ) → RunOutput → List Turn → Option Finish → List (List ℕ)
 run_pieces denied output turns how =
     pieces_from output 0 turns ++ end_pieces denied how (steps_in turns)
-
-unfoldable pub run_answer : List (List ℕ) → RunOutput → List Turn → Option Finish → Answer
-run_answer denied output turns how =
-    answer_with (run_pieces denied output turns how) (finish_status how)
