@@ -1,6 +1,6 @@
 -- A call that performs the program of `debug FILE` or of `debug` reads, and then holds a session.
 use Rattle.std.proofs.Common.{◌≡◌, ◌⊎◌, ℕ, List, [], ◌∷◌, ◌++◌, Result, Ok, Err, refl, sym, ap, subst, ◌∙◌, inl, inr}
-use Rattle.std.proofs.lemmas.List.{append-nil}
+use Rattle.std.proofs.lemmas.List.{append-nil, append_assoc}
 use Rattle.std.specs.Prelude.{None}
 use Rattle.m36_outside.specs.Putting.{PutsPieces}
 use Rattle.m36_outside.specs.SinkState.{SinkState}
@@ -10,6 +10,7 @@ use Rattle.m36_outside.proofs.Grown.{appended-nil}
 use Rattle.m36_world.specs.Follow.{Follow}
 use Rattle.m36_world.specs.Seen.{Seen}
 use Rattle.m36_world.specs.declared.event.Event.{Event}
+use Rattle.m36_world.specs.declared.event.Event.TheVariants.{FileRead, FileWrite, Output, OutputFailed, Input, InputFailed}
 use Rattle.m36_world.proofs.Following.{follow_split, follow_logs}
 use Rattle.m36_model.specs.Store.{State}
 use Rattle.m36_super.specs.BootSays.{IsBooted}
@@ -37,11 +38,23 @@ use Rattle.m36_debug.proofs.SessionText.{is_held, session_done}
 use Rattle.cmd_image.specs.ImageProgram.{image_state}
 use Rattle.cmd_image.proofs.ImageReads.{image_reader}
 use Rattle.cmd_folder.specs.FolderProgram.{folder_given}
-use Rattle.cmd_folder.proofs.FolderReads.{folder_reader}
+use Rattle.cmd_folder.proofs.FolderReader.{folder_reader}
 use Rattle.cmd_debug.specs.DebugProgram.{on_image, on_library, on_folder, debug_image, debug_folder}
 use Rattle.cmd_debug.specs.Held.{new_history, past_turning, super_turning}
 use Rattle.cmd_debug.specs.Needs.{SessionNeeds}
 use Rattle.cmd_debug.specs.Sessions.{NothingDone, IsNotHeld, IsHeldOver, HoldsImage, HoldsFolder, ReadAndHeld, IsNotRead, IsDebugCall, IsImageCall, IsFolderCall, DebugLaw}
+
+-- ---- pieces
+
+pub pieces_both : (first more : List Event) → pieces_of (first ++ more) ≡ pieces_of first ++ pieces_of more
+pieces_both [] more = refl
+pieces_both (FileRead name answer ∷ first) more = pieces_both first more
+pieces_both (FileWrite name content answer ∷ first) more = pieces_both first more
+pieces_both (Output piece ∷ first) more = ap (λ l. piece ∷ l) (pieces_both first more)
+pieces_both (OutputFailed pieces ∷ first) more =
+    ap (λ l. pieces ++ l) (pieces_both first more) ∙ sym (append_assoc pieces (pieces_of first) (pieces_of more))
+pieces_both (Input piece ∷ first) more = pieces_both first more
+pieces_both (InputFailed ∷ first) more = pieces_both first more
 
 -- ---- a reader puts nothing
 
@@ -177,7 +190,7 @@ folder_call :
     → Performs debug_folder result old new → IsFolderCall result old new
 unfolding debug_folder
 folder_call result old new performs =
-    read_and_held (folder_given None) on_folder HoldsFolder result old new (folder_reader talking None)
+    read_and_held (folder_given None) on_folder HoldsFolder result old new (folder_reader None)
     (λ given between on. folder_held given result between new on) performs
 
 -- ---- over three objects: the same of the states without events and references
@@ -271,7 +284,7 @@ debug_law = record {
 
 -- ---- an end with Done
 
-not_end : {P : Type 0} (result : Result (Unit {0}) Status) → result ≡ Err status.NoMemory → IsEnd result → P
+pub not_end : {P : Type 0} (result : Result (Unit {0}) Status) → result ≡ Err status.NoMemory → IsEnd result → P
 not_end result is ended = absurd (let end : IsEnd {A = Unit {0}} (Err status.NoMemory) = subst IsEnd is ended in end)
 
 held_done :

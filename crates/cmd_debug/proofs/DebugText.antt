@@ -12,7 +12,6 @@ use Rattle.m36_outside.proofs.Grown.{grew_within, grew_longer}
 use Rattle.m36_world.specs.Follow.{Follow}
 use Rattle.m36_world.specs.Seen.{Seen}
 use Rattle.m36_world.specs.declared.event.Event.{Event}
-use Rattle.m36_world.specs.declared.event.Event.TheVariants.{FileRead, FileWrite, Output, OutputFailed, Input, InputFailed}
 use Rattle.m36_world.proofs.Following.{follow_split}
 use Rattle.m36_model.specs.Store.{State}
 use Rattle.m36_step.specs.MachineFields.{MachineFields}
@@ -39,6 +38,8 @@ use Rattle.cmd_image.proofs.ImageReads.{image_reader}
 use Rattle.cmd_debug.specs.DebugProgram.{on_image, debug_image}
 use Rattle.cmd_debug.specs.Held.{new_history, past_turning}
 use Rattle.cmd_debug.specs.Sessions.{DebugTextLaw}
+use Rattle.cmd_debug.proofs.DebugCalls.{pieces_both, not_end}
+use Rattle.cmd_debug.proofs.FolderText.{folder_text}
 
 -- ---- the machine of an image is deterministic
 
@@ -62,9 +63,6 @@ image_deterministic = record {
 }
 
 -- ---- a session over it
-
-not_end : {P : Type 0} (result : Result (Unit {0}) Status) → result ≡ Err status.NoMemory → IsEnd result → P
-not_end result is ended = absurd (let end : IsEnd {A = Unit {0}} (Err status.NoMemory) = subst IsEnd is ended in end)
 
 -- nothing was put, and the call did not end
 nothing_put :
@@ -97,16 +95,6 @@ image_text state bytes result end old new old' new' events others is_end left le
     wants_text past_turning (new_history state) bytes result end old new old' new' events others image_deterministic is_end left left' follow follow' goes goes'
 
 -- ---- a call
-
-pieces_both : (first more : List Event) → pieces_of (first ++ more) ≡ pieces_of first ++ pieces_of more
-pieces_both [] more = refl
-pieces_both (FileRead name answer ∷ first) more = pieces_both first more
-pieces_both (FileWrite name content answer ∷ first) more = pieces_both first more
-pieces_both (Output piece ∷ first) more = ap (λ l. piece ∷ l) (pieces_both first more)
-pieces_both (OutputFailed pieces ∷ first) more =
-    ap (λ l. pieces ++ l) (pieces_both first more) ∙ sym (append_assoc pieces (pieces_of first) (pieces_of more))
-pieces_both (Input piece ∷ first) more = pieces_both first more
-pieces_both (InputFailed ∷ first) more = pieces_both first more
 
 same_ok : {A : Type 0} (a b : A) → (let r : Option (Result A Status) = Some (Ok a) in r) ≡ Some (Ok b) → a ≡ b
 same_ok a b is = cc
@@ -230,4 +218,6 @@ debug_text_law = record {
       let text = call_text name files bytes result end old new old' new' is_end told told' left left' one other in
       grew_first (put_of one.events) (pieces_of one.events) text.left (pieces_of other.events) old new text.is
       (performs_text (debug_image name) result old new one);
+  folder = λ files bytes result end old new old' new' is_end told told' left left' one other.
+      folder_text files bytes result end old new old' new' is_end told told' left left' one other;
 }

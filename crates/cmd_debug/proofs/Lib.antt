@@ -1,3 +1,4 @@
 pub mod DebugSteps
 pub mod DebugCalls
+pub mod FolderText
 pub mod DebugText

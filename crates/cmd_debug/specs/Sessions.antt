@@ -1,6 +1,6 @@
 -- What a call of `debug FILE` and of `debug` is: it reads the image or the folder, and then holds a
--- session over the machine. And that calls of `debug FILE` over the same files and the same bytes
--- of input have one text.
+-- session over the machine. And that calls over the same files and the same bytes of input have one
+-- text.
 use Rattle.std.specs.Prelude.{ℕ, ◌≡◌, ◌⊎◌, List, ◌++◌, None, Some, Result, Err}
 use Rattle.std.specs.List.{flat_map}
 use Rattle.m36_outside.specs.Files.{Files}
@@ -12,6 +12,7 @@ use Rattle.m36_world.specs.declared.event.Event.{Event}
 use Rattle.m36_model.specs.Store.{State}
 use Rattle.m36_super.specs.BootSays.{IsBooted}
 use Rattle.m36_super.specs.SuperFields.{SuperFields}
+use Rattle.m36_super.specs.TurnLaws.{IsPlainTurn}
 use Rattle.m36_reading.specs.declared.status.Status.{Status}
 use Rattle.m36_reading.specs.declared.status.Status.TheVariants.{NoMemory}
 use Rattle.m36_program.specs.Alike.{IsEnd, OneText}
@@ -22,9 +23,10 @@ use Rattle.m36_program.specs.Program.{Program}
 use Rattle.m36_program.specs.Reader.{ReadBy}
 use Rattle.m36_program.specs.Trail.{FilesKept, InputKept, output_of, pieces_of}
 use Rattle.m36_booted.specs.Folder.{FolderFields}
+use Rattle.m36_debug.specs.LinesTaken.{IsFirstPart}
 use Rattle.m36_debug.specs.Session.{Turning}
 use Rattle.m36_debug.specs.SessionProgram.{talking}
-use Rattle.m36_debug.specs.SessionText.{IsHeld}
+use Rattle.m36_debug.specs.SessionText.{IsHeld, EachTurn}
 use Rattle.cmd_image.specs.ImageProgram.{image_state}
 use Rattle.cmd_folder.specs.FolderProgram.{folder_given}
 use Rattle.cmd_debug.specs.DebugProgram.{debug_image, debug_folder}
@@ -116,6 +118,18 @@ pub record DebugLaw : Type 0 where
 
 -- ---- one text
 
+-- A call of `debug` in whose session each turn is plain: it executes no ABSA and no LDBR, and does
+-- not run out of memory.
+pub record IsPlainCall (result : Result (Unit {0}) Status) (old new : Seen) : Type 0 where
+  pub given : FolderFields
+  pub read : ReadBy {may = talking} (folder_given None) given old new
+  pub between : Seen
+  pub nothing : NothingDone old between
+  pub system : SuperFields
+  pub booted : IsBooted given.lib system
+  pub held : IsHeld super_turning system result between new
+  pub plain : EachTurn IsPlainTurn held.says.session.events
+
 -- Two calls of `debug FILE` over the same files and the same bytes of input, whatever the pieces in
 -- which these come. The second ends as the program says (`IsEnd`). The pieces that the first puts
 -- are a prefix of those of the second, and what is written grows by a prefix of their bytes. If the
@@ -137,3 +151,12 @@ pub record DebugTextLaw : Type 0 where
       → Performs (debug_image name) result old new
       → (other : Performs (debug_image name) end old' new')
       → GrewWithin old.written new.written (joined (pieces_of other.events))
+  -- The same of `debug` over a folder, if each turn of the session of the second call is plain: what
+  -- the first puts is a prefix of what this session writes.
+  pub folder :
+      (files : Files) (bytes : List ℕ) (result end : Result (Unit {0}) Status)
+      (old new old' new' : Seen)
+      → IsEnd end → old.files ≡ Some files → old'.files ≡ Some files
+      → old.left ≡ Some bytes → old'.left ≡ Some bytes
+      → (one : Performs debug_folder result old new) (other : IsPlainCall end old' new')
+      → IsFirstPart (pieces_of one.events) other.held.says.lines

@@ -12,8 +12,8 @@ pub fn law_debug()
 /// and whatever the pieces in which the input came, it puts a prefix of what any call over the same
 /// puts that ends as the program says.
 ///
-/// Of `debug` over a folder this is not stated: which page is evicted from a frame is left open,
-/// and after an ABSA or LDBR a program can find that out.
+/// The text of `debug` over a folder does so until an ABSA or LDBR is executed: which page is
+/// evicted from a frame is left open, and after these a program can find that out.
 pub fn law_debug_text()
     ensures { DebugTextLaw }
 {}

@@ -28,8 +28,8 @@
 //! out before the session.
 //!
 //! [`law_debug_text`] says that the text of `debug FILE` follows from the files and from the bytes
-//! of the input, whatever the pieces in which these come. `specs/Needs.antt` says what a session
-//! needs to end with Done.
+//! of the input, whatever the pieces in which these come. That of `debug` over a folder does so
+//! until an ABSA or LDBR is executed. `specs/Needs.antt` says what a session needs to end with Done.
 //!
 //! `specs/Held.antt` says what a session is held over. Sessions are this simulator's own; the
 //! machine is that of the Multics Processor Manual AL39.
