@@ -1,16 +1,16 @@
 -- A call that performs the program of `debug FILE` or of `debug` reads, and then holds a session.
-use Rattle.std.proofs.Common.{◌≡◌, ◌⊎◌, ℕ, List, [], ◌∷◌, ◌++◌, Result, Ok, Err, refl, sym, ap, subst, ◌∙◌, inl, inr}
+use Rattle.std.proofs.Common.{◌≡◌, ℕ, List, [], ◌∷◌, ◌++◌, Result, Ok, Err, refl, sym, ap, subst, ◌∙◌, inl, inr}
 use Rattle.std.proofs.lemmas.List.{append-nil, append_assoc}
 use Rattle.std.specs.Prelude.{None}
 use Rattle.m36_outside.specs.Putting.{PutsPieces}
-use Rattle.m36_outside.specs.SinkState.{SinkState}
 use Rattle.m36_outside.specs.declared.sink.Put.{Put}
 use Rattle.m36_outside.specs.declared.sink.Put.TheVariants.{Done}
 use Rattle.m36_outside.proofs.Grown.{appended-nil}
 use Rattle.m36_world.specs.Follow.{Follow}
 use Rattle.m36_world.specs.Seen.{Seen}
 use Rattle.m36_world.specs.declared.event.Event.{Event}
-use Rattle.m36_world.specs.declared.event.Event.TheVariants.{FileRead, FileWrite, Output, OutputFailed, Input, InputFailed}
+use Rattle.m36_world.specs.declared.event.Event.TheVariants.{FileRead, FileWrite, Output, OutputFailed, Input}
+use Rattle.m36_world.specs.declared.event.Event.TheVariants.{InputFailed}
 use Rattle.m36_world.proofs.Following.{follow_split, follow_logs}
 use Rattle.m36_model.specs.Store.{State}
 use Rattle.m36_super.specs.BootSays.{IsBooted}
@@ -23,8 +23,8 @@ use Rattle.m36_program.specs.Goes.{Chosen, Goes}
 use Rattle.m36_program.specs.Objects.{PerformsOver}
 use Rattle.m36_program.specs.Performs.{Performs}
 use Rattle.m36_program.specs.Program.{May, Program, done, stops, reads, writes, puts, takes, some, wants, then_with}
-use Rattle.m36_program.specs.Reader.{IsReader, ReadBy}
-use Rattle.m36_program.specs.Trail.{FilesKept, InputKept, output_of, pieces_of, put_of}
+use Rattle.m36_program.specs.Reader.{IsReader}
+use Rattle.m36_program.specs.Trail.{output_of, pieces_of, put_of}
 use Rattle.m36_program.proofs.KeptLaws.{after_read, passed_none}
 use Rattle.m36_program.proofs.Objects.{over_performs, world_before, world_after}
 use Rattle.m36_program.proofs.ProgramLaws.{performs_text}
@@ -33,7 +33,6 @@ use Rattle.m36_program.proofs.TrailLaws.{read_map}
 use Rattle.m36_booted.specs.Folder.{FolderFields}
 use Rattle.m36_debug.specs.Session.{Turning}
 use Rattle.m36_debug.specs.SessionProgram.{talking, Talk, session}
-use Rattle.m36_debug.specs.SessionText.{IsHeld}
 use Rattle.m36_debug.proofs.SessionText.{is_held, session_done}
 use Rattle.cmd_image.specs.ImageProgram.{image_state}
 use Rattle.cmd_image.proofs.ImageReads.{image_reader}
@@ -42,7 +41,8 @@ use Rattle.cmd_folder.proofs.FolderReader.{folder_reader}
 use Rattle.cmd_debug.specs.DebugProgram.{on_image, on_library, on_folder, debug_image, debug_folder}
 use Rattle.cmd_debug.specs.Held.{new_history, past_turning, super_turning}
 use Rattle.cmd_debug.specs.Needs.{SessionNeeds}
-use Rattle.cmd_debug.specs.Sessions.{NothingDone, IsNotHeld, IsHeldOver, HoldsImage, HoldsFolder, ReadAndHeld, IsNotRead, IsDebugCall, IsImageCall, IsFolderCall, DebugLaw}
+use Rattle.cmd_debug.specs.Sessions.{NothingDone, IsHeldOver, HoldsImage, HoldsFolder, IsDebugCall, IsImageCall}
+use Rattle.cmd_debug.specs.Sessions.{IsFolderCall, DebugLaw}
 
 -- ---- pieces
 
@@ -90,7 +90,8 @@ reader_nothing p result old new is performs = record {
   files = reader_files p result old new is performs;
   input = reader_input p result old new is performs;
   output = none_put old new
-      (subst (λ l. PutsPieces Done l (output_of old) (output_of new)) (reader_pieces p performs.events result is performs.goes)
+      (subst (λ l. PutsPieces Done l (output_of old) (output_of new)) (reader_pieces p performs.events result is
+      performs.goes)
       (subst (λ (put : Put). PutsPieces put (pieces_of performs.events) (output_of old) (output_of new))
       (reader_put p performs.events result is performs.goes) (performs_text p result old new performs)));
 }
@@ -110,10 +111,16 @@ held_over :
 unfolding Goes
 held_over o m result old new performs =
     elim performs.goes [
-      | inl goes ↦ inl (is_held o m result old new (record { events = performs.events; follow = performs.follow; goes = goes }))
+      | inl goes ↦ inl (is_held o m result old new (record {
+        events = performs.events;
+        follow = performs.follow;
+        goes =
+            goes;
+      }))
       | inr ends ↦ inr (record {
         result_is = ends.result_is;
-        nothing = subst (NothingDone old) (sym (passed_none performs.events old new ends.none performs.follow)) (nothing_at old);
+        nothing = subst (NothingDone old) (sym (passed_none performs.events old new ends.none performs.follow))
+            (nothing_at old);
       })
     ]
 
@@ -147,7 +154,8 @@ folder_held given result old new performs =
 -- ---- a call
 
 read_and_held :
-    {A : Type 0} (reader : Program talking A) (next : A → Talk) (Holds : A → Result (Unit {0}) Status → Seen → Seen → Type 0)
+    {A : Type 0} (reader : Program talking A) (next : A → Talk) (Holds : A → Result (Unit {0}) Status → Seen → Seen
+    → Type 0)
     (result : Result (Unit {0}) Status) (old new : Seen)
     → IsReader reader
     → ((value : A) (between : Seen) → Performs (next value) result between new → Holds value result between new)
@@ -155,7 +163,8 @@ read_and_held :
 read_and_held reader next Holds result old new is on performs =
     elim (reader_split reader next performs.events result is performs.goes) [
       | inl both ↦
-          let follow : Follow (both.first ++ both.more) old new = subst (λ e. Follow e old new) both.is performs.follow in
+          let follow : Follow (both.first ++ both.more) old new = subst (λ e. Follow e old new) both.is
+          performs.follow in
           let parts = follow_split both.first both.more old new follow in
           let begins : Performs reader (Ok both.value) old parts.between =
           record { events = both.first; follow = parts.begins; goes = both.begins } in
@@ -164,7 +173,11 @@ read_and_held reader next Holds result old new is on performs =
             read = read_by reader both.value both.first both.more old new is follow both.begins;
             between = parts.between;
             nothing = reader_nothing reader (Ok both.value) old parts.between is begins;
-            held = on both.value parts.between (record { events = both.more; follow = parts.goes_on; goes = both.goes_on });
+            held = on both.value parts.between (record {
+              events = both.more;
+              follow = parts.goes_on;
+              goes = both.goes_on;
+            });
           })
       | inr ends ↦ inr (record {
         status = ends.status;
@@ -190,17 +203,16 @@ folder_call :
     → Performs debug_folder result old new → IsFolderCall result old new
 unfolding debug_folder
 folder_call result old new performs =
-    read_and_held (folder_given None) on_folder HoldsFolder result old new (folder_reader None)
+    read_and_held (folder_given None) on_folder HoldsFolder result old new (folder_reader talking None)
     (λ given between on. folder_held given result between new on) performs
 
 -- ---- over three objects: the same of the states without events and references
 
-abbrev Objects_ : Seen → Seen → List Event → List ℕ → Seen
-Objects_ old new events references = record new { events = old.events ++ events; references = references }
-
 held_later :
-    {M : Type 0} (o : Turning M) (m : M) (result : Result (Unit {0}) Status) (old new : Seen) (events : List Event) (references : List ℕ)
-    → IsHeldOver o m result old (record new { events = events; references = references }) → IsHeldOver o m result old new
+    {M : Type 0} (o : Turning M) (m : M) (result : Result (Unit {0}) Status) (old new : Seen) (events : List Event)
+    (references : List ℕ)
+    → IsHeldOver o m result old (record new { events = events; references = references }) → IsHeldOver o m result old
+    new
 held_later o m result old new events references (inl held) = inl (record {
   ended = held.ended;
   result_is = held.result_is;
@@ -212,8 +224,18 @@ held_later o m result old new events references (inl held) = inl (record {
 held_later o m result old new events references (inr none) = inr (record {
   result_is = none.result_is;
   nothing = record {
-    files = record { files = none.nothing.files.files; writes = none.nothing.files.writes; faults = none.nothing.files.faults };
-    input = record { left = none.nothing.input.left; inputs = none.nothing.input.inputs; faults = none.nothing.input.faults };
+    files = record {
+      files = none.nothing.files.files;
+      writes = none.nothing.files.writes;
+      faults =
+          none.nothing.files.faults;
+    };
+    input = record {
+      left = none.nothing.input.left;
+      inputs = none.nothing.input.inputs;
+      faults =
+          none.nothing.input.faults;
+    };
     output = none.nothing.output;
   };
 })
@@ -221,8 +243,10 @@ held_later o m result old new events references (inr none) = inr (record {
 call_over :
     {A : Type 0} (reader : Program talking A) (Holds : A → Result (Unit {0}) Status → Seen → Seen → Type 0)
     (result : Result (Unit {0}) Status) (old new : Seen) (events : List Event) (before after : List ℕ)
-    → ((value : A) (between : Seen) → Holds value result between (record new { events = events; references = after }) → Holds value result between new)
-    → IsDebugCall reader Holds result (record old { references = before }) (record new { events = events; references = after })
+    → ((value : A) (between : Seen) → Holds value result between (record new { events = events; references = after })
+    → Holds value result between new)
+    → IsDebugCall reader Holds result (record old { references = before })
+    (record new { events = events; references = after })
     → IsDebugCall reader Holds result old new
 call_over reader Holds result old new events before after on (inl held) = inl (record {
   value = held.value;
@@ -235,8 +259,18 @@ call_over reader Holds result old new events before after on (inl held) = inl (r
   };
   between = held.between;
   nothing = record {
-    files = record { files = held.nothing.files.files; writes = held.nothing.files.writes; faults = held.nothing.files.faults };
-    input = record { left = held.nothing.input.left; inputs = held.nothing.input.inputs; faults = held.nothing.input.faults };
+    files = record {
+      files = held.nothing.files.files;
+      writes = held.nothing.files.writes;
+      faults =
+          held.nothing.files.faults;
+    };
+    input = record {
+      left = held.nothing.input.left;
+      inputs = held.nothing.input.inputs;
+      faults =
+          held.nothing.input.faults;
+    };
     output = held.nothing.output;
   };
   held = on held.value held.between held.held;
@@ -248,8 +282,18 @@ call_over reader Holds result old new events before after on (inr none) = inr (r
   goes = none.goes;
   logged = none.logged;
   nothing = record {
-    files = record { files = none.nothing.files.files; writes = none.nothing.files.writes; faults = none.nothing.files.faults };
-    input = record { left = none.nothing.input.left; inputs = none.nothing.input.inputs; faults = none.nothing.input.faults };
+    files = record {
+      files = none.nothing.files.files;
+      writes = none.nothing.files.writes;
+      faults =
+          none.nothing.files.faults;
+    };
+    input = record {
+      left = none.nothing.input.left;
+      inputs = none.nothing.input.inputs;
+      faults =
+          none.nothing.input.faults;
+    };
     output = none.nothing.output;
   };
 })
@@ -259,7 +303,8 @@ image_call_over :
     → PerformsOver (debug_image name) result old new → IsImageCall name result old new
 image_call_over name result old new over =
     call_over (image_state name) HoldsImage result old new (old.events ++ over.events) over.references over.references
-    (λ state between held. held_later past_turning (new_history state) result between new (old.events ++ over.events) over.references held)
+    (λ state between held. held_later past_turning (new_history state) result between new (old.events ++ over.events)
+    over.references held)
     (image_call name result (world_before over) (world_after over) (over_performs over))
 
 folder_call_over :
@@ -270,7 +315,8 @@ folder_call_over result old new over =
     (λ given between held. record {
       system = held.system;
       booted = held.booted;
-      held = held_later super_turning held.system result between new (old.events ++ over.events) over.references held.held;
+      held = held_later super_turning held.system result between new (old.events ++ over.events) over.references
+          held.held;
     })
     (folder_call result (world_before over) (world_after over) (over_performs over))
 
@@ -289,10 +335,12 @@ not_end result is ended = absurd (let end : IsEnd {A = Unit {0}} (Err status.NoM
 
 held_done :
     {M : Type 0} (o : Turning M) (m : M) (events : List Event) (result : Result (Unit {0}) Status) (old new : Seen)
-    → SessionNeeds old.left → Goes (wants (session o m)) events result → Follow events old new → IsEnd result → result ≡ Ok tt
+    → SessionNeeds old.left → Goes (wants (session o m)) events result → Follow events old new → IsEnd result → result ≡
+    Ok tt
 unfolding Goes
 held_done o m events result old new needs (inl goes) follow ended =
-    session_done o m needs.bytes result old new needs.known needs.short (record { events = events; follow = follow; goes = goes }) ended
+    session_done o m needs.bytes result old new needs.known needs.short
+    (record { events = events; follow = follow; goes = goes }) ended
 held_done o m events result old new needs (inr ends) follow ended = not_end result ends.result_is ended
 
 -- What follows the reader of `debug FILE` ends with Done, if it ends and the input is not too long.

@@ -1,6 +1,6 @@
 -- Over the same files and the same bytes of input, calls of `debug FILE` put prefixes of one text.
-use Rattle.std.proofs.Common.{◌≡◌, ◌<◌, ◌≤◌, ◌⊎◌, ℕ, List, [], ◌∷◌, ◌++◌, Option, Some, Result, Ok, Err}
-use Rattle.std.proofs.Common.{refl, sym, ap, subst, ◌∙◌, inl, inr, append_assoc, arith}
+use Rattle.std.proofs.Common.{◌≡◌, ◌⊎◌, ℕ, List, [], ◌++◌, Option, Some, Result, Ok, Err}
+use Rattle.std.proofs.Common.{refl, sym, ap, subst, ◌∙◌, inl, inr, arith}
 use Rattle.std.proofs.lemmas.List.Folds.{concat-append as joined_both}
 use Rattle.m36_outside.specs.Files.{Files}
 use Rattle.m36_outside.specs.Passing.{joined}
@@ -23,9 +23,8 @@ use Rattle.m36_reading.specs.declared.status.Status.TheVariants as status
 use Rattle.m36_program.specs.Alike.{IsEnd, OneText}
 use Rattle.m36_program.specs.Goes.{Goes}
 use Rattle.m36_program.specs.Performs.{Performs}
-use Rattle.m36_program.specs.Program.{wants, then_with}
+use Rattle.m36_program.specs.Program.{wants}
 use Rattle.m36_program.specs.Reader.{outcome_in}
-use Rattle.m36_program.specs.Split.{BothGo, FirstEnds}
 use Rattle.m36_program.specs.Trail.{output_of, pieces_of, put_of}
 use Rattle.m36_program.proofs.ProgramLaws.{performs_text}
 use Rattle.m36_program.proofs.ReaderLaws.{reader_pieces, reader_input, reader_outcome, reader_split}
@@ -67,32 +66,40 @@ image_deterministic = record {
 -- nothing was put, and the call did not end
 nothing_put :
     (events others : List Event) (result end : Result (Unit {0}) Status) → pieces_of events ≡ []
-    → (IsEnd result → (pieces_of others ≡ []) × (result ≡ end)) → OneText (pieces_of events) (pieces_of others) result end
+    → (IsEnd result → (pieces_of others ≡ []) × (result ≡ end)) → OneText (pieces_of events) (pieces_of others) result
+    end
 nothing_put events others result end none ended =
     record { left = pieces_of others; is = ap (λ l. l ++ pieces_of others) (sym none); ended = ended }
 
 wants_text :
-    {M : Type 0} (o : Turning M) (m : M) (bytes : List ℕ) (result end : Result (Unit {0}) Status) (old new old' new' : Seen) (events others : List Event)
+    {M : Type 0} (o : Turning M) (m : M) (bytes : List ℕ) (result end : Result (Unit {0}) Status)
+    (old new old' new' : Seen) (events others : List Event)
     → IsDeterministic o → IsEnd end → old.left ≡ Some bytes → old'.left ≡ Some bytes
     → Follow events old new → Follow others old' new'
     → Goes (wants (session o m)) events result → Goes (wants (session o m)) others end
     → OneText (pieces_of events) (pieces_of others) result end
 unfolding Goes
-wants_text o m bytes result end old new old' new' events others one is_end left left' follow follow' (inl goes) (inl goes') =
+wants_text o m bytes result end old new old' new' events others one is_end left left' follow follow' (inl goes)
+    (inl goes') =
     session_one_text o m bytes result end old new old' new' one is_end left left'
-    (record { events = events; follow = follow; goes = goes }) (record { events = others; follow = follow'; goes = goes' })
+    (record { events = events; follow = follow; goes = goes }) (record
+    { events = others; follow = follow'; goes = goes' })
 wants_text o m bytes result end old new old' new' events others one is_end left left' follow follow' (inr ends) goes' =
     nothing_put events others result end (ap pieces_of ends.none) (λ ended. not_end result ends.result_is ended)
-wants_text o m bytes result end old new old' new' events others one is_end left left' follow follow' (inl goes) (inr ends') =
+wants_text o m bytes result end old new old' new' events others one is_end left left' follow follow' (inl goes)
+    (inr ends') =
     not_end end ends'.result_is is_end
 
 image_text :
-    (state : State (List ℕ)) (bytes : List ℕ) (result end : Result (Unit {0}) Status) (old new old' new' : Seen) (events others : List Event)
+    (state : State (List ℕ)) (bytes : List ℕ) (result end : Result (Unit {0}) Status) (old new old' new' : Seen)
+    (events others : List Event)
     → IsEnd end → old.left ≡ Some bytes → old'.left ≡ Some bytes → Follow events old new → Follow others old' new'
-    → Goes (on_image state) events result → Goes (on_image state) others end → OneText (pieces_of events) (pieces_of others) result end
+    → Goes (on_image state) events result → Goes (on_image state) others end → OneText (pieces_of events)
+    (pieces_of others) result end
 unfolding on_image
 image_text state bytes result end old new old' new' events others is_end left left' follow follow' goes goes' =
-    wants_text past_turning (new_history state) bytes result end old new old' new' events others image_deterministic is_end left left' follow follow' goes goes'
+    wants_text past_turning (new_history state) bytes result end old new old' new' events others image_deterministic
+    is_end left left' follow follow' goes goes'
 
 -- ---- a call
 
@@ -102,15 +109,18 @@ same_ok a b is = cc
 same_err : {A : Type 0} (s t : Status) → (let r : Option (Result A Status) = Some (Err s) in r) ≡ Some (Err t) → s ≡ t
 same_err s t is = cc
 
-ok_not_err : {A P : Type 0} (a : A) (s : Status) → (let r : Option (Result A Status) = Some (Ok a) in r) ≡ Some (Err s) → P
+ok_not_err : {A P : Type 0} (a : A) (s : Status) → (let r : Option (Result A Status) = Some (Ok a) in r) ≡ Some (Err s)
+    → P
 ok_not_err a s is = absurd (cc)
 
 own_end :
-    {A : Type 0} (result : Result (Unit {0}) Status) (s : Status) → result ≡ Err s → IsEnd result → IsEnd {A = A} (Err s)
-own_end result s is ended = let end : IsEnd {A = Unit {0}} (Err s) = subst IsEnd is ended in end
+    (A : Type 0) (result : Result (Unit {0}) Status) (s : Status) → result ≡ Err s → IsEnd result
+    → IsEnd {A = A} (Err s)
+own_end A result s is ended = let end : IsEnd {A = Unit {0}} (Err s) = subst IsEnd is ended in end
 
 -- A value was read in a call, and the pieces of the call are those of what followed.
-record Read (name : List ℕ) (files : Files) (events : List Event) (result : Result (Unit {0}) Status) (old new : Seen) : Type 0 where
+record Read (name : List ℕ) (files : Files) (events : List Event) (result : Result (Unit {0}) Status) (old new : Seen)
+    : Type 0 where
   value : State (List ℕ)
   outcome : outcome_in files (image_state {may = talking} name) ≡ Some (Ok value)
   between : Seen
@@ -128,7 +138,8 @@ record Refused (name : List ℕ) (files : Files) (events : List Event) (result :
   pieces : pieces_of events ≡ []
 
 abbrev ReadOrRefused : List ℕ → Files → List Event → Result (Unit {0}) Status → Seen → Seen → Type 0
-ReadOrRefused name files events result old new = Read name files events result old new ⊎ Refused name files events result
+ReadOrRefused name files events result old new = Read name files events result old new ⊎ Refused name files events
+    result
 
 read_or_refused :
     (name : List ℕ) (files : Files) (result : Result (Unit {0}) Status) (old new : Seen) → old.files ≡ Some files
@@ -137,14 +148,17 @@ unfolding debug_image
 read_or_refused name files result old new told performs =
     elim (reader_split (image_state name) on_image performs.events result (image_reader talking name) performs.goes) [
       | inl both ↦
-          let parts = follow_split both.first both.more old new (subst (λ e. Follow e old new) both.is performs.follow) in
+          let parts = follow_split both.first both.more old new (subst (λ e. Follow e old new) both.is
+          performs.follow) in
           let begins : Performs {may = talking} (image_state name) (Ok both.value) old parts.between =
           record { events = both.first; follow = parts.begins; goes = both.begins } in
           inl (record {
             value = both.value;
-            outcome = reader_outcome (image_state name) files (Ok both.value) old parts.between (image_reader talking name) told tt begins;
+            outcome = reader_outcome (image_state name) files (Ok both.value) old parts.between
+                (image_reader talking name) told tt begins;
             between = parts.between;
-            left = (reader_input (image_state name) (Ok both.value) old parts.between (image_reader talking name) begins).left;
+            left = (reader_input (image_state name) (Ok both.value) old parts.between (image_reader talking name)
+                begins).left;
             more = both.more;
             pieces =
                 ap pieces_of both.is
@@ -157,15 +171,18 @@ read_or_refused name files result old new told performs =
       | inr ends ↦ inr (record {
         status = ends.status;
         result_is = ends.result_is;
-        outcome = λ ended. reader_outcome (image_state name) files (Err ends.status) old new (image_reader talking name) told
-            (own_end result ends.status ends.result_is ended)
+        outcome = λ ended. reader_outcome (image_state name) files (Err ends.status) old new (image_reader talking name)
+            told
+            (own_end (State (List ℕ)) result ends.status ends.result_is ended)
             (record { events = performs.events; follow = performs.follow; goes = ends.goes });
-        pieces = reader_pieces (image_state name) performs.events (Err ends.status) (image_reader talking name) ends.goes;
+        pieces = reader_pieces (image_state name) performs.events (Err ends.status) (image_reader talking name)
+            ends.goes;
       })
     ]
 
 both_text :
-    (name : List ℕ) (files : Files) (bytes : List ℕ) (events others : List Event) (result end : Result (Unit {0}) Status) (old new old' new' : Seen)
+    (name : List ℕ) (files : Files) (bytes : List ℕ) (events others : List Event)
+    (result end : Result (Unit {0}) Status) (old new old' new' : Seen)
     → IsEnd end → old.left ≡ Some bytes → old'.left ≡ Some bytes
     → ReadOrRefused name files events result old new → ReadOrRefused name files others end old' new'
     → OneText (pieces_of events) (pieces_of others) result end
@@ -202,10 +219,12 @@ call_text name files bytes result end old new old' new' is_end told told' left l
 -- what is written grows by a prefix of the text
 grew_first :
     (put : Put) (first left all : List (List ℕ)) (old new : Seen)
-    → all ≡ first ++ left → PutsPieces put first (output_of old) (output_of new) → GrewWithin old.written new.written (joined all)
+    → all ≡ first ++ left → PutsPieces put first (output_of old) (output_of new) → GrewWithin old.written new.written
+    (joined all)
 grew_first Done first left all old new is puts =
     subst (GrewWithin old.written new.written) (sym (ap joined is ∙ joined_both first left))
-    (grew_longer old.written new.written (joined first) (joined left) (grew_within old.written new.written (joined first) puts.text))
+    (grew_longer old.written new.written (joined first) (joined left) (grew_within old.written new.written
+    (joined first) puts.text))
 grew_first Failed first left all old new is puts =
     subst (GrewWithin old.written new.written) (sym (ap joined is ∙ joined_both first left))
     (grew_longer old.written new.written (joined first) (joined left) puts.text)

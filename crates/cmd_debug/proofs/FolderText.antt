@@ -1,6 +1,7 @@
 -- Over the same files and the same bytes of input, a call of `debug` puts a prefix of what a session writes whose turns
 -- are plain: frames differ between two such systems, and nothing else.
-use Rattle.std.proofs.Common.{◌≡◌, ◌⊎◌, ℕ, Bool, false, List, [], ◌∷◌, ◌++◌, Option, Some, None, Result, Ok, Err, refl, sym, ap, subst, ◌∙◌, inl, inr}
+use Rattle.std.proofs.Common.{◌≡◌, ℕ, Bool, false, List, ◌++◌, Option, Some, None, Result, Ok, Err, refl, sym, ap}
+use Rattle.std.proofs.Common.{subst, ◌∙◌, inl, inr}
 use Rattle.std.specs.Prelude.{IfSome}
 use Rattle.m36_outside.specs.Files.{Files}
 use Rattle.m36_world.specs.Follow.{Follow}
@@ -19,7 +20,7 @@ use Rattle.m36_super.specs.FlatRun.{FlatRun, FlatTurn, flat_turn}
 use Rattle.m36_super.specs.Library.{Library}
 use Rattle.m36_super.specs.SuperFields.{SuperFields, booted_of}
 use Rattle.m36_super.specs.SuperTurn.{SuperTurns, SuperWent, content_by, super_content}
-use Rattle.m36_super.specs.TurnLaws.{LocatesInTurn, IsFlatTurn, IsTurnKept, IsPlainTurn}
+use Rattle.m36_super.specs.TurnLaws.{LocatesInTurn, IsFlatTurn, IsPlainTurn}
 use Rattle.m36_super.proofs.Audited.{flat_loaded, not_located, plain_flat}
 use Rattle.m36_super.proofs.BootTurns.{start_lib, start_unloaded}
 use Rattle.m36_super.proofs.Turns.{turn_law}
@@ -59,7 +60,8 @@ record AlikeSystems (s t : SuperFields) : Type 0 where
 
 content_flat :
     (s : SuperFields) (seg word : ℕ) → s.loaded ≡ false
-    → super_content s seg word ≡ content_in flat_store (flat_run_of (booted_of s)).state.store (flat_run_of (booted_of s)).state.regs.dbr seg word
+    → super_content s seg word ≡ content_in flat_store (flat_run_of (booted_of s)).state.store
+    (flat_run_of (booted_of s)).state.regs.dbr seg word
 unfolding super_content
 content_flat s seg word none = ap (λ (b : Bool). content_by b s seg word) none
 
@@ -72,10 +74,12 @@ same_content s t alike =
     λ i seg word. each seg word i
 
 after_alike :
-    (s t s' t' : SuperFields) (one other : Turn) → AlikeSystems s t → s'.lib ≡ s.lib → t'.lib ≡ t.lib → IsPlainTurn other
+    (s t s' t' : SuperFields) (one other : Turn) → AlikeSystems s t → s'.lib ≡ s.lib → t'.lib ≡ t.lib
+    → IsPlainTurn other
     → flat_turn s.lib (flat_run_of (booted_of s)) ≡ flat_turn t.lib (flat_run_of (booted_of t))
     → IsFlatTurn s.lib (booted_of s) one (booted_of s') → IsFlatTurn t.lib (booted_of t) other (booted_of t')
-    → LaidOutUntilLdbr s'.loaded s.lib.catalog.frames (booted_of s').state → LaidOutUntilLdbr t'.loaded t.lib.catalog.frames (booted_of t').state
+    → LaidOutUntilLdbr s'.loaded s.lib.catalog.frames (booted_of s').state → LaidOutUntilLdbr t'.loaded
+    t.lib.catalog.frames (booted_of t').state
     → AlikeSystems s' t'
 after_alike s t s' t' one other alike lib lib' plain same flat flat' stands stands' =
     let after : flat_run_of (booted_of s') ≡ flat_run_of (booted_of t') =
@@ -92,12 +96,14 @@ after_alike s t s' t' one other alike lib lib' plain same flat flat' stands stan
       stands = subst (λ (b : Bool). LaidOutUntilLdbr b s'.lib.catalog.frames (booted_of s').state) loaded
           (subst (λ (l : Library). LaidOutUntilLdbr s'.loaded l.catalog.frames (booted_of s').state) (sym lib) stands);
       stands' = subst (λ (b : Bool). LaidOutUntilLdbr b t'.lib.catalog.frames (booted_of t').state) loaded'
-          (subst (λ (l : Library). LaidOutUntilLdbr t'.loaded l.catalog.frames (booted_of t').state) (sym lib') stands');
+          (subst (λ (l : Library). LaidOutUntilLdbr t'.loaded l.catalog.frames (booted_of t').state) (sym lib')
+          stands');
     }
 
 -- a plain turn of one is the turn of the other
 turn_alike :
-    (s t s' t' : SuperFields) (one other : Turn) → AlikeSystems s t → SuperTurns s one s' → SuperTurns t other t' → IsPlainTurn other
+    (s t s' t' : SuperFields) (one other : Turn) → AlikeSystems s t → SuperTurns s one s' → SuperTurns t other t'
+    → IsPlainTurn other
     → SameAnswer AlikeSystems turns.NoMemory one other s' t'
 turn_alike s t s' t' one other alike next next' plain =
     let kept = turn_law s.lib (booted_of s) one (booted_of s') alike.loaded alike.stands next.0 in
@@ -112,16 +118,19 @@ turn_alike s t s' t' one other alike next next' plain =
       ))
       | inr (inl memory) ↦ inl memory.0
       | inr (inr locates) ↦ absurd (not_located other
-          (subst LocatesInTurn (sym flat'.turn_is) (subst LocatesInTurn (ap (λ (f : FlatTurn). f.turn) same) (kept.locates locates)))
+          (subst LocatesInTurn (sym flat'.turn_is) (subst LocatesInTurn (ap (λ (f : FlatTurn). f.turn) same)
+          (kept.locates locates)))
           plain)
     ]
 
 back_alike :
-    (s t s' t' : SuperFields) (n : ℕ) (one other : BackAnswer) → AlikeSystems s t → SuperWent s n one s' → SuperWent t n other t'
+    (s t s' t' : SuperFields) (n : ℕ) (one other : BackAnswer) → AlikeSystems s t → SuperWent s n one s'
+    → SuperWent t n other t'
     → SameAnswer AlikeSystems back.NoMemory one other s' t'
 back_alike s t s' t' n one other alike went went' = inr (inr (
   went.0 ∙ sym went'.0,
-  subst (λ (x : SuperFields). AlikeSystems x t') (sym went.1) (subst (λ (x : SuperFields). AlikeSystems s x) (sym went'.1) alike),
+  subst (λ (x : SuperFields). AlikeSystems x t') (sym went.1) (subst (λ (x : SuperFields). AlikeSystems s x)
+      (sym went'.1) alike),
 ))
 
 systems_alike : StayAlike super_turning IsPlainTurn AlikeSystems
@@ -136,7 +145,8 @@ start_alike : (lib : Library) (s t : SuperFields) → IsBooted lib s → IsBoote
 start_alike lib s t booted booted' =
     let loaded = start_unloaded lib s booted in
     let stands : LaidOutUntilLdbr false s.lib.catalog.frames (booted_of s).state =
-    subst (λ (l : Library). LaidOutUntilLdbr false l.catalog.frames (booted_of s).state) (sym (start_lib lib s booted)) booted.stands in
+    subst (λ (l : Library). LaidOutUntilLdbr false l.catalog.frames (booted_of s).state) (sym (start_lib lib s booted))
+    booted.stands in
     subst (λ (x : SuperFields). AlikeSystems s x) (one_system lib s t booted booted') (record {
       lib = refl;
       flat = refl;
@@ -149,16 +159,20 @@ start_alike lib s t booted booted' =
 -- ---- a session
 
 wants_plain :
-    (system other : SuperFields) (bytes : List ℕ) (result end : Result (Unit {0}) Status) (old new old' new' : Seen) (events : List Event)
+    (system other : SuperFields) (bytes : List ℕ) (result end : Result (Unit {0}) Status) (old new old' new' : Seen)
+    (events : List Event)
     → AlikeSystems system other → IsEnd end → old.left ≡ Some bytes → old'.left ≡ Some bytes
     → Follow events old new → Goes (wants (session super_turning system)) events result
     → (held : IsHeld super_turning other end old' new') → EachTurn IsPlainTurn held.says.session.events
     → IsFirstPart (pieces_of events) held.says.lines
 unfolding Goes
-wants_plain system other bytes result end old new old' new' events alike is_end left left' follow (inl goes) held plain =
-    session_plain_text super_turning IsPlainTurn AlikeSystems systems_alike system other bytes result end old new old' new' alike is_end left left'
+wants_plain system other bytes result end old new old' new' events alike is_end left left' follow (inl goes) held
+    plain =
+    session_plain_text super_turning IsPlainTurn AlikeSystems systems_alike system other bytes result end old new old'
+    new' alike is_end left left'
     (record { events = events; follow = follow; goes = goes }) held plain
-wants_plain system other bytes result end old new old' new' events alike is_end left left' follow (inr ends) held plain =
+wants_plain system other bytes result end old new old' new' events alike is_end left left' follow (inr ends) held
+    plain =
     subst (λ e. IsFirstPart (pieces_of e) held.says.lines) (sym ends.none) (first_none held.says.lines)
 
 -- ---- a call
@@ -169,9 +183,11 @@ given_by_files :
     → outcome_in files (folder_given {may = talking} None) ≡ Some (Ok given)
 given_by_files given files shown is says =
     let at : IfSome (Some files) (λ f. outcome_in f (folder_given {may = talking} None) ≡ Some (Ok given)) =
-    subst (λ (t : Option Files). IfSome t (λ f. outcome_in f (folder_given {may = talking} None) ≡ Some (Ok given))) is says in at
+    subst (λ (t : Option Files). IfSome t (λ f. outcome_in f (folder_given {may = talking} None) ≡ Some (Ok given))) is
+    says in at
 
-same_given : (a b : FolderFields) → (let r : Option (Result FolderFields Status) = Some (Ok a) in r) ≡ Some (Ok b) → a ≡ b
+same_given : (a b : FolderFields) → (let r : Option (Result FolderFields Status) = Some (Ok a) in r) ≡ Some (Ok b)
+    → a ≡ b
 same_given a b is = cc
 
 pub folder_text :
@@ -182,26 +198,32 @@ pub folder_text :
 unfolding debug_folder
 folder_text files bytes result end old new old' new' is_end told told' left left' one other =
     let lines = other.held.says.lines in
-    elim (reader_split (folder_given None) on_folder one.events result (folder_reader None) one.goes) [
+    elim (reader_split (folder_given None) on_folder one.events result (folder_reader talking None) one.goes) [
       | inl both ↦
           let parts = follow_split both.first both.more old new (subst (λ e. Follow e old new) both.is one.follow) in
           let begins : Performs {may = talking} (folder_given None) (Ok both.value) old parts.between =
           record { events = both.first; follow = parts.begins; goes = both.begins } in
-          let outcome = reader_outcome (folder_given None) files (Ok both.value) old parts.between (folder_reader None) told tt begins in
+          let outcome = reader_outcome (folder_given None) files (Ok both.value) old parts.between
+          (folder_reader talking None) told tt begins in
           let same : other.given ≡ both.value =
-          same_given other.given both.value (sym (given_by_files other.given files old'.files told' other.read.by_files) ∙ outcome) in
+          same_given other.given both.value (sym (given_by_files other.given files old'.files told' other.read.by_files)
+          ∙ outcome) in
           let chosen = chosen_system both.value.lib both.more result both.goes_on in
-          let booted : IsBooted both.value.lib other.system = subst (λ (g : FolderFields). IsBooted g.lib other.system) same other.booted in
+          let booted : IsBooted both.value.lib other.system = subst (λ (g : FolderFields). IsBooted g.lib other.system)
+          same other.booted in
           let pieces : pieces_of one.events ≡ pieces_of both.more =
           ap pieces_of both.is
           ∙ pieces_both both.first both.more
-          ∙ ap (λ l. l ++ pieces_of both.more) (reader_pieces (folder_given None) both.first (Ok both.value) (folder_reader None) both.begins) in
+          ∙ ap (λ l. l ++ pieces_of both.more) (reader_pieces (folder_given None) both.first (Ok both.value)
+          (folder_reader talking None) both.begins) in
           subst (λ l. IsFirstPart l lines) (sym pieces)
           (wants_plain chosen.value other.system bytes result end parts.between new other.between new' both.more
           (start_alike both.value.lib chosen.value other.system chosen.is booted) is_end
-          ((reader_input (folder_given None) (Ok both.value) old parts.between (folder_reader None) begins).left ∙ left)
+          ((reader_input (folder_given None) (Ok both.value) old parts.between (folder_reader talking None) begins).left
+          ∙ left)
           (other.nothing.input.left ∙ left') parts.goes_on chosen.rest other.held other.plain)
       | inr ends ↦
           subst (λ l. IsFirstPart l lines)
-          (sym (reader_pieces (folder_given None) one.events (Err ends.status) (folder_reader None) ends.goes)) (first_none lines)
+          (sym (reader_pieces (folder_given None) one.events (Err ends.status) (folder_reader talking None) ends.goes))
+          (first_none lines)
     ]

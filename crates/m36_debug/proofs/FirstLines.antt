@@ -1,5 +1,6 @@
 -- Laws of prefixes: of lists of lines, and of the lines of a text and of more text.
-use Rattle.std.proofs.Common.{◌≡◌, ◌==◌, ◌+◌, ℕ, Bool, true, false, List, [], ◌∷◌, ◌++◌, length, map, All, refl, sym, ap, subst, ◌∙◌, arith, length-append}
+use Rattle.std.proofs.Common.{◌≡◌, ◌==◌, ◌+◌, ℕ, Bool, true, false, List, [], ◌∷◌, ◌++◌, length, map, refl, sym, ap}
+use Rattle.std.proofs.Common.{subst, ◌∙◌, arith, length-append}
 use Rattle.std.proofs.lemmas.Bool.{eqb-true}
 use Rattle.std.proofs.lemmas.List.{append-nil, append_assoc}
 use Rattle.std.proofs.lemmas.List.Elements.{All-nil, All-cons, All-head, All-tail}
@@ -34,7 +35,8 @@ none_left lines (line ∷ rest) more is =
     absurd (omega (arith, ap length is, length-append (lines ++ line ∷ rest) more, length-append lines (line ∷ rest)))
 
 -- each is a prefix of the other
-pub first_both : (lines others : List (List ℕ)) → (first : IsFirstPart lines others) → IsFirstPart others lines → first.rest ≡ []
+pub first_both : (lines others : List (List ℕ)) → (first : IsFirstPart lines others) → IsFirstPart others lines
+    → first.rest ≡ []
 first_both lines others first second =
     none_left lines first.rest second.rest (second.is ∙ ap (λ l. l ++ second.rest) first.is)
 
@@ -54,7 +56,8 @@ agree (line ∷ lines) (other ∷ others) rest more is = (
 )
 
 -- two prefixes of one list
-pub first_agree : (lines others all : List (List ℕ)) → IsFirstPart lines all → IsFirstPart others all → SameInput lines others
+pub first_agree : (lines others all : List (List ℕ)) → IsFirstPart lines all → IsFirstPart others all
+    → SameInput lines others
 first_agree lines others all one two = agree lines others one.rest two.rest (sym one.is ∙ two.is)
 
 -- ---- the whole lines of a text
@@ -80,7 +83,8 @@ after_feed b text feed cut = record {
 
 -- one more byte, which is no line feed
 after_byte :
-    (b : ℕ) (text : List ℕ) (lines : List (List ℕ)) (rest : List ℕ) → (b == 10) ≡ false → IsLines text lines rest → IsUnbroken rest
+    (b : ℕ) (text : List ℕ) (lines : List (List ℕ)) (rest : List ℕ) → (b == 10) ≡ false → IsLines text lines rest
+    → IsUnbroken rest
     → LinesOf (b ∷ text)
 after_byte b text [] rest other is unbroken = record {
   lines = [];
@@ -115,7 +119,8 @@ lines_in_text (b ∷ text) = one_byte b text (b == 10) refl (lines_in_text text)
 
 -- ---- of more text
 
-longer : (text more rest : List ℕ) (lines : List (List ℕ)) → IsLines text lines rest → IsLines (text ++ more) lines (rest ++ more)
+longer : (text more rest : List ℕ) (lines : List (List ℕ)) → IsLines text lines rest
+    → IsLines (text ++ more) lines (rest ++ more)
 longer text more rest lines is = record {
   is = ap (λ t. t ++ more) is.is ∙ append_assoc (joined (map as_line lines)) rest more;
   unbroken = is.unbroken;
@@ -125,7 +130,8 @@ longer text more rest lines is = record {
 pub whole_first : (text more : List ℕ) → IsFirstPart (whole_lines text) (whole_lines (text ++ more))
 whole_first text more =
     let cut = lines_in_text text in
-    subst (λ l. IsFirstPart l (whole_lines (text ++ more))) (sym (all_whole text cut.rest cut.lines cut.is cut.unbroken))
+    subst (λ l. IsFirstPart l (whole_lines (text ++ more))) (sym (all_whole text cut.rest cut.lines cut.is
+    cut.unbroken))
     (some_whole (text ++ more) (cut.rest ++ more) cut.lines (longer text more cut.rest cut.lines cut.is))
 
 open_after :
@@ -137,5 +143,6 @@ open_after text rest lines is =
 pub open_first : (text more : List ℕ) → IsFirstPart (whole_lines text) (open_lines_of (text ++ more))
 open_first text more =
     let cut = lines_in_text text in
-    subst (λ l. IsFirstPart l (open_lines_of (text ++ more))) (sym (all_whole text cut.rest cut.lines cut.is cut.unbroken))
+    subst (λ l. IsFirstPart l (open_lines_of (text ++ more))) (sym (all_whole text cut.rest cut.lines cut.is
+    cut.unbroken))
     (open_after (text ++ more) (cut.rest ++ more) cut.lines (longer text more cut.rest cut.lines cut.is))
