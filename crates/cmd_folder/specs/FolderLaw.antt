@@ -1,7 +1,8 @@
 -- How `audit`, `run` and `trace` of a folder end: with which findings, by the conditions of the
 -- audit; that some call ends; that the program of a run is the booted runs; and that run and trace
 -- have one text up to the first ABSA or LDBR.
-use Rattle.std.specs.Prelude.{ℕ, ◌≡◌, ◌⊎◌, Bool, true, false, List, [], ◌∷◌, ◌++◌, Option, Some, Result, Ok}
+use Rattle.std.specs.Prelude.{ℕ, ◌≡◌, ◌⊎◌, Bool, true, false, List, [], ◌∷◌, ◌++◌, Option, Some}
+use Rattle.std.specs.Prelude.{Result, Ok, Err}
 use Rattle.m36_outside.specs.Files.{Files}
 use Rattle.m36_world.specs.Follow.{outputs}
 use Rattle.m36_world.specs.Seen.{Seen}
@@ -16,13 +17,14 @@ use Rattle.m36_super.specs.TurnLaws.{IsPlainTurn}
 use Rattle.m36_super.specs.BootSays.{IsBooted}
 use Rattle.m36_super.specs.declared.coming.NextEvent.TheVariants.{Step}
 use Rattle.m36_reading.specs.declared.status.Status.{Status}
-use Rattle.m36_program.specs.Alike.{OneText}
+use Rattle.m36_reading.specs.declared.status.Status.TheVariants.{NoMemory}
+use Rattle.m36_program.specs.Alike.{IsEnd, OneText}
 use Rattle.m36_program.specs.Early.{early}
 use Rattle.m36_program.specs.Ended.{HasEnd}
-use Rattle.m36_program.specs.Goes.{Goes}
+use Rattle.m36_program.specs.Goes.{Ends, Goes}
 use Rattle.m36_program.specs.OneText.{HasOneText}
 use Rattle.m36_program.specs.Performs.{Performs}
-use Rattle.m36_program.specs.Program.{wants}
+use Rattle.m36_program.specs.Program.{quiet}
 use Rattle.m36_program.specs.Reader.{outcome_in}
 use Rattle.m36_program.specs.Trail.{pieces_of}
 use Rattle.m36_ran.specs.AuditText.{audit_pieces}
@@ -58,15 +60,13 @@ is_unaudited (Trace run) = run.unaudited
 
 -- ---- by the findings
 
--- The call is what the command does with some findings, at least one; or memory ran out before it
--- put anything.
+-- The call is what the command does with some findings, at least one.
 pub record GoesByFindings (command : FolderCommand) (given : FolderFields) (system : SuperFields)
     (events : List Event) (result : Result (Unit {0}) Status) : Type 0 where
   pub first : ℕ × ℕ
   pub others : List (ℕ × ℕ)
   pub found : AreFindings system.core booted_dbr (first ∷ others)
-  pub goes :
-      Goes (wants (by_command command given (booted_of system) (first ∷ others))) events result
+  pub goes : Goes (by_command command given (booted_of system) (first ∷ others)) events result
 
 -- ---- the one text of a run
 
@@ -119,8 +119,15 @@ HasTextOf run output given findings turns how events result =
 -- ---- the law
 
 pub record FolderLaw : Type 0 where
-  -- `audit` has one text over the same files, and some call of it ends on each folder that boots.
+  -- `audit` has one text over the same files. On a folder that boots, all calls of it that end put
+  -- the same pieces and have the same result, and some call ends.
   pub audit : (user : Option (List ℕ)) → HasOneText (folder_program Audit user)
+  pub one_audit :
+      (given : FolderFields) (events others : List Event)
+      (result other : Result (Unit {0}) Status)
+      → Goes (on_folder Audit given) events result → IsEnd result
+      → Goes (on_folder Audit given) others other → IsEnd other
+      → (events ≡ others) × (result ≡ other)
   pub some_audit :
       (given : FolderFields) (system : SuperFields) → IsBooted given.lib system
       → HasEnd (on_folder Audit given)
@@ -138,19 +145,20 @@ pub record FolderLaw : Type 0 where
       → Finishes how given.lib run.steps turns last
       → HasEnd (on_folder (run_command output run) given)
   -- If all conditions of the audit hold of the core of the system, a call has no findings, and
-  -- otherwise it has some.
+  -- otherwise it has some; unless memory runs out before it puts anything.
   pub passed :
       (command : FolderCommand) (given : FolderFields) (system : SuperFields) (events : List Event)
       (result : Result (Unit {0}) Status)
       → IsBooted given.lib system → IsAudited system.core booted_dbr
       → Goes (on_folder command given) events result
-      → Goes (wants (by_command command given (booted_of system) [])) events result
+      → Goes (by_command command given (booted_of system) []) events result
+      ⊎ Ends (Err NoMemory) events result
   pub failed :
       (command : FolderCommand) (given : FolderFields) (system : SuperFields) (events : List Event)
       (result : Result (Unit {0}) Status)
       → IsBooted given.lib system → ¬ IsAudited system.core booted_dbr
       → Goes (on_folder command given) events result
-      → GoesByFindings command given system events result
+      → GoesByFindings command given system events result ⊎ Ends (Err NoMemory) events result
   -- Each call of the program of a run is a booted run; and each booted run that finishes is a call
   -- of it, which puts all pieces of the run and has its status.
   pub run :
@@ -187,7 +195,8 @@ pub record FolderLaw : Type 0 where
       (run : FolderRun) (output : RunOutput) (user : Option (List ℕ)) (files : Files)
       (given : FolderFields) (findings : List (ℕ × ℕ)) (turns : List Turn) (last : Booted)
       (result : Result (Unit {0}) Status) (old new : Seen)
-      → old.files ≡ Some files → outcome_in files (folder_given user) ≡ Some (Ok given)
+      → old.files ≡ Some files
+      → outcome_in files (folder_given {may = quiet} user) ≡ Some (Ok given)
       → ArePlain run given findings turns last
       → (performs : Performs (folder_program (run_command output run) user) result old new)
       → Agree (pieces_of performs.events) (plain_pieces output findings turns)
@@ -195,7 +204,8 @@ pub record FolderLaw : Type 0 where
       (run : FolderRun) (output : RunOutput) (user : Option (List ℕ)) (files : Files)
       (given : FolderFields) (findings : List (ℕ × ℕ)) (turns : List Turn) (last : Booted)
       (how : Finish) (result : Result (Unit {0}) Status) (old new : Seen)
-      → old.files ≡ Some files → outcome_in files (folder_given user) ≡ Some (Ok given)
+      → old.files ≡ Some files
+      → outcome_in files (folder_given {may = quiet} user) ≡ Some (Ok given)
       → ArePlain run given findings turns last → Finishes how given.lib run.steps turns last
       → (performs : Performs (folder_program (run_command output run) user) result old new)
       → HasTextOf run output given findings turns how performs.events result

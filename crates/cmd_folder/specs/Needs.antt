@@ -1,5 +1,5 @@
 -- What `audit`, `run` and `trace` of a folder need, besides accepted files, to end with Done.
-use Rattle.std.specs.Prelude.{ℕ, ◌≡◌, ◌⊎◌, Bool, true, List}
+use Rattle.std.specs.Prelude.{ℕ, ◌≡◌, List}
 use Rattle.m36_model.specs.Audit.{IsAudited}
 use Rattle.m36_model.specs.BootedCore.{booted_dbr}
 use Rattle.m36_model.specs.StoreLaw.{Each}
@@ -11,6 +11,7 @@ use Rattle.m36_super.specs.BootedRun.{Booted}
 use Rattle.m36_super.specs.SuperFields.{SuperFields, booted_of}
 use Rattle.m36_super.specs.TurnLaws.{IsPlainTurn}
 use Rattle.m36_super.specs.BootSays.{IsBooted}
+use Rattle.cmd_image.specs.Needs.{MayRun}
 use Rattle.m36_booted.specs.declared.command.FolderCommand.{FolderCommand}
 use Rattle.m36_booted.specs.declared.command.FolderCommand.TheVariants.{Audit, Run, Trace}
 use Rattle.m36_booted.specs.declared.command.FolderRun.{FolderRun}
@@ -18,10 +19,6 @@ use Rattle.m36_booted.specs.declared.running.Finish.{Finish}
 use Rattle.m36_booted.specs.declared.running.Finish.TheVariants.{Over}
 use Rattle.m36_booted.specs.Folder.{FolderFields}
 use Rattle.m36_booted.specs.Runs.{Goes, Finishes}
-
--- The audit passes, or `--unaudited` is given.
-abbrev pub MayRun : Type 0 → Bool → Type 0
-MayRun Passes unaudited = Passes ⊎ (unaudited ≡ true)
 
 -- Each run of at most `limit` steps ends with DIS.
 abbrev pub EndsWithDis : Library → ℕ → Booted → Type 0

@@ -1,6 +1,6 @@
--- The output of a booted run, in pieces: its trace, or the characters of its console, or nothing,
--- and then its end line. If a run for a user ended because a right to a segment of the catalog was
--- missing, the line `denied` of that segment follows.
+-- The output of a booted run, in pieces: its trace, or the characters of its console, and then its
+-- end line. If a run for a user ended because a right to a segment of the catalog was missing, the
+-- line `denied` of that segment follows.
 use Rattle.std.specs.Prelude.{ℕ, ◌+◌, Bool, ◌&&◌, ◌||◌, nat_eq, if◌then◌else◌, List, [], ◌∷◌, ◌++◌}
 use Rattle.std.specs.Prelude.{Option, Some, None, slice_get, option_and_then, option_to_list}
 use Rattle.m36_text.specs.Lines.{as_line}
@@ -53,7 +53,6 @@ printed NoMemory = []
 abbrev pub pieces_of : RunOutput → ℕ → Turn → List (List ℕ)
 pieces_of output.Trace taken turn = turn_pieces taken turn
 pieces_of output.Console taken turn = printed turn
-pieces_of output.Nothing taken turn = []
 
 unfoldable pub pieces_from : RunOutput → ℕ → List Turn → List (List ℕ)
 pieces_from output taken [] = []
