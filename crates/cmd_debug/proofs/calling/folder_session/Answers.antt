@@ -15,7 +15,9 @@ returns g c =
     let f = g.F.Folder in
     let l = g.L.Lines in
     let s = g.S.Sink in
-    performs_over debug_folder c.debug_folder-outcome.result c.status_by.result _ _ _ _ c.status_by.ensures begun.events
-    (same_now f.asked f.wrote f.files f.read_faults f.write_faults l.given l.left l.faults s.taken s.written s.faults _ _ _ _ _ _ _ _ begun.folder begun.input begun.output)
-    (same_now f.asked f.wrote f.files f.read_faults f.write_faults l.given l.left l.faults s.taken s.written s.faults _ _ _ _ _ _ _ _ (search rules) (search rules) (search rules))
-    c.debug_folder-outcome.ensures
+    record {
+      performs = performs_over debug_folder c.debug_folder-outcome.result c.status_by.result _ _ _ _ c.status_by.ensures begun.events
+          (same_now f.asked f.wrote f.files f.read_faults f.write_faults l.given l.left l.faults s.taken s.written s.faults _ _ _ _ _ _ _ _ begun.folder begun.input begun.output)
+          (same_now f.asked f.wrote f.files f.read_faults f.write_faults l.given l.left l.faults s.taken s.written s.faults _ _ _ _ _ _ _ _ (search rules) (search rules) (search rules))
+          c.debug_folder-outcome.ensures;
+    }
