@@ -30,7 +30,8 @@ use Rattle.m36_ran.specs.declared.command.ImageCommand.TheVariants.{Bare, Audit}
 use Rattle.m36_ran.proofs.SomeFindings.{some_findings}
 use Rattle.m36_ran.proofs.YesAnswers.{none_found}
 use Rattle.cmd_image.specs.ImageProgram.{AreAuditFindings, by_command, on_image}
-use Rattle.cmd_image.specs.ImageEnds.{bare_pieces, image_pieces, bare_status, image_status, EndsByFindings, EndsByFinding, ImageEndLaw}
+use Rattle.cmd_image.specs.ImageEnds.{bare_pieces, image_pieces, bare_status, image_status, EndsByFindings}
+use Rattle.cmd_image.specs.ImageEnds.{EndsByFinding, ImageEndLaw}
 use Rattle.cmd_image.specs.Needs.{MayRun, ImageNeeds}
 use Rattle.cmd_image.proofs.ImageGoes.{found_puts, found_end}
 use Rattle.cmd_image.proofs.PutEnds.{whole_ends, none_ends, pieces_begin, both_end, starts_longer, none_starts, SomeEnd}
@@ -47,7 +48,8 @@ record Found (command : ImageCommand) (state : State (List ℕ)) (events : List 
 on_goes :
     (command : ImageCommand) (state : State (List ℕ)) (events : List Event) (result : Result (Unit {0}) Status)
     → Goes (on_image command state) events result
-    → Chosen (AreAuditFindings state) (λ f. Goes (by_command command state f) events result) ⊎ Ends (Err NoMemory) events result
+    → Chosen (AreAuditFindings state) (λ f. Goes (by_command command state f) events result)
+    ⊎ Ends (Err NoMemory) events result
 unfolding Goes on_image
 on_goes command state events result goes = goes
 
@@ -80,15 +82,19 @@ image_ended command state events result goes end =
       | inl found ↦ record {
         findings = found.findings;
         are = found.are;
-        ends = whole_ends (image_pieces command state found.findings) (image_status command state found.findings) events result end found.puts;
+        ends = whole_ends (image_pieces command state found.findings) (image_status command state found.findings) events
+            result end found.puts;
       }
       | inr none ↦ none_ends events result end none
     ]
 
 -- ---- the law
 
-one_list : (state : State (List ℕ)) (findings others : List (ℕ × ℕ)) → AreAuditFindings state findings → AreAuditFindings state others → findings ≡ others
-one_list state findings others are same = findings_law.unique state.store state.regs.dbr findings others are.found same.found
+one_list :
+    (state : State (List ℕ)) (findings others : List (ℕ × ℕ)) → AreAuditFindings state findings
+    → AreAuditFindings state others → findings ≡ others
+one_list state findings others are same =
+    findings_law.unique state.store state.regs.dbr findings others are.found same.found
 
 isolated_by :
     (state : State (List ℕ)) (findings : List (ℕ × ℕ)) → AreFindings state.store state.regs.dbr findings → findings ≡ []
@@ -117,19 +123,23 @@ image_some command state none =
 ends_same :
     (command : ImageCommand) (state : State (List ℕ)) (findings others : List (ℕ × ℕ)) (events : List Event)
     (result : Result (Unit {0}) Status)
-    → findings ≡ others → EndsByFindings command state findings events result → EndsByFindings command state others events result
+    → findings ≡ others → EndsByFindings command state findings events result
+    → EndsByFindings command state others events result
 ends_same command state findings others events result same ends =
     subst (λ f. EndsByFindings command state f events result) same ends
 
 image_one :
-    (command : ImageCommand) (state : State (List ℕ)) (events others : List Event) (result other : Result (Unit {0}) Status)
-    → Goes (on_image command state) events result → IsEnd result → Goes (on_image command state) others other → IsEnd other
+    (command : ImageCommand) (state : State (List ℕ)) (events others : List Event)
+    (result other : Result (Unit {0}) Status)
+    → Goes (on_image command state) events result → IsEnd result → Goes (on_image command state) others other
+    → IsEnd other
     → (events ≡ others) × (result ≡ other)
 image_one command state events others result other goes end goes' end' =
     let one : Ended command state events result = image_ended command state events result goes end in
     let two : Ended command state others other = image_ended command state others other goes' end' in
     let same : two.findings ≡ one.findings = one_list state two.findings one.findings two.are one.are in
-    both_end (image_pieces command state one.findings) (image_status command state one.findings) events others result other one.ends
+    both_end (image_pieces command state one.findings) (image_status command state one.findings) events others result
+    other one.ends
     (ends_same command state two.findings one.findings others other same two.ends)
 
 image_passed :
@@ -146,8 +156,10 @@ by_finding :
     (result : Result (Unit {0}) Status)
     → AreAuditFindings state findings → EndsByFindings command state findings events result
     → ¬ IsAudited state.store state.regs.dbr → EndsByFinding command state events result
-by_finding command state [] events result are ends fails = absurd (fails (findings_law.sound state.store state.regs.dbr are.found))
-by_finding command state (f ∷ findings) events result are ends fails = record { first = f; others = findings; are = are; ends = ends }
+by_finding command state [] events result are ends fails =
+    absurd (fails (findings_law.sound state.store state.regs.dbr are.found))
+by_finding command state (f ∷ findings) events result are ends fails =
+    record { first = f; others = findings; are = are; ends = ends }
 
 image_failed :
     (command : ImageCommand) (state : State (List ℕ)) (events : List Event) (result : Result (Unit {0}) Status)
@@ -180,13 +192,16 @@ bare_done bare state (f ∷ findings) (inr un) dis =
 
 -- An audit that passes finds nothing, unless it does not matter.
 none_by :
-    (state : State (List ℕ)) (findings : List (ℕ × ℕ)) (unaudited : Bool) → AreFindings state.store state.regs.dbr findings
+    (state : State (List ℕ)) (findings : List (ℕ × ℕ)) (unaudited : Bool)
+    → AreFindings state.store state.regs.dbr findings
     → MayRun (IsAudited state.store state.regs.dbr) unaudited → (findings ≡ []) ⊎ (unaudited ≡ true)
-none_by state findings unaudited found (inl audited) = inl (findings_law.complete state.store state.regs.dbr findings audited found)
+none_by state findings unaudited found (inl audited) =
+    inl (findings_law.complete state.store state.regs.dbr findings audited found)
 none_by state findings unaudited found (inr un) = inr un
 
 status_done :
-    (command : ImageCommand) (state : State (List ℕ)) (findings : List (ℕ × ℕ)) → AreFindings state.store state.regs.dbr findings
+    (command : ImageCommand) (state : State (List ℕ)) (findings : List (ℕ × ℕ))
+    → AreFindings state.store state.regs.dbr findings
     → ImageNeeds command state → image_status command state findings ≡ Done
 status_done (Bare bare) state findings found needs =
     bare_done bare state findings (none_by state findings bare.unaudited found needs.0) needs.1
@@ -207,7 +222,8 @@ image_done command state events result goes end needs =
 bare_begins :
     (is : Bool) (steps : ℕ) (state : State (List ℕ)) (findings : List (ℕ × ℕ))
     → (more : List ℕ) × (joined (bare_pieces is steps state findings) ≡ audit_text findings ++ more)
-bare_begins true steps state findings = (joined (run_pieces steps state), joined_on (audit_pieces findings) (run_pieces steps state))
+bare_begins true steps state findings =
+    (joined (run_pieces steps state), joined_on (audit_pieces findings) (run_pieces steps state))
 bare_begins false steps state findings = ([], sym (append-nil (audit_text findings)))
 
 text_begins :
@@ -224,7 +240,8 @@ found_passes command state findings are starts =
     text_begins command state findings in
     let none : findings ≡ [] = none_found findings begins.0 starts.rest (sym begins.1 ∙ starts.is) in
     record {
-      conditions = findings_law.sound state.store state.regs.dbr (subst (AreFindings state.store state.regs.dbr) none are.found);
+      conditions = findings_law.sound state.store state.regs.dbr
+          (subst (AreFindings state.store state.regs.dbr) none are.found);
       isolates = are.isolated none;
     }
 
@@ -236,8 +253,10 @@ image_yes command state events result goes starts =
     elim (image_found command state events result goes) [
       | inl found ↦ (
           let begin : (left : List (List ℕ)) × (image_pieces command state found.findings ≡ pieces_of events ++ left) =
-          pieces_begin (image_pieces command state found.findings) (image_status command state found.findings) events result found.puts in
+          pieces_begin (image_pieces command state found.findings) (image_status command state found.findings) events
+          result found.puts in
           found_passes command state found.findings found.are
-          (starts_longer yes_line (image_pieces command state found.findings) (pieces_of events) begin.0 begin.1 starts))
+          (starts_longer yes_line (image_pieces command state found.findings) (pieces_of events) begin.0
+          begin.1 starts))
       | inr none ↦ none_starts events none.none starts
     ]

@@ -1,5 +1,6 @@
 -- What the program of a command puts on an image, by the findings of the audit, and that it ends.
-use Rattle.std.proofs.Common.{◌≡◌, ℕ, zero, suc, ◌+◌, ◌++◌, Bool, true, false, List, [], ◌∷◌, Result, refl, sym, ap, subst, ◌∙◌}
+use Rattle.std.proofs.Common.{◌≡◌, ℕ, zero, suc, ◌+◌, ◌++◌, Bool, true, false, List, [], ◌∷◌, Result, refl, sym, ap}
+use Rattle.std.proofs.Common.{subst, ◌∙◌}
 use Rattle.m36_text.specs.Lines.{as_line}
 use Rattle.m36_model.specs.Store.{State}
 use Rattle.m36_model.specs.Run.{is_next, only_if}
@@ -43,7 +44,9 @@ ends_is : (taken : ℕ) (last : Outcome)
 unfolding run_ends run_status
 ends_is taken last = sym (puts_one (as_line (end_line_of last taken)) (ends (status_after last) (own_after last)))
 
-all_more : (piece : List ℕ) (pieces : List (List ℕ)) (rest : Program quiet (Unit {0})) → puts piece (puts_all pieces rest) ≡ puts_all (piece ∷ pieces) rest
+all_more :
+    (piece : List ℕ) (pieces : List (List ℕ)) (rest : Program quiet (Unit {0}))
+    → puts piece (puts_all pieces rest) ≡ puts_all (piece ∷ pieces) rest
 unfolding puts_all
 all_more piece pieces rest = refl
 
@@ -139,13 +142,17 @@ audit_end : (findings : List (ℕ × ℕ)) → SomeEnd (audit_only findings)
 unfolding audit_only
 audit_end findings = puts_end (audit_pieces findings) (audit_status (passes findings)) (audit_may_end (passes findings))
 
-bare_end : (is : Bool) (steps : ℕ) (state : State (List ℕ)) (findings : List (ℕ × ℕ)) → SomeEnd (bare_by is steps state findings)
+bare_end :
+    (is : Bool) (steps : ℕ) (state : State (List ℕ)) (findings : List (ℕ × ℕ))
+    → SomeEnd (bare_by is steps state findings)
 bare_end true steps state findings =
     let last = last_outcome (run steps state) in
     subst SomeEnd (sym (both_is steps state findings))
     (puts_end (audit_pieces findings ++ run_pieces steps state) (status_after last) (own_after last))
 bare_end false steps state findings = audit_end findings
 
-pub found_end : (command : ImageCommand) (state : State (List ℕ)) (findings : List (ℕ × ℕ)) → SomeEnd (by_command command state findings)
+pub found_end :
+    (command : ImageCommand) (state : State (List ℕ)) (findings : List (ℕ × ℕ))
+    → SomeEnd (by_command command state findings)
 found_end (Bare bare) state findings = bare_end (is_run findings bare.unaudited) bare.steps state findings
 found_end Audit state findings = audit_end findings

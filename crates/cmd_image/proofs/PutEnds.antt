@@ -27,13 +27,16 @@ as_result s = Err s
 -- A call that ends put all of its pieces.
 pub whole_ends : (pieces : List (List ℕ)) (s : Status) (events : List Event) (result : Result (Unit {0}) Status)
     → IsEnd result → PutsBy pieces s events result → EndsWith pieces s events result
-whole_ends pieces s events result end (inl whole) = record { events_are = whole.events_are; result_is = whole.result_is }
+whole_ends pieces s events result end (inl whole) =
+    record { events_are = whole.events_are; result_is = whole.result_is }
 whole_ends pieces s events result end (inr part) =
     let no : IsEnd (as_result status.WriteFault) = subst IsEnd part.result_is end in
     absurd no
 
 -- Memory ran out, so the call did not end.
-pub none_ends : {P : Type 0} (events : List Event) (result : Result (Unit {0}) Status) → IsEnd result → Ends (Err status.NoMemory) events result → P
+pub none_ends :
+    {P : Type 0} (events : List Event) (result : Result (Unit {0}) Status) → IsEnd result
+    → Ends (Err status.NoMemory) events result → P
 none_ends events result end ends =
     let no : IsEnd (as_result status.NoMemory) = subst IsEnd ends.result_is end in
     absurd no
@@ -41,8 +44,11 @@ none_ends events result end ends =
 -- What was put is a prefix of the pieces.
 pub pieces_begin : (pieces : List (List ℕ)) (s : Status) (events : List Event) (result : Result (Unit {0}) Status)
     → PutsBy pieces s events result → (left : List (List ℕ)) × (pieces ≡ pieces_of events ++ left)
-pieces_begin pieces s events result (inl whole) =
-    ([], sym (append-nil pieces) ∙ sym (pieces_put pieces []) ∙ ap pieces_of (append-nil (outputs pieces)) ∙ ap pieces_of (sym whole.events_are) ∙ sym (append-nil (pieces_of events)))
+pieces_begin pieces s events result (inl whole) = (
+  [],
+  sym (append-nil pieces) ∙ sym (pieces_put pieces []) ∙ ap pieces_of (append-nil (outputs pieces))
+      ∙ ap pieces_of (sym whole.events_are) ∙ sym (append-nil (pieces_of events)),
+)
 pieces_begin pieces s events result (inr part) = (part.left, part.is)
 
 pub both_end :
@@ -83,10 +89,12 @@ puts_end pieces s own = record {
 
 -- If a prefix of some pieces begins with a text, so do the pieces.
 pub starts_longer :
-    (text : List ℕ) (pieces first left : List (List ℕ)) → pieces ≡ first ++ left → StartsWith text first → StartsWith text pieces
+    (text : List ℕ) (pieces first left : List (List ℕ)) → pieces ≡ first ++ left → StartsWith text first
+    → StartsWith text pieces
 starts_longer text pieces first left is starts = record {
   rest = starts.rest ++ joined left;
-  is = ap joined is ∙ joined_on first left ∙ ap (λ t. t ++ joined left) starts.is ∙ append_assoc text starts.rest (joined left);
+  is = ap joined is ∙ joined_on first left ∙ ap (λ t. t ++ joined left) starts.is
+      ∙ append_assoc text starts.rest (joined left);
 }
 
 -- Nothing was put, so no text begins with `audit yes`.

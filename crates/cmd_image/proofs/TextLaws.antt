@@ -20,8 +20,10 @@ use Rattle.m36_ran.specs.Output.{status_after}
 use Rattle.m36_ran.specs.Ran.{passes, is_run, audit_status}
 use Rattle.m36_ran.specs.declared.command.ImageCommand.{ImageCommand}
 use Rattle.m36_ran.specs.declared.command.ImageCommand.TheVariants.{Bare, Audit}
-use Rattle.cmd_image.specs.ImageProgram.{decoded, decode, image_state, may_end_by, run_status, run_ends, after_step, run_from}
-use Rattle.cmd_image.specs.ImageProgram.{AreAuditFindings, audit_may_end, audit_only, audit_and_run, bare_by, by_command, on_image, image_program}
+use Rattle.cmd_image.specs.ImageProgram.{decoded, decode, image_state, may_end_by, run_status, run_ends, after_step}
+use Rattle.cmd_image.specs.ImageProgram.{run_from}
+use Rattle.cmd_image.specs.ImageProgram.{AreAuditFindings, audit_may_end, audit_only, audit_and_run, bare_by}
+use Rattle.cmd_image.specs.ImageProgram.{by_command, on_image, image_program}
 use Rattle.cmd_image.specs.OneText.{ImageTextLaw}
 
 decoded_alike :
@@ -88,7 +90,8 @@ by_alike :
 by_alike (Bare bare) state findings = bare_alike (is_run findings bare.unaudited) bare.steps state findings
 by_alike Audit state findings = audit_alike findings
 
-image_alike : (command : ImageCommand) (state : State (List ℕ)) → Alike (on_image command state) (on_image command state)
+image_alike :
+    (command : ImageCommand) (state : State (List ℕ)) → Alike (on_image command state) (on_image command state)
 unfolding Alike on_image
 image_alike command state =
     let chosen : Program quiet (Unit {0}) = some (AreAuditFindings state) (by_command command state) in

@@ -1,5 +1,5 @@
--- How `bare FILE` and `audit FILE` end on an image: what they put and which status they have, by the
--- findings of the audit; and which findings there are, by the six conditions of the audit.
+-- How `bare FILE` and `audit FILE` end on an image: what they put and which status they have, by
+-- the findings of the audit; and which findings there are, by the six conditions of the audit.
 use Rattle.std.specs.Prelude.{ℕ, ◌≡◌, Bool, true, false, List, [], ◌∷◌, ◌++◌, Result}
 use Rattle.m36_model.specs.Store.{State}
 use Rattle.m36_model.specs.Audit.{IsAudited}
@@ -76,7 +76,9 @@ pub record ImageEndLaw : Type 0 where
   pub none :
       (state : State (List ℕ)) (findings : List (ℕ × ℕ))
       → AreAuditFindings state findings → IsAudited state.store state.regs.dbr → findings ≡ []
-  pub only : (state : State (List ℕ)) → AreAuditFindings state [] → IsAudited state.store state.regs.dbr
+  pub only :
+      (state : State (List ℕ)) → AreAuditFindings state []
+      → IsAudited state.store state.regs.dbr
   -- It is impossible that no call ends.
   pub some : (command : ImageCommand) (state : State (List ℕ)) → HasEnd (on_image command state)
   -- Each call that ends put the same events and has the same result.

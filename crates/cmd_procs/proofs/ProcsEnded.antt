@@ -1,7 +1,7 @@
--- How the command on processes ends: by the findings of their joint audit, of which there is one list; with Done, if its
--- needs are met; and what it means that its text begins with `audit yes`.
-use Rattle.std.proofs.Common.{◌≡◌, ◌⊎◌, ℕ, ◌+◌, Bool, true, false, List, [], ◌∷◌, ◌++◌, Option, Some, None, Result, Ok, Err}
-use Rattle.std.proofs.Common.{refl, sym, ap, subst, ◌∙◌, inl, inr, arith, get_or}
+-- How the command on processes ends: by the findings of their joint audit, of which there is one list; with Done, if
+-- its needs are met; and what it means that its text begins with `audit yes`.
+use Rattle.std.proofs.Common.{◌≡◌, ◌⊎◌, ℕ, ◌+◌, Bool, true, false, List, [], ◌∷◌, ◌++◌, Option, Some, None, Result, Ok}
+use Rattle.std.proofs.Common.{Err, refl, sym, ap, subst, ◌∙◌, inl, inr, arith, get_or}
 use Rattle.std.proofs.lemmas.List.{append-nil}
 use Rattle.std.proofs.lemmas.List.Folds.{concat-append as joined_on}
 use Rattle.m36_outside.specs.Passing.{joined}
@@ -27,12 +27,12 @@ use Rattle.m36_program.proofs.PutLaws.{puts_both}
 use Rattle.m36_ran.specs.AuditText.{yes_line}
 use Rattle.m36_ran.specs.Ran.{is_run, audit_status}
 use Rattle.m36_ran.proofs.SomeFindings.{some_find, some_findings}
-use Rattle.cmd_image.specs.ImageEnds.{EndsWith}
-use Rattle.cmd_image.specs.Needs.{MayRun}
-use Rattle.cmd_image.proofs.PutEnds.{whole_ends, none_ends, pieces_begin, both_end, starts_longer, none_starts, SomeEnd, puts_end}
+use Rattle.cmd_image.proofs.PutEnds.{whole_ends, none_ends, pieces_begin, both_end, starts_longer, none_starts, SomeEnd}
+use Rattle.cmd_image.proofs.PutEnds.{puts_end}
 use Rattle.cmd_procs.specs.JointText.{process_line, between_line, line_by, found_pieces, joint_pieces, joint_text}
 use Rattle.cmd_procs.specs.Scheduled.{dbrs_of, SchedulesAreIsolated, PassesJoint}
-use Rattle.cmd_procs.specs.ProcsProgram.{AreScheduleFindings, audit_only, run_all, audit_and_run, run_by, by_found, on_procs}
+use Rattle.cmd_procs.specs.ProcsProgram.{AreScheduleFindings, audit_only, run_all, audit_and_run, run_by, by_found}
+use Rattle.cmd_procs.specs.ProcsProgram.{on_procs}
 use Rattle.cmd_procs.specs.ProcsEnds.{procs_pieces, procs_status, EndsByFound, EndsBySomeFound, ProcsEndLaw}
 use Rattle.cmd_procs.specs.Needs.{ScheduleNeeds}
 
@@ -42,7 +42,8 @@ audit_puts :
     (findings : List JointFound) (events : List Event) (result : Result (Unit {0}) Status)
     → Goes (audit_only findings) events result → PutsBy (joint_pieces findings) (audit_status false) events result
 unfolding audit_only
-audit_puts findings events result goes = puts_ended quiet (joint_pieces findings) (audit_status false) tt events result goes
+audit_puts findings events result goes =
+    puts_ended quiet (joint_pieces findings) (audit_status false) tt events result goes
 
 -- a run after its audit, as one list of pieces
 both_is :
@@ -73,19 +74,23 @@ audit_end findings = puts_end (joint_pieces findings) (audit_status false) tt
 
 by_end : (is : Bool) (p : ProcsFields) (findings : List JointFound) → SomeEnd (run_by is p findings)
 by_end true p findings =
-    subst SomeEnd (sym (both_is p findings)) (puts_end (joint_pieces findings ++ schedule_pieces p.schedule p.state) Done tt)
+    subst SomeEnd (sym (both_is p findings))
+    (puts_end (joint_pieces findings ++ schedule_pieces p.schedule p.state) Done tt)
 by_end false p findings = audit_end findings
 
 -- The findings of the audit, and what was put by them.
-record Found (unaudited : Bool) (p : ProcsFields) (events : List Event) (result : Result (Unit {0}) Status) : Type 0 where
+record Found (unaudited : Bool) (p : ProcsFields) (events : List Event) (result : Result (Unit {0}) Status)
+    : Type 0 where
   findings : List JointFound
   are : AreScheduleFindings p.state findings
-  puts : PutsBy (procs_pieces (is_run findings unaudited) p findings) (procs_status (is_run findings unaudited)) events result
+  puts : PutsBy (procs_pieces (is_run findings unaudited) p findings) (procs_status (is_run findings unaudited))
+      events result
 
 on_goes :
     (unaudited : Bool) (p : ProcsFields) (events : List Event) (result : Result (Unit {0}) Status)
     → Goes (on_procs unaudited p) events result
-    → Chosen (AreScheduleFindings p.state) (λ f. Goes (by_found unaudited p f) events result) ⊎ Ends (Err NoMemory) events result
+    → Chosen (AreScheduleFindings p.state) (λ f. Goes (by_found unaudited p f) events result)
+    ⊎ Ends (Err NoMemory) events result
 unfolding Goes on_procs
 on_goes unaudited p events result goes = goes
 
@@ -103,7 +108,8 @@ procs_found unaudited p events result goes =
     ]
 
 -- The findings of the audit, and that the call ended by them.
-record Ended (unaudited : Bool) (p : ProcsFields) (events : List Event) (result : Result (Unit {0}) Status) : Type 0 where
+record Ended (unaudited : Bool) (p : ProcsFields) (events : List Event) (result : Result (Unit {0}) Status)
+    : Type 0 where
   findings : List JointFound
   are : AreScheduleFindings p.state findings
   ends : EndsByFound unaudited p findings events result
@@ -125,14 +131,16 @@ procs_ended unaudited p events result goes end =
 -- ---- it is not possible that there are no findings
 
 some_from :
-    (i : ℕ) (core : List ℕ) (dbrs : List DbrFields) → ¬ ((findings : List JointFound) → ¬ AreFindingsFrom i core dbrs findings)
+    (i : ℕ) (core : List ℕ) (dbrs : List DbrFields)
+    → ¬ ((findings : List JointFound) → ¬ AreFindingsFrom i core dbrs findings)
 some_from i core [] none = none [] refl
 some_from i core (dbr ∷ dbrs) none =
     some_findings core dbr (λ own found.
     some_from (i + 1) core dbrs (λ rest more.
     none (of_process i own ++ rest) (own, found, (rest, more, refl))))
 
-some_joint : (core : List ℕ) (dbrs : List DbrFields) → ¬ ((findings : List JointFound) → ¬ AreJointFindings core dbrs findings)
+some_joint :
+    (core : List ℕ) (dbrs : List DbrFields) → ¬ ((findings : List JointFound) → ¬ AreJointFindings core dbrs findings)
 some_joint core dbrs none =
     some_from 0 core dbrs (λ own finds_own.
     some_find (IsJointTable core dbrs) (λ second finds_second.
@@ -148,15 +156,18 @@ some_joint core dbrs none =
     }))))
 
 isolated_by :
-    (p : ProcsFields) (findings : List JointFound) → AreJointFindings p.state.store (dbrs_of p.state) findings → findings ≡ []
+    (p : ProcsFields) (findings : List JointFound) → AreJointFindings p.state.store (dbrs_of p.state) findings
+    → findings ≡ []
     → SchedulesAreIsolated p.state
 isolated_by p findings found none = record {
   isolates = jointly_isolated p.state.store (dbrs_of p.state)
-      (joint_findings_law.sound p.state.store (dbrs_of p.state) (subst (AreJointFindings p.state.store (dbrs_of p.state)) none found));
+      (joint_findings_law.sound p.state.store (dbrs_of p.state)
+      (subst (AreJointFindings p.state.store (dbrs_of p.state)) none found));
 }
 
 found_goes :
-    (unaudited : Bool) (p : ProcsFields) (findings : List JointFound) (events : List Event) (result : Result (Unit {0}) Status)
+    (unaudited : Bool) (p : ProcsFields) (findings : List JointFound) (events : List Event)
+    (result : Result (Unit {0}) Status)
     → AreScheduleFindings p.state findings → Goes (by_found unaudited p findings) events result
     → Goes (on_procs unaudited p) events result
 unfolding Goes on_procs
@@ -181,7 +192,8 @@ one_list p findings others are same =
 none_listed :
     (p : ProcsFields) (findings : List JointFound) → AreScheduleFindings p.state findings
     → IsJointlyAudited p.state.store (dbrs_of p.state) → findings ≡ []
-none_listed p findings are audited = joint_findings_law.complete p.state.store (dbrs_of p.state) findings audited are.found
+none_listed p findings are audited =
+    joint_findings_law.complete p.state.store (dbrs_of p.state) findings audited are.found
 
 ends_same :
     (unaudited : Bool) (p : ProcsFields) (findings others : List JointFound) (events : List Event)
@@ -198,7 +210,8 @@ procs_one unaudited p events others result other goes end goes' end' =
     let one : Ended unaudited p events result = procs_ended unaudited p events result goes end in
     let two : Ended unaudited p others other = procs_ended unaudited p others other goes' end' in
     let same : two.findings ≡ one.findings = one_list p two.findings one.findings two.are one.are in
-    both_end (procs_pieces (is_run one.findings unaudited) p one.findings) (procs_status (is_run one.findings unaudited))
+    both_end (procs_pieces (is_run one.findings unaudited) p one.findings)
+    (procs_status (is_run one.findings unaudited))
     events others result other one.ends (ends_same unaudited p two.findings one.findings others other same two.ends)
 
 procs_passed :
@@ -210,7 +223,8 @@ procs_passed unaudited p events result goes end audited =
     ends_same unaudited p one.findings [] events result (none_listed p one.findings one.are audited) one.ends
 
 by_some :
-    (unaudited : Bool) (p : ProcsFields) (findings : List JointFound) (events : List Event) (result : Result (Unit {0}) Status)
+    (unaudited : Bool) (p : ProcsFields) (findings : List JointFound) (events : List Event)
+    (result : Result (Unit {0}) Status)
     → AreScheduleFindings p.state findings → EndsByFound unaudited p findings events result
     → ¬ IsJointlyAudited p.state.store (dbrs_of p.state) → EndsBySomeFound unaudited p events result
 by_some unaudited p [] events result are ends fails =
@@ -268,16 +282,20 @@ text_begins :
     (is : Bool) (p : ProcsFields) (findings : List JointFound)
     → (more : List ℕ) × (joined (procs_pieces is p findings) ≡ joint_text findings ++ more)
 text_begins true p findings =
-    (joined (schedule_pieces p.schedule p.state), joined_on (joint_pieces findings) (schedule_pieces p.schedule p.state))
+    let run : List (List ℕ) = schedule_pieces p.schedule p.state in
+    (joined run, joined_on (joint_pieces findings) run)
 text_begins false p findings = ([], sym (append-nil (joint_text findings)))
 
 -- With a finding the text of the audit does not begin with `audit yes`.
 found_no :
-    (f : JointFound) (findings : List JointFound) (more rest : List ℕ) → joint_text (f ∷ findings) ++ more ≡ yes_line ++ rest → ⊥
+    (f : JointFound) (findings : List JointFound) (more rest : List ℕ)
+    → joint_text (f ∷ findings) ++ more ≡ yes_line ++ rest → ⊥
 unfolding found_pieces process_line between_line
 found_no f findings more rest e = by f.process e
   where
-    by : (process : Option ℕ) → (as_line (line_by process f.condition f.place) ++ joined (found_pieces findings)) ++ more ≡ yes_line ++ rest → ⊥
+    by :
+        (process : Option ℕ)
+        → (as_line (line_by process f.condition f.place) ++ joined (found_pieces findings)) ++ more ≡ yes_line ++ rest → ⊥
     by (Some process) g =
         let n : 110 ≡ 121 = ap (λ (t : List ℕ). get_or t 6 0) g in
         absurd (omega (arith, n))
@@ -285,7 +303,8 @@ found_no f findings more rest e = by f.process e
         let n : 110 ≡ 121 = ap (λ (t : List ℕ). get_or t 6 0) g in
         absurd (omega (arith, n))
 
-none_found : (findings : List JointFound) (more rest : List ℕ) → joint_text findings ++ more ≡ yes_line ++ rest → findings ≡ []
+none_found :
+    (findings : List JointFound) (more rest : List ℕ) → joint_text findings ++ more ≡ yes_line ++ rest → findings ≡ []
 none_found [] more rest e = refl
 none_found (f ∷ findings) more rest e = absurd (found_no f findings more rest e)
 
@@ -293,7 +312,8 @@ found_passes :
     (is : Bool) (p : ProcsFields) (findings : List JointFound) → AreScheduleFindings p.state findings
     → StartsWith yes_line (procs_pieces is p findings) → PassesJoint p.state
 found_passes is p findings are starts =
-    let begins : (more : List ℕ) × (joined (procs_pieces is p findings) ≡ joint_text findings ++ more) = text_begins is p findings in
+    let begins : (more : List ℕ) × (joined (procs_pieces is p findings) ≡ joint_text findings ++ more) =
+    text_begins is p findings in
     let none : findings ≡ [] = none_found findings begins.0 starts.rest (sym begins.1 ∙ starts.is) in
     record {
       conditions = joint_findings_law.sound p.state.store (dbrs_of p.state)

@@ -17,7 +17,8 @@ decoded_reader may name (Err f) = reader_refuses may ProcsFields (refused name (
 
 decode_reader : (may : May) (name bytes : List ℕ) → IsReader {may = may} (decode name bytes)
 unfolding decode
-decode_reader may name bytes = reader_wants (decoded name (procs_given bytes)) (decoded_reader may name (procs_given bytes))
+decode_reader may name bytes =
+    reader_wants (decoded name (procs_given bytes)) (decoded_reader may name (procs_given bytes))
 
 pub procs_reader : (may : May) (name : List ℕ) → IsReader {may = may} (procs_of name)
 unfolding procs_of

@@ -16,7 +16,8 @@ use Rattle.m36_ran.specs.Ran.{is_run, audit_status}
 use Rattle.cmd_image.proofs.TextLaws.{ends_alike}
 use Rattle.cmd_procs.specs.JointText.{joint_pieces}
 use Rattle.cmd_procs.specs.Scheduled.{dbrs_of}
-use Rattle.cmd_procs.specs.ProcsProgram.{decoded, decode, procs_of, AreScheduleFindings, audit_only, run_all, audit_and_run, run_by, by_found}
+use Rattle.cmd_procs.specs.ProcsProgram.{decoded, decode, procs_of, AreScheduleFindings, audit_only, run_all}
+use Rattle.cmd_procs.specs.ProcsProgram.{audit_and_run, run_by, by_found}
 use Rattle.cmd_procs.specs.ProcsProgram.{on_procs, procs_program}
 use Rattle.cmd_procs.specs.OneText.{ProcsTextLaw}
 
@@ -48,7 +49,8 @@ run_alike p =
     let last : Program quiet (Unit {0}) = ends Done tt in
     alike_puts (schedule_pieces p.schedule p.state) last last (ends_alike Done tt)
 
-both_alike : (p : ProcsFields) (findings : List JointFound) → Alike (audit_and_run p findings) (audit_and_run p findings)
+both_alike :
+    (p : ProcsFields) (findings : List JointFound) → Alike (audit_and_run p findings) (audit_and_run p findings)
 unfolding audit_and_run
 both_alike p findings = alike_puts (joint_pieces findings) (run_all p) (run_all p) (run_alike p)
 

@@ -60,6 +60,7 @@ pub pieces_of_none : (findings : List Finding) → length findings ≡ 0 → aud
 pieces_of_none [] none = refl
 pieces_of_none (f ∷ findings) none = absurd (omega (arith, none))
 
-pub pieces_of_some : (findings : List Finding) → 0 < length findings → audit_pieces (pairs findings) ≡ pieces_of_findings findings
+pub pieces_of_some :
+    (findings : List Finding) → 0 < length findings → audit_pieces (pairs findings) ≡ pieces_of_findings findings
 pieces_of_some [] some = absurd (omega arith)
 pieces_of_some (f ∷ findings) some = refl

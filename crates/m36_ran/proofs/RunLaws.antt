@@ -1,5 +1,6 @@
 -- A run, step by step: what is left of its output, and its last outcome.
-use Rattle.std.proofs.Common.{◌≡◌, ℕ, zero, suc, ◌+◌, Bool, true, false, List, [], ◌∷◌, ◌++◌, map, length, refl, ap, ◌∙◌, arith, add-zero}
+use Rattle.std.proofs.Common.{◌≡◌, ℕ, suc, ◌+◌, Bool, true, false, List, [], ◌∷◌, ◌++◌, map, length, refl, ap}
+use Rattle.std.proofs.Common.{◌∙◌, arith, add-zero}
 use Rattle.m36_text.specs.Lines.{as_line}
 use Rattle.m36_model.specs.Store.{State}
 use Rattle.m36_model.specs.Core.{core_store}
@@ -30,7 +31,9 @@ unfolding run visits
 run_none s = refl
 
 -- The last outcome of some steps, if the first has the outcome Next.
-pub last_after_next : (step : StepRecord) (steps : List StepRecord) → step.outcome ≡ Next → last_outcome (step ∷ steps) ≡ last_outcome steps
+pub last_after_next :
+    (step : StepRecord) (steps : List StepRecord) → step.outcome ≡ Next
+    → last_outcome (step ∷ steps) ≡ last_outcome steps
 last_after_next step [] next = next
 last_after_next step (other ∷ steps) next = refl
 

@@ -3,7 +3,8 @@ use Rattle.std.proofs.Common.{ℕ, zero, suc, ◌<◌, List, ◌++◌, Option, S
 use Rattle.std.proofs.lemmas.Bool.{cases_lt}
 use Rattle.m36_desc.specs.Fields.{DbrFields}
 use Rattle.m36_model.specs.Place.{core_sdw}
-use Rattle.m36_model.specs.Audit.{IsOutOfOrder, IsInTwoTables, IsTableAndSegment, IsInTwoSegments, IsNoGate, HasNoStack, Finds, noted, AreFindings}
+use Rattle.m36_model.specs.Audit.{IsOutOfOrder, IsInTwoTables, IsTableAndSegment, IsInTwoSegments, IsNoGate, HasNoStack}
+use Rattle.m36_model.specs.Audit.{Finds, noted, AreFindings}
 
 -- If no least place breaks a condition, no place does.
 none_below : (Breaks : ℕ → Type 0) → ((x : Option ℕ) → ¬ Finds Breaks x) → (n p : ℕ) → p < n → Breaks p → ⊥

@@ -5,8 +5,8 @@ use Rattle.m36_program.proofs.Objects.{same_now, performs_over}
 use Rattle.cmd_procs.specs.ProcsProgram.{procs_program}
 use Rattle.cmd_procs.proofs.calling.procs_command.Goals as goal
 
-pub returns-clause-performs : goal.returns-clause-performs
-returns-clause-performs g c =
+pub returns : goal.returns
+returns g c =
     let all = follow_logs _ _ _ c.procs_file-outcome.ensures.follow in
     let in_folder = ap (λ l. get_or l 0 0) all.references in
     let in_lines = ap (λ l. get_or l 1 0) all.references in
@@ -15,7 +15,10 @@ returns-clause-performs g c =
     let f = g.F.Folder in
     let l = g.L.Lines in
     let s = g.S.Sink in
-    performs_over (procs_program c.args.unaudited c.args.name.now) c.procs_file-outcome.result c.status_by.result _ _ _ _ c.status_by.ensures begun.events
-    (same_now f.asked f.wrote f.files f.read_faults f.write_faults l.given l.left l.faults s.taken s.written s.faults _ _ _ _ _ _ _ _ begun.folder begun.input begun.output)
-    (same_now f.asked f.wrote f.files f.read_faults f.write_faults l.given l.left l.faults s.taken s.written s.faults _ _ _ _ _ _ _ _ (search rules) (search rules) (search rules))
-    c.procs_file-outcome.ensures
+    record {
+      performs =
+          performs_over (procs_program c.args.unaudited c.args.name.now) c.procs_file-outcome.result c.status_by.result _ _ _ _ c.status_by.ensures begun.events
+          (same_now f.asked f.wrote f.files f.read_faults f.write_faults l.given l.left l.faults s.taken s.written s.faults _ _ _ _ _ _ _ _ begun.folder begun.input begun.output)
+          (same_now f.asked f.wrote f.files f.read_faults f.write_faults l.given l.left l.faults s.taken s.written s.faults _ _ _ _ _ _ _ _ (search rules) (search rules) (search rules))
+          c.procs_file-outcome.ensures;
+    }
