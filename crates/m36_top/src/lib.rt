@@ -91,7 +91,7 @@ pub mod top;
 pub mod words;
 
 pub use command::Command;
-pub use laws::{law_due, law_one_text};
+pub use laws::law_commands;
 pub use m36_booted::{FolderCommand, FolderRun};
 pub use m36_image::{Image, ImageFault, read_image};
 pub use m36_ran::BareRun;
