@@ -53,7 +53,7 @@ refused_by {A = A} p next files status result old new is told refused performs =
           (record { events = both.first; follow = passed.begins; goes = both.begins })) ∙ refused)
       | inr ends ↦ record {
         none_put = reader_pieces p performs.events (Err ends.status) is ends.goes;
-        status = λ ended.
+        refuses = λ ended.
             ends.result_is
             ∙ ap (λ s. Err s) (same_end A ends.status status
             (sym (reader_outcome p files (Err ends.status) old new is told (err_end A result ends.status ends.result_is ended)

@@ -1,4 +1,3 @@
-pub mod Over
 pub mod Subjects
 pub mod TopCalls
 pub mod Programs

@@ -131,12 +131,17 @@ pub yes_filled : (command : Command) → yes_of command ≡ [] → ⊥
 yes_filled (Make seed) none = made_filled (sets_of seed) none
 yes_filled _ none = line_filled none
 
+same_sets :
+    (one other : List Set) → (let r : Result (List Set) Status = Ok other in r) ≡ Ok one
+    → (let r : Result (List Set) Refusal = Ok one in r) ≡ Ok other
+same_sets one other is = cc
+
 -- the value of a rule is what was computed
-decides_value :
-    (given : Result (List Set) Refusal) (events : List Event) (sets : List Set) → Goes {may = may_of (Make 0)} (decides given) events (Ok sets)
+pub decides_value :
+    (given : Result (List Set) Refusal) (events : List Event) (sets : List Set) → Goes {may = writing} (decides given) events (Ok sets)
     → given ≡ Ok sets
 unfolding Goes decides
-decides_value (Ok a) events sets (inl goes) = sym goes.result_is
+decides_value (Ok a) events sets (inl goes) = same_sets a sets goes.result_is
 decides_value (Ok a) events sets (inr goes) = let e = goes.result_is in absurd (cc)
 decides_value (Err (refusal.BadFile bad)) events sets (inl goes) = let e = goes.result_is in absurd (cc)
 decides_value (Err (refusal.BadFile bad)) events sets (inr goes) = let e = goes.result_is in absurd (cc)

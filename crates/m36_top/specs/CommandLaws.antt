@@ -27,7 +27,7 @@ use Rattle.m36_top.specs.Programs.{program}
 pub record IsRefused (status : Status) (events : List Event) (result : Result (Unit {0}) Status)
     : Type 0 where
   pub none_put : pieces_of events ≡ []
-  pub status : IsEnd result → result ≡ Err status
+  pub refuses : IsEnd result → result ≡ Err status
 
 pub record CommandLaws : Type 0 where
   -- `FILE` is refused, or a file of the folder.

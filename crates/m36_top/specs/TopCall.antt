@@ -8,18 +8,24 @@ use Rattle.m36_reading.specs.declared.status.Status.TheVariants.{Done, ReadFault
 use Rattle.m36_reading.specs.declared.status.Status.TheVariants.{NoMemory}
 use Rattle.m36_program.specs.Early.{early}
 use Rattle.m36_program.specs.Ended.{NoneRose, SaysYes, Audited}
+use Rattle.m36_program.specs.Performs.{Performs}
 use Rattle.m36_program.specs.Program.{May, quiet}
 use Rattle.m36_program.specs.Reader.{outcome_in}
 use Rattle.m36_program.specs.Trail.{HasCause, FilesKept, InputKept}
 use Rattle.m36_ran.specs.AuditText.{yes_line}
 use Rattle.m36_top.specs.declared.command.Command.{Command}
 use Rattle.m36_top.specs.Commands.{may_of, Subject, reader_of, Needs, Promised, yes_of}
-use Rattle.m36_top.specs.Programs.{TopPerforms}
+use Rattle.m36_top.specs.Programs.{program, TopPerforms}
 
 -- what the command may do; without one, nothing
 abbrev pub may_by : Option Command → May
 may_by None = quiet
 may_by (Some command) = may_of command
+
+-- A call over a world performs the program of the command. Without a command nothing happens.
+abbrev pub WorldPerforms : Option Command → Status → Seen → Seen → Type 0
+WorldPerforms None result old new = new ≡ old
+WorldPerforms (Some command) result old new = Performs (program command) (early result) old new
 
 -- If the folder shows its files, the command accepts them, what it needs holds, and nothing fails
 -- outside, then the status is Done, or memory ran out.

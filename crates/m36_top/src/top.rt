@@ -2,64 +2,66 @@
 
 ghost use Rattle.std.specs.Prelude.{◌≡◌, ◌↔◌, None};
 ghost use Rattle.m36_program.specs.Objects.{objects};
+ghost use Rattle.m36_program.specs.Performs.{Performs};
 ghost use Rattle.m36_top.specs.Words.{command_of};
-ghost use Rattle.m36_top.specs.Programs.{CommandPerforms};
-ghost use Rattle.m36_top.specs.TopCall.{TopCall, NeverFail, IsNoFault};
+ghost use Rattle.m36_top.specs.Programs.{program};
+ghost use Rattle.m36_top.specs.TopCall.{WorldPerforms, TopCall, NeverFail, IsNoFault};
 
 use crate::command::Command;
 use crate::words::command_of;
-use cmd_debug::{folder_session, image_session};
-use cmd_folder::folder_command;
-use cmd_image::image_command;
-use cmd_make::make_command;
-use cmd_procs::procs_command;
-use cmd_tools::{access_command, alm_command, bind_command, print_command};
+use cmd_debug::{debug_folder, debug_image};
+use cmd_folder::folder_booted;
+use cmd_image::image_file;
+use cmd_make::make_files;
+use cmd_procs::procs_file;
+use cmd_tools::{assemble_file, bind_objects, print_access, print_object};
 use m36_outside::{Folder, Lines, Sink, Text};
+use m36_program::status_by;
 use m36_ran::ImageCommand;
 use m36_reading::Status;
+use m36_world::{Borrowed, World};
 use std::alloc::Global;
 
 /// Performs a command.
-pub fn perform<F: Folder, L: Lines, S: Sink>(
-    alloc: Global,
-    command: &Command,
-    folder: &mut F,
-    lines: &mut L,
-    out: &mut S,
-) -> Status
-    ensures { CommandPerforms command.now result
-        (objects F.asked F.wrote F.files F.read_faults F.write_faults L.given L.left L.faults
-        S.taken S.written S.faults folder.old lines.old out.old)
-        (objects F.asked F.wrote F.files F.read_faults F.write_faults L.given L.left L.faults
-        S.taken S.written S.faults folder.new lines.new out.new) }
+pub fn perform<W: World>(alloc: Global, command: &Command, world: &mut W) -> Result<(), Status>
+    ensures { Performs (program command.now) result (W.seen world.old) (W.seen world.new) }
 {
     match command {
         Command::Bare(file, run) => {
-            image_command(
-                alloc,
-                file.bytes(),
-                ImageCommand::Bare(*run),
-                folder,
-                lines,
-                out,
-            )
+            image_file(alloc, file.bytes(), ImageCommand::Bare(*run), world)
         }
-        Command::Audit(file) => {
-            image_command(alloc, file.bytes(), ImageCommand::Audit, folder, lines, out)
+        Command::Audit(file) => image_file(alloc, file.bytes(), ImageCommand::Audit, world),
+        Command::Booted(command, user) => folder_booted(alloc, *command, user, world),
+        Command::Procs(file, unaudited) => procs_file(alloc, file.bytes(), *unaudited, world),
+        Command::Access(user) => print_access(alloc, user, world),
+        Command::Print(name) => print_object(alloc, name.bytes(), world),
+        Command::Alm(files) => assemble_file(alloc, files, world),
+        Command::Bind(files) => bind_objects(alloc, files, world),
+        Command::DebugFolder => debug_folder(alloc, world),
+        Command::DebugImage(file) => debug_image(alloc, file.bytes(), world),
+        Command::Make(seed) => make_files(alloc, *seed, world),
+    }
+}
+
+/// The simulator over a world, as [`m36`] calls it.
+#[tactic(auto, using(crate::proofs::TopCalls::in_world))]
+pub fn m36_in<W: World>(alloc: Global, words: &[Text], world: &mut W) -> Status
+    // The command does what its program says: the events of the call, in their order, are those by
+    // which the program goes to this status. For example a session prints the answers to all whole
+    // lines before it takes more of the input.
+    ensures performs { WorldPerforms (command_of words.now) result
+        (W.seen world.old) (W.seen world.new) }
+
+    // The status is Usage exactly if the words are no command, and then nothing changes.
+    ensures usage { (result ≡ Status.Usage) ↔ (command_of words.now ≡ None) }
+    ensures untouched { command_of words.now ≡ None → world.new ≡ world.old }
+{
+    match command_of(words) {
+        Some(command) => {
+            let outcome = perform(alloc, &command, world);
+            status_by(outcome)
         }
-        Command::Booted(command, user) => {
-            folder_command(alloc, *command, user, folder, lines, out)
-        }
-        Command::Procs(file, unaudited) => {
-            procs_command(alloc, file.bytes(), *unaudited, folder, lines, out)
-        }
-        Command::Access(user) => access_command(alloc, user, folder, lines, out),
-        Command::Print(name) => print_command(alloc, name.bytes(), folder, lines, out),
-        Command::Alm(files) => alm_command(alloc, files, folder, lines, out),
-        Command::Bind(files) => bind_command(alloc, files, folder, lines, out),
-        Command::DebugFolder => folder_session(alloc, folder, lines, out),
-        Command::DebugImage(file) => image_session(alloc, file.bytes(), folder, lines, out),
-        Command::Make(seed) => make_command(alloc, *seed, folder, lines, out),
+        None => Status::Usage,
     }
 }
 
@@ -76,7 +78,6 @@ pub fn perform<F: Folder, L: Lines, S: Sink>(
 ///   them so.
 /// - `make SEED` prints how many segments the folder has and what the audit finds. If the audit
 ///   passes, it runs the system, and prints how the run ended and what it left in X1.
-#[tactic(auto, using(crate::proofs::TopCalls::calls))]
 pub fn m36<F: Folder, L: Lines, S: Sink>(
     alloc: Global,
     words: &[Text],
@@ -102,8 +103,6 @@ pub fn m36<F: Folder, L: Lines, S: Sink>(
     ensures sink_untouched { command_of words.now ≡ None → out.new ≡ out.old }
     ensures lines_untouched { command_of words.now ≡ None → lines.new ≡ lines.old }
 {
-    match command_of(words) {
-        Some(command) => perform(alloc, &command, folder, lines, out),
-        None => Status::Usage,
-    }
+    let mut world = Borrowed::new(folder, lines, out);
+    m36_in(alloc, words, &mut world)
 }

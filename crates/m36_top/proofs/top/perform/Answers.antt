@@ -10,54 +10,55 @@ use Rattle.m36_top.proofs.top.perform.Goals as goal
 
 pub returns-in-Bare : goal.returns-in-Bare
 returns-in-Bare g c =
-    as_performs c.args.command.now (Bare c.in-Bare.file c.in-Bare.run') c.image_command.result _ _ c.in-Bare.is
-    (named (image_program (image.Bare c.in-Bare.run')) c.in-Bare.file c.bytes.result.now c.image_command.result _ _ c.bytes.ensures.value c.image_command.ensures.performs)
+    as_performs c.args.command.now (Bare c.in-Bare.file c.in-Bare.run') c.image_file.result _ _ c.in-Bare.is
+    (named (image_program (image.Bare c.in-Bare.run')) c.in-Bare.file c.bytes.result.now c.image_file.result _ _ c.bytes.ensures.value c.image_file.ensures)
 
 pub returns-in-Audit : goal.returns-in-Audit
 returns-in-Audit g c =
-    as_performs c.args.command.now (Audit c.in-Audit.file) c.image_command-in-Audit.result _ _ c.in-Audit.is
-    (named (image_program image.Audit) c.in-Audit.file c.bytes-in-Audit.result.now c.image_command-in-Audit.result _ _ c.bytes-in-Audit.ensures.value c.image_command-in-Audit.ensures.performs)
+    as_performs c.args.command.now (Audit c.in-Audit.file) c.image_file-in-Audit.result _ _ c.in-Audit.is
+    (named (image_program image.Audit) c.in-Audit.file c.bytes-in-Audit.result.now c.image_file-in-Audit.result _ _ c.bytes-in-Audit.ensures.value c.image_file-in-Audit.ensures)
 
 pub returns-in-Booted : goal.returns-in-Booted
 returns-in-Booted g c =
-    as_performs c.args.command.now (Booted c.in-Booted.command c.in-Booted.user) c.folder_command.result _ _ c.in-Booted.is
-    c.folder_command.ensures.performs
+    as_performs c.args.command.now (Booted c.in-Booted.command c.in-Booted.user) c.folder_booted.result _ _ c.in-Booted.is
+    c.folder_booted.ensures
 
 pub returns-in-Procs : goal.returns-in-Procs
 returns-in-Procs g c =
-    as_performs c.args.command.now (Procs c.in-Procs.file c.in-Procs.unaudited) c.procs_command.result _ _ c.in-Procs.is
-    (named (procs_program c.in-Procs.unaudited) c.in-Procs.file c.bytes-in-Procs.result.now c.procs_command.result _ _ c.bytes-in-Procs.ensures.value c.procs_command.ensures.performs)
+    as_performs c.args.command.now (Procs c.in-Procs.file c.in-Procs.unaudited) c.procs_file.result _ _ c.in-Procs.is
+    (named (procs_program c.in-Procs.unaudited) c.in-Procs.file c.bytes-in-Procs.result.now c.procs_file.result _ _ c.bytes-in-Procs.ensures.value c.procs_file.ensures)
 
 pub returns-in-Access : goal.returns-in-Access
 returns-in-Access g c =
-    as_performs c.args.command.now (Access c.in-Access.user) c.access_command.result _ _ c.in-Access.is
-    (c.access_command.ensures.performs)
+    as_performs c.args.command.now (Access c.in-Access.user) c.print_access.result _ _ c.in-Access.is
+    c.print_access.ensures
 
 pub returns-in-Print : goal.returns-in-Print
 returns-in-Print g c =
-    as_performs c.args.command.now (Print c.in-Print.name) c.print_command.result _ _ c.in-Print.is
-    (named print_program c.in-Print.name c.bytes-in-Print.result.now c.print_command.result _ _ c.bytes-in-Print.ensures.value c.print_command.ensures.performs)
+    as_performs c.args.command.now (Print c.in-Print.name) c.print_object.result _ _ c.in-Print.is
+    (named print_program c.in-Print.name c.bytes-in-Print.result.now c.print_object.result _ _ c.bytes-in-Print.ensures.value c.print_object.ensures)
 
 pub returns-in-Alm : goal.returns-in-Alm
 returns-in-Alm g c =
-    as_performs c.args.command.now (Alm c.in-Alm.files) c.alm_command.result _ _ c.in-Alm.is
-    (c.alm_command.ensures.performs)
+    as_performs c.args.command.now (Alm c.in-Alm.files) c.assemble_file.result _ _ c.in-Alm.is
+    c.assemble_file.ensures
 
 pub returns-in-Bind : goal.returns-in-Bind
 returns-in-Bind g c =
-    as_performs c.args.command.now (Bind c.in-Bind.files) c.bind_command.result _ _ c.in-Bind.is
-    (c.bind_command.ensures.performs)
-
-pub returns-in-Make : goal.returns-in-Make
-returns-in-Make g c =
-    as_performs c.args.command.now (Make c.in-Make.seed) c.make_command.result _ _ c.in-Make.is
-    (c.make_command.ensures.performs)
+    as_performs c.args.command.now (Bind c.in-Bind.files) c.bind_objects.result _ _ c.in-Bind.is
+    c.bind_objects.ensures
 
 pub returns-in-DebugFolder : goal.returns-in-DebugFolder
 returns-in-DebugFolder g c =
-    as_performs c.args.command.now DebugFolder c.folder_session.result _ _ c.in-DebugFolder.is c.folder_session.ensures.performs
+    as_performs c.args.command.now DebugFolder c.debug_folder.result _ _ c.in-DebugFolder.is
+    c.debug_folder.ensures
 
 pub returns-in-DebugImage : goal.returns-in-DebugImage
 returns-in-DebugImage g c =
-    as_performs c.args.command.now (DebugImage c.in-DebugImage.file) c.image_session.result _ _ c.in-DebugImage.is
-    (named debug_image c.in-DebugImage.file c.bytes-in-DebugImage.result.now c.image_session.result _ _ c.bytes-in-DebugImage.ensures.value c.image_session.ensures.performs)
+    as_performs c.args.command.now (DebugImage c.in-DebugImage.file) c.debug_image.result _ _ c.in-DebugImage.is
+    (named debug_image c.in-DebugImage.file c.bytes-in-DebugImage.result.now c.debug_image.result _ _ c.bytes-in-DebugImage.ensures.value c.debug_image.ensures)
+
+pub returns-in-Make : goal.returns-in-Make
+returns-in-Make g c =
+    as_performs c.args.command.now (Make c.in-Make.seed) c.make_files.result _ _ c.in-Make.is
+    c.make_files.ensures
