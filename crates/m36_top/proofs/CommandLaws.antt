@@ -20,8 +20,9 @@ use Rattle.cmd_procs.proofs.ProcsEnded.{procs_end_law}
 use Rattle.cmd_procs.proofs.TextLaws.{procs_text_law}
 use Rattle.cmd_tools.proofs.ToolsEnded.{tool_laws}
 use Rattle.cmd_folder.proofs.FolderLaws.{folder_law}
-use Rattle.cmd_make.proofs.MadeLaws.{made_law}
-use Rattle.cmd_debug.proofs.SessionLaws.{session_law}
+use Rattle.cmd_make.proofs.MadeEnds.{made_law}
+use Rattle.cmd_debug.proofs.DebugCalls.{debug_law}
+use Rattle.cmd_debug.proofs.DebugText.{debug_text_law}
 use Rattle.m36_top.specs.declared.command.Command.{Command}
 use Rattle.m36_top.specs.Commands.{reader_of}
 use Rattle.m36_top.specs.Programs.{program}
@@ -84,5 +85,6 @@ command_laws = record {
   folders = folder_law;
   systems = booted_law;
   made = made_law;
-  sessions = session_law;
+  sessions = debug_law;
+  session_texts = debug_text_law;
 }

@@ -34,10 +34,12 @@ use Rattle.cmd_procs.proofs.ProcsEnded.{procs_done, procs_yes}
 use Rattle.cmd_make.specs.Making.{sets_of}
 use Rattle.cmd_make.specs.Made.{head_of}
 use Rattle.cmd_make.specs.MakeProgram.{write_and_boot, make_program}
-use Rattle.cmd_make.proofs.MadeEnds.{made_done, made_yes}
+use Rattle.cmd_make.proofs.MadeDone.{ends_done}
+use Rattle.cmd_make.proofs.MadeYes.{seed_yes}
 use Rattle.m36_debug.specs.SessionProgram.{talking}
 use Rattle.cmd_debug.specs.DebugProgram.{on_image as talk_of_image, on_folder as talk_of_folder, debug_image, debug_folder}
-use Rattle.cmd_debug.proofs.SessionDone.{image_session_done, folder_session_done}
+use Rattle.cmd_debug.specs.Needs.{SessionNeeds}
+use Rattle.cmd_debug.proofs.DebugCalls.{image_done as image_talk_done, folder_done as folder_talk_done}
 use Rattle.m36_top.specs.declared.command.Command.{Command}
 use Rattle.m36_top.specs.declared.command.Command.TheVariants.{Bare, Audit, Booted, Procs, Access, Print, Alm, Bind, DebugFolder, DebugImage, Make}
 use Rattle.m36_top.specs.Commands.{may_of, Subject, reader_of, Needs, Promised, yes_by, yes_of}
@@ -107,11 +109,11 @@ works_done (Alm files) report left result old new needs same p end =
 works_done (Bind files) report left result old new needs same p end =
     report_done report p.events result end p.goes
 works_done DebugFolder given left result old new needs same p end =
-    folder_session_done given left result old new needs same p end
+    folder_talk_done given result old new (subst SessionNeeds (sym same) needs) p end
 works_done (DebugImage file) state left result old new needs same p end =
-    image_session_done state left result old new needs same p end
+    image_talk_done state result old new (subst SessionNeeds (sym same) needs) p end
 works_done (Make seed) sets left result old new needs same p end =
-    made_done sets p.events result p.goes end needs
+    ends_done sets p.events result needs (record { goes = p.goes; is_end = end })
 
 -- ---- what `audit yes` promises
 
@@ -164,5 +166,5 @@ yes_promised (Audit file) state events result goes starts is = image_yes image.A
 yes_promised (Booted command user) given events result goes starts is = folder_yes command given events result goes starts
 yes_promised (Procs file unaudited) procs events result goes starts is = procs_yes unaudited procs events result goes starts
 yes_promised (Make seed) sets events result goes starts is =
-    made_yes sets events result goes (subst (λ given. StartsWith (yes_by given) (pieces_of events)) is starts)
+    seed_yes sets events result (subst (λ given. StartsWith (yes_by given) (pieces_of events)) is starts) (inl goes)
 yes_promised _ subject events result goes starts is = tt

@@ -17,7 +17,7 @@ use Rattle.cmd_procs.specs.OneText.{ProcsTextLaw}
 use Rattle.cmd_tools.specs.ToolLaws.{ToolLaws}
 use Rattle.cmd_folder.specs.FolderLaw.{FolderLaw}
 use Rattle.cmd_make.specs.MadeLaw.{MadeLaw}
-use Rattle.cmd_debug.specs.SessionLaw.{SessionLaw}
+use Rattle.cmd_debug.specs.Sessions.{DebugLaw, DebugTextLaw}
 use Rattle.m36_top.specs.declared.command.Command.{Command}
 use Rattle.m36_top.specs.Commands.{reader_of}
 use Rattle.m36_top.specs.Programs.{program}
@@ -51,4 +51,5 @@ pub record CommandLaws : Type 0 where
   -- `make`
   pub made : MadeLaw
   -- `debug`
-  pub sessions : SessionLaw
+  pub sessions : DebugLaw
+  pub session_texts : DebugTextLaw
