@@ -29,15 +29,21 @@ use Rattle.m36_top.specs.Programs.{program}
 use Rattle.m36_top.specs.CommandLaws.{IsRefused, CommandLaws}
 use Rattle.m36_top.proofs.Subjects.{work_of, parts, reads_only}
 
-same_end : (A : Type 0) (one other : Status) → (let r : Option (Result A Status) = Some (Err one) in r) ≡ Some (Err other) → one ≡ other
+same_end :
+    (A : Type 0) (one other : Status)
+    → (let r : Option (Result A Status) = Some (Err one) in r) ≡ Some (Err other) → one ≡ other
 same_end A one other is = cc
 
 not_value :
-    {A P : Type 0} (a : A) (status : Status) → (let r : Option (Result A Status) = Some (Ok a) in r) ≡ Some (Err status) → P
+    {A P : Type 0} (a : A) (status : Status)
+    → (let r : Option (Result A Status) = Some (Ok a) in r) ≡ Some (Err status) → P
 not_value a status is = absurd (cc)
 
-err_end : (A : Type 0) (result : Result (Unit {0}) Status) (status : Status) → result ≡ Err status → IsEnd result → IsEnd {A = A} (Err status)
-err_end A result status is ended = let end : IsEnd {A = Unit {0}} (Err status) = subst (IsEnd {A = Unit {0}}) is ended in end
+err_end :
+    (A : Type 0) (result : Result (Unit {0}) Status) (status : Status)
+    → result ≡ Err status → IsEnd result → IsEnd {A = A} (Err status)
+err_end A result status is ended =
+    let end : IsEnd {A = Unit {0}} (Err status) = subst (IsEnd {A = Unit {0}}) is ended in end
 
 -- The events and the result of a program that begins with a reader, if the files are refused.
 refused_by :
@@ -48,7 +54,8 @@ refused_by :
 refused_by {A = A} p next files status result old new is told refused performs =
     elim (reader_split p next performs.events result is performs.goes) [
       | inl both ↦
-          let passed = follow_split both.first both.more old new (subst (λ e. Follow e old new) both.is performs.follow) in
+          let passed =
+          follow_split both.first both.more old new (subst (λ e. Follow e old new) both.is performs.follow) in
           not_value both.value status
           (sym (reader_outcome p files (Ok both.value) old passed.between is told tt
           (record { events = both.first; follow = passed.begins; goes = both.begins })) ∙ refused)
@@ -57,7 +64,8 @@ refused_by {A = A} p next files status result old new is told refused performs =
         refuses = λ ended.
             ends.result_is
             ∙ ap (λ s. Err s) (same_end A ends.status status
-            (sym (reader_outcome p files (Err ends.status) old new is told (err_end A result ends.status ends.result_is ended)
+            (sym (reader_outcome p files (Err ends.status) old new is told
+            (err_end A result ends.status ends.result_is ended)
             (record { events = performs.events; follow = performs.follow; goes = ends.goes })) ∙ refused));
       }
     ]

@@ -1,5 +1,5 @@
 -- Each command as two parts: it reads its subject, and works on it.
-use Rattle.std.proofs.Common.{◌≡◌, ℕ, List, [], ◌∷◌, ◌++◌, Option, Some, None, Result, Ok, Err, refl, sym, subst, inl, inr}
+use Rattle.std.proofs.Common.{◌≡◌, ℕ, List, [], ◌∷◌, ◌++◌, Option, None, Result, Ok, Err, refl, sym, subst, inl, inr}
 use Rattle.m36_world.specs.declared.event.Event.{Event}
 use Rattle.m36_world.specs.Seen.{Seen}
 use Rattle.m36_reading.specs.declared.refusal.Refusal.{Refusal}
@@ -37,11 +37,13 @@ use Rattle.cmd_make.specs.MakeProgram.{write_and_boot, make_program}
 use Rattle.cmd_make.proofs.MadeDone.{ends_done}
 use Rattle.cmd_make.proofs.MadeYes.{seed_yes}
 use Rattle.m36_debug.specs.SessionProgram.{talking}
-use Rattle.cmd_debug.specs.DebugProgram.{on_image as talk_of_image, on_folder as talk_of_folder, debug_image, debug_folder}
+use Rattle.cmd_debug.specs.DebugProgram.{on_image as talk_of_image, on_folder as talk_of_folder}
+use Rattle.cmd_debug.specs.DebugProgram.{debug_image, debug_folder}
 use Rattle.cmd_debug.specs.Needs.{SessionNeeds}
 use Rattle.cmd_debug.proofs.DebugCalls.{image_done as image_talk_done, folder_done as folder_talk_done}
 use Rattle.m36_top.specs.declared.command.Command.{Command}
-use Rattle.m36_top.specs.declared.command.Command.TheVariants.{Bare, Audit, Booted, Procs, Access, Print, Alm, Bind, DebugFolder, DebugImage, Make}
+use Rattle.m36_top.specs.declared.command.Command.TheVariants.{Bare, Audit, Booted, Procs, Access, Print}
+use Rattle.m36_top.specs.declared.command.Command.TheVariants.{Alm, Bind, DebugFolder, DebugImage, Make}
 use Rattle.m36_top.specs.Commands.{may_of, Subject, reader_of, Needs, Promised, yes_by, yes_of}
 use Rattle.m36_top.specs.Programs.{program}
 
@@ -60,7 +62,9 @@ work_of (DebugImage file) = talk_of_image
 work_of (Make seed) = write_and_boot
 
 pub parts : (command : Command) → program command ≡ then_with (reader_of command) (work_of command)
-unfolding image_program folder_program procs_program access_program print_program alm_program bind_program debug_folder debug_image make_program
+unfolding
+    image_program folder_program procs_program access_program print_program alm_program bind_program debug_folder
+    debug_image make_program
 parts (Bare file run) = refl
 parts (Audit file) = refl
 parts (Booted command user) = refl
@@ -76,20 +80,21 @@ parts (Make seed) = refl
 pub reads_only : (command : Command) → IsReader (reader_of command)
 reads_only (Bare file run) = image_reader quiet file
 reads_only (Audit file) = image_reader quiet file
-reads_only (Booted command user) = folder_reader user
+reads_only (Booted command user) = folder_reader quiet user
 reads_only (Procs file unaudited) = procs_reader quiet file
 reads_only (Access user) = (tool_laws.access user).reads
 reads_only (Print name) = (tool_laws.print name).reads
 reads_only (Alm files) = (tool_laws.alm files).reads
 reads_only (Bind files) = (tool_laws.bind files).reads
-reads_only DebugFolder = folder_reader None
+reads_only DebugFolder = folder_reader talking None
 reads_only (DebugImage file) = image_reader talking file
 reads_only (Make seed) = reader_decides writing (sets_of seed)
 
 -- ---- the end with Done
 
 pub works_done :
-    (command : Command) (subject : Subject command) (left : Option (List ℕ)) (result : Result (Unit {0}) Status) (old new : Seen)
+    (command : Command) (subject : Subject command) (left : Option (List ℕ)) (result : Result (Unit {0}) Status)
+    (old new : Seen)
     → Needs command left subject → old.left ≡ left → Performs (work_of command subject) result old new → IsEnd result
     → result ≡ Ok tt
 works_done (Bare file run) state left result old new needs same p end =
@@ -140,7 +145,8 @@ same_sets one other is = cc
 
 -- the value of a rule is what was computed
 pub decides_value :
-    (given : Result (List Set) Refusal) (events : List Event) (sets : List Set) → Goes {may = writing} (decides given) events (Ok sets)
+    (given : Result (List Set) Refusal) (events : List Event) (sets : List Set)
+    → Goes {may = writing} (decides given) events (Ok sets)
     → given ≡ Ok sets
 unfolding Goes decides
 decides_value (Ok a) events sets (inl goes) = same_sets a sets goes.result_is
@@ -161,10 +167,14 @@ pub yes_promised :
     (command : Command) (subject : Subject command) (events : List Event) (result : Result (Unit {0}) Status)
     → Goes (work_of command subject) events result → StartsWith (yes_of command) (pieces_of events)
     → IsSubject command subject → Promised command subject
-yes_promised (Bare file run) state events result goes starts is = image_yes (image.Bare run) state events result goes starts
-yes_promised (Audit file) state events result goes starts is = image_yes image.Audit state events result goes starts
-yes_promised (Booted command user) given events result goes starts is = folder_yes command given events result goes starts
-yes_promised (Procs file unaudited) procs events result goes starts is = procs_yes unaudited procs events result goes starts
+yes_promised (Bare file run) state events result goes starts is =
+    image_yes (image.Bare run) state events result goes starts
+yes_promised (Audit file) state events result goes starts is =
+    image_yes image.Audit state events result goes starts
+yes_promised (Booted command user) given events result goes starts is =
+    folder_yes command given events result goes starts
+yes_promised (Procs file unaudited) procs events result goes starts is =
+    procs_yes unaudited procs events result goes starts
 yes_promised (Make seed) sets events result goes starts is =
     seed_yes sets events result (subst (λ given. StartsWith (yes_by given) (pieces_of events)) is starts) (inl goes)
 yes_promised _ subject events result goes starts is = tt

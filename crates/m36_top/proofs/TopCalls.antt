@@ -1,5 +1,6 @@
 -- What the top call promises follows from the program that its command performs.
-use Rattle.std.proofs.Common.{◌≡◌, ℕ, false, ◌<◌, ◌⊎◌, List, ◌++◌, length, Option, Some, None, Result, Ok, Err, inl, inr, refl, sym, ap, subst, ◌∙◌, arith, length-append}
+use Rattle.std.proofs.Common.{◌≡◌, ℕ, ◌<◌, ◌⊎◌, List, ◌++◌, length, Option, Some, None, Result, Ok, Err, inl, inr, refl}
+use Rattle.std.proofs.Common.{sym, ap, subst, ◌∙◌, arith, length-append}
 use Rattle.std.specs.Prelude.{◌↔◌}
 use Rattle.m36_outside.specs.Counts.{Rose}
 use Rattle.m36_outside.proofs.Risen.{rose_never}
@@ -13,7 +14,8 @@ use Rattle.m36_program.specs.Performs.{Performs}
 use Rattle.m36_program.specs.Program.{then_with}
 use Rattle.m36_program.specs.Reader.{ReadBy}
 use Rattle.m36_program.specs.Trail.{HasCause}
-use Rattle.m36_program.proofs.Objects.{SameObjects, performs_over, world_before, world_after, over_performs, over_cause, over_files, over_input}
+use Rattle.m36_program.proofs.Objects.{SameObjects, performs_over, world_before, world_after, over_performs, over_cause}
+use Rattle.m36_program.proofs.Objects.{over_files, over_input}
 use Rattle.m36_program.proofs.ProgramLaws.{performs_given, performs_early}
 use Rattle.m36_program.proofs.ReaderLaws.{reader_comes_done, reader_says_yes}
 use Rattle.m36_ran.specs.AuditText.{yes_line}
@@ -23,7 +25,8 @@ use Rattle.m36_top.specs.declared.command.Command.TheVariants.{Make}
 use Rattle.m36_top.specs.Commands.{Subject, reader_of, Promised, yes_of}
 use Rattle.m36_top.specs.Programs.{program, CommandPerforms}
 use Rattle.m36_top.specs.TopCall.{WorldPerforms, EndsDone, YesPasses, TopCall, IsNoFault}
-use Rattle.m36_top.proofs.Subjects.{work_of, parts, reads_only, works_done, decides_value, IsSubject, yes_filled, yes_promised}
+use Rattle.m36_top.proofs.Subjects.{work_of, parts, reads_only, works_done, decides_value, IsSubject, yes_filled}
+use Rattle.m36_top.proofs.Subjects.{yes_promised}
 
 -- ---- statuses
 
@@ -88,8 +91,9 @@ command_passes :
     → CommandPerforms command result old new → YesPasses (Some command) old new
 command_passes command result old new over = λ told.
     let audited =
-    reader_says_yes (reader_of command) (work_of command) (λ subject. IsSubject command subject → Promised command subject)
-    (yes_of command) (early result) (world_before over) (world_after over) (reads_only command) (yes_filled command) told
+    reader_says_yes (reader_of command) (work_of command)
+    (λ subject. IsSubject command subject → Promised command subject) (yes_of command) (early result) (world_before over)
+    (world_after over) (reads_only command) (yes_filled command) told
     (λ subject events goes starts is. yes_promised command subject events (early result) goes starts is)
     (in_parts command result old new over) in
     as_promised command old new audited.value
@@ -155,15 +159,15 @@ idle_call seen old new was is = record {
   done = tt;
   isolated = λ told. says_nothing old.written new.written (sym is.written ∙ was.written) told;
   files = λ never. record {
-      files = sym is.files ∙ was.files;
-      writes = sym is.writes ∙ was.writes;
-      faults = sym is.write_faults ∙ was.write_faults;
-    };
+    files = sym is.files ∙ was.files;
+    writes = sym is.writes ∙ was.writes;
+    faults = sym is.write_faults ∙ was.write_faults;
+  };
   input = λ never. record {
-      left = sym is.left ∙ was.left;
-      inputs = sym is.inputs ∙ was.inputs;
-      faults = sym is.input_faults ∙ was.input_faults;
-    };
+    left = sym is.left ∙ was.left;
+    inputs = sym is.inputs ∙ was.inputs;
+    faults = sym is.input_faults ∙ was.input_faults;
+  };
 }
 
 pub call_over :
@@ -179,7 +183,8 @@ call_over (Some command) s old new old' new' none same_old same_new usage perfor
 
 -- The world still holds the same references.
 pub same_references :
-    (asked : Option Command) (s : Status) (old new : Seen) → WorldPerforms asked s old new → new.references ≡ old.references
+    (asked : Option Command) (s : Status) (old new : Seen) → WorldPerforms asked s old new
+    → new.references ≡ old.references
 same_references None s old new same = ap (λ (seen : Seen). seen.references) same
 same_references (Some command) s old new performs = (follow_logs performs.events old new performs.follow).references
 
@@ -187,7 +192,8 @@ same_references (Some command) s old new performs = (follow_logs performs.events
 
 pub some_performs :
     (asked : Option Command) (command : Command) (result : Result (Unit {0}) Status) (s : Status) (old new : Seen)
-    → Some command ≡ asked → s ≡ status_by result → Performs (program command) result old new → WorldPerforms asked s old new
+    → Some command ≡ asked → s ≡ status_by result → Performs (program command) result old new
+    → WorldPerforms asked s old new
 some_performs asked command result s old new is ends performs =
     subst (λ a. WorldPerforms a s old new) is
     (subst (λ r. Performs (program command) (early r) old new) (sym ends)
@@ -235,11 +241,11 @@ zero_rose old new zero rose = rose_never (subst (λ n. Rose n 0) zero.0 (subst (
 pub no_fault : (result : Status) (old new : Seen) → HasCause (early result) old new → AllZero old new → IsNoFault result
 no_fault result old new cause zero = (
   λ is. elim (subst (λ r. HasCause (early r) old new) is cause) [
-    inl c ↦ zero_rose old.read_faults new.read_faults zero.reads c.reads
+    | inl c ↦ zero_rose old.read_faults new.read_faults zero.reads c.reads
     | inr c ↦ zero_rose old.input_faults new.input_faults zero.inputs c.inputs
   ],
   λ is. elim (subst (λ r. HasCause (early r) old new) is cause) [
-    inl c ↦ zero_rose old.write_faults new.write_faults zero.writes c.writes
+    | inl c ↦ zero_rose old.write_faults new.write_faults zero.writes c.writes
     | inr c ↦ zero_rose old.output_faults new.output_faults zero.outputs c.outputs
   ],
 )

@@ -18,8 +18,10 @@ returns-clause-call g c =
     let l = g.L.Lines in
     let s = g.S.Sink in
     call_over asked c.m36_in.result _ _ _ _ begun.events
-    (same_now f.asked f.wrote f.files f.read_faults f.write_faults l.given l.left l.faults s.taken s.written s.faults _ _ _ _ _ _ _ _ begun.folder begun.input begun.output)
-    (same_now f.asked f.wrote f.files f.read_faults f.write_faults l.given l.left l.faults s.taken s.written s.faults _ _ _ _ _ _ _ _ (search rules) (search rules) (search rules))
+    (same_now f.asked f.wrote f.files f.read_faults f.write_faults l.given l.left l.faults s.taken s.written s.faults
+    _ _ _ _ _ _ _ _ begun.folder begun.input begun.output)
+    (same_now f.asked f.wrote f.files f.read_faults f.write_faults l.given l.left l.faults s.taken s.written s.faults
+    _ _ _ _ _ _ _ _ (search rules) (search rules) (search rules))
     c.m36_in.ensures.usage c.m36_in.ensures.performs
 
 pub returns-clause-sure : goal.returns-clause-sure

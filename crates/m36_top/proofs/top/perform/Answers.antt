@@ -4,29 +4,34 @@ use Rattle.cmd_image.specs.ImageProgram.{image_program}
 use Rattle.cmd_procs.specs.ProcsProgram.{procs_program}
 use Rattle.cmd_tools.specs.ToolPrograms.{print_program}
 use Rattle.cmd_debug.specs.DebugProgram.{debug_image}
-use Rattle.m36_top.specs.declared.command.Command.TheVariants.{Bare, Audit, Booted, Procs, Access, Print, Alm, Bind, DebugFolder, DebugImage, Make}
+use Rattle.m36_top.specs.declared.command.Command.TheVariants.{Bare, Audit, Booted, Procs, Access, Print}
+use Rattle.m36_top.specs.declared.command.Command.TheVariants.{Alm, Bind, DebugFolder, DebugImage, Make}
 use Rattle.m36_top.proofs.Programs.{as_performs, named}
 use Rattle.m36_top.proofs.top.perform.Goals as goal
 
 pub returns-in-Bare : goal.returns-in-Bare
 returns-in-Bare g c =
     as_performs c.args.command.now (Bare c.in-Bare.file c.in-Bare.run') c.image_file.result _ _ c.in-Bare.is
-    (named (image_program (image.Bare c.in-Bare.run')) c.in-Bare.file c.bytes.result.now c.image_file.result _ _ c.bytes.ensures.value c.image_file.ensures)
+    (named (image_program (image.Bare c.in-Bare.run')) c.in-Bare.file c.bytes.result.now
+    c.image_file.result _ _ c.bytes.ensures.value c.image_file.ensures)
 
 pub returns-in-Audit : goal.returns-in-Audit
 returns-in-Audit g c =
     as_performs c.args.command.now (Audit c.in-Audit.file) c.image_file-in-Audit.result _ _ c.in-Audit.is
-    (named (image_program image.Audit) c.in-Audit.file c.bytes-in-Audit.result.now c.image_file-in-Audit.result _ _ c.bytes-in-Audit.ensures.value c.image_file-in-Audit.ensures)
+    (named (image_program image.Audit) c.in-Audit.file c.bytes-in-Audit.result.now
+    c.image_file-in-Audit.result _ _ c.bytes-in-Audit.ensures.value c.image_file-in-Audit.ensures)
 
 pub returns-in-Booted : goal.returns-in-Booted
 returns-in-Booted g c =
-    as_performs c.args.command.now (Booted c.in-Booted.command c.in-Booted.user) c.folder_booted.result _ _ c.in-Booted.is
+    as_performs c.args.command.now (Booted c.in-Booted.command c.in-Booted.user)
+    c.folder_booted.result _ _ c.in-Booted.is
     c.folder_booted.ensures
 
 pub returns-in-Procs : goal.returns-in-Procs
 returns-in-Procs g c =
     as_performs c.args.command.now (Procs c.in-Procs.file c.in-Procs.unaudited) c.procs_file.result _ _ c.in-Procs.is
-    (named (procs_program c.in-Procs.unaudited) c.in-Procs.file c.bytes-in-Procs.result.now c.procs_file.result _ _ c.bytes-in-Procs.ensures.value c.procs_file.ensures)
+    (named (procs_program c.in-Procs.unaudited) c.in-Procs.file c.bytes-in-Procs.result.now
+    c.procs_file.result _ _ c.bytes-in-Procs.ensures.value c.procs_file.ensures)
 
 pub returns-in-Access : goal.returns-in-Access
 returns-in-Access g c =
@@ -36,7 +41,8 @@ returns-in-Access g c =
 pub returns-in-Print : goal.returns-in-Print
 returns-in-Print g c =
     as_performs c.args.command.now (Print c.in-Print.name) c.print_object.result _ _ c.in-Print.is
-    (named print_program c.in-Print.name c.bytes-in-Print.result.now c.print_object.result _ _ c.bytes-in-Print.ensures.value c.print_object.ensures)
+    (named print_program c.in-Print.name c.bytes-in-Print.result.now
+    c.print_object.result _ _ c.bytes-in-Print.ensures.value c.print_object.ensures)
 
 pub returns-in-Alm : goal.returns-in-Alm
 returns-in-Alm g c =
@@ -56,7 +62,8 @@ returns-in-DebugFolder g c =
 pub returns-in-DebugImage : goal.returns-in-DebugImage
 returns-in-DebugImage g c =
     as_performs c.args.command.now (DebugImage c.in-DebugImage.file) c.debug_image.result _ _ c.in-DebugImage.is
-    (named debug_image c.in-DebugImage.file c.bytes-in-DebugImage.result.now c.debug_image.result _ _ c.bytes-in-DebugImage.ensures.value c.debug_image.ensures)
+    (named debug_image c.in-DebugImage.file c.bytes-in-DebugImage.result.now
+    c.debug_image.result _ _ c.bytes-in-DebugImage.ensures.value c.debug_image.ensures)
 
 pub returns-in-Make : goal.returns-in-Make
 returns-in-Make g c =
