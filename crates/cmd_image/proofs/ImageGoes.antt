@@ -1,5 +1,6 @@
--- What the program of a command puts on an image: the pieces of the answer.
-use Rattle.std.proofs.Common.{◌≡◌, ◌⊎◌, ℕ, zero, suc, ◌+◌, ◌++◌, Bool, true, false, List, [], ◌∷◌, Result, refl, sym, ap, subst, ◌∙◌, inl, inr}
+-- What the program of a command puts on an image, by the findings of the audit, and that it ends.
+use Rattle.std.proofs.Common.{◌≡◌, ℕ, zero, suc, ◌+◌, ◌++◌, Bool, true, false, List, [], ◌∷◌, Result, refl, sym, ap}
+use Rattle.std.proofs.Common.{subst, ◌∙◌}
 use Rattle.m36_text.specs.Lines.{as_line}
 use Rattle.m36_model.specs.Store.{State}
 use Rattle.m36_model.specs.Run.{is_next, only_if}
@@ -14,19 +15,20 @@ use Rattle.m36_reading.specs.declared.status.Status.{Status}
 use Rattle.m36_program.specs.Early.{MayEnd, ends}
 use Rattle.m36_program.specs.Goes.{Goes}
 use Rattle.m36_program.specs.Program.{quiet, Program, puts, puts_all}
-use Rattle.m36_program.proofs.Answering.{Puts, puts_with, NoneLeft}
+use Rattle.m36_program.proofs.PieceLaws.{PutsBy, puts_ended}
 use Rattle.m36_program.proofs.PutLaws.{puts_both, puts_one}
 use Rattle.m36_ran.specs.AuditText.{audit_pieces}
 use Rattle.m36_ran.specs.Machine.{told, after}
 use Rattle.m36_ran.specs.Output.{pieces_from, run_pieces, status_after}
-use Rattle.m36_ran.specs.Ran.{passes, is_run, audit_status, audit_answer, behind, run_answer, state_answer}
-use Rattle.m36_ran.specs.Ran.{bare_by as answer_by}
+use Rattle.m36_ran.specs.Ran.{passes, is_run, audit_status}
 use Rattle.m36_ran.specs.Run.{run, last_outcome}
 use Rattle.m36_ran.specs.declared.command.ImageCommand.{ImageCommand}
 use Rattle.m36_ran.specs.declared.command.ImageCommand.TheVariants.{Bare, Audit}
 use Rattle.m36_ran.proofs.RunLaws.{run_more, run_none, pieces_next, pieces_last, pieces_none, last_after_next}
 use Rattle.cmd_image.specs.ImageProgram.{may_end_by, run_status, run_ends, after_step, run_from}
 use Rattle.cmd_image.specs.ImageProgram.{audit_may_end, audit_only, audit_and_run, bare_by, by_command}
+use Rattle.cmd_image.specs.ImageEnds.{bare_pieces, image_pieces, bare_status, image_status}
+use Rattle.cmd_image.proofs.PutEnds.{SomeEnd, puts_end}
 
 -- ---- a run puts the pieces of its records
 
@@ -42,7 +44,9 @@ ends_is : (taken : ℕ) (last : Outcome)
 unfolding run_ends run_status
 ends_is taken last = sym (puts_one (as_line (end_line_of last taken)) (ends (status_after last) (own_after last)))
 
-all_more : (piece : List ℕ) (pieces : List (List ℕ)) (rest : Program quiet (Unit {0})) → puts piece (puts_all pieces rest) ≡ puts_all (piece ∷ pieces) rest
+all_more :
+    (piece : List ℕ) (pieces : List (List ℕ)) (rest : Program quiet (Unit {0}))
+    → puts piece (puts_all pieces rest) ≡ puts_all (piece ∷ pieces) rest
 unfolding puts_all
 all_more piece pieces rest = refl
 
@@ -84,32 +88,42 @@ run_is taken (suc left) state =
     (run_is (taken + 1) left (after state))
     ∙ ap (rest_by taken) (sym (run_more left state))
 
--- ---- what is put
+-- ---- what is put, by the findings
 
 audit_puts :
     (findings : List (ℕ × ℕ)) (events : List Event) (result : Result (Unit {0}) Status)
-    → Goes (audit_only findings) events result → Puts (audit_answer findings) events result
-unfolding audit_only audit_answer
+    → Goes (audit_only findings) events result
+    → PutsBy (audit_pieces findings) (audit_status (passes findings)) events result
+unfolding audit_only
 audit_puts findings events result goes =
-    puts_with (audit_pieces findings) (audit_status (passes findings)) (audit_may_end (passes findings)) events result goes
+    puts_ended quiet (audit_pieces findings) (audit_status (passes findings)) (audit_may_end (passes findings)) events result goes
+
+-- a run after its audit, as one list of pieces
+both_is :
+    (steps : ℕ) (state : State (List ℕ)) (findings : List (ℕ × ℕ))
+    → audit_and_run steps state findings
+    ≡ puts_all (audit_pieces findings ++ run_pieces steps state)
+    (ends (status_after (last_outcome (run steps state))) (own_after (last_outcome (run steps state))))
+unfolding audit_and_run run_pieces
+both_is steps state findings =
+    let last = last_outcome (run steps state) in
+    ap (puts_all (audit_pieces findings)) (run_is 0 steps state)
+    ∙ sym (puts_both (audit_pieces findings) (pieces_from 0 (run steps state)) (ends (status_after last) (own_after last)))
 
 both_puts :
     (steps : ℕ) (state : State (List ℕ)) (findings : List (ℕ × ℕ)) (events : List Event) (result : Result (Unit {0}) Status)
     → Goes (audit_and_run steps state findings) events result
-    → Puts (behind findings (run_answer steps state)) events result
-unfolding Goes audit_and_run run_answer run_pieces
+    → PutsBy (audit_pieces findings ++ run_pieces steps state) (status_after (last_outcome (run steps state))) events result
 both_puts steps state findings events result goes =
     let last = last_outcome (run steps state) in
-    puts_with (audit_pieces findings ++ pieces_from 0 (run steps state)) (status_after last) (own_after last) events result
-    (subst (λ p. Goes p events result)
-    (ap (puts_all (audit_pieces findings)) (run_is 0 steps state)
-    ∙ sym (puts_both (audit_pieces findings) (pieces_from 0 (run steps state)) (ends (status_after last) (own_after last)))) goes)
+    puts_ended quiet (audit_pieces findings ++ run_pieces steps state) (status_after last) (own_after last) events result
+    (subst (λ p. Goes p events result) (both_is steps state findings) goes)
 
 bare_puts :
     (run : Bool) (steps : ℕ) (state : State (List ℕ)) (findings : List (ℕ × ℕ)) (events : List Event)
     (result : Result (Unit {0}) Status)
     → Goes (bare_by run steps state findings) events result
-    → Puts (answer_by run steps state findings) events result
+    → PutsBy (bare_pieces run steps state findings) (bare_status run steps state findings) events result
 bare_puts true steps state findings events result goes = both_puts steps state findings events result goes
 bare_puts false steps state findings events result goes = audit_puts findings events result goes
 
@@ -117,7 +131,28 @@ pub found_puts :
     (command : ImageCommand) (state : State (List ℕ)) (findings : List (ℕ × ℕ)) (events : List Event)
     (result : Result (Unit {0}) Status)
     → Goes (by_command command state findings) events result
-    → Puts (state_answer command state findings) events result
+    → PutsBy (image_pieces command state findings) (image_status command state findings) events result
 found_puts (Bare bare) state findings events result goes =
     bare_puts (is_run findings bare.unaudited) bare.steps state findings events result goes
 found_puts Audit state findings events result goes = audit_puts findings events result goes
+
+-- ---- some call ends
+
+audit_end : (findings : List (ℕ × ℕ)) → SomeEnd (audit_only findings)
+unfolding audit_only
+audit_end findings = puts_end (audit_pieces findings) (audit_status (passes findings)) (audit_may_end (passes findings))
+
+bare_end :
+    (is : Bool) (steps : ℕ) (state : State (List ℕ)) (findings : List (ℕ × ℕ))
+    → SomeEnd (bare_by is steps state findings)
+bare_end true steps state findings =
+    let last = last_outcome (run steps state) in
+    subst SomeEnd (sym (both_is steps state findings))
+    (puts_end (audit_pieces findings ++ run_pieces steps state) (status_after last) (own_after last))
+bare_end false steps state findings = audit_end findings
+
+pub found_end :
+    (command : ImageCommand) (state : State (List ℕ)) (findings : List (ℕ × ℕ))
+    → SomeEnd (by_command command state findings)
+found_end (Bare bare) state findings = bare_end (is_run findings bare.unaudited) bare.steps state findings
+found_end Audit state findings = audit_end findings

@@ -2,5 +2,7 @@ pub mod RunLoop
 pub mod AuditPuts
 pub mod ImageSteps
 pub mod TextLaws
+pub mod PutEnds
 pub mod ImageGoes
-pub mod Bridge
+pub mod ImageReads
+pub mod ImageEnded

@@ -11,28 +11,20 @@ use Rattle.m36_reading.specs.declared.status.Status.{Status}
 use Rattle.m36_reading.specs.declared.status.Status.TheVariants as status
 use Rattle.m36_program.specs.Alike.{Alike}
 use Rattle.m36_program.specs.Early.{MayEnd, ends}
-use Rattle.m36_program.specs.Program.{Found, Content, Absent, TooLarge, quiet, Program, puts_all, some}
-use Rattle.m36_program.specs.Readers.{refuses, bytes_found, file_bytes}
-use Rattle.m36_program.proofs.AlikeLaws.{alike_wants, alike_then, alike_puts, alike_one, performs_quiet_text, performs_written}
+use Rattle.m36_program.specs.Program.{quiet, Program, some}
+use Rattle.m36_program.specs.Readers.{refuses, file_bytes}
+use Rattle.m36_program.proofs.AlikeLaws.{alike_wants, alike_then, alike_puts, alike_one, bytes_alike, has_one_text}
 use Rattle.m36_ran.specs.AuditText.{audit_pieces}
 use Rattle.m36_ran.specs.Machine.{told, after}
 use Rattle.m36_ran.specs.Output.{status_after}
 use Rattle.m36_ran.specs.Ran.{passes, is_run, audit_status}
 use Rattle.m36_ran.specs.declared.command.ImageCommand.{ImageCommand}
 use Rattle.m36_ran.specs.declared.command.ImageCommand.TheVariants.{Bare, Audit}
-use Rattle.cmd_image.specs.ImageProgram.{decoded, decode, image_state, may_end_by, run_status, run_ends, after_step, run_from}
-use Rattle.cmd_image.specs.ImageProgram.{AreAuditFindings, audit_may_end, audit_only, audit_and_run, bare_by, by_command, on_image, image_program}
+use Rattle.cmd_image.specs.ImageProgram.{decoded, decode, image_state, may_end_by, run_status, run_ends, after_step}
+use Rattle.cmd_image.specs.ImageProgram.{run_from}
+use Rattle.cmd_image.specs.ImageProgram.{AreAuditFindings, audit_may_end, audit_only, audit_and_run, bare_by}
+use Rattle.cmd_image.specs.ImageProgram.{by_command, on_image, image_program}
 use Rattle.cmd_image.specs.OneText.{ImageTextLaw}
-
-found_alike : (name : List ℕ) (found : Found) → Alike {may = quiet} (bytes_found name found) (bytes_found name found)
-unfolding Alike refuses
-found_alike name (Content bytes) = refl
-found_alike name Absent = refl
-found_alike name TooLarge = refl
-
-pub bytes_alike : (name : List ℕ) → Alike {may = quiet} (file_bytes name) (file_bytes name)
-unfolding Alike file_bytes
-bytes_alike name = (refl, λ found. found_alike name found)
 
 decoded_alike :
     (name : List ℕ) (given : Result (State (List ℕ)) refusal.Refusal)
@@ -49,7 +41,7 @@ decode_alike name bytes =
 state_alike : (name : List ℕ) → Alike {may = quiet} (image_state name) (image_state name)
 unfolding image_state
 state_alike name =
-    alike_then (file_bytes name) (file_bytes name) (decode name) (decode name) (bytes_alike name) (decode_alike name)
+    alike_then (file_bytes name) (file_bytes name) (decode name) (decode name) (bytes_alike quiet name) (decode_alike name)
 
 pub ends_alike : (s : Status) (own : MayEnd s) → Alike {may = quiet} (ends s own) (ends s own)
 unfolding Alike ends
@@ -98,7 +90,8 @@ by_alike :
 by_alike (Bare bare) state findings = bare_alike (is_run findings bare.unaudited) bare.steps state findings
 by_alike Audit state findings = audit_alike findings
 
-image_alike : (command : ImageCommand) (state : State (List ℕ)) → Alike (on_image command state) (on_image command state)
+image_alike :
+    (command : ImageCommand) (state : State (List ℕ)) → Alike (on_image command state) (on_image command state)
 unfolding Alike on_image
 image_alike command state =
     let chosen : Program quiet (Unit {0}) = some (AreAuditFindings state) (by_command command state) in
@@ -113,10 +106,4 @@ program_alike command name =
     alike_then (image_state name) (image_state name) (on_image command) (on_image command) (state_alike name) (image_alike command)
 
 pub image_text_law : ImageTextLaw
-image_text_law = record {
-  alike = program_alike;
-  one_text = λ command name files result end old new old' new' ended told told' one other.
-      performs_quiet_text (image_program command name) files result end old new old' new' refl (program_alike command name) ended told told' one other;
-  written = λ command name files result end old new old' new' ended told told' one other.
-      performs_written (image_program command name) files result end old new old' new' refl (program_alike command name) ended told told' one other;
-}
+image_text_law command name = has_one_text (image_program command name) refl (program_alike command name)

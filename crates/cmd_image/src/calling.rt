@@ -1,10 +1,6 @@
 //! Performs a command of an image over three objects: a folder, an input and an output.
 
-ghost use Rattle.m36_reading.specs.Doing.{Does};
-ghost use Rattle.m36_reading.specs.Outside.{outside_of};
 ghost use Rattle.m36_program.specs.Early.{early};
-ghost use Rattle.m36_program.specs.Trail.{InputKept};
-ghost use Rattle.m36_ran.specs.Ran.{state_kind, state_reads};
 ghost use Rattle.cmd_image.specs.ImageProgram.{image_program};
 ghost use Rattle.m36_program.specs.Objects.{objects, PerformsOver};
 
@@ -28,21 +24,6 @@ pub fn image_command<F: Folder, L: Lines, S: Sink>(
     // The three records of the call are the parts of one list of events that the program allows.
     // The objects have no common clock, so this does not say which event of two objects was first.
     ensures performs { PerformsOver (image_program command name.now) (early result)
-        (objects F.asked F.wrote F.files F.read_faults F.write_faults L.given L.left L.faults
-        S.taken S.written S.faults folder.old lines.old out.old)
-        (objects F.asked F.wrote F.files F.read_faults F.write_faults L.given L.left L.faults
-        S.taken S.written S.faults folder.new lines.new out.new) }
-
-    // The files that were read, the text and the status are those of the command.
-    ensures does { Does (state_kind command) (state_reads name.now) result
-        (outside_of F.files F.wrote F.read_faults F.write_faults S.written S.taken S.faults
-        folder.old out.old)
-        (outside_of F.files F.wrote F.read_faults F.write_faults S.written S.taken S.faults
-        folder.new out.new)
-        (F.asked folder.old) (F.asked folder.new) }
-
-    // Nothing of the input is taken, and no fault of it is counted.
-    ensures untaken { InputKept
         (objects F.asked F.wrote F.files F.read_faults F.write_faults L.given L.left L.faults
         S.taken S.written S.faults folder.old lines.old out.old)
         (objects F.asked F.wrote F.files F.read_faults F.write_faults L.given L.left L.faults

@@ -16,11 +16,12 @@
 //! [`image_command`] performs the program over a folder, an input and an output of the caller: the
 //! three records of the call are the parts of one list of events that the program allows
 //! (`PerformsOver`). The objects have no common clock, so this does not say which of two objects
-//! was called first. The call takes no input. Its contract also states the same command as a
-//! reading and an answer (`Does`).
+//! was called first. By its type the program writes no file and takes no input.
 //!
 //! [`law_image_text`] says that over the same files every call puts a prefix of one text. A call
-//! that does not end by a fault or out of memory puts all of it.
+//! that does not end by a fault or out of memory puts all of it. [`law_image_ends`] says what this
+//! text is by the findings of the audit, and which findings there are by its six conditions.
+//! `specs/Needs.antt` says what a command needs of an image to end with Done.
 //!
 //! The lines of a run are gathered in a block, which is handed over when it is full and at the end.
 //! The invariant of the loop is what is left of the program (`Leads`): the lines in the block, and
@@ -36,4 +37,4 @@ pub mod running;
 
 pub use answering::image_file;
 pub use calling::image_command;
-pub use laws::law_image_text;
+pub use laws::{law_image_ends, law_image_text};

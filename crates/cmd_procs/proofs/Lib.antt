@@ -2,8 +2,6 @@ pub mod JointTexts
 pub mod ProcsSteps
 pub mod ScheduleLoop
 pub mod TextLaws
-pub mod DueLaws
-pub mod PiecesJoined
-pub mod YesAnswers
 pub mod Registers
-pub mod Bridge
+pub mod ProcsReads
+pub mod ProcsEnded

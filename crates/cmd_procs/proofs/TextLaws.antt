@@ -11,12 +11,13 @@ use Rattle.m36_program.specs.Alike.{Alike}
 use Rattle.m36_program.specs.Early.{ends}
 use Rattle.m36_program.specs.Program.{quiet, Program, some}
 use Rattle.m36_program.specs.Readers.{refuses, file_bytes}
-use Rattle.m36_program.proofs.AlikeLaws.{alike_wants, alike_then, alike_puts, alike_one, performs_quiet_text, performs_written}
+use Rattle.m36_program.proofs.AlikeLaws.{alike_wants, alike_then, alike_puts, alike_one, bytes_alike, has_one_text}
 use Rattle.m36_ran.specs.Ran.{is_run, audit_status}
-use Rattle.cmd_image.proofs.TextLaws.{bytes_alike, ends_alike}
+use Rattle.cmd_image.proofs.TextLaws.{ends_alike}
 use Rattle.cmd_procs.specs.JointText.{joint_pieces}
 use Rattle.cmd_procs.specs.Scheduled.{dbrs_of}
-use Rattle.cmd_procs.specs.ProcsProgram.{decoded, decode, procs_of, AreScheduleFindings, audit_only, run_all, audit_and_run, run_by, by_found}
+use Rattle.cmd_procs.specs.ProcsProgram.{decoded, decode, procs_of, AreScheduleFindings, audit_only, run_all}
+use Rattle.cmd_procs.specs.ProcsProgram.{audit_and_run, run_by, by_found}
 use Rattle.cmd_procs.specs.ProcsProgram.{on_procs, procs_program}
 use Rattle.cmd_procs.specs.OneText.{ProcsTextLaw}
 
@@ -34,7 +35,7 @@ decode_alike name bytes =
 procs_alike : (name : List ℕ) → Alike {may = quiet} (procs_of name) (procs_of name)
 unfolding procs_of
 procs_alike name =
-    alike_then (file_bytes name) (file_bytes name) (decode name) (decode name) (bytes_alike name) (decode_alike name)
+    alike_then (file_bytes name) (file_bytes name) (decode name) (decode name) (bytes_alike quiet name) (decode_alike name)
 
 audit_alike : (findings : List JointFound) → Alike (audit_only findings) (audit_only findings)
 unfolding audit_only
@@ -48,7 +49,8 @@ run_alike p =
     let last : Program quiet (Unit {0}) = ends Done tt in
     alike_puts (schedule_pieces p.schedule p.state) last last (ends_alike Done tt)
 
-both_alike : (p : ProcsFields) (findings : List JointFound) → Alike (audit_and_run p findings) (audit_and_run p findings)
+both_alike :
+    (p : ProcsFields) (findings : List JointFound) → Alike (audit_and_run p findings) (audit_and_run p findings)
 unfolding audit_and_run
 both_alike p findings = alike_puts (joint_pieces findings) (run_all p) (run_all p) (run_alike p)
 
@@ -72,10 +74,4 @@ program_alike unaudited name =
     alike_then (procs_of name) (procs_of name) (on_procs unaudited) (on_procs unaudited) (procs_alike name) (on_alike unaudited)
 
 pub procs_text_law : ProcsTextLaw
-procs_text_law = record {
-  alike = program_alike;
-  one_text = λ unaudited name files result end old new old' new' ended told told' one other.
-      performs_quiet_text (procs_program unaudited name) files result end old new old' new' refl (program_alike unaudited name) ended told told' one other;
-  written = λ unaudited name files result end old new old' new' ended told told' one other.
-      performs_written (procs_program unaudited name) files result end old new old' new' refl (program_alike unaudited name) ended told told' one other;
-}
+procs_text_law unaudited name = has_one_text (procs_program unaudited name) refl (program_alike unaudited name)

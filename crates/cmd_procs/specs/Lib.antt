@@ -1,5 +1,6 @@
 pub mod JointText
 pub mod Scheduled
-pub mod DueLaw
 pub mod ProcsProgram
+pub mod ProcsEnds
+pub mod Needs
 pub mod OneText

@@ -1,11 +1,7 @@
 //! Performs `procs` over three objects: a folder, an input and an output.
 
-ghost use Rattle.m36_reading.specs.Doing.{Does};
-ghost use Rattle.m36_reading.specs.Outside.{outside_of};
 ghost use Rattle.m36_program.specs.Early.{early};
-ghost use Rattle.m36_program.specs.Trail.{InputKept};
 ghost use Rattle.m36_program.specs.Objects.{objects, PerformsOver};
-ghost use Rattle.cmd_procs.specs.Scheduled.{procs_kind, procs_reads};
 ghost use Rattle.cmd_procs.specs.ProcsProgram.{procs_program};
 
 use crate::answering::procs_file;
@@ -27,21 +23,6 @@ pub fn procs_command<F: Folder, L: Lines, S: Sink>(
     // The three records of the call are the parts of one list of events that the program allows.
     // The objects have no common clock, so this does not say which event of two objects was first.
     ensures performs { PerformsOver (procs_program unaudited name.now) (early result)
-        (objects F.asked F.wrote F.files F.read_faults F.write_faults L.given L.left L.faults
-        S.taken S.written S.faults folder.old lines.old out.old)
-        (objects F.asked F.wrote F.files F.read_faults F.write_faults L.given L.left L.faults
-        S.taken S.written S.faults folder.new lines.new out.new) }
-
-    // The call reads the file, and gives the answer that follows from the findings.
-    ensures does { Does (procs_kind unaudited) (procs_reads name.now) result
-        (outside_of F.files F.wrote F.read_faults F.write_faults S.written S.taken S.faults
-        folder.old out.old)
-        (outside_of F.files F.wrote F.read_faults F.write_faults S.written S.taken S.faults
-        folder.new out.new)
-        (F.asked folder.old) (F.asked folder.new) }
-
-    // Nothing of the input is taken, and no fault of it is counted.
-    ensures untaken { InputKept
         (objects F.asked F.wrote F.files F.read_faults F.write_faults L.given L.left L.faults
         S.taken S.written S.faults folder.old lines.old out.old)
         (objects F.asked F.wrote F.files F.read_faults F.write_faults L.given L.left L.faults

@@ -16,11 +16,12 @@
 //! [`procs_command`] performs it over a folder, an input and an output of the caller
 //! (`PerformsOver`): the three records of the call are the parts of one list of events that the
 //! program allows. The objects have no common clock, so this does not say which of two objects was
-//! called first. The same call satisfies `Does` by the reading of the processes and the answer to
-//! them, and takes no input.
+//! called first. By its type the program writes no file and takes no input.
 //!
 //! [`law_procs_text`]: over the same files all calls put prefixes of one text, and those that end
-//! put all of it.
+//! put all of it. [`law_procs_ends`] says what this text is by the findings of the joint audit, and
+//! which findings there are by its conditions. `specs/Needs.antt` says what the command
+//! needs of the processes to end with Done.
 //!
 //! A schedule's own events are steps of the processes, each on the core that the step before left.
 //! They are no events of the world: only their lines are. The lines of a run are gathered in a
@@ -39,4 +40,4 @@ pub mod running;
 
 pub use answering::procs_file;
 pub use calling::procs_command;
-pub use laws::law_procs_text;
+pub use laws::{law_procs_ends, law_procs_text};

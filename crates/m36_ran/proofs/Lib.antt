@@ -1,11 +1,8 @@
 pub mod RunLaws
-pub mod LinePieces
 pub mod RunLengths
 pub mod RunTurns
-pub mod PiecesJoined
 pub mod AuditTexts
 pub mod FindingPlaces
 pub mod AuditAnswers
-pub mod StateLaws
 pub mod YesAnswers
-pub mod DueLaws
+pub mod SomeFindings

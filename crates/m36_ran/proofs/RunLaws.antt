@@ -1,5 +1,6 @@
 -- A run, step by step: what is left of its output, and its last outcome.
-use Rattle.std.proofs.Common.{◌≡◌, ℕ, zero, suc, ◌+◌, ◌-◌, ◌<◌, Bool, true, false, List, [], ◌∷◌, ◌++◌, map, length, refl, ap, ◌∙◌, arith, add-zero}
+use Rattle.std.proofs.Common.{◌≡◌, ℕ, suc, ◌+◌, Bool, true, false, List, [], ◌∷◌, ◌++◌, map, length, refl, ap}
+use Rattle.std.proofs.Common.{◌∙◌, arith, add-zero}
 use Rattle.m36_text.specs.Lines.{as_line}
 use Rattle.m36_model.specs.Store.{State}
 use Rattle.m36_model.specs.Core.{core_store}
@@ -25,32 +26,14 @@ unfolding run visits
 run_more left s =
     ap (λ steps. told s ∷ steps) (told_only_if (is_next (told s).outcome) (visits core_store left (after s)))
 
-pub run_begins :
-    (left : ℕ) (s : State (List ℕ))
-    → 0 < left → run left s ≡ told s ∷ only_if (is_next (told s).outcome) (run (left - 1) (after s))
-run_begins zero s some = absurd (omega arith)
-run_begins (suc left) s some =
-    let rest : left ≡ suc left - 1 = omega arith in
-    run_more left s ∙ ap (λ n. told s ∷ only_if (is_next (told s).outcome) (run n (after s))) rest
-
 pub run_none : (s : State (List ℕ)) → run 0 s ≡ []
 unfolding run visits
 run_none s = refl
 
--- after Next the rest of the run follows
-pub run_next :
-    (left : ℕ) (s : State (List ℕ))
-    → 0 < left → (told s).outcome ≡ Next → run left s ≡ told s ∷ run (left - 1) (after s)
-run_next left s some next =
-    run_begins left s some ∙ ap (λ o. told s ∷ only_if (is_next o) (run (left - 1) (after s))) next
-
--- after any other outcome nothing does
-pub run_last :
-    (left : ℕ) (s : State (List ℕ)) → 0 < left → is_next (told s).outcome ≡ false → run left s ≡ told s ∷ []
-run_last left s some last = run_begins left s some ∙ ap (λ b. told s ∷ only_if b (run (left - 1) (after s))) last
-
 -- The last outcome of some steps, if the first has the outcome Next.
-pub last_after_next : (step : StepRecord) (steps : List StepRecord) → step.outcome ≡ Next → last_outcome (step ∷ steps) ≡ last_outcome steps
+pub last_after_next :
+    (step : StepRecord) (steps : List StepRecord) → step.outcome ≡ Next
+    → last_outcome (step ∷ steps) ≡ last_outcome steps
 last_after_next step [] next = next
 last_after_next step (other ∷ steps) next = refl
 

@@ -2,9 +2,7 @@ pub mod Machine
 pub mod Run
 pub mod Output
 pub mod AuditText
-pub mod Putting
 pub mod Ran
-pub mod DueLaw
 pub mod Laws
 pub use Rattle.m36_trace.specs.EndLine
 pub use Rattle.m36_trace.specs.TraceLine

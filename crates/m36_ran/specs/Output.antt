@@ -1,6 +1,5 @@
 -- The output of a run, each line one piece: its trace lines and its end line.
 use Rattle.std.specs.Prelude.{ℕ, ◌+◌, List, [], ◌∷◌, ◌++◌, Option, Some, None, length}
-use Rattle.m36_outside.specs.Passing.{joined}
 use Rattle.m36_text.specs.Lines.{as_line}
 use Rattle.m36_model.specs.Store.{State}
 use Rattle.m36_model.specs.declared.outcome.Outcome.{Outcome}
@@ -29,9 +28,6 @@ pieces_from taken steps =
 -- the lines of a run of at most `steps` steps
 unfoldable pub run_pieces : ℕ → State (List ℕ) → List (List ℕ)
 run_pieces steps state = pieces_from 0 (run steps state)
-
-unfoldable pub run_text : ℕ → State (List ℕ) → List ℕ
-run_text steps state = joined (run_pieces steps state)
 
 -- The status of a run that ended: Done after DIS, otherwise MachineStop with the end.
 abbrev pub end_status : End → Status

@@ -2,7 +2,7 @@
 use Rattle.std.specs.Prelude.{ℕ, List, [], ◌∷◌}
 use Rattle.m36_model.specs.Store.{State}
 use Rattle.m36_model.specs.Core.{core_store}
-use Rattle.m36_model.specs.Run.{Visited, visits, state_after_all, told}
+use Rattle.m36_model.specs.Run.{told}
 use Rattle.m36_model.specs.declared.outcome.Outcome.{Outcome}
 use Rattle.m36_model.specs.declared.outcome.Outcome.TheVariants.{Next}
 use Rattle.m36_model.specs.declared.record.StepRecord.{StepRecord}
@@ -17,11 +17,3 @@ abbrev pub last_outcome : List StepRecord → Outcome
 last_outcome [] = Next
 last_outcome (step ∷ []) = step.outcome
 last_outcome (step ∷ next ∷ steps) = last_outcome (next ∷ steps)
-
--- the state after some steps; `state` if there are none
-abbrev pub behind_steps : State (List ℕ) → List (Visited (List ℕ)) → State (List ℕ)
-behind_steps state steps = state_after_all (λ (v : Visited (List ℕ)). v.after) state steps
-
--- the state after a run of at most `steps` steps
-unfoldable pub last_state : ℕ → State (List ℕ) → State (List ℕ)
-last_state steps state = behind_steps state (visits core_store steps state)

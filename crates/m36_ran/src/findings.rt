@@ -1,17 +1,12 @@
 //! The text of an audit.
 
-ghost use Rattle.std.specs.Prelude.{◌≡◌, ◌≤◌, [], ◌∷◌, length};
+ghost use Rattle.std.specs.Prelude.{◌≡◌, ◌≤◌, length};
 ghost use Rattle.m36_text.specs.Digits.{octal_text};
-ghost use Rattle.m36_text.specs.Lines.{as_line};
-ghost use Rattle.m36_outside.specs.Passing.{TakesLines, joined};
-ghost use Rattle.m36_outside.specs.Put.{PutResult, PutHasCause};
-ghost use Rattle.m36_audit.specs.Findings.{pair_of, pairs};
-ghost use Rattle.m36_ran.specs.AuditText.{is_of_segment, place_digits, finding_line, finding_pieces, yes_line, audit_text, audit_pieces};
+ghost use Rattle.m36_audit.specs.Findings.{pair_of};
+ghost use Rattle.m36_ran.specs.AuditText.{is_of_segment, place_digits, finding_line};
 
-use crate::line_output::put_line;
 use arrayvec::ArrayString;
 use m36_audit::Finding;
-use m36_outside::{Put, Sink};
 use m36_text::{decimal, octal};
 
 // Whether a segment breaks this condition (the first, the fifth and the sixth), or a core word.
@@ -47,59 +42,4 @@ pub fn finding_line(finding: &Finding) -> ArrayString<160>
     line.push_str(" ");
     line.push_str(place_text(finding.condition, finding.place).as_str());
     line
-}
-
-// Puts the line of a finding.
-fn put_finding<S: Sink>(finding: &Finding, out: &mut S) -> Put
-    ensures says { PutResult result (S.written out.old) (S.written out.new)
-        (as_line (finding_line (pair_of finding.now))) }
-    ensures through { TakesLines result (S.taken out.old) (S.taken out.new)
-        (as_line (finding_line (pair_of finding.now)) ∷ []) }
-    ensures cause { PutHasCause result (S.faults out.old) (S.faults out.new) }
-{
-    put_line(out, finding_line(finding))
-}
-
-// Puts a line for each finding, in order, up to the first put that fails.
-#[tactic(auto, using(crate::proofs::AuditTexts::findings_in_turn))]
-fn put_findings<S: Sink>(findings: &[Finding], out: &mut S) -> Put
-    ensures says { PutResult result (S.written out.old) (S.written out.new)
-        (joined (finding_pieces (pairs findings.now))) }
-    ensures through { TakesLines result (S.taken out.old) (S.taken out.new)
-        (finding_pieces (pairs findings.now)) }
-    ensures cause { PutHasCause result (S.faults out.old) (S.faults out.new) }
-{
-    for finding in findings {
-        match put_finding(finding, out) {
-            Put::Done => {}
-            Put::Failed => return Put::Failed,
-        }
-    }
-    Put::Done
-}
-
-/// Puts the line `audit yes`.
-pub fn put_yes<S: Sink>(out: &mut S) -> Put
-    ensures says { PutResult result (S.written out.old) (S.written out.new) yes_line }
-    ensures through { TakesLines result (S.taken out.old) (S.taken out.new) (yes_line ∷ []) }
-    ensures cause { PutHasCause result (S.faults out.old) (S.faults out.new) }
-{
-    let mut line = ArrayString::new();
-    line.push_str("audit yes");
-    put_line(out, line)
-}
-
-/// Puts the text of an audit line by line: `audit yes`, or a line for each finding.
-#[tactic(auto, using(crate::proofs::AuditTexts::audit_texts))]
-pub fn put_audit<S: Sink>(findings: &[Finding], out: &mut S) -> Put
-    ensures says { PutResult result (S.written out.old) (S.written out.new)
-        (audit_text (pairs findings.now)) }
-    ensures through { TakesLines result (S.taken out.old) (S.taken out.new)
-        (audit_pieces (pairs findings.now)) }
-    ensures cause { PutHasCause result (S.faults out.old) (S.faults out.new) }
-{
-    if findings.is_empty() {
-        return put_yes(out);
-    }
-    put_findings(findings, out)
 }
