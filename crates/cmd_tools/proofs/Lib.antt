@@ -1,5 +1,4 @@
 pub mod ReportLaws
 pub mod ToolSteps
-pub mod Bridge
-pub mod AlikeReaders
 pub mod TextLaws
+pub mod ToolsEnded

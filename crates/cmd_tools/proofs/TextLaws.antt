@@ -1,5 +1,5 @@
 -- The programs are alike to themselves.
-use Rattle.std.proofs.Common.{◌≡◌, ℕ, true, false, List, [], ◌∷◌, Ok, refl}
+use Rattle.std.proofs.Common.{ℕ, List, [], ◌∷◌, Ok, refl}
 use Rattle.m36_bindfile.specs.BindFile.{bind_lines, names_by}
 use Rattle.m36_bind.specs.Bound.{bound_of}
 use Rattle.m36_dir.specs.Catalog.{CatalogFields}
@@ -15,17 +15,16 @@ use Rattle.m36_told.specs.Told.{ToldFields}
 use Rattle.m36_program.specs.Alike.{Alike}
 use Rattle.m36_program.specs.Program.{May, quiet, Program, done}
 use Rattle.m36_program.specs.Readers.{file_bytes}
-use Rattle.m36_program.proofs.AlikeLaws.{alike_then, alike_puts, performs_quiet_text, performs_written}
+use Rattle.m36_program.proofs.AlikeLaws.{alike_then, alike_puts, bytes_alike}
 use Rattle.m36_files.specs.Catalogs.{boot_catalog, access_lists}
 use Rattle.m36_files.specs.Deciding.{decides}
 use Rattle.m36_files.specs.EachFile.{each_onto}
 use Rattle.m36_files.specs.FileReaders.{file_object}
 use Rattle.m36_files.specs.Writing.{writing}
-use Rattle.cmd_tools.proofs.AlikeReaders.{bytes_alike, decides_alike, done_alike, rule_alike, object_alike, catalog_alike, lists_alike, each_alike}
+use Rattle.m36_files.proofs.AlikeReaders.{decides_alike, done_alike, rule_alike, object_alike, catalog_alike, lists_alike, each_alike}
 use Rattle.cmd_tools.specs.Reporting.{writes_all, put_text, write_report}
 use Rattle.cmd_tools.specs.ToolPrograms.{print_report, print_program, lists_report, access_report, access_program}
 use Rattle.cmd_tools.specs.ToolPrograms.{alm_report, alm_program, components_report, text_report, bind_report, bind_program}
-use Rattle.cmd_tools.specs.OneText.{HasOneText, ToolTextLaw}
 
 -- ---- reports
 
@@ -46,7 +45,7 @@ report_alike report = files_alike report.sets (put_text report.text) (text_alike
 
 -- ---- each command
 
-print_alike : (name : List ℕ) → Alike (print_program name) (print_program name)
+pub print_alike : (name : List ℕ) → Alike (print_program name) (print_program name)
 unfolding print_program print_report
 print_alike name =
     alike_then (print_report name) (print_report name) (λ r. put_text r.text) (λ r. put_text r.text)
@@ -62,13 +61,13 @@ unfolding access_report
 access_report_alike user =
     alike_then boot_catalog boot_catalog (lists_report user) (lists_report user) (catalog_alike quiet) (lists_report_alike user)
 
-access_alike : (user : List ℕ) → Alike (access_program user) (access_program user)
+pub access_alike : (user : List ℕ) → Alike (access_program user) (access_program user)
 unfolding access_program
 access_alike user =
     alike_then (access_report user) (access_report user) (λ r. put_text r.text) (λ r. put_text r.text)
     (access_report_alike user) (λ r. text_alike quiet r.text)
 
-alm_alike : (files : AlmFiles) → Alike (alm_program files) (alm_program files)
+pub alm_alike : (files : AlmFiles) → Alike (alm_program files) (alm_program files)
 unfolding alm_program alm_report
 alm_alike files =
     alike_then (alm_report files) (alm_report files) write_report write_report
@@ -96,26 +95,7 @@ bind_report_alike files =
     alike_then (file_bytes files.bindfile) (file_bytes files.bindfile) (text_report files) (text_report files)
     (bytes_alike writing files.bindfile) (text_report_alike files)
 
-bind_alike : (files : BindFiles) → Alike (bind_program files) (bind_program files)
+pub bind_alike : (files : BindFiles) → Alike (bind_program files) (bind_program files)
 unfolding bind_program
 bind_alike files =
     alike_then (bind_report files) (bind_report files) write_report write_report (bind_report_alike files) report_alike
-
--- ---- the law
-
-has_one_text : {may : May} (p : Program may (Unit {0})) → may.takes ≡ false → Alike p p → HasOneText p
-has_one_text p never alike = record {
-  alike = alike;
-  one_text = λ files result end old new old' new' ended told told' one other.
-      performs_quiet_text p files result end old new old' new' never alike ended told told' one other;
-  written = λ files result end old new old' new' ended told told' one other.
-      performs_written p files result end old new old' new' never alike ended told told' one other;
-}
-
-pub tool_text_law : ToolTextLaw
-tool_text_law = record {
-  print = λ name. has_one_text (print_program name) refl (print_alike name);
-  access = λ user. has_one_text (access_program user) refl (access_alike user);
-  alm = λ files. has_one_text (alm_program files) refl (alm_alike files);
-  bind = λ files. has_one_text (bind_program files) refl (bind_alike files);
-}

@@ -1,3 +1,3 @@
 pub mod Reporting
 pub mod ToolPrograms
-pub mod OneText
+pub mod ToolLaws

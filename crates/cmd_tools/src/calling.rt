@@ -1,15 +1,8 @@
 //! Performs the commands over three objects: a folder, an input and an output. Each call has the
-//! same three clauses, which [`print_command`] explains.
+//! same clause, which [`print_command`] explains.
 
-ghost use Rattle.m36_reading.specs.Doing.{Does};
-ghost use Rattle.m36_reading.specs.Outside.{outside_of};
-ghost use Rattle.m36_told.specs.Accesses.{user_reads};
-ghost use Rattle.m36_told.specs.Binding.{bind_reads};
-ghost use Rattle.m36_told.specs.Telling.{print_reads, alm_reads};
-ghost use Rattle.m36_told.specs.Told.{told_kind};
 ghost use Rattle.m36_program.specs.Early.{early};
 ghost use Rattle.m36_program.specs.Objects.{objects, PerformsOver};
-ghost use Rattle.m36_program.specs.Trail.{InputKept};
 ghost use Rattle.cmd_tools.specs.ToolPrograms.{print_program, access_program, alm_program, bind_program};
 
 use crate::access::print_access;
@@ -39,21 +32,6 @@ pub fn print_command<F: Folder, L: Lines, S: Sink>(
         S.taken S.written S.faults folder.old lines.old out.old)
         (objects F.asked F.wrote F.files F.read_faults F.write_faults L.given L.left L.faults
         S.taken S.written S.faults folder.new lines.new out.new) }
-
-    // The call reads the files that the reading asks for, and gives the answer that follows.
-    ensures does { Does told_kind (print_reads name.now) result
-        (outside_of F.files F.wrote F.read_faults F.write_faults S.written S.taken S.faults
-        folder.old out.old)
-        (outside_of F.files F.wrote F.read_faults F.write_faults S.written S.taken S.faults
-        folder.new out.new)
-        (F.asked folder.old) (F.asked folder.new) }
-
-    // Nothing of the input is taken, and no fault of it is counted.
-    ensures untaken { InputKept
-        (objects F.asked F.wrote F.files F.read_faults F.write_faults L.given L.left L.faults
-        S.taken S.written S.faults folder.old lines.old out.old)
-        (objects F.asked F.wrote F.files F.read_faults F.write_faults L.given L.left L.faults
-        S.taken S.written S.faults folder.new lines.new out.new) }
 {
     let mut world = Borrowed::new(folder, lines, out);
     let outcome = print_object(alloc, name, &mut world);
@@ -69,18 +47,6 @@ pub fn access_command<F: Folder, L: Lines, S: Sink>(
     out: &mut S,
 ) -> Status
     ensures performs { PerformsOver (access_program user.now) (early result)
-        (objects F.asked F.wrote F.files F.read_faults F.write_faults L.given L.left L.faults
-        S.taken S.written S.faults folder.old lines.old out.old)
-        (objects F.asked F.wrote F.files F.read_faults F.write_faults L.given L.left L.faults
-        S.taken S.written S.faults folder.new lines.new out.new) }
-
-    ensures does { Does told_kind (user_reads user.now) result
-        (outside_of F.files F.wrote F.read_faults F.write_faults S.written S.taken S.faults
-        folder.old out.old)
-        (outside_of F.files F.wrote F.read_faults F.write_faults S.written S.taken S.faults
-        folder.new out.new)
-        (F.asked folder.old) (F.asked folder.new) }
-    ensures untaken { InputKept
         (objects F.asked F.wrote F.files F.read_faults F.write_faults L.given L.left L.faults
         S.taken S.written S.faults folder.old lines.old out.old)
         (objects F.asked F.wrote F.files F.read_faults F.write_faults L.given L.left L.faults
@@ -104,18 +70,6 @@ pub fn alm_command<F: Folder, L: Lines, S: Sink>(
         S.taken S.written S.faults folder.old lines.old out.old)
         (objects F.asked F.wrote F.files F.read_faults F.write_faults L.given L.left L.faults
         S.taken S.written S.faults folder.new lines.new out.new) }
-
-    ensures does { Does told_kind (alm_reads files.now) result
-        (outside_of F.files F.wrote F.read_faults F.write_faults S.written S.taken S.faults
-        folder.old out.old)
-        (outside_of F.files F.wrote F.read_faults F.write_faults S.written S.taken S.faults
-        folder.new out.new)
-        (F.asked folder.old) (F.asked folder.new) }
-    ensures untaken { InputKept
-        (objects F.asked F.wrote F.files F.read_faults F.write_faults L.given L.left L.faults
-        S.taken S.written S.faults folder.old lines.old out.old)
-        (objects F.asked F.wrote F.files F.read_faults F.write_faults L.given L.left L.faults
-        S.taken S.written S.faults folder.new lines.new out.new) }
 {
     let mut world = Borrowed::new(folder, lines, out);
     let outcome = assemble_file(alloc, files, &mut world);
@@ -131,18 +85,6 @@ pub fn bind_command<F: Folder, L: Lines, S: Sink>(
     out: &mut S,
 ) -> Status
     ensures performs { PerformsOver (bind_program files.now) (early result)
-        (objects F.asked F.wrote F.files F.read_faults F.write_faults L.given L.left L.faults
-        S.taken S.written S.faults folder.old lines.old out.old)
-        (objects F.asked F.wrote F.files F.read_faults F.write_faults L.given L.left L.faults
-        S.taken S.written S.faults folder.new lines.new out.new) }
-
-    ensures does { Does told_kind (bind_reads files.now) result
-        (outside_of F.files F.wrote F.read_faults F.write_faults S.written S.taken S.faults
-        folder.old out.old)
-        (outside_of F.files F.wrote F.read_faults F.write_faults S.written S.taken S.faults
-        folder.new out.new)
-        (F.asked folder.old) (F.asked folder.new) }
-    ensures untaken { InputKept
         (objects F.asked F.wrote F.files F.read_faults F.write_faults L.given L.left L.faults
         S.taken S.written S.faults folder.old lines.old out.old)
         (objects F.asked F.wrote F.files F.read_faults F.write_faults L.given L.left L.faults

@@ -20,10 +20,10 @@
 //!
 //! [`print_command`], [`access_command`], [`alm_command`] and [`bind_command`] perform them over a
 //! folder, an input and an output of the caller (`PerformsOver`). These have no common clock, so
-//! these contracts do not have that order. The same calls satisfy `Does` by the reading of the
-//! command and the answer to it, and take no input.
+//! these contracts do not have that order.
 //!
-//! [`law_tool_text`]: over the same files all calls put prefixes of one text, and those that end
+//! [`law_tools`]: if the files give a report, a call ends with Done unless another call fails or
+//! memory runs out; and over the same files all calls put prefixes of one text, and those that end
 //! put all of it.
 //!
 //! Formats are those of `m36_list` and `obj36`; the machine's words are those of the Multics
@@ -43,6 +43,6 @@ pub use access::print_access;
 pub use assembling::assemble_file;
 pub use binding::bind_objects;
 pub use calling::{access_command, alm_command, bind_command, print_command};
-pub use laws::law_tool_text;
+pub use laws::law_tools;
 pub use printing::print_object;
 pub use report::Report;

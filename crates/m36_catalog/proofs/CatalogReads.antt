@@ -30,7 +30,7 @@ catalog_given given c is = ap catalog_by is
 
 pub catalog_not :
     (given : Result CatalogFields CatalogFault) (fault : CatalogFault) (r : Refusal)
-    → dir.Told fault given → Refuses r (catalog_refused fault) → Gives (Err r) (catalog_by given)
+    → dir.RefusesWith fault given → Refuses r (catalog_refused fault) → Gives (Err r) (catalog_by given)
 catalog_not given (catalog.D1 line) r told refuses = gives_by CatalogFields r (catalog_refused (catalog.D1 line)) (catalog_by given) (ap catalog_by told) refuses
 catalog_not given (catalog.D2 line) r told refuses = gives_by CatalogFields r (catalog_refused (catalog.D2 line)) (catalog_by given) (ap catalog_by told) refuses
 catalog_not given (catalog.D3 line) r told refuses = gives_by CatalogFields r (catalog_refused (catalog.D3 line)) (catalog_by given) (ap catalog_by told) refuses
@@ -68,7 +68,7 @@ lists_given c given ls result is gives = subst (λ g. Gives result (lists_by c g
 
 pub lists_not :
     (c : CatalogFields) (given : Result (List AclSegmentFields) AclFault) (fault : AclFault) (r : Refusal)
-    → lists.Told fault given → Refuses r (lists_refused fault) → Gives (Err r) (lists_by c given)
+    → lists.RefusesWith fault given → Refuses r (lists_refused fault) → Gives (Err r) (lists_by c given)
 lists_not c given (acl.C1 line) r told refuses = gives_by (List AclSegmentFields) r (lists_refused (acl.C1 line)) (lists_by c given) (ap (lists_by c) told) refuses
 lists_not c given (acl.C2 line) r told refuses = gives_by (List AclSegmentFields) r (lists_refused (acl.C2 line)) (lists_by c given) (ap (lists_by c) told) refuses
 lists_not c given acl.NoMemory r told refuses = memory_given (List AclSegmentFields) r (lists_by c given) refuses

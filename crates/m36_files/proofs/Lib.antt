@@ -2,6 +2,6 @@ pub mod DecidingLaws
 pub mod FileLaws
 pub mod EachLaws
 pub mod CatalogLaws
-pub mod OldReading
-pub mod OldReaders
-pub mod OldDoing
+pub mod AlikeReaders
+pub mod AreReaders
+pub mod ReaderEnds

@@ -19,9 +19,9 @@
 //! refusal, and memory may run out in it (`decides`). [`decide`] turns its result into the result
 //! of a call.
 //!
-//! The older layer says by a reading and an answer what a command does (`Does`). `IsReader`
-//! (`proofs/OldReading.antt`) ties a reader to its reading, and `reader_does`
-//! (`proofs/OldDoing.antt`) a command that reads and then answers.
+//! Each reader only reads files, so what it ends with follows from the files (`IsReader` and
+//! `outcome_in` of `m36_program`, `proofs/AreReaders.antt`), and it is alike to itself
+//! (`proofs/AlikeReaders.antt`).
 #![tactic(auto)]
 
 pub mod catalogs;

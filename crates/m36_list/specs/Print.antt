@@ -35,24 +35,24 @@ abbrev pub section_line : List ℕ → ℕ → ℕ → List ℕ
 section_line name at len = line (name ∷ half_text at ∷ half_text len ∷ [])
 
 -- the offset of the linkage section in the object
-abbrev pub linkage_at : PartsFields → ℕ
-linkage_at p = linkage_at (length p.text) (length (definition_section p))
+abbrev pub linkage_offset : PartsFields → ℕ
+linkage_offset p = linkage_at (length p.text) (length (definition_section p))
 
 -- the offset of the static section
-abbrev pub statics_at : PartsFields → ℕ
-statics_at p =
+abbrev pub statics_offset : PartsFields → ℕ
+statics_offset p =
     statics_at (length p.text) (length (definition_section p)) (length (linkage_section p))
 
 -- the offset of the symbol section
-abbrev pub symbol_at : PartsFields → ℕ
-symbol_at p =
+abbrev pub symbol_offset : PartsFields → ℕ
+symbol_offset p =
     symbol_at (length p.text) (length (definition_section p)) (length (linkage_section p))
     (length (outer_statics p))
 
 -- the static section, which only version 2 has
 abbrev pub static_line : PartsFields → List ℕ
 static_line p =
-    if is_newer p then section_line (section_text Static) (statics_at p) (length p.statics) else []
+    if is_newer p then section_line (section_text Static) (statics_offset p) (length p.statics) else []
 
 -- a name, and a number of 18 bits in octal
 abbrev pub value_line : List ℕ → ℕ → List ℕ
@@ -63,9 +63,9 @@ unfoldable pub section_lines : PartsFields → List ℕ
 section_lines p =
     section_line (section_text Text) 0 (length p.text)
     ++ section_line (codes "definition") (length p.text) (length (definition_section p))
-    ++ section_line (section_text Linkage) (linkage_at p) (length (linkage_section p))
+    ++ section_line (section_text Linkage) (linkage_offset p) (length (linkage_section p))
     ++ static_line p
-    ++ section_line (section_text Symbol) (symbol_at p) (length (symbol_section p))
+    ++ section_line (section_text Symbol) (symbol_offset p) (length (symbol_section p))
     ++ value_line (codes "entrybound") p.entry_bound
 
 -- a definition: its name, the section of its class, its value, and `entry` if it is one

@@ -4,7 +4,7 @@ ghost use Rattle.std.specs.Prelude.{◌+◌, ◌++◌, ◌≡◌, ◌^◌, ◌<�
 ghost use Rattle.obj36_parts.specs.ObjectSegment.{definition_section, linkage_section};
 ghost use Rattle.obj36_parts.specs.ObjectSegment.{symbol_section, outer_statics};
 ghost use Rattle.m36_list.specs.Counts.{IsCount};
-ghost use Rattle.m36_list.specs.Print.{statics_at, section_line, static_line, value_line};
+ghost use Rattle.m36_list.specs.Print.{statics_offset, section_line, static_line, value_line};
 ghost use Rattle.m36_list.specs.Print.{section_lines};
 
 use crate::counts::Counts;
@@ -27,7 +27,7 @@ fn put_section(text: &mut Text, name: &[u8], at: u64, len: u64) -> Result<(), No
 
 /// Adds the line of the static section, if the object has version 2.
 fn put_static(text: &mut Text, parts: &Parts, at: u64) -> Result<(), NoMemory>
-    requires at { at ≡ statics_at parts.now }
+    requires at { at ≡ statics_offset parts.now }
     requires begins { at < 2 ^ 18 }
     requires len { length (outer_statics parts.now) < 2 ^ 18 }
     ensures { OnOk result (text.new ≡ text.old ++ static_line parts.now) }

@@ -56,8 +56,6 @@ read_refused bytes (alm.E7 line column) is = ap assembly_by is
 read_refused bytes (alm.E8 line column) is = ap assembly_by is
 read_refused bytes alm.NoMemory is = tt
 
-pub ruleset parsing = (made_read, read_refused)
-
 -- the object and the listing are made
 pub told_given :
     (files : AlmFiles) (given : Result Assembly AlmFault) (told : ToldFields) → IsMadeOf (assembly_told files.object) told given → asking.Gives (Ok told) (told_by files given)

@@ -1,4 +1,3 @@
 pub mod LineLaws
-pub mod SetLaws
 pub mod AlmLaws
 pub mod BindLaws

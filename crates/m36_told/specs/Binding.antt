@@ -1,17 +1,14 @@
--- `bind NAME`: what it reads, the bind file and then the objects of its components, and its report.
+-- The report of `bind NAME`: what follows from the bind file and the bound object.
 use Rattle.std.specs.Prelude.{ℕ, List, [], ◌∷◌, Result, Ok, Err}
 use Rattle.obj36_parts.specs.PartsFields.{PartsFields}
 use Rattle.m36_list.specs.Print.{print_of}
 use Rattle.m36_bindfile.specs.declared.fault.BindFault.{BindFault}
 use Rattle.m36_bindfile.specs.declared.fault.BindFault.TheVariants as bind
-use Rattle.m36_bindfile.specs.BindFile.{bind_lines, names_by}
-use Rattle.m36_bind.specs.Bound.{bound_of}
 use Rattle.m36_reading.specs.declared.status.Code.TheVariants as code
 use Rattle.m36_reading.specs.declared.refusal.Refusal.{Refusal}
 use Rattle.m36_reading.specs.declared.refusal.Refusal.TheVariants.{NoMemory}
-use Rattle.m36_reading.specs.Reading.{Reading, decided, Early, then_with}
-use Rattle.m36_reading.specs.Readers.{refused, file_bytes, file_object}
-use Rattle.m36_reading.specs.EachRead.{each_onto}
+use Rattle.m36_reading.specs.Reading.{Early}
+use Rattle.m36_reading.specs.Readers.{refused}
 use Rattle.m36_told.specs.declared.binding.BindFiles.{BindFiles}
 use Rattle.m36_told.specs.Told.{ToldFields}
 use Rattle.m36_told.specs.Assemblies.{object_set}
@@ -37,18 +34,3 @@ bound_told name parts = record { sets = object_set name parts ∷ []; text = pri
 abbrev pub bind_told : BindFiles → Result PartsFields BindFault → Early ToldFields
 bind_told files (Ok parts) = Ok (bound_told files.object parts)
 bind_told files (Err fault) = Err (bind_refused files.bindfile fault)
-
--- The components of these names are read, and bound.
-unfoldable pub names_read : BindFiles → List ℕ → List (List ℕ) → Reading (Early ToldFields)
-names_read files text names =
-    then_with (each_onto file_object [] names)
-    (λ objects. decided (bind_told files (bound_of text names objects)))
-
--- The names are those of the `object` lines of the bind file; the components are read after them.
-unfoldable pub text_read : BindFiles → List ℕ → Reading (Early ToldFields)
-text_read files text =
-    then_with (decided (names_told files.bindfile (names_by (bind_lines text))))
-    (λ names. names_read files text names)
-
-unfoldable pub bind_reads : BindFiles → Reading (Early ToldFields)
-bind_reads files = then_with (file_bytes files.bindfile) (λ text. text_read files text)

@@ -1,4 +1,4 @@
--- `print NAME` and `alm NAME`: what they read, and their reports.
+-- The reports of `print NAME` and `alm NAME`.
 use Rattle.std.specs.Prelude.{ℕ, List, [], ◌∷◌, Result, Ok, Err}
 use Rattle.alm_parse.specs.declared.fault.AlmFault.{AlmFault}
 use Rattle.alm_parse.specs.declared.fault.AlmFault.TheVariants as alm
@@ -8,19 +8,16 @@ use Rattle.m36_list.specs.Listing.{listing_of}
 use Rattle.m36_reading.specs.declared.status.Code.TheVariants as code
 use Rattle.m36_reading.specs.declared.refusal.Refusal.{Refusal}
 use Rattle.m36_reading.specs.declared.refusal.Refusal.TheVariants.{NoMemory}
-use Rattle.m36_reading.specs.Reading.{Reading, decided, Early, then_with, mapped}
-use Rattle.m36_reading.specs.Readers.{refused_at, file_bytes, file_object}
+use Rattle.m36_reading.specs.Reading.{Early}
+use Rattle.m36_reading.specs.Readers.{refused_at}
 use Rattle.m36_told.specs.declared.assembling.AlmFiles.{AlmFiles}
 use Rattle.m36_told.specs.Told.{ToldFields}
-use Rattle.m36_told.specs.Assemblies.{Assembly, assembly_of, object_set, MakingSays}
+use Rattle.m36_told.specs.Assemblies.{Assembly, object_set, MakingSays}
 
 -- ---- `print NAME`
 
 abbrev pub printed : List ℕ → PartsFields → ToldFields
 printed name parts = record { sets = []; text = print_of name parts }
-
-unfoldable pub print_reads : List ℕ → Reading (Early ToldFields)
-print_reads name = mapped (printed name) (file_object name)
 
 -- ---- `alm NAME`
 
@@ -44,10 +41,6 @@ assembly_told name a =
 abbrev pub told_by : AlmFiles → Result Assembly AlmFault → Early ToldFields
 told_by files (Ok a) = Ok (assembly_told files.object a)
 told_by files (Err fault) = Err (source_refused files.source fault)
-
-unfoldable pub alm_reads : AlmFiles → Reading (Early ToldFields)
-alm_reads files =
-    then_with (file_bytes files.source) (λ bytes. decided (told_by files (assembly_of bytes)))
 
 -- ---- the contract of the part of `alm` that works without files
 

@@ -1,5 +1,5 @@
 -- Readers are alike to themselves: over the same files they make the same reads, and yield the same value.
-use Rattle.std.proofs.Common.{◌≡◌, ℕ, List, [], ◌∷◌, ◌++◌, Option, Some, None, Result, Ok, Err, refl}
+use Rattle.std.proofs.Common.{ℕ, List, [], ◌∷◌, ◌++◌, Option, Some, None, Result, Ok, Err, refl}
 use Rattle.m36_text.specs.Packing.{unpacked}
 use Rattle.obj36.specs.ObjectOf.{object_of}
 use Rattle.m36_dir.specs.Catalog.{CatalogFields, catalog_of}
@@ -9,23 +9,13 @@ use Rattle.m36_reading.specs.declared.refusal.Refusal.{Refusal}
 use Rattle.m36_reading.specs.declared.refusal.Refusal.TheVariants.{BadFile, ReadFault, NoMemory}
 use Rattle.m36_reading.specs.Readers.{words_by, object_by}
 use Rattle.m36_program.specs.Alike.{Alike}
-use Rattle.m36_program.specs.Program.{Found, Content, Absent, TooLarge, May, Program, done, then_with}
-use Rattle.m36_program.specs.Readers.{refuses, bytes_found, file_bytes}
-use Rattle.m36_program.proofs.AlikeLaws.{alike_wants, alike_then}
+use Rattle.m36_program.specs.Program.{May, Program, done, then_with}
+use Rattle.m36_program.specs.Readers.{file_bytes}
+use Rattle.m36_program.proofs.AlikeLaws.{alike_wants, alike_then, bytes_alike}
 use Rattle.m36_files.specs.Catalogs.{boot_catalog, access_lists, with_rights, catalog_access}
 use Rattle.m36_files.specs.Deciding.{decided, decides}
 use Rattle.m36_files.specs.EachFile.{read_onto, each_onto}
 use Rattle.m36_files.specs.FileReaders.{file_words, file_object}
-
-found_alike : (may : May) (name : List ℕ) (found : Found) → Alike {may = may} (bytes_found name found) (bytes_found name found)
-unfolding Alike refuses
-found_alike may name (Content bytes) = refl
-found_alike may name Absent = refl
-found_alike may name TooLarge = refl
-
-pub bytes_alike : (may : May) (name : List ℕ) → Alike {may = may} (file_bytes name) (file_bytes name)
-unfolding Alike file_bytes
-bytes_alike may name = (refl, λ found. found_alike may name found)
 
 decided_alike : (may : May) {A : Type 0} (rule : Result A Refusal) → Alike {may = may} (decided rule) (decided rule)
 unfolding Alike
