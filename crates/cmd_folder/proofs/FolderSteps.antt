@@ -32,8 +32,8 @@ use Rattle.m36_booted.specs.Folder.{FolderFields, folder_with, boots}
 use Rattle.m36_booted.specs.Promise.{PassesBooted}
 use Rattle.m36_booted.specs.Systems.{IsFresh}
 use Rattle.m36_booted.specs.Systems as old_systems
-use Rattle.m36_booted.proofs.FolderReads.{fresh_next}
-use Rattle.m36_booted.proofs.YesAnswers.{passes_booted}
+use Rattle.m36_booted.proofs.FolderBoots.{fresh_next}
+use Rattle.m36_booted.proofs.AuditKept.{passes_booted}
 use Rattle.cmd_image.proofs.AuditPuts.{all_put, all_then, all_stop}
 use Rattle.cmd_folder.specs.FolderProgram.{segment_words, files_booted, folder_given, folder_program}
 use Rattle.cmd_folder.specs.OnFolder.{AreFolderFindings, audit_and_run, by_command, on_system, on_folder}
@@ -133,7 +133,7 @@ pub ruleset runs = (run_follows, run_unput)
 
 -- ---- by the findings of the audit of a booted system
 
-found_passes :
+pub found_passes :
     (lib : Library) (system : SuperFields) (findings : List (ℕ × ℕ))
     → IsBooted lib system → AreFindings system.core booted_dbr findings → findings ≡ [] → PassesBooted lib
 found_passes lib system findings booted found none =

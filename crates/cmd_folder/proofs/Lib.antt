@@ -5,5 +5,9 @@ pub mod RunLoop
 pub mod FolderSteps
 pub mod PutsSplit
 pub mod RunGoes
-pub mod FolderGoes
-pub mod Bridge
+pub mod RunCalls
+pub mod FolderReader
+pub mod FolderFound
+pub mod FolderEnds
+pub mod PlainRuns
+pub mod FolderLaws

@@ -1,10 +1,8 @@
 -- The events of the program of a booted run: they put what is written of the turns and the end of some booted run.
-use Rattle.std.proofs.Common.{◌≡◌, ◌≢◌, ◌⊎◌, ℕ, zero, suc, ◌+◌, ◌≤◌, Bool, true, false, List, [], ◌∷◌, ◌++◌, Option, Some, None, Result, Ok, Err, refl, sym, ap, subst, ◌∙◌, inl, inr, arith, append_assoc, add-zero}
+use Rattle.std.proofs.Common.{◌≡◌, ◌≢◌, ◌⊎◌, ℕ, zero, suc, ◌+◌, Bool, true, false, List, [], ◌∷◌, ◌++◌, Option, Some, None, Result, Ok, Err, refl, sym, ap, subst, ◌∙◌, inl, inr, arith, append_assoc, add-zero}
 use Rattle.std.proofs.lemmas.List.{append-nil}
 use Rattle.m36_world.specs.declared.event.Event.{Event}
-use Rattle.m36_world.specs.declared.event.Event.TheVariants.{OutputFailed}
 use Rattle.m36_model.specs.Fields.{AtFields}
-use Rattle.m36_model.specs.StoreLaw.{Each}
 use Rattle.m36_model.specs.declared.endings.End.{End}
 use Rattle.m36_model.specs.declared.endings.End.TheVariants as end
 use Rattle.m36_model.specs.declared.outcome.Fault.{Fault}
@@ -16,60 +14,85 @@ use Rattle.m36_super.specs.Library.{Library}
 use Rattle.m36_super.specs.declared.coming.NextEvent.{NextEvent}
 use Rattle.m36_super.specs.declared.coming.NextEvent.TheVariants.{Step, Link, Print}
 use Rattle.m36_super.specs.declared.coming.NextEvent.TheVariants as coming
-use Rattle.m36_super.specs.BootedRun.{Booted, IsStepTurn, IsLinkTurn, IsConsoleTurn, IsTurnBy, IsTurn, AreTurns}
+use Rattle.m36_super.specs.BootedRun.{Booted, IsLinkTurn, IsConsoleTurn, IsTurnBy, IsTurn, AreTurns}
 use Rattle.m36_super.specs.SuperTurn.{IsQuiet, link_quiet}
 use Rattle.m36_reading.specs.declared.status.Status.{Status}
 use Rattle.m36_reading.specs.declared.status.Status.TheVariants.{NoMemory}
-use Rattle.m36_program.specs.Early.{ends}
 use Rattle.m36_program.specs.Goes.{Ends, Goes}
 use Rattle.m36_program.specs.Program.{quiet, Program, puts_all}
-use Rattle.m36_program.proofs.PieceLaws.{reads_of, reads_after}
+use Rattle.m36_program.specs.Trail as trail
+use Rattle.m36_program.proofs.PieceLaws.{PutsBy, puts_ended}
 use Rattle.m36_booted.specs.declared.running.Finish.{Finish}
 use Rattle.m36_booted.specs.declared.running.Finish.TheVariants.{Over, Limit}
-use Rattle.m36_booted.specs.RunText.{steps_of, steps_in, pieces_of, pieces_from, end_pieces, finish_status}
-use Rattle.m36_booted.proofs.Serving.{IsStep, IsLink}
-use Rattle.m36_booted.specs.Runs.{IsEvent, Finishes, AwaitsLink, Extent, Whole, Begun, Starved, Reaches}
-use Rattle.m36_program.proofs.Answering.{puts_with}
+use Rattle.m36_booted.specs.RunText.{steps_of, steps_in, pieces_of, pieces_from, end_pieces, run_pieces, finish_status}
+use Rattle.m36_booted.specs.Runs.{IsEvent, Finishes, AwaitsLink}
+use Rattle.m36_booted.specs.Runs as runs
+use Rattle.m36_booted.proofs.Serving.{IsStep, IsLink, step_is}
+use Rattle.cmd_folder.specs.RunIs.{FinishesAs, StopsAs, RunIs}
 use Rattle.cmd_folder.specs.RunProgram.{Running, finish_may_end, run_ends, after_service, then_on, serve_by, serve, run_from}
-use Rattle.cmd_folder.proofs.PutsSplit.{PutsSplit, puts_split, PutIn, put_before, put_across}
+use Rattle.cmd_folder.proofs.PutsSplit.{pieces_all, PutsSplit, puts_split}
 use Rattle.cmd_folder.proofs.Serving.{ended_pieces}
 
--- The pieces are what is written of a run from state b: of the whole run, of its first turns, or up to a link service
--- that ran out of memory. `taken` steps were taken before b, and at most `left` follow.
-pub record IsRunOf
-    (extent : Extent) (run : Running) (taken left : ℕ) (b : Booted) (how : Option Finish) (pieces : List (List ℕ)) : Type 0 where
-  pub turns : List Turn
-  pub last : Booted
-  pub are : AreTurns run.lib b turns last
-  pub events : Each IsEvent turns
-  pub few : steps_in turns ≤ left
-  pub reaches : Reaches extent how run.lib left turns last
-  pub is : pieces ≡ pieces_from run.output taken turns ++ end_pieces run.denied how (taken + steps_in turns)
+-- the pieces of turns and of an end; `taken` steps were taken before them
+abbrev pub written : Running → ℕ → List Turn → Option Finish → List (List ℕ)
+written run taken turns how = pieces_from run.output taken turns ++ end_pieces run.denied how (taken + steps_in turns)
 
--- The events of a run's program put such pieces, whole or in part.
+-- The events are those of a run from state b, up to its finish or to where the call stopped. `taken` steps were taken
+-- before b, and at most `left` follow.
 pub record RunGoes (run : Running) (taken left : ℕ) (b : Booted) (events : List Event) (result : Result (Unit {0}) Status)
     : Type 0 where
-  pub extent : Extent
+  pub turns : List Turn
+  pub last : Booted
   pub how : Option Finish
-  pub pieces : List (List ℕ)
-  pub run_is : IsRunOf extent run taken left b how pieces
-  pub put : PutIn extent pieces (finish_status how) events result
-  pub alone : reads_of events ≡ []
+  pub goes : runs.Goes run.lib left b turns last
+  pub finishes : FinishesAs how run.lib left turns last
+  pub unput : List (List ℕ)
+  pub pieces : written run taken turns how ≡ trail.pieces_of events ++ unput
+  pub stops : StopsAs how last unput result
+
+-- before which no step was taken
+pub from_start :
+    (run : Running) (turns : List Turn) (how : Option Finish) → written run 0 turns how ≡ run_pieces run.denied run.output turns how
+unfolding run_pieces
+from_start run turns how =
+    let none : 0 + steps_in turns ≡ steps_in turns = omega arith in
+    ap (λ n. pieces_from run.output 0 turns ++ end_pieces run.denied how n) none
 
 -- ---- no turn
 
-pub no_turns :
-    (extent : Extent) (run : Running) (taken left : ℕ) (b : Booted) (how : Option Finish)
-    → Reaches extent how run.lib left [] b → IsRunOf extent run taken left b how (end_pieces run.denied how taken)
-unfolding AreTurns steps_in pieces_from
-no_turns extent run taken left b how reaches = record {
+pub no_turns : (run : Running) (taken : ℕ) (how : Option Finish) → written run taken [] how ≡ end_pieces run.denied how taken
+unfolding pieces_from steps_in
+no_turns run taken how = ap (λ n. end_pieces run.denied how n) (add-zero taken)
+
+stay : (lib : Library) (left : ℕ) (b : Booted) → runs.Goes lib left b [] b
+unfolding AreTurns steps_in
+stay lib left b = record { turns_are = refl; events = tt; few = omega arith }
+
+ended_by :
+    (run : Running) (taken left : ℕ) (b : Booted) (how : Finish) (events : List Event) (result : Result (Unit {0}) Status)
+    → Finishes how run.lib left [] b → PutsBy (end_pieces run.denied (Some how) taken) (finish_status (Some how)) events result
+    → RunGoes run taken left b events result
+ended_by run taken left b how events result finishes (inl whole) =
+    let pieces = end_pieces run.denied (Some how) taken in record {
+      turns = [];
+      last = b;
+      how = Some how;
+      goes = stay run.lib left b;
+      finishes = finishes;
+      unput = [];
+      pieces = no_turns run taken (Some how)
+          ∙ sym (append-nil (trail.pieces_of events) ∙ pieces_all pieces events whole.events_are);
+      stops = inl (refl, whole.result_is);
+    }
+ended_by run taken left b how events result finishes (inr part) = record {
   turns = [];
   last = b;
-  are = refl;
-  events = tt;
-  few = omega arith;
-  reaches = reaches;
-  is = ap (λ n. end_pieces run.denied how n) (sym (add-zero taken));
+  how = Some how;
+  goes = stay run.lib left b;
+  finishes = finishes;
+  unput = part.left;
+  pieces = no_turns run taken (Some how) ∙ part.is;
+  stops = inr part.result_is;
 }
 
 -- a run that ends here
@@ -78,26 +101,8 @@ ends_here :
     → Finishes how run.lib left [] b → Goes (run_ends run taken how) events result → RunGoes run taken left b events result
 unfolding run_ends
 ends_here run taken left b how events result finishes goes =
-    let pieces = end_pieces run.denied (Some how) taken in
-    let puts = puts_with pieces (finish_status (Some how)) (finish_may_end how) events result goes in
-    elim puts.puts [
-      | inl whole ↦ record {
-        extent = Whole;
-        how = Some how;
-        pieces = pieces;
-        run_is = no_turns Whole run taken left b (Some how) finishes;
-        put = whole;
-        alone = puts.alone;
-      }
-      | inr part ↦ record {
-        extent = Begun;
-        how = Some how;
-        pieces = pieces;
-        run_is = no_turns Begun run taken left b (Some how) finishes;
-        put = part;
-        alone = puts.alone;
-      }
-    ]
+    ended_by run taken left b how events result finishes
+    (puts_ended quiet (end_pieces run.denied (Some how) taken) (finish_status (Some how)) (finish_may_end how) events result goes)
 
 puts_nothing :
     (rest : Program quiet (Unit {0})) (events : List Event) (result : Result (Unit {0}) Status)
@@ -107,51 +112,37 @@ puts_nothing rest events result goes = goes
 
 -- ---- a turn, and then the rest
 
-reaches_on :
-    (extent : Extent) (how : Option Finish) (lib : Library) (left all : ℕ) (turn : Turn) (turns : List Turn) (last : Booted)
-    → all ≡ steps_of turn + left → Reaches extent how lib left turns last → Reaches extent how lib all (turn ∷ turns) last
+finishes_on :
+    (how : Option Finish) (lib : Library) (left all : ℕ) (told : Turn) (turns : List Turn) (last : Booted)
+    → all ≡ steps_of told + left → FinishesAs how lib left turns last → FinishesAs how lib all (told ∷ turns) last
 unfolding steps_in
-reaches_on Whole (Some (Over e)) lib left all turn turns last is reaches = reaches
-reaches_on Whole (Some Limit) lib left all turn turns last is reaches = (ap (λ n. steps_of turn + n) reaches.0 ∙ sym is, reaches.1)
-reaches_on Whole None lib left all turn turns last is reaches = absurd reaches
-reaches_on Begun (Some (Over e)) lib left all turn turns last is reaches = reaches
-reaches_on Begun (Some Limit) lib left all turn turns last is reaches = (ap (λ n. steps_of turn + n) reaches.0 ∙ sym is, reaches.1)
-reaches_on Begun None lib left all turn turns last is reaches = tt
-reaches_on Starved (Some how) lib left all turn turns last is reaches = absurd reaches
-reaches_on Starved None lib left all turn turns last is reaches = reaches
+finishes_on None lib left all told turns last is finishes = tt
+finishes_on (Some (Over e)) lib left all told turns last is finishes = finishes
+finishes_on (Some Limit) lib left all told turns last is finishes =
+    (ap (λ n. steps_of told + n) finishes.0 ∙ sym is, finishes.1)
 
 turn_first :
-    (extent : Extent) (run : Running) (taken now left all : ℕ) (b after : Booted) (told : Turn) (how : Option Finish) (pieces : List (List ℕ))
-    → IsTurn run.lib b told after → IsEvent told → all ≡ steps_of told + left → now ≡ taken + steps_of told
-    → IsRunOf extent run now left after how pieces
-    → IsRunOf extent run taken all b how (pieces_of run.output taken told ++ pieces)
-unfolding AreTurns steps_in pieces_from
-turn_first extent run taken now left all b after told how pieces is event all_is now_is rest =
-    let steps = steps_in rest.turns in
-    let count : now + steps ≡ taken + (steps_of told + steps) = omega (arith, now_is) in
-    record {
-      turns = told ∷ rest.turns;
-      last = rest.last;
-      are = (after, is, rest.are);
-      events = (event, rest.events);
-      few = omega (arith, all_is, rest.few);
-      reaches = reaches_on extent how run.lib left all told rest.turns rest.last all_is rest.reaches;
-      is = ap (λ l. pieces_of run.output taken told ++ l)
-          (rest.is ∙ ap (λ n. pieces_from run.output n rest.turns ++ end_pieces run.denied how (now + steps)) now_is
-          ∙ ap (λ n. pieces_from run.output (taken + steps_of told) rest.turns ++ end_pieces run.denied how n) count)
-          ∙ sym (append_assoc (pieces_of run.output taken told) (pieces_from run.output (taken + steps_of told) rest.turns)
-          (end_pieces run.denied how (taken + (steps_of told + steps))));
-    }
+    (lib : Library) (left all : ℕ) (b after last : Booted) (told : Turn) (turns : List Turn)
+    → IsTurn lib b told after → IsEvent told → all ≡ steps_of told + left → runs.Goes lib left after turns last
+    → runs.Goes lib all b (told ∷ turns) last
+unfolding AreTurns steps_in
+turn_first lib left all b after last told turns is event all_is goes = record {
+  turns_are = (after, is, goes.turns_are);
+  events = (event, goes.events);
+  few = omega (arith, all_is, goes.few);
+}
 
--- a turn was made, and after it nothing was written whole
-turn_alone :
-    (run : Running) (taken left all : ℕ) (b after : Booted) (told : Turn)
-    → IsTurn run.lib b told after → IsEvent told → all ≡ steps_of told + left
-    → IsRunOf Begun run taken all b None (pieces_of run.output taken told)
-turn_alone run taken left all b after told is event all_is =
-    subst (λ l. IsRunOf Begun run taken all b None l) (append-nil (pieces_of run.output taken told))
-    (turn_first Begun run taken (taken + steps_of told) left all b after told None [] is event all_is refl
-    (no_turns Begun run (taken + steps_of told) left after None tt))
+pub turn_written :
+    (run : Running) (taken now : ℕ) (told : Turn) (turns : List Turn) (how : Option Finish) → now ≡ taken + steps_of told
+    → written run taken (told ∷ turns) how ≡ pieces_of run.output taken told ++ written run now turns how
+unfolding pieces_from steps_in
+turn_written run taken now told turns how is =
+    let count : taken + (steps_of told + steps_in turns) ≡ now + steps_in turns = omega (arith, is) in
+    ap (λ n. pieces_from run.output taken (told ∷ turns) ++ end_pieces run.denied how n) count
+    ∙ append_assoc (pieces_of run.output taken told) (pieces_from run.output (taken + steps_of told) turns)
+    (end_pieces run.denied how (now + steps_in turns))
+    ∙ ap (λ n. pieces_of run.output taken told ++ (pieces_from run.output n turns ++ end_pieces run.denied how (now + steps_in turns)))
+    (sym is)
 
 turn_goes :
     (run : Running) (taken now left all : ℕ) (b after : Booted) (told : Turn) (rest : Program quiet (Unit {0})) (events : List Event)
@@ -163,47 +154,40 @@ turn_goes :
 turn_goes run taken now left all b after told rest events result is event all_is now_is on (inl then) =
     let more = on then.more then.goes in
     let pieces = pieces_of run.output taken told in record {
-      extent = more.extent;
+      turns = told ∷ more.turns;
+      last = more.last;
       how = more.how;
-      pieces = pieces ++ more.pieces;
-      run_is = turn_first more.extent run taken now left all b after told more.how more.pieces is event all_is now_is more.run_is;
-      put = put_before more.extent pieces more.pieces (finish_status more.how) events then.more result then.is more.put;
-      alone = ap reads_of then.is ∙ reads_after pieces then.more ∙ more.alone;
+      goes = turn_first run.lib left all b after more.last told more.turns is event all_is more.goes;
+      finishes = finishes_on more.how run.lib left all told more.turns more.last all_is more.finishes;
+      unput = more.unput;
+      pieces = turn_written run taken now told more.turns more.how now_is
+          ∙ ap (λ l. pieces ++ l) more.pieces
+          ∙ sym (append_assoc pieces (trail.pieces_of then.more) more.unput)
+          ∙ ap (λ l. l ++ more.unput) (sym then.is);
+      stops = more.stops;
     }
-turn_goes run taken now left all b after told rest events result is event all_is now_is on (inr (inl first)) = record {
-  extent = Begun;
+turn_goes run taken now left all b after told rest events result is event all_is now_is on (inr first) = record {
+  turns = told ∷ [];
+  last = after;
   how = None;
-  pieces = pieces_of run.output taken told;
-  run_is = turn_alone run taken left all b after told is event all_is;
-  put = first.part;
-  alone = first.alone;
+  goes = turn_first run.lib left all b after after told [] is event all_is (stay run.lib left after);
+  finishes = tt;
+  unput = first.left;
+  pieces = turn_written run taken now told [] None now_is
+      ∙ ap (λ l. pieces_of run.output taken told ++ l) (no_turns run now None)
+      ∙ append-nil (pieces_of run.output taken told) ∙ first.is;
+  stops = inr first.result_is;
 }
-turn_goes run taken now left all b after told rest events result is event all_is now_is on (inr (inr across)) =
-    let more = on (OutputFailed across.others ∷ []) across.goes in
-    let pieces = pieces_of run.output taken told in record {
-      extent = more.extent;
-      how = more.how;
-      pieces = pieces ++ more.pieces;
-      run_is = turn_first more.extent run taken now left all b after told more.how more.pieces is event all_is now_is more.run_is;
-      put = put_across more.extent pieces across.others more.pieces (finish_status more.how) events result across.is across.failed more.put;
-      alone = across.alone;
-    }
 
 -- ---- which turns there are
 
-step_is :
-    (loaded : Bool) (frames : ℕ) (before : Booted) (told : Turn) (after : Booted)
-    → IsStepTurn loaded frames before told after → IsStep told
-step_is false frames before told after is = subst IsStep (sym is.takes.told) tt
-step_is true frames before told after is = subst IsStep (sym is.told) tt
-
-is_step : (lib : Library) (b after : Booted) (told : Turn) → b.coming ≡ Step → IsTurn lib b told after → IsStep told
+pub is_step : (lib : Library) (b after : Booted) (told : Turn) → b.coming ≡ Step → IsTurn lib b told after → IsStep told
 unfolding IsTurn
 is_step lib b after told is turns =
     let so : IsTurnBy Step lib b told after = subst (λ c. IsTurnBy c lib b told after) is turns in
     step_is b.loaded lib.catalog.frames b told after so
 
-step_event : (told : Turn) → IsStep told → IsEvent told
+pub step_event : (told : Turn) → IsStep told → IsEvent told
 step_event (turn.Stepped told) is = tt
 step_event (turn.Linked note) is = absurd is
 step_event (turn.Console text) is = absurd is
@@ -211,7 +195,7 @@ step_event (turn.Ended e) is = absurd is
 step_event turn.Full is = absurd is
 step_event turn.NoMemory is = absurd is
 
-step_counts : (told : Turn) → IsStep told → steps_of told ≡ 1
+pub step_counts : (told : Turn) → IsStep told → steps_of told ≡ 1
 step_counts (turn.Stepped told) is = refl
 step_counts (turn.Linked note) is = absurd is
 step_counts (turn.Console text) is = absurd is
@@ -225,7 +209,7 @@ pub record IsServiceMade (told : Turn) (next : NextEvent) : Type 0 where
   pub counts : steps_of told ≡ 0
   pub quiet : IsQuiet next
 
-linked_made :
+pub linked_made :
     (answer : Result SnapFields RefusedFields) (frames : ℕ) (at : AtFields) (before : Booted) (told : Turn) (after : Booted)
     → IsLinkTurn answer frames at before told after → told ≢ turn.NoMemory → IsServiceMade told after.coming
 linked_made (Ok s) frames at before (turn.Linked note) after is found =
@@ -252,10 +236,10 @@ pub record PrintEnded (e : End) (told : Turn) (next : NextEvent) : Type 0 where
   pub told_is : told ≡ turn.Ended e
   pub next_is : next ≡ coming.Over e
 
-abbrev PrintMade : Turn → NextEvent → Type 0
+abbrev pub PrintMade : Turn → NextEvent → Type 0
 PrintMade told next = ((text : List ℕ) × Printed text told next) ⊎ ((e : End) × PrintEnded e told next)
 
-print_made :
+pub print_made :
     (many : Bool) (text : Result (List ℕ) Fault) (before : Booted) (told : Turn) (after : Booted)
     → IsConsoleTurn many text before told after → PrintMade told after.coming
 print_made true text before told after is =
@@ -327,12 +311,14 @@ starved_here :
     (run : Running) (taken left : ℕ) (b : Booted) (events : List Event) (result : Result (Unit {0}) Status)
     → AwaitsLink b.coming → Ends (Err NoMemory) events result → RunGoes run taken left b events result
 starved_here run taken left b events result waits ends = record {
-  extent = Starved;
+  turns = [];
+  last = b;
   how = None;
-  pieces = [];
-  run_is = no_turns Starved run taken left b None waits;
-  put = record { events_are = ends.none; result_is = ends.result_is };
-  alone = ap reads_of ends.none;
+  goes = stay run.lib left b;
+  finishes = tt;
+  unput = [];
+  pieces = no_turns run taken None ∙ sym (ap (λ e. trail.pieces_of e ++ []) ends.none);
+  stops = inl (refl, (waits, ends.result_is));
 }
 
 link_goes :
@@ -392,8 +378,24 @@ step_goes run taken left b after told events result on next is goes =
     (λ more goes. serve_goes run (taken + 1) left after more result on goes)
     (puts_split (pieces_of run.output taken told) rest events result goes)
 
-pub run_goes : (run : Running) (left taken : ℕ) → StepFollows run taken left
+run_goes : (run : Running) (left taken : ℕ) → StepFollows run taken left
 unfolding Goes run_from steps_in
 run_goes run zero taken b events result next goes = ends_here run taken 0 b Limit events result (refl, next) goes
 run_goes run (suc left) taken b events result next goes =
     step_goes run taken left b goes.value.after goes.value.turn events result (run_goes run left (taken + 1)) next goes.is goes.rest
+
+-- a run from its start
+pub run_is :
+    (run : Running) (limit : ℕ) (first : Booted) (events : List Event) (result : Result (Unit {0}) Status)
+    → first.coming ≡ Step → Goes (run_from run 0 limit first) events result → RunIs run limit first events result
+run_is run limit first events result next goes =
+    let ran = run_goes run limit 0 first events result next goes in record {
+      turns = ran.turns;
+      last = ran.last;
+      how = ran.how;
+      goes = ran.goes;
+      finishes = ran.finishes;
+      unput = ran.unput;
+      pieces = sym (from_start run ran.turns ran.how) ∙ ran.pieces;
+      stops = ran.stops;
+    }

@@ -273,7 +273,6 @@ print_over lib before e later is turns =
 pub ended_pieces : (output : RunOutput) (taken : ℕ) (e : End) → pieces_of output taken (turn.Ended e) ≡ []
 ended_pieces output.Console taken e = refl
 ended_pieces output.Trace taken e = refl
-ended_pieces output.Nothing taken e = refl
 
 over_as :
     (run : Running) (taken left : ℕ) (b later : Booted) (e : End)

@@ -66,6 +66,6 @@ on_system command given system =
     wants (some (AreFolderFindings given.lib system) (by_command command given (booted_of system)))
 
 -- What a command does with the system that the folder's library boots to. There is at most one, by
--- `system` of `FolderDueLaw` of `m36_booted`.
+-- `system` of `BootedLaw` of `m36_booted`.
 unfoldable pub on_folder : FolderCommand → FolderFields → Program quiet (Unit {0})
 on_folder command given = some (IsBooted given.lib) (on_system command given)

@@ -23,7 +23,6 @@ use Rattle.cmd_folder.specs.RunProgram.{Running, run_ends, run_from, serve}
 abbrev pub IsShown : RunOutput → List (List ℕ) → Type 0
 IsShown output.Console block = block ≡ []
 IsShown output.Trace block = ⊤
-IsShown output.Nothing block = ⊤
 
 -- a run of a system of a library
 abbrev pub run_of : Library → RunOutput → List (List ℕ) → Running

@@ -22,8 +22,18 @@
 //! [`folder_booted`] performs this program over any world, so its contract has the order of the
 //! events. [`folder_command`] performs it over a folder, an input and an output of the caller.
 //! These have no common clock, so its contract does not say which of two objects was called first.
-//! The same call satisfies `Does` by the reading of a folder and the kind of the command, and takes
-//! no input.
+//!
+//! [`law_folder`] says what the program means (`specs/FolderLaw.antt`):
+//!
+//! - Each call of the program of a run is a booted run of `m36_booted`, up to its finish or to where
+//!   the call stopped (`specs/RunIs.antt`). Each booted run that finishes is such a call.
+//! - `audit` has one text over the same files. `run` and `trace` have one text up to the first ABSA
+//!   or LDBR that a turn executes. After that the run depends on which pages are evicted.
+//! - The conditions of the audit decide which findings there are. Some call ends, if some run
+//!   finishes.
+//!
+//! What a call needs to end with Done is in `specs/Needs.antt`. [`law_booted`] has the laws of the
+//! machine: a folder boots to one system, and the count of frames does not change plain turns.
 //!
 //! A turn is no event, so no contract of a command says when a turn is made. The code puts the
 //! characters of a console service before it makes the next turn: each step and each service
@@ -35,11 +45,13 @@
 
 pub mod answering;
 pub mod calling;
+pub mod laws;
 mod lines;
 pub mod reading;
 pub mod running;
 
 pub use answering::folder_booted;
 pub use calling::folder_command;
+pub use laws::{law_booted, law_folder};
 pub use reading::read_system;
 pub use running::run;

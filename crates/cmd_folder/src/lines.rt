@@ -1,5 +1,5 @@
-//! Writes the turns of a run, and its end. For a turn it writes a line of a trace, characters of
-//! the console, or nothing.
+//! Writes the turns of a run, and its end. For a turn it writes a line of a trace, or characters of
+//! the console.
 
 ghost use Rattle.std.specs.Prelude.{◌≡◌, ◌<◌, ◌+◌, [], ◌∷◌, ◌++◌, length, Some};
 ghost use Rattle.m36_outside.specs.Put.{OnFailed};
@@ -116,7 +116,6 @@ pub(crate) fn add_step<W: World>(
     match output {
         RunOutput::Console => Put::Done,
         RunOutput::Trace => add_trace(taken as u64 + 1, told, text, block, world),
-        RunOutput::Nothing => Put::Done,
     }
 }
 
@@ -137,7 +136,6 @@ pub(crate) fn add_linked<W: World>(
     match output {
         RunOutput::Console => Put::Done,
         RunOutput::Trace => add_bytes(block, link_line(note), world),
-        RunOutput::Nothing => Put::Done,
     }
 }
 
@@ -158,7 +156,6 @@ pub(crate) fn add_printed<W: World>(
     match output {
         RunOutput::Console => show_characters(note, block, world),
         RunOutput::Trace => add_bytes(block, console_line(note), world),
-        RunOutput::Nothing => Put::Done,
     }
 }
 

@@ -66,7 +66,7 @@ pub record SomeEnd (p : Program quiet (Unit {0})) : Type 0 where
   pub goes : Goes p events result
   pub is_end : IsEnd result
 
-early_ends : (s : Status) → MayEnd s → IsEnd (early s)
+pub early_ends : (s : Status) → MayEnd s → IsEnd (early s)
 early_ends status.Done own = tt
 early_ends status.Usage own = absurd own
 early_ends status.ReadFault own = absurd own

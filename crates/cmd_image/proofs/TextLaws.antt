@@ -65,7 +65,7 @@ run_alike taken zero state = run_ends_alike taken Next
 run_alike taken (suc left) state =
     (refl, after_alike (taken + 1) (told state).outcome (run_from (taken + 1) left (after state)) (run_alike (taken + 1) left (after state)))
 
-audit_alike : (findings : List (ℕ × ℕ)) → Alike (audit_only findings) (audit_only findings)
+pub audit_alike : (findings : List (ℕ × ℕ)) → Alike (audit_only findings) (audit_only findings)
 unfolding audit_only
 audit_alike findings =
     let last : Program quiet (Unit {0}) = ends (audit_status (passes findings)) (audit_may_end (passes findings)) in

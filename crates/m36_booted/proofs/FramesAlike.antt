@@ -23,7 +23,7 @@ use Rattle.m36_super.specs.FlatRun.{FlatRun, flat_linked_by, flat_turn_by, flat_
 use Rattle.m36_super.specs.SuperFields.{SuperFields, booted_of}
 use Rattle.m36_super.specs.BootedRun.{flat_run_of}
 use Rattle.m36_super.specs.BootSays.{IsBooted, at_start}
-use Rattle.m36_booted.specs.DueLaw.{with_frames}
+use Rattle.m36_booted.specs.BootedLaw.{with_frames}
 use Rattle.m36_booted.proofs.OneRun.{AreAlike, Look}
 
 abbrev framed : CatalogFields → ℕ → CatalogFields

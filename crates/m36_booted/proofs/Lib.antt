@@ -1,7 +1,7 @@
 pub mod Serving
-pub mod FolderReads
+pub mod FolderBoots
 pub mod OneSystem
 pub mod OneRun
 pub mod FramesAlike
-pub mod YesAnswers
-pub mod DueLaws
+pub mod AuditKept
+pub mod OneRunLaws

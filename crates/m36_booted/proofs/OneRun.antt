@@ -1,5 +1,5 @@
 -- A run of plain turns, and any run from a system with the same flat state, make the same turns and end the same way.
-use Rattle.std.proofs.Common.{◌≡◌, ℕ, ◌+◌, ◌≤◌, Bool, false, ◌⊎◌, List, [], ◌∷◌, length, refl, sym, ap, subst, ◌∙◌, arith, inl, inr}
+use Rattle.std.proofs.Common.{◌≡◌, ℕ, ◌+◌, ◌≤◌, Bool, false, ◌⊎◌, List, [], ◌∷◌, ◌++◌, length, refl, sym, ap, subst, ◌∙◌, arith, inl, inr}
 use Rattle.m36_model.specs.StoreLaw.{Each}
 use Rattle.m36_model.specs.Flat.{flat_store}
 use Rattle.m36_model.specs.Step.{record_of}
@@ -18,8 +18,8 @@ use Rattle.m36_super.proofs.Audited.{flat_loaded, not_located, plain_flat}
 use Rattle.m36_booted.specs.declared.running.Finish.{Finish}
 use Rattle.m36_booted.specs.declared.running.Finish.TheVariants as finish
 use Rattle.m36_booted.specs.RunText.{steps_of, steps_in}
-use Rattle.m36_booted.specs.Runs.{IsEvent}
-use Rattle.m36_booted.specs.DueLaw.{HasMemory}
+use Rattle.m36_booted.specs.Runs.{IsEvent, Finishes}
+use Rattle.m36_booted.specs.BootedLaw.{HasMemory}
 
 -- ---- a plain turn is that of the flat run
 
@@ -98,35 +98,34 @@ next_alike :
     → flat_turn lib (flat_run_of r) ≡ flat_turn other (flat_run_of s)
 next_alike lib other r s alike look = alike (flat_run_of r) ∙ ap (flat_turn other) look
 
--- how a run ends, before which `taken` steps were taken
-abbrev pub Ends : Finish → Library → ℕ → ℕ → List Turn → Booted → Type 0
-Ends (finish.Over e) lib limit taken turns last = (after : Booted) × IsTurn lib last (Ended e) after
-Ends finish.Limit lib limit taken turns last = (taken + steps_in turns ≡ limit) × (last.coming ≡ Step)
+-- A run of `taken` steps finishes so.
+abbrev Ends : Finish → Library → ℕ → ℕ → Booted → Type 0
+Ends (finish.Over e) lib limit taken last = (after : Booted) × IsTurn lib last (Ended e) after
+Ends finish.Limit lib limit taken last = (taken ≡ limit) × (last.coming ≡ Step)
 
-pub record IsOne (turns same : List Turn) (how end : Finish) (last last' : Booted) : Type 0 where
-  pub turns_are : turns ≡ same
-  pub how_is : how ≡ end
-  pub look : Look last last'
+finished : (how : Finish) (lib : Library) (limit : ℕ) (turns : List Turn) (last : Booted) → Finishes how lib limit turns last → Ends how lib limit (steps_in turns) last
+finished (finish.Over e) lib limit turns last is = is
+finished finish.Limit lib limit turns last is = is
 
 no_end_and_step : (e : End) (told : StepRecord) (turn : Turn) → Ended e ≡ turn → turn ≡ Stepped told → ⊥
 no_end_and_step e told turn a b = let c : Ended e ≡ Stepped told = a ∙ b in absurd (cc)
 
 -- Two runs that both end here end the same way.
 ends_one :
-    (lib other : Library) (limit taken : ℕ) (r s : Booted) (how end : Finish)
+    (lib other : Library) (limit taken taken' : ℕ) (r s : Booted) (how end : Finish)
     → AreAlike lib other → Look r s → IsFresh lib r → IsFresh other s
-    → Ends how lib limit taken [] r → Ends end other limit taken [] s → how ≡ end
-ends_one lib other limit taken r s (finish.Over e) (finish.Over f) alike look fresh fresh' is is' =
+    → Ends how lib limit taken r → Ends end other limit taken' s → how ≡ end
+ends_one lib other limit taken taken' r s (finish.Over e) (finish.Over f) alike look fresh fresh' is is' =
     let same : Ended e ≡ Ended f =
     end_told lib r e is.0 fresh is.1 ∙ ap (λ (t : FlatTurn). t.turn) (next_alike lib other r s alike look) ∙ sym (end_told other s f is'.0 fresh' is'.1) in
     cc
-ends_one lib other limit taken r s (finish.Over e) finish.Limit alike look fresh fresh' is is' =
+ends_one lib other limit taken taken' r s (finish.Over e) finish.Limit alike look fresh fresh' is is' =
     let next = next_is other (flat_run_of s) is'.1 in
     absurd (no_end_and_step e next.0 _ (end_told lib r e is.0 fresh is.1) (ap (λ (t : FlatTurn). t.turn) (next_alike lib other r s alike look) ∙ next.1))
-ends_one lib other limit taken r s finish.Limit (finish.Over f) alike look fresh fresh' is is' =
+ends_one lib other limit taken taken' r s finish.Limit (finish.Over f) alike look fresh fresh' is is' =
     let next = next_is lib (flat_run_of r) is.1 in
     absurd (no_end_and_step f next.0 _ (end_told other s f is'.0 fresh' is'.1) (sym (ap (λ (t : FlatTurn). t.turn) (next_alike lib other r s alike look)) ∙ next.1))
-ends_one lib other limit taken r s finish.Limit finish.Limit alike look fresh fresh' is is' = refl
+ends_one lib other limit taken taken' r s finish.Limit finish.Limit alike look fresh fresh' is is' = refl
 
 -- No run continues where another has ended.
 step_counts : (turn : Turn) (told : StepRecord) → turn ≡ Stepped told → steps_of turn ≡ 1
@@ -151,8 +150,7 @@ like_step told turn flat is (inr h) = locates_counts turn h.0
 not_on :
     (lib other : Library) (limit taken left : ℕ) (r s mid : Booted) (how : Finish) (turn : Turn)
     → AreAlike lib other → Look r s → IsFresh lib r → IsFresh other s → IsTurn other s turn mid → IsEvent turn
-    → taken + (steps_of turn + left) ≤ limit → Ends how lib limit taken [] r → ⊥
-unfolding steps_in
+    → taken + (steps_of turn + left) ≤ limit → Ends how lib limit taken r → ⊥
 not_on lib other limit taken left r s mid (finish.Over e) turn alike look fresh fresh' on event few is =
     let like = like_flat other s turn mid fresh' on (event_has turn event) in
     like_end e turn (flat_turn other (flat_run_of s)).turn
@@ -163,23 +161,6 @@ not_on lib other limit taken left r s mid finish.Limit turn alike look fresh fre
     let one : steps_of turn ≡ 1 =
     like_step next.0 turn (flat_turn other (flat_run_of s)).turn (sym (ap (λ (t : FlatTurn). t.turn) (next_alike lib other r s alike look)) ∙ next.1) like in
     omega (arith, one, few, is.0)
-
--- An end in one state is an end in an equal state.
-ends_here : (how : Finish) (lib : Library) (limit taken : ℕ) (last r : Booted) → last ≡ r → Ends how lib limit taken [] last → Ends how lib limit taken [] r
-ends_here how lib limit taken last r is ends = subst (λ (b : Booted). Ends how lib limit taken [] b) is ends
-
-ends_on : (how : Finish) (lib : Library) (limit taken : ℕ) (turn : Turn) (more : List Turn) (last : Booted) → Ends how lib limit taken (turn ∷ more) last → Ends how lib limit (taken + steps_of turn) more last
-unfolding steps_in
-ends_on (finish.Over e) lib limit taken turn more last is = is
-ends_on finish.Limit lib limit taken turn more last is = (omega (arith, is.0), is.1)
-
-few_on : (taken : ℕ) (turn : Turn) (more : List Turn) (limit : ℕ) → taken + steps_in (turn ∷ more) ≤ limit → (taken + steps_of turn) + steps_in more ≤ limit
-unfolding steps_in
-few_on taken turn more limit few = omega (arith, few)
-
-few_first : (taken : ℕ) (turn : Turn) (more : List Turn) (limit : ℕ) → taken + steps_in (turn ∷ more) ≤ limit → taken + (steps_of turn + steps_in more) ≤ limit
-unfolding steps_in
-few_first taken turn more limit few = few
 
 -- A turn from a state with the same flat state as one from which a plain turn is made is that plain turn, and both
 -- leave states with the same flat state.
@@ -208,42 +189,138 @@ next_one lib other r s mid mid' turn turn' alike look fresh fresh' is is' plain 
       fresh' = on'.fresh;
     }
 
-pub one_run :
-    (lib other : Library) (limit taken : ℕ) (r s last last' : Booted) (turns same : List Turn) (how end : Finish)
+-- `same` goes on where `turns` end: it makes one more turn at least, from a state with the same flat state.
+pub record GoesOn (lib other : Library) (turns same : List Turn) (last : Booted) : Type 0 where
+  pub next : Turn
+  pub more : List Turn
+  pub is : same ≡ turns ++ (next ∷ more)
+  pub before : Booted
+  pub after : Booted
+  pub made : IsTurn other before next after
+  pub event : IsEvent next
+  pub look : Look last before
+  pub fresh : IsFresh lib last
+  pub fresh' : IsFresh other before
+
+-- Both lists end here.
+pub record AreSame (lib other : Library) (turns same : List Turn) (last last' : Booted) : Type 0 where
+  pub turns_are : turns ≡ same
+  pub look : Look last last'
+  pub fresh : IsFresh lib last
+  pub fresh' : IsFresh other last'
+
+-- The lists are the same, or one goes on where the other ends.
+abbrev pub Meet : Library → Library → List Turn → List Turn → Booted → Booted → Type 0
+Meet lib other turns same last last' =
+    AreSame lib other turns same last last' ⊎ GoesOn lib other turns same last ⊎ GoesOn other lib same turns last'
+
+meet_on :
+    (lib other : Library) (turn turn' : Turn) (turns same : List Turn) (last last' : Booted)
+    → turn ≡ turn' → Meet lib other turns same last last' → Meet lib other (turn ∷ turns) (turn' ∷ same) last last'
+meet_on lib other turn turn' turns same last last' one (inl are) = inl (record {
+  turns_are = λ i. one i ∷ are.turns_are i;
+  look = are.look;
+  fresh = are.fresh;
+  fresh' = are.fresh';
+})
+meet_on lib other turn turn' turns same last last' one (inr (inl on)) = inr (inl (record {
+  next = on.next;
+  more = on.more;
+  is = λ i. sym one i ∷ on.is i;
+  before = on.before;
+  after = on.after;
+  made = on.made;
+  event = on.event;
+  look = on.look;
+  fresh = on.fresh;
+  fresh' = on.fresh';
+}))
+meet_on lib other turn turn' turns same last last' one (inr (inr on)) = inr (inr (record {
+  next = on.next;
+  more = on.more;
+  is = λ i. one i ∷ on.is i;
+  before = on.before;
+  after = on.after;
+  made = on.made;
+  event = on.event;
+  look = on.look;
+  fresh = on.fresh;
+  fresh' = on.fresh';
+}))
+
+-- Plain turns, and any turns of steps and services.
+pub turns_meet :
+    (lib other : Library) (r s last last' : Booted) (turns same : List Turn)
     → AreAlike lib other → Look r s → IsFresh lib r → IsFresh other s
     → AreTurns lib r turns last → AreTurns other s same last'
-    → Each IsEvent turns → Each IsEvent same → Each IsPlainTurn turns
-    → taken + steps_in turns ≤ limit → taken + steps_in same ≤ limit
-    → Ends how lib limit taken turns last → Ends end other limit taken same last'
-    → IsOne turns same how end last last'
+    → Each IsEvent turns → Each IsEvent same → Each IsPlainTurn turns → Meet lib other turns same last last'
 unfolding AreTurns
-one_run lib other limit taken r s last last' [] [] how end alike look fresh fresh' are are' events events' plain few few' is is' = record {
+turns_meet lib other r s last last' [] [] alike look fresh fresh' are are' events events' plain = inl (record {
   turns_are = refl;
-  how_is = ends_one lib other limit taken r s how end alike look fresh fresh' (ends_here how lib limit taken last r are is) (ends_here end other limit taken last' s are' is');
   look = ap (λ (b : Booted). flat_run_of b) are ∙ look ∙ sym (ap (λ (b : Booted). flat_run_of b) are');
-}
-one_run lib other limit taken r s last last' [] (turn ∷ more) how end alike look fresh fresh' are are' events events' plain few few' is is' =
-    absurd (not_on lib other limit taken (steps_in more) r s are'.0 how turn alike look fresh fresh' are'.1 events'.0
-    (few_first taken turn more limit few') (ends_here how lib limit taken last r are is))
-one_run lib other limit taken r s last last' (turn ∷ more) [] how end alike look fresh fresh' are are' events events' plain few few' is is' =
-    absurd (not_on other lib limit taken (steps_in more) s r are.0 end turn (λ x. sym (alike x)) (sym look) fresh' fresh are.1 events.0
-    (few_first taken turn more limit few) (ends_here end other limit taken last' s are' is'))
-one_run lib other limit taken r s last last' (turn ∷ more) (turn' ∷ more') how end alike look fresh fresh' are are' events events' plain few few' is is' =
+  fresh = subst (IsFresh lib) (sym are) fresh;
+  fresh' = subst (IsFresh other) (sym are') fresh';
+})
+turns_meet lib other r s last last' [] (turn ∷ more) alike look fresh fresh' are are' events events' plain =
+    inr (inl (record {
+      next = turn;
+      more = more;
+      is = refl;
+      before = s;
+      after = are'.0;
+      made = are'.1;
+      event = events'.0;
+      look = ap (λ (b : Booted). flat_run_of b) are ∙ look;
+      fresh = subst (IsFresh lib) (sym are) fresh;
+      fresh' = fresh';
+    }))
+turns_meet lib other r s last last' (turn ∷ more) [] alike look fresh fresh' are are' events events' plain =
+    inr (inr (record {
+      next = turn;
+      more = more;
+      is = refl;
+      before = r;
+      after = are.0;
+      made = are.1;
+      event = events.0;
+      look = ap (λ (b : Booted). flat_run_of b) are' ∙ sym look;
+      fresh = subst (IsFresh other) (sym are') fresh';
+      fresh' = fresh;
+    }))
+turns_meet lib other r s last last' (turn ∷ more) (turn' ∷ more') alike look fresh fresh' are are' events events' plain =
     let next = next_one lib other r s are.0 are'.0 turn turn' alike look fresh fresh' are.1 are'.1 plain.0 (event_has turn' events'.0) in
-    let one = next.turn_is in
-    let count : steps_of turn ≡ steps_of turn' = ap steps_of one in
-    let rest = one_run lib other limit (taken + steps_of turn) are.0 are'.0 last last' more more' how end alike next.look next.fresh next.fresh' are.2 are'.2 events.1 events'.1 plain.1
-    (few_on taken turn more limit few)
-    (subst (λ n. (taken + n) + steps_in more' ≤ limit) (sym count) (few_on taken turn' more' limit few'))
-    (ends_on how lib limit taken turn more last is)
-    (subst (λ n. Ends end other limit (taken + n) more' last') (sym count) (ends_on end other limit taken turn' more' last' is')) in
-    record {
-      turns_are = λ i. one i ∷ rest.turns_are i;
-      how_is = rest.how_is;
-      look = rest.look;
-    }
+    meet_on lib other turn turn' more more' last last' next.turn_is
+    (turns_meet lib other are.0 are'.0 last last' more more' alike next.look next.fresh next.fresh' are.2 are'.2 events.1 events'.1 plain.1)
 
--- the same turns, where there are as many
+-- ---- no turn follows where a run has finished
+
+steps_both : (turns more : List Turn) → steps_in (turns ++ more) ≡ steps_in turns + steps_in more
+unfolding steps_in
+steps_both [] more = omega arith
+steps_both (turn ∷ turns) more = omega (arith, steps_both turns more)
+
+steps_on : (turns same more : List Turn) (next : Turn) → same ≡ turns ++ (next ∷ more) → steps_in same ≡ steps_in turns + (steps_of next + steps_in more)
+unfolding steps_in
+steps_on turns same more next is = ap steps_in is ∙ steps_both turns (next ∷ more)
+
+pub ends_there :
+    (lib other : Library) (limit : ℕ) (turns same : List Turn) (last : Booted) (how : Finish)
+    → AreAlike lib other → GoesOn lib other turns same last → steps_in same ≤ limit → Finishes how lib limit turns last → ⊥
+ends_there lib other limit turns same last how alike on few finishes =
+    not_on lib other limit (steps_in turns) (steps_in on.more) last on.before on.after how on.next alike on.look on.fresh on.fresh' on.made on.event
+    (subst (λ n. n ≤ limit) (steps_on turns same on.more on.next on.is) few) (finished how lib limit turns last finishes)
+
+-- Turns that are the same, and a finish of each.
+pub finish_one :
+    (lib other : Library) (limit : ℕ) (turns same : List Turn) (last last' : Booted) (how end : Finish)
+    → AreAlike lib other → AreSame lib other turns same last last' → Finishes how lib limit turns last
+    → Finishes end other limit same last' → how ≡ end
+finish_one lib other limit turns same last last' how end alike are is is' =
+    ends_one lib other limit (steps_in turns) (steps_in same) last last' how end alike are.look are.fresh are.fresh'
+    (finished how lib limit turns last is) (finished end other limit same last' is')
+
+-- ---- the same turns, where there are as many
+
 pub turns_one :
     (lib other : Library) (r s last last' : Booted) (turns same : List Turn)
     → AreAlike lib other → Look r s → IsFresh lib r → IsFresh other s → AreTurns lib r turns last → AreTurns other s same last'

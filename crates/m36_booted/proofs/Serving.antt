@@ -41,13 +41,13 @@ IsPrint (Ended e) = Unit {0}
 IsPrint Full = ⊥
 IsPrint NoMemory = ⊥
 
-step_is :
+pub step_is :
     (loaded : Bool) (frames : ℕ) (before : Booted) (turn : Turn) (after : Booted)
     → IsStepTurn loaded frames before turn after → IsStep turn
 step_is false frames before turn after is = subst IsStep (sym is.takes.told) tt
 step_is true frames before turn after is = subst IsStep (sym is.told) tt
 
-link_is :
+pub link_is :
     (answer : Result SnapFields RefusedFields) (frames : ℕ) (at : AtFields) (before : Booted) (turn : Turn) (after : Booted)
     → IsLinkTurn answer frames at before turn after → IsLink turn
 link_is (Ok s) frames at before (Stepped told) after is = subst IsLink (sym is.told) tt

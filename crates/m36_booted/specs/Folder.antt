@@ -1,9 +1,7 @@
--- What a command on a folder reads: the boot text, for a user the access lists, and then the file
--- of each segment in the order of the catalog. A file that two segments have is read twice. Then
--- the catalog, with the rights of the user, is booted with these files, or refused with U1 to U4
--- under the name of the boot text.
-use Rattle.std.specs.Prelude.{ℕ, List, [], Option, Result, Ok, Err}
-use Rattle.m36_dir.specs.Fields.{SegmentFields}
+-- What is booted from a folder: the catalog of its boot text, with the rights of a user if there is
+-- one, and the words of the file of each segment. They boot, or are refused with U1 to U4 under the
+-- name of the boot text.
+use Rattle.std.specs.Prelude.{ℕ, List, Result, Ok, Err}
 use Rattle.m36_link.specs.Fields.{SnapFields}
 use Rattle.m36_boot.specs.Refusals.{boot_answer}
 use Rattle.m36_boot.specs.declared.fault.BootFault.{BootFault}
@@ -12,15 +10,9 @@ use Rattle.m36_super.specs.Library.{Library}
 use Rattle.m36_reading.specs.declared.status.Code.TheVariants as code
 use Rattle.m36_reading.specs.declared.refusal.Refusal.{Refusal}
 use Rattle.m36_reading.specs.declared.refusal.Refusal.TheVariants.{NoMemory}
-use Rattle.m36_reading.specs.Reading.{Reading, decided, Early, then_with}
-use Rattle.m36_reading.specs.EachRead.{each_onto}
-use Rattle.m36_reading.specs.Readers.{file_words}
+use Rattle.m36_reading.specs.Reading.{Early}
 use Rattle.m36_catalog.specs.declared.access.Access.{Access}
-use Rattle.m36_catalog.specs.Catalogs.{boot_refused, access_reads}
-
--- the file of a segment
-unfoldable pub segment_words : SegmentFields → Reading (Early (List ℕ))
-segment_words segment = file_words segment.file
+use Rattle.m36_catalog.specs.Catalogs.{boot_refused}
 
 -- what is booted
 pub record FolderFields : Type 0 where
@@ -52,12 +44,3 @@ booted_by given (Err fault) = Err (fault_refused fault)
 -- The folder boots, or is refused with a code.
 unfoldable pub boots : FolderFields → Early FolderFields
 boots given = booted_by given (boot_answer given.lib.catalog given.lib.files)
-
-unfoldable pub files_booted : Access → Reading (Early FolderFields)
-files_booted access =
-    then_with (each_onto segment_words [] access.catalog.segments) (λ files.
-    decided (boots (folder_with access files)))
-
--- everything that is read and refused before the audit
-unfoldable pub folder_reads : Option (List ℕ) → Reading (Early FolderFields)
-folder_reads user = then_with (access_reads user) (λ access. files_booted access)

@@ -1,6 +1,6 @@
--- The output of a booted run, in pieces: its trace, or the characters of its console, or nothing,
--- and then its end line. If a run for a user ended because a right to a segment of the catalog was
--- missing, the line `denied` of that segment follows.
+-- The output of a booted run, in pieces: its trace, or the characters of its console, and then its
+-- end line. If a run for a user ended because a right to a segment of the catalog was missing, the
+-- line `denied` of that segment follows.
 use Rattle.std.specs.Prelude.{ℕ, ◌+◌, Bool, ◌&&◌, ◌||◌, nat_eq, if◌then◌else◌, List, [], ◌∷◌, ◌++◌}
 use Rattle.std.specs.Prelude.{Option, Some, None, slice_get, option_and_then, option_to_list}
 use Rattle.m36_text.specs.Lines.{as_line}
@@ -19,7 +19,6 @@ use Rattle.m36_trace.specs.EndLine.{end_line_of}
 use Rattle.m36_turns.specs.TurnLines.{run_end_line_of, turn_pieces}
 use Rattle.m36_reading.specs.declared.status.Status.{Status}
 use Rattle.m36_reading.specs.declared.status.Status.TheVariants as status
-use Rattle.m36_reading.specs.Answers.{Answer, answer_with}
 use Rattle.m36_ran.specs.Output.{status_by}
 use Rattle.m36_booted.specs.declared.command.RunOutput.{RunOutput}
 use Rattle.m36_booted.specs.declared.command.RunOutput.TheVariants as output
@@ -54,7 +53,6 @@ printed NoMemory = []
 abbrev pub pieces_of : RunOutput → ℕ → Turn → List (List ℕ)
 pieces_of output.Trace taken turn = turn_pieces taken turn
 pieces_of output.Console taken turn = printed turn
-pieces_of output.Nothing taken turn = []
 
 unfoldable pub pieces_from : RunOutput → ℕ → List Turn → List (List ℕ)
 pieces_from output taken [] = []
@@ -121,7 +119,3 @@ unfoldable pub run_pieces :
     List (List ℕ) → RunOutput → List Turn → Option Finish → List (List ℕ)
 run_pieces denied output turns how =
     pieces_from output 0 turns ++ end_pieces denied how (steps_in turns)
-
-unfoldable pub run_answer : List (List ℕ) → RunOutput → List Turn → Option Finish → Answer
-run_answer denied output turns how =
-    answer_with (run_pieces denied output turns how) (finish_status how)

@@ -16,8 +16,6 @@ pub enum RunOutput {
     Console,
     /// A line for each step and each service.
     Trace,
-    /// Nothing.
-    Nothing,
 }
 
 /// What is done with a folder that is booted.

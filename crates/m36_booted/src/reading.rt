@@ -1,25 +1,18 @@
-//! Reads the boot text of a folder and the files of its segments, and boots them.
+//! Boots the catalog of a folder with the files of its segments.
 
-ghost use Rattle.std.specs.Prelude.{ℕ, ◌≡◌, ◌≤◌, ◌+◌, List, [], ◌∷◌, ◌++◌, Ok, length, IfOk};
+ghost use Rattle.std.specs.Prelude.{ℕ, ◌≡◌, ◌≤◌, List, [], ◌∷◌, ◌++◌, Ok, length, IfOk};
 ghost use Rattle.obj36_parts.specs.ObjectSegment.{segment_limit};
 ghost use Rattle.m36_reading.specs.Reading.{Early};
 ghost use Rattle.m36_reading.specs.Asking.{Gives, Refuses};
-ghost use Rattle.m36_reading.specs.Outside.{folder_of};
-ghost use Rattle.m36_reading.specs.Doing.{Reads};
-ghost use Rattle.m36_reading.specs.EachRead.{read_onto, each_onto};
-ghost use Rattle.m36_reading.specs.Readers.{file_words};
-ghost use Rattle.m36_booted.specs.Folder.{segment_words, folder_with};
-ghost use Rattle.m36_booted.specs.Folder.{fault_refused, boots, files_booted, folder_reads};
+ghost use Rattle.m36_booted.specs.Folder.{folder_with, fault_refused, boots};
 ghost use Rattle.m36_booted.specs.Systems.{IsFresh, given_in};
 
 use crate::files::SegmentFiles;
-use m36_acl::{DeniedLines, User};
+use m36_acl::DeniedLines;
 use m36_boot::BootFault;
 use m36_catalog::reading::refuse_boot;
-use m36_catalog::{Access, read_access};
 use m36_dir::Catalog;
-use m36_outside::Folder;
-use m36_reading::{Code, Refusal, read_words};
+use m36_reading::{Code, Refusal};
 use m36_super::Super;
 use m36_word::Words;
 use std::alloc::Global;
@@ -44,45 +37,6 @@ pub fn with_file(mut files: SegmentFiles, words: Words) -> Result<SegmentFiles, 
     Ok(files)
 }
 
-// Reads the file of a segment, and adds its words to those read before.
-#[tactic(auto, using(m36_reading::proofs::ReadLaws::reads_early), unfolding(m36_reading::specs::EachRead::read_onto))]
-fn read_file<F: Folder>(
-    alloc: Global,
-    name: &[u8],
-    folder: &mut F,
-    files: SegmentFiles,
-) -> Result<SegmentFiles, Refusal>
-    ensures reads { Reads (read_onto file_words files name.now) result
-        (folder_of F.files F.wrote F.read_faults F.write_faults folder.old)
-        (folder_of F.files F.wrote F.read_faults F.write_faults folder.new)
-        (F.asked folder.old) (F.asked folder.new) }
-    ensures more { IfOk result (λ more. length more ≡ length files + 1) }
-{
-    let words = read_words(alloc, name, folder)?;
-    with_file(files, words)
-}
-
-/// Reads the file of each segment of a catalog, in its order. Each is refused with F1, F2, T3, T4
-/// or F3 before the next is read.
-#[tactic(auto, using(crate::proofs::FolderReads::files_in_turn))]
-fn read_files<F: Folder>(
-    alloc: Global,
-    catalog: &Catalog,
-    folder: &mut F,
-) -> Result<SegmentFiles, Refusal>
-    ensures reads { Reads (each_onto segment_words [] catalog.now.segments) result
-        (folder_of F.files F.wrote F.read_faults F.write_faults folder.old)
-        (folder_of F.files F.wrote F.read_faults F.write_faults folder.new)
-        (F.asked folder.old) (F.asked folder.new) }
-    ensures each { IfOk result (λ files. length files ≡ length catalog.now.segments) }
-{
-    let mut files = SegmentFiles::new(alloc);
-    for i in 0..catalog.count() {
-        files = read_file(alloc, catalog.segment(i).file.bytes(), folder, files)?;
-    }
-    Ok(files)
-}
-
 // U1 to U4, for a catalog and files that do not boot; U2 and U4 at the number of the segment.
 fn refuse_fault(alloc: Global, fault: BootFault) -> Refusal
     ensures { Refuses result (fault_refused fault) }
@@ -97,7 +51,7 @@ fn refuse_fault(alloc: Global, fault: BootFault) -> Refusal
 }
 
 /// Boots a catalog with its files: U1 to U4 if they do not boot.
-#[tactic(auto, using(crate::proofs::FolderReads::booting))]
+#[tactic(auto, using(crate::proofs::FolderBoots::booting))]
 pub fn boot_files(
     alloc: Global,
     catalog: Catalog,
@@ -116,45 +70,4 @@ pub fn boot_files(
             Err(refuse_fault(alloc, fault))
         }
     }
-}
-
-// Reads the files of a catalog, and boots them.
-#[tactic(auto, using(crate::proofs::FolderReads::boots_files))]
-fn read_booted<F: Folder>(
-    alloc: Global,
-    access: Access,
-    folder: &mut F,
-) -> Result<BootedFolder, Refusal>
-    ensures reads { Reads (files_booted access) (given_in result)
-        (folder_of F.files F.wrote F.read_faults F.write_faults folder.old)
-        (folder_of F.files F.wrote F.read_faults F.write_faults folder.new)
-        (F.asked folder.old) (F.asked folder.new) }
-    ensures booted { IfOk result (λ booted. IsFresh booted.system) }
-{
-    match read_files(alloc, &access.catalog, folder) {
-        Ok(files) => boot_files(alloc, access.catalog, access.denied, files),
-        Err(refusal) => {
-            // Dropped by a call, so that the drop is proved once for its type.
-            drop(access);
-            Err(refusal)
-        }
-    }
-}
-
-/// Reads a folder and boots it, with the rights of a user if one is given. The system is as it was
-/// booted: no turn was made.
-#[tactic(auto, using(crate::proofs::FolderReads::folders))]
-pub fn read_system<F: Folder>(
-    alloc: Global,
-    user: &Option<User>,
-    folder: &mut F,
-) -> Result<BootedFolder, Refusal>
-    ensures reads { Reads (folder_reads user.now) (given_in result)
-        (folder_of F.files F.wrote F.read_faults F.write_faults folder.old)
-        (folder_of F.files F.wrote F.read_faults F.write_faults folder.new)
-        (F.asked folder.old) (F.asked folder.new) }
-    ensures booted { IfOk result (λ booted. IsFresh booted.system) }
-{
-    let access = read_access(alloc, user, folder)?;
-    read_booted(alloc, access, folder)
 }

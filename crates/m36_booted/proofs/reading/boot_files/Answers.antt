@@ -5,7 +5,7 @@ use Rattle.m36_super.specs.Library.{Library}
 use Rattle.m36_super.specs.BootSays.{IsBooted}
 use Rattle.m36_booted.specs.declared.reading.BootedFolder.{BootedFolder}
 use Rattle.m36_booted.specs.Folder.{FolderFields}
-use Rattle.m36_booted.proofs.FolderReads.{booted_given, booted_not}
+use Rattle.m36_booted.proofs.FolderBoots.{booted_given, booted_not}
 use Rattle.m36_booted.proofs.reading.boot_files.Goals as goal
 
 pub returns-in-Err-clause-gives : goal.returns-in-Err-clause-gives

@@ -1,15 +1,10 @@
--- If an output begins with `audit yes`, the booted system passes its audit, and does so in every state until an LDBR is
--- executed.
-use Rattle.std.proofs.Common.{◌≡◌, ℕ, Bool, true, false, List, [], ◌∷◌, ◌++◌, Result, Ok, Err, refl, sym, ap, subst, ◌∙◌}
-use Rattle.std.proofs.lemmas.List.{append-nil}
-use Rattle.std.proofs.lemmas.List.Folds.{concat-append}
-use Rattle.m36_outside.specs.Passing.{joined}
-use Rattle.m36_model.specs.Audit.{AreFindings, IsAudited}
+-- A booted system that passes its audit passes it in every state until an LDBR is executed.
+use Rattle.std.proofs.Common.{◌≡◌, ℕ, Bool, true, false, List, [], ◌∷◌, Result, Ok, Err, refl, sym, ap, subst, ◌∙◌}
+use Rattle.m36_model.specs.Audit.{IsAudited}
 use Rattle.m36_model.specs.BootedCore.{booted_dbr}
 use Rattle.m36_model.specs.Fields.{AtFields}
 use Rattle.m36_model.specs.Residence.{flat_of}
 use Rattle.m36_model.specs.declared.outcome.Fault.{Fault}
-use Rattle.m36_isol.proofs.Findings.{findings_law}
 use Rattle.m36_isol.proofs.CoreIsolated.{core_isolated}
 use Rattle.m36_isol.proofs.FlatLaw.{flat_isolated}
 use Rattle.m36_isol.proofs.LaidAudit.{flat_audit}
@@ -27,47 +22,8 @@ use Rattle.m36_super.specs.BootSays.{IsBooted}
 use Rattle.m36_super.proofs.BootTurns.{start_unloaded}
 use Rattle.m36_super.proofs.Turns.{turn_law}
 use Rattle.m36_super.proofs.Audited.{turn_audit}
-use Rattle.m36_reading.specs.Answers.{Answer}
-use Rattle.m36_ran.specs.AuditText.{yes_line, audit_pieces, audit_text}
-use Rattle.m36_ran.specs.Ran.{audit_answer}
-use Rattle.m36_ran.proofs.YesAnswers.{none_found}
-use Rattle.m36_booted.specs.declared.command.FolderCommand.{FolderCommand}
-use Rattle.m36_booted.specs.declared.command.FolderCommand.TheVariants.{Audit, Run, Trace}
-use Rattle.m36_booted.specs.declared.command.RunOutput.{RunOutput}
-use Rattle.m36_booted.specs.Folder.{FolderFields}
-use Rattle.m36_booted.specs.RunText.{run_pieces, run_answer}
-use Rattle.m36_booted.specs.Runs.{Extent, Whole, Begun, Starved}
-use Rattle.m36_booted.specs.Booted.{IsAuditAnswer, IsRunBy, IsAnswerOf, IsFolderAnswer}
 use Rattle.m36_booted.specs.Promise.{IsReached, PassesBooted}
 use Rattle.m36_booted.proofs.OneSystem.{one_system}
-
--- ---- every answer begins with the audit text
-
-abbrev Begins : List (ℕ × ℕ) → Answer → Type 0
-Begins findings due = (more : List ℕ) × (due.text ≡ audit_text findings ++ more)
-
-audit_begins : (extent : Extent) (findings : List (ℕ × ℕ)) (due : Answer) → IsAuditAnswer extent findings due → Begins findings due
-unfolding audit_answer
-audit_begins Whole findings due is = ([], ap (λ (d : Answer). d.text) is ∙ sym (append-nil (audit_text findings)))
-audit_begins Begun findings due is = ([], ap (λ (d : Answer). d.text) is ∙ sym (append-nil (audit_text findings)))
-audit_begins Starved findings due is = absurd is
-
-run_begins :
-    (b : Bool) (extent : Extent) (denied : List (List ℕ)) (output : RunOutput) (limit : ℕ) (lib : Library) (first : Booted) (findings : List (ℕ × ℕ)) (due : Answer)
-    → IsRunBy b extent denied output limit lib first findings due → Begins findings due
-unfolding run_answer
-run_begins true extent denied output limit lib first findings due is = (
-  joined (run_pieces denied output is.turns is.how),
-  ap (λ (d : Answer). d.text) is.answer ∙ concat-append (audit_pieces findings) (run_pieces denied output is.turns is.how),
-)
-run_begins false extent denied output limit lib first findings due is = audit_begins extent findings due is
-
-answer_begins :
-    (command : FolderCommand) (extent : Extent) (denied : List (List ℕ)) (lib : Library) (first : Booted) (findings : List (ℕ × ℕ)) (due : Answer)
-    → IsAnswerOf command extent denied lib first findings due → Begins findings due
-answer_begins Audit extent denied lib first findings due is = audit_begins extent findings due is
-answer_begins (Run run) extent denied lib first findings due is = run_begins _ extent denied _ run.steps lib first findings due is
-answer_begins (Trace run) extent denied lib first findings due is = run_begins _ extent denied _ run.steps lib first findings due is
 
 -- ---- an LDBR that was executed stays executed
 
@@ -176,12 +132,3 @@ passes_booted lib system booted audited = record {
       let kept = reached_kept lib system now booted audited reached in
       flat_isolated (flat_of now.state.memory) booted_dbr (flat_audit lib.catalog.frames now.state.memory kept.stands.laid kept.audited);
 }
-
-pub yes_passes :
-    (extent : Extent) (command : FolderCommand) (given : FolderFields) (due : Answer) (rest : List ℕ)
-    → IsFolderAnswer extent command given due → due.text ≡ yes_line ++ rest → PassesBooted given.lib
-yes_passes extent command given due rest is begins =
-    let b = answer_begins command extent given.denied given.lib (booted_of is.system) is.findings due is.answer in
-    let none : is.findings ≡ [] = none_found is.findings b.0 rest (sym b.1 ∙ begins) in
-    passes_booted given.lib is.system is.booted
-    (findings_law.sound is.system.core booted_dbr (subst (AreFindings is.system.core booted_dbr) none is.found))
