@@ -1,6 +1,7 @@
 -- A call on a booted folder that ends has the result Done, if the needs of its command are met; and what it means that
 -- its text begins with `audit yes`.
-use Rattle.std.proofs.Common.{◌≡◌, ◌⊎◌, ℕ, Bool, true, false, List, [], ◌∷◌, Option, Some, None, Result, Ok, Err, refl, sym, ap, subst, ◌∙◌, inl, inr}
+use Rattle.std.proofs.Common.{◌≡◌, ◌⊎◌, ℕ, Bool, true, false, List, [], ◌∷◌, Option, Some, None, Result, Ok, Err, refl}
+use Rattle.std.proofs.Common.{sym, ap, subst, ◌∙◌, inl, inr}
 use Rattle.std.proofs.lemmas.List.{append-nil}
 use Rattle.std.proofs.lemmas.List.Folds.{concat-append as joined_on}
 use Rattle.m36_outside.specs.Passing.{joined}
@@ -51,10 +52,12 @@ use Rattle.cmd_folder.proofs.RunGoes.{run_is}
 -- ---- no end
 
 pub unput_ends : {P : Type 0} (result : Result (Unit {0}) Status) → result ≡ Err WriteFault → IsEnd result → P
-unput_ends result is end = absurd (let no : IsEnd {A = Unit {0}} (Err WriteFault) = subst (IsEnd {A = Unit {0}}) is end in no)
+unput_ends result is end =
+    absurd (let no : IsEnd {A = Unit {0}} (Err WriteFault) = subst (IsEnd {A = Unit {0}}) is end in no)
 
 pub starved_ends : {P : Type 0} (result : Result (Unit {0}) Status) → result ≡ Err NoMemory → IsEnd result → P
-starved_ends result is end = absurd (let no : IsEnd {A = Unit {0}} (Err NoMemory) = subst (IsEnd {A = Unit {0}}) is end in no)
+starved_ends result is end =
+    absurd (let no : IsEnd {A = Unit {0}} (Err NoMemory) = subst (IsEnd {A = Unit {0}}) is end in no)
 
 -- ---- Done
 
@@ -62,10 +65,13 @@ starved_ends result is end = absurd (let no : IsEnd {A = Unit {0}} (Err NoMemory
 none_by :
     (system : SuperFields) (findings : List (ℕ × ℕ)) (unaudited : Bool) → AreFindings system.core booted_dbr findings
     → MayRun (IsAudited system.core booted_dbr) unaudited → (findings ≡ []) ⊎ (unaudited ≡ true)
-none_by system findings unaudited found (inl audited) = inl (findings_law.complete system.core booted_dbr findings audited found)
+none_by system findings unaudited found (inl audited) =
+    inl (findings_law.complete system.core booted_dbr findings audited found)
 none_by system findings unaudited found (inr un) = inr un
 
-runs_by : (findings : List (ℕ × ℕ)) (unaudited : Bool) → (findings ≡ []) ⊎ (unaudited ≡ true) → is_run findings unaudited ≡ true
+runs_by :
+    (findings : List (ℕ × ℕ)) (unaudited : Bool) → (findings ≡ []) ⊎ (unaudited ≡ true)
+    → is_run findings unaudited ≡ true
 runs_by [] unaudited may = refl
 runs_by (f ∷ findings) unaudited (inl none) = absurd (cc)
 runs_by (f ∷ findings) unaudited (inr un) = un
@@ -81,7 +87,8 @@ audit_done findings events result none goes end =
     ∙ ap (λ f. early (audit_status (passes f))) none
 
 ran_done :
-    (how : Option Finish) (lib : Library) (limit : ℕ) (first : Booted) (turns : List Turn) (last : Booted) (unput : List (List ℕ))
+    (how : Option Finish) (lib : Library) (limit : ℕ) (first : Booted) (turns : List Turn) (last : Booted)
+    (unput : List (List ℕ))
     (result : Result (Unit {0}) Status)
     → EndsWithDis lib limit first → runs.Goes lib limit first turns last → FinishesAs how lib limit turns last
     → StopsAs how last unput result → IsEnd result → result ≡ Ok tt
@@ -91,7 +98,8 @@ ran_done (Some how) lib limit first turns last unput result needs goes finishes 
     is.1 ∙ ap (λ h. early (finish_status (Some h))) (needs turns last how goes finishes)
 
 split_done :
-    (run : Running) (limit : ℕ) (first : Booted) (findings : List (ℕ × ℕ)) (events : List Event) (result : Result (Unit {0}) Status)
+    (run : Running) (limit : ℕ) (first : Booted) (findings : List (ℕ × ℕ)) (events : List Event)
+    (result : Result (Unit {0}) Status)
     → first.coming ≡ Step → EndsWithDis run.lib limit first
     → PutsSplit (audit_pieces findings) (run_from run 0 limit first) events result → IsEnd result → result ≡ Ok tt
 split_done run limit first findings events result next needs (inl on) end =
@@ -100,10 +108,12 @@ split_done run limit first findings events result next needs (inl on) end =
 split_done run limit first findings events result next needs (inr put) end = unput_ends result put.result_is end
 
 run_done :
-    (run : FolderRun) (to : RunOutput) (given : FolderFields) (system : SuperFields) (findings : List (ℕ × ℕ)) (events : List Event)
+    (run : FolderRun) (to : RunOutput) (given : FolderFields) (system : SuperFields) (findings : List (ℕ × ℕ))
+    (events : List Event)
     (result : Result (Unit {0}) Status)
     → (booted_of system).coming ≡ Step → AreFindings system.core booted_dbr findings → RunNeeds run given.lib system
-    → Goes (run_by (is_run findings run.unaudited) (running given to) run.steps (booted_of system) findings) events result
+    → Goes (run_by (is_run findings run.unaudited) (running given to) run.steps
+    (booted_of system) findings) events result
     → IsEnd result → result ≡ Ok tt
 unfolding audit_and_run
 run_done run to given system findings events result next found needs goes end =
@@ -111,12 +121,15 @@ run_done run to given system findings events result next found needs goes end =
     subst (λ b. Goes (run_by b (running given to) run.steps (booted_of system) findings) events result)
     (runs_by findings run.unaudited (none_by system findings run.unaudited found needs.0)) goes in
     split_done (running given to) run.steps (booted_of system) findings events result next needs.1
-    (puts_split (audit_pieces findings) (run_from (running given to) 0 run.steps (booted_of system)) events result ran) end
+    (puts_split (audit_pieces findings) (run_from (running given to) 0 run.steps (booted_of system)) events
+    result ran) end
 
 command_done :
-    (command : FolderCommand) (given : FolderFields) (system : SuperFields) (findings : List (ℕ × ℕ)) (events : List Event)
+    (command : FolderCommand) (given : FolderFields) (system : SuperFields) (findings : List (ℕ × ℕ))
+    (events : List Event)
     (result : Result (Unit {0}) Status)
-    → (booted_of system).coming ≡ Step → AreFindings system.core booted_dbr findings → SystemNeeds command given.lib system
+    → (booted_of system).coming ≡ Step → AreFindings system.core booted_dbr findings
+    → SystemNeeds command given.lib system
     → Goes (by_command command given (booted_of system) findings) events result → IsEnd result → result ≡ Ok tt
 command_done Audit given system findings events result next found needs goes end =
     audit_done findings events result (findings_law.complete system.core booted_dbr findings needs found) goes end
@@ -127,9 +140,11 @@ command_done (Trace run) given system findings events result next found needs go
 
 done_by :
     (command : FolderCommand) (given : FolderFields) (events : List Event) (result : Result (Unit {0}) Status)
-    → Found command given events result ⊎ Ends (Err NoMemory) events result → IsEnd result → FolderNeeds command given → result ≡ Ok tt
+    → Found command given events result ⊎ Ends (Err NoMemory) events result → IsEnd result → FolderNeeds command given
+    → result ≡ Ok tt
 done_by command given events result (inl found) end needs =
-    command_done command given found.system found.findings events result (start_next given.lib found.system found.booted) found.are.found
+    command_done command given found.system found.findings events result
+    (start_next given.lib found.system found.booted) found.are.found
     (needs found.system found.booted) found.goes end
 done_by command given events result (inr none) end needs = none_ends events result end none
 
@@ -150,7 +165,8 @@ split_agrees pieces rest events result (inl on) = inl (record { left = pieces_of
 split_agrees pieces rest events result (inr first) = inr (record { left = first.left; is = first.is })
 
 by_agrees :
-    (is : Bool) (run : Running) (limit : ℕ) (first : Booted) (findings : List (ℕ × ℕ)) (events : List Event) (result : Result (Unit {0}) Status)
+    (is : Bool) (run : Running) (limit : ℕ) (first : Booted) (findings : List (ℕ × ℕ)) (events : List Event)
+    (result : Result (Unit {0}) Status)
     → Goes (run_by is run limit first findings) events result → Agree (audit_pieces findings) (pieces_of events)
 unfolding audit_only audit_and_run
 by_agrees true run limit first findings events result goes =
@@ -177,16 +193,19 @@ command_agrees (Trace run) given first findings events result goes =
     by_agrees (is_run findings run.unaudited) (running given output.Trace) run.steps first findings events result goes
 
 yes_none :
-    (findings : List (ℕ × ℕ)) (pieces : List (List ℕ)) → Agree (audit_pieces findings) pieces → StartsWith yes_line pieces → findings ≡ []
+    (findings : List (ℕ × ℕ)) (pieces : List (List ℕ)) → Agree (audit_pieces findings) pieces
+    → StartsWith yes_line pieces → findings ≡ []
 yes_none findings pieces (inl on) starts =
-    none_found findings (joined on.left) starts.rest (sym (joined_on (audit_pieces findings) on.left) ∙ sym (ap joined on.is) ∙ starts.is)
+    none_found findings (joined on.left) starts.rest
+    (sym (joined_on (audit_pieces findings) on.left) ∙ sym (ap joined on.is) ∙ starts.is)
 yes_none findings pieces (inr on) starts =
     let longer = starts_longer yes_line (audit_pieces findings) pieces on.left on.is starts in
     none_found findings [] longer.rest (append-nil (audit_text findings) ∙ longer.is)
 
 yes_by :
     (command : FolderCommand) (given : FolderFields) (events : List Event) (result : Result (Unit {0}) Status)
-    → Found command given events result ⊎ Ends (Err NoMemory) events result → StartsWith yes_line (pieces_of events) → PassesBooted given.lib
+    → Found command given events result ⊎ Ends (Err NoMemory) events result → StartsWith yes_line (pieces_of events)
+    → PassesBooted given.lib
 yes_by command given events result (inl found) starts =
     found.are.passes (yes_none found.findings (pieces_of events)
     (command_agrees command given (booted_of found.system) found.findings events result found.goes) starts)

@@ -1,11 +1,13 @@
 -- The laws of `audit`, `run` and `trace` of a folder.
-use Rattle.std.proofs.Common.{◌≡◌, ◌⊎◌, ℕ, Bool, true, false, ◌||◌, List, [], ◌∷◌, ◌++◌, Option, Some, Result, Ok, Err, refl, sym, ap, subst, ◌∙◌, inl, inr, append_assoc}
+use Rattle.std.proofs.Common.{◌≡◌, ◌⊎◌, ℕ, Bool, true, false, ◌||◌, List, [], ◌∷◌, ◌++◌, Option, Some, Result, Ok, Err}
+use Rattle.std.proofs.Common.{refl, sym, ap, subst, ◌∙◌, inl, inr, append_assoc}
 use Rattle.std.proofs.lemmas.List.{append-nil}
 use Rattle.m36_outside.specs.Files.{Files}
 use Rattle.m36_world.specs.Follow.{Follow, outputs}
 use Rattle.m36_world.specs.Seen.{Seen}
 use Rattle.m36_world.specs.declared.event.Event.{Event}
-use Rattle.m36_world.specs.declared.event.Event.TheVariants.{FileRead, FileWrite, Output, OutputFailed, Input, InputFailed}
+use Rattle.m36_world.specs.declared.event.Event.TheVariants.{FileRead, FileWrite, Output, OutputFailed, Input}
+use Rattle.m36_world.specs.declared.event.Event.TheVariants.{InputFailed}
 use Rattle.m36_world.proofs.Following.{follow_split}
 use Rattle.m36_model.specs.Audit.{AreFindings, IsAudited}
 use Rattle.m36_model.specs.BootedCore.{booted_dbr}
@@ -55,10 +57,12 @@ use Rattle.cmd_image.specs.ImageEnds.{EndsWith}
 use Rattle.cmd_image.specs.ImageProgram.{audit_may_end, audit_only}
 use Rattle.cmd_image.proofs.PutEnds.{whole_ends, pieces_begin, both_end, puts_end, SomeEnd, early_ends}
 use Rattle.cmd_image.proofs.TextLaws.{audit_alike}
-use Rattle.cmd_folder.specs.FolderLaw.{run_command, is_unaudited, IsPrefix, Agree, ArePlain, plain_pieces, whole_pieces, whole_status, HasTextOf, FolderLaw}
+use Rattle.cmd_folder.specs.FolderLaw.{run_command, is_unaudited, IsPrefix, Agree, ArePlain, plain_pieces, whole_pieces}
+use Rattle.cmd_folder.specs.FolderLaw.{whole_status, HasTextOf, FolderLaw}
 use Rattle.cmd_folder.specs.FolderProgram.{folder_given, folder_program}
 use Rattle.cmd_folder.specs.Needs.{OneEndsWithDis}
-use Rattle.cmd_folder.specs.OnFolder.{AreFolderFindings, audit_and_run, run_by, by_command, running, on_system, on_folder}
+use Rattle.cmd_folder.specs.OnFolder.{AreFolderFindings, audit_and_run, run_by, by_command, running, on_system}
+use Rattle.cmd_folder.specs.OnFolder.{on_folder}
 use Rattle.cmd_folder.specs.RunProgram.{Running, finish_may_end, run_from}
 use Rattle.cmd_folder.proofs.FolderEnds.{unput_ends, starved_ends}
 use Rattle.cmd_folder.proofs.FolderFound.{Found, folder_found, GoesBy, known_goes, goes_known, passed_goes, failed_goes}
@@ -70,29 +74,36 @@ use Rattle.cmd_folder.proofs.RunGoes.{run_is}
 
 -- ---- `audit` has one text
 
-system_alike : (given : FolderFields) (system : SuperFields) → Alike (on_system Audit given system) (on_system Audit given system)
+system_alike :
+    (given : FolderFields) (system : SuperFields) → Alike (on_system Audit given system) (on_system Audit given system)
 unfolding Alike on_system
 system_alike given system =
-    let chosen : Program quiet (Unit {0}) = some (AreFolderFindings given.lib system) (by_command Audit given (booted_of system)) in
-    alike_wants chosen chosen (alike_one (AreFolderFindings given.lib system) (by_command Audit given (booted_of system))
+    let chosen : Program quiet (Unit {0}) = some (AreFolderFindings given.lib system)
+    (by_command Audit given (booted_of system)) in
+    alike_wants chosen chosen
+    (alike_one (AreFolderFindings given.lib system) (by_command Audit given (booted_of system))
     (λ f g is is'. findings_law.unique system.core booted_dbr f g is.found is'.found) (λ f is. audit_alike f))
 
 booted_alike : (given : FolderFields) → Alike (on_folder Audit given) (on_folder Audit given)
 unfolding on_folder
 booted_alike given =
-    alike_one (IsBooted given.lib) (on_system Audit given) (λ s t is is'. one_system given.lib s t is is') (λ s is. system_alike given s)
+    alike_one (IsBooted given.lib) (on_system Audit given) (λ s t is is'. one_system given.lib s t is is')
+    (λ s is. system_alike given s)
 
 audit_program_alike : (user : Option (List ℕ)) → Alike (folder_program Audit user) (folder_program Audit user)
 unfolding folder_program
 audit_program_alike user =
-    alike_then (folder_given user) (folder_given user) (on_folder Audit) (on_folder Audit) (folder_alike quiet user) booted_alike
+    alike_then (folder_given user) (folder_given user) (on_folder Audit) (on_folder Audit)
+    (folder_alike quiet user) booted_alike
 
 audit_puts :
     (findings : List (ℕ × ℕ)) (events : List Event) (result : Result (Unit {0}) Status)
-    → Goes (audit_only findings) events result → PutsBy (audit_pieces findings) (audit_status (passes findings)) events result
+    → Goes (audit_only findings) events result → PutsBy (audit_pieces findings)
+    (audit_status (passes findings)) events result
 unfolding audit_only
 audit_puts findings events result goes =
-    puts_ended quiet (audit_pieces findings) (audit_status (passes findings)) (audit_may_end (passes findings)) events result goes
+    puts_ended quiet (audit_pieces findings) (audit_status (passes findings))
+    (audit_may_end (passes findings)) events result goes
 
 -- What `audit` puts on a booted folder, and its status, by the findings.
 record IsAuditBy (given : FolderFields) (events : List Event) (result : Result (Unit {0}) Status) : Type 0 where
@@ -117,7 +128,8 @@ audit_by given events result (inr none) end = starved_ends result none.result_is
 
 one_audit :
     (given : FolderFields) (events others : List Event) (result other : Result (Unit {0}) Status)
-    → Goes (on_folder Audit given) events result → IsEnd result → Goes (on_folder Audit given) others other → IsEnd other
+    → Goes (on_folder Audit given) events result → IsEnd result → Goes (on_folder Audit given) others other
+    → IsEnd other
     → (events ≡ others) × (result ≡ other)
 one_audit given events others result other goes end goes' end' =
     let one = audit_by given events result (folder_found Audit given events result goes) end in
@@ -134,12 +146,14 @@ one_audit given events others result other goes end goes' end' =
 -- There is a list of findings, so it is enough to have an end for each.
 ends_by :
     (command : FolderCommand) (given : FolderFields) (system : SuperFields) → IsBooted given.lib system
-    → ((findings : List (ℕ × ℕ)) → AreFindings system.core booted_dbr findings → SomeEnd (by_command command given (booted_of system) findings))
+    → ((findings : List (ℕ × ℕ)) → AreFindings system.core booted_dbr findings
+    → SomeEnd (by_command command given (booted_of system) findings))
     → HasEnd (on_folder command given)
 ends_by command given system booted each none =
     some_findings system.core booted_dbr (λ findings found.
     let end : SomeEnd (by_command command given (booted_of system) findings) = each findings found in
-    none end.events end.result (goes_known command given system findings end.events end.result booted found end.goes) end.is_end)
+    none end.events end.result
+    (goes_known command given system findings end.events end.result booted found end.goes) end.is_end)
 
 audit_end : (findings : List (ℕ × ℕ)) → SomeEnd (audit_only findings)
 unfolding audit_only
@@ -160,7 +174,8 @@ unrun_end false run steps first findings is = audit_end findings
 
 failed_end :
     (command : FolderCommand) (given : FolderFields) (system : SuperFields) (findings : List (ℕ × ℕ))
-    → passes findings ≡ false → is_unaudited command ≡ false → SomeEnd (by_command command given (booted_of system) findings)
+    → passes findings ≡ false → is_unaudited command ≡ false → SomeEnd
+    (by_command command given (booted_of system) findings)
 failed_end Audit given system findings fails is = audit_end findings
 failed_end (Run run) given system findings fails is =
     unrun_end (passes findings || run.unaudited) (running given output.Console) run.steps (booted_of system) findings
@@ -171,7 +186,8 @@ failed_end (Trace run) given system findings fails is =
 
 -- a run that finishes
 ran_end :
-    (is : Bool) (run : Running) (steps : ℕ) (first : Booted) (findings : List (ℕ × ℕ)) (turns : List Turn) (last : Booted) (how : Finish)
+    (is : Bool) (run : Running) (steps : ℕ) (first : Booted) (findings : List (ℕ × ℕ)) (turns : List Turn)
+    (last : Booted) (how : Finish)
     → first.coming ≡ Step → runs.Goes run.lib steps first turns last → Finishes how run.lib steps turns last
     → SomeEnd (run_by is run steps first findings)
 unfolding audit_and_run
@@ -179,20 +195,25 @@ ran_end false run steps first findings turns last how next goes finishes = audit
 ran_end true run steps first findings turns last how next goes finishes = record {
   events = outputs (audit_pieces findings) ++ outputs (run_pieces run.denied run.output turns (Some how));
   result = early (finish_status (Some how));
-  goes = goes_puts (audit_pieces findings) (run_from run 0 steps first) (outputs (run_pieces run.denied run.output turns (Some how)))
+  goes = goes_puts (audit_pieces findings) (run_from run 0 steps first)
+      (outputs (run_pieces run.denied run.output turns (Some how)))
       (early (finish_status (Some how))) (run_calls run steps first turns last how next goes finishes);
   is_end = early_ends (finish_status (Some how)) (finish_may_end how);
 }
 
 command_end :
-    (to : RunOutput) (run : FolderRun) (given : FolderFields) (system : SuperFields) (findings : List (ℕ × ℕ)) (turns : List Turn)
+    (to : RunOutput) (run : FolderRun) (given : FolderFields) (system : SuperFields) (findings : List (ℕ × ℕ))
+    (turns : List Turn)
     (last : Booted) (how : Finish)
-    → (booted_of system).coming ≡ Step → runs.Goes given.lib run.steps (booted_of system) turns last → Finishes how given.lib run.steps turns last
+    → (booted_of system).coming ≡ Step → runs.Goes given.lib run.steps (booted_of system) turns last
+    → Finishes how given.lib run.steps turns last
     → SomeEnd (by_command (run_command to run) given (booted_of system) findings)
 command_end output.Console run given system findings turns last how next goes finishes =
-    ran_end (is_run findings run.unaudited) (running given output.Console) run.steps (booted_of system) findings turns last how next goes finishes
+    ran_end (is_run findings run.unaudited) (running given output.Console) run.steps
+    (booted_of system) findings turns last how next goes finishes
 command_end output.Trace run given system findings turns last how next goes finishes =
-    ran_end (is_run findings run.unaudited) (running given output.Trace) run.steps (booted_of system) findings turns last how next goes finishes
+    ran_end (is_run findings run.unaudited) (running given output.Trace) run.steps
+    (booted_of system) findings turns last how next goes finishes
 
 -- ---- the one text of plain turns
 
@@ -204,10 +225,12 @@ longer before one other (inr first) =
 
 -- What was put is a prefix of the pieces of the audit.
 within : (put pieces more left : List (List ℕ)) → pieces ≡ put ++ left → IsPrefix put (pieces ++ more)
-within put pieces more left is = record { left = left ++ more; is = ap (λ l. l ++ more) is ∙ append_assoc put left more }
+within put pieces more left is =
+    record { left = left ++ more; is = ap (λ l. l ++ more) is ∙ append_assoc put left more }
 
 split_agrees :
-    (run : Running) (steps : ℕ) (system : SuperFields) (findings : List (ℕ × ℕ)) (turns : List Turn) (last : Booted) (events : List Event)
+    (run : Running) (steps : ℕ) (system : SuperFields) (findings : List (ℕ × ℕ)) (turns : List Turn) (last : Booted)
+    (events : List Event)
     (result : Result (Unit {0}) Status)
     → IsBooted run.lib system → runs.Goes run.lib steps (booted_of system) turns last → Each IsPlainTurn turns
     → PutsSplit (audit_pieces findings) (run_from run 0 steps (booted_of system)) events result
@@ -221,7 +244,8 @@ split_agrees run steps system findings turns last events result booted goes plai
     inl (within (pieces_of events) (audit_pieces findings) (pieces_from run.output 0 turns) first.left first.is)
 
 run_by_agrees :
-    (is : Bool) (run : Running) (steps : ℕ) (system : SuperFields) (findings : List (ℕ × ℕ)) (turns : List Turn) (last : Booted)
+    (is : Bool) (run : Running) (steps : ℕ) (system : SuperFields) (findings : List (ℕ × ℕ)) (turns : List Turn)
+    (last : Booted)
     (events : List Event) (result : Result (Unit {0}) Status)
     → IsBooted run.lib system → runs.Goes run.lib steps (booted_of system) turns last → Each IsPlainTurn turns
     → Goes (run_by is run steps (booted_of system) findings) events result
@@ -231,12 +255,14 @@ run_by_agrees true run steps system findings turns last events result booted goe
     split_agrees run steps system findings turns last events result booted goes plain
     (puts_split (audit_pieces findings) (run_from run 0 steps (booted_of system)) events result call)
 run_by_agrees false run steps system findings turns last events result booted goes plain call =
-    let put = pieces_begin (audit_pieces findings) (audit_status (passes findings)) events result (audit_puts findings events result call) in
+    let put = pieces_begin (audit_pieces findings) (audit_status (passes findings)) events result
+    (audit_puts findings events result call) in
     inl (within (pieces_of events) (audit_pieces findings) (pieces_from run.output 0 turns) put.0 put.1)
 
 -- what a command that runs a folder does
 run_goes :
-    (to : RunOutput) (run : FolderRun) (given : FolderFields) (first : Booted) (findings : List (ℕ × ℕ)) (events : List Event)
+    (to : RunOutput) (run : FolderRun) (given : FolderFields) (first : Booted) (findings : List (ℕ × ℕ))
+    (events : List Event)
     (result : Result (Unit {0}) Status)
     → Goes (by_command (run_command to run) given first findings) events result
     → Goes (run_by (is_run findings run.unaudited) (running given to) run.steps first findings) events result
@@ -244,19 +270,23 @@ run_goes output.Console run given first findings events result goes = goes
 run_goes output.Trace run given first findings events result goes = goes
 
 plain_by :
-    (run : FolderRun) (to : RunOutput) (given : FolderFields) (findings : List (ℕ × ℕ)) (turns : List Turn) (last : Booted)
+    (run : FolderRun) (to : RunOutput) (given : FolderFields) (findings : List (ℕ × ℕ)) (turns : List Turn)
+    (last : Booted)
     (events : List Event) (result : Result (Unit {0}) Status)
     → (plain : ArePlain run given findings turns last)
     → GoesBy (run_command to run) given plain.system findings events result
     → Agree (pieces_of events) (plain_pieces to findings turns)
 plain_by run to given findings turns last events result plain (inl goes) =
-    run_by_agrees (is_run findings run.unaudited) (running given to) run.steps plain.system findings turns last events result plain.booted
+    run_by_agrees (is_run findings run.unaudited)
+    (running given to) run.steps plain.system findings turns last events result plain.booted
     plain.goes plain.plain (run_goes to run given (booted_of plain.system) findings events result goes)
 plain_by run to given findings turns last events result plain (inr none) =
-    inl (record { left = plain_pieces to findings turns; is = ap (λ e. pieces_of e ++ plain_pieces to findings turns) (sym none.none) })
+    inl (record { left = plain_pieces to findings turns; is = ap (λ e. pieces_of e ++ plain_pieces to findings turns)
+    (sym none.none) })
 
 plain_agrees :
-    (run : FolderRun) (to : RunOutput) (given : FolderFields) (findings : List (ℕ × ℕ)) (turns : List Turn) (last : Booted)
+    (run : FolderRun) (to : RunOutput) (given : FolderFields) (findings : List (ℕ × ℕ)) (turns : List Turn)
+    (last : Booted)
     (events : List Event) (result : Result (Unit {0}) Status)
     → ArePlain run given findings turns last → Goes (on_folder (run_command to run) given) events result
     → Agree (pieces_of events) (plain_pieces to findings turns)
@@ -268,8 +298,10 @@ plain_agrees run to given findings turns last events result plain goes =
 
 -- a call that did not end
 text_short :
-    (put all : List (List ℕ)) (result end : Result (Unit {0}) Status) → IsPrefix put all → (IsEnd result → ⊥) → OneText put all result end
-text_short put all result end first unended = record { left = first.left; is = first.is; ended = λ ended. absurd (unended ended) }
+    (put all : List (List ℕ)) (result end : Result (Unit {0}) Status) → IsPrefix put all → (IsEnd result → ⊥)
+    → OneText put all result end
+text_short put all result end first unended =
+    record { left = first.left; is = first.is; ended = λ ended. absurd (unended ended) }
 
 text_after :
     (before put all : List (List ℕ)) (result end : Result (Unit {0}) Status) → OneText put all result end
@@ -281,9 +313,11 @@ text_after before put all result end one = record {
 }
 
 split_text :
-    (run : Running) (steps : ℕ) (system : SuperFields) (findings : List (ℕ × ℕ)) (turns : List Turn) (last : Booted) (how : Finish)
+    (run : Running) (steps : ℕ) (system : SuperFields) (findings : List (ℕ × ℕ)) (turns : List Turn) (last : Booted)
+    (how : Finish)
     (events : List Event) (result : Result (Unit {0}) Status)
-    → IsBooted run.lib system → runs.Goes run.lib steps (booted_of system) turns last → Finishes how run.lib steps turns last
+    → IsBooted run.lib system → runs.Goes run.lib steps (booted_of system) turns last
+    → Finishes how run.lib steps turns last
     → Each IsPlainTurn turns → PutsSplit (audit_pieces findings) (run_from run 0 steps (booted_of system)) events result
     → OneText (pieces_of events) (audit_pieces findings ++ run_pieces run.denied run.output turns (Some how)) result
     (early (finish_status (Some how)))
@@ -296,7 +330,8 @@ split_text run steps system findings turns last how events result booted goes fi
 split_text run steps system findings turns last how events result booted goes finishes plain (inr first) =
     let all = run_pieces run.denied run.output turns (Some how) in
     text_short (pieces_of events) (audit_pieces findings ++ all) result (early (finish_status (Some how)))
-    (within (pieces_of events) (audit_pieces findings) all first.left first.is) (λ end. unput_ends result first.result_is end)
+    (within (pieces_of events) (audit_pieces findings) all first.left first.is)
+    (λ end. unput_ends result first.result_is end)
 
 audit_text_of :
     (pieces : List (List ℕ)) (s : Status) (events : List Event) (result : Result (Unit {0}) Status)
@@ -307,41 +342,51 @@ audit_text_of pieces s events result (inl whole) = record {
   ended = λ end. (refl, whole.result_is);
 }
 audit_text_of pieces s events result (inr part) =
-    text_short (pieces_of events) pieces result (early s) (record { left = part.left; is = part.is }) (λ end. unput_ends result part.result_is end)
+    text_short (pieces_of events) pieces result (early s) (record { left = part.left; is = part.is })
+    (λ end. unput_ends result part.result_is end)
 
 run_by_text :
-    (is : Bool) (run : Running) (steps : ℕ) (system : SuperFields) (findings : List (ℕ × ℕ)) (turns : List Turn) (last : Booted) (how : Finish)
+    (is : Bool) (run : Running) (steps : ℕ) (system : SuperFields) (findings : List (ℕ × ℕ)) (turns : List Turn)
+    (last : Booted) (how : Finish)
     (events : List Event) (result : Result (Unit {0}) Status)
-    → IsBooted run.lib system → runs.Goes run.lib steps (booted_of system) turns last → Finishes how run.lib steps turns last
+    → IsBooted run.lib system → runs.Goes run.lib steps (booted_of system) turns last
+    → Finishes how run.lib steps turns last
     → Each IsPlainTurn turns → Goes (run_by is run steps (booted_of system) findings) events result
-    → OneText (pieces_of events) (whole_pieces is run.output run.denied findings turns how) result (early (whole_status is findings how))
+    → OneText (pieces_of events) (whole_pieces is run.output run.denied findings turns how) result
+    (early (whole_status is findings how))
 unfolding audit_and_run
 run_by_text true run steps system findings turns last how events result booted goes finishes plain call =
     split_text run steps system findings turns last how events result booted goes finishes plain
     (puts_split (audit_pieces findings) (run_from run 0 steps (booted_of system)) events result call)
 run_by_text false run steps system findings turns last how events result booted goes finishes plain call =
-    audit_text_of (audit_pieces findings) (audit_status (passes findings)) events result (audit_puts findings events result call)
+    audit_text_of (audit_pieces findings) (audit_status (passes findings)) events result
+    (audit_puts findings events result call)
 
 text_by :
-    (run : FolderRun) (to : RunOutput) (given : FolderFields) (findings : List (ℕ × ℕ)) (turns : List Turn) (last : Booted) (how : Finish)
+    (run : FolderRun) (to : RunOutput) (given : FolderFields) (findings : List (ℕ × ℕ)) (turns : List Turn)
+    (last : Booted) (how : Finish)
     (events : List Event) (result : Result (Unit {0}) Status)
     → (plain : ArePlain run given findings turns last) → Finishes how given.lib run.steps turns last
     → GoesBy (run_command to run) given plain.system findings events result
     → HasTextOf run to given findings turns how events result
 text_by run to given findings turns last how events result plain finishes (inl goes) =
-    run_by_text (is_run findings run.unaudited) (running given to) run.steps plain.system findings turns last how events result plain.booted
+    run_by_text (is_run findings run.unaudited)
+    (running given to) run.steps plain.system findings turns last how events result plain.booted
     plain.goes finishes plain.plain (run_goes to run given (booted_of plain.system) findings events result goes)
 text_by run to given findings turns last how events result plain finishes (inr none) =
     let is = is_run findings run.unaudited in
     let all = whole_pieces is to given.denied findings turns how in
     text_short (pieces_of events) all result (early (whole_status is findings how))
-    (record { left = all; is = ap (λ e. pieces_of e ++ all) (sym none.none) }) (λ end. starved_ends result none.result_is end)
+    (record { left = all; is = ap (λ e. pieces_of e ++ all) (sym none.none) })
+    (λ end. starved_ends result none.result_is end)
 
 plain_text :
-    (run : FolderRun) (to : RunOutput) (given : FolderFields) (findings : List (ℕ × ℕ)) (turns : List Turn) (last : Booted) (how : Finish)
+    (run : FolderRun) (to : RunOutput) (given : FolderFields) (findings : List (ℕ × ℕ)) (turns : List Turn)
+    (last : Booted) (how : Finish)
     (events : List Event) (result : Result (Unit {0}) Status)
     → ArePlain run given findings turns last → Finishes how given.lib run.steps turns last
-    → Goes (on_folder (run_command to run) given) events result → HasTextOf run to given findings turns how events result
+    → Goes (on_folder (run_command to run) given) events result
+    → HasTextOf run to given findings turns how events result
 plain_text run to given findings turns last how events result plain finishes goes =
     text_by run to given findings turns last how events result plain finishes
     (known_goes (run_command to run) given plain.system findings events result plain.booted plain.found goes)
@@ -360,7 +405,8 @@ pieces_both (InputFailed ∷ first) more = pieces_both first more
 
 -- The call of a command, over files from which the reader gives the folder: it does on the folder what it puts; or it
 -- puts nothing and does not end.
-record OnGiven (command : FolderCommand) (given : FolderFields) (pieces : List (List ℕ)) (result : Result (Unit {0}) Status) : Type 0 where
+record OnGiven (command : FolderCommand) (given : FolderFields) (pieces : List (List ℕ))
+    (result : Result (Unit {0}) Status) : Type 0 where
   pub more : List Event
   pub goes : Goes (on_folder command given) more result
   pub are : pieces ≡ pieces_of more
@@ -372,14 +418,18 @@ record Unread (pieces : List (List ℕ)) (result : Result (Unit {0}) Status) : T
 ok_same : (a b : FolderFields) → (let r : Option (Result FolderFields Status) = Some (Ok a) in r) ≡ Some (Ok b) → a ≡ b
 ok_same a b is = cc
 
-ok_err : (a : FolderFields) (s : Status) → (let r : Option (Result FolderFields Status) = Some (Ok a) in r) ≡ Some (Err s) → ⊥
+ok_err :
+    (a : FolderFields) (s : Status)
+    → (let r : Option (Result FolderFields Status) = Some (Ok a) in r) ≡ Some (Err s) → ⊥
 ok_err a s is = absurd (cc)
 
 given_by :
-    (command : FolderCommand) (user : Option (List ℕ)) (files : Files) (given : FolderFields) (result : Result (Unit {0}) Status) (old new : Seen)
+    (command : FolderCommand) (user : Option (List ℕ)) (files : Files) (given : FolderFields)
+    (result : Result (Unit {0}) Status) (old new : Seen)
     → old.files ≡ Some files → outcome_in files (folder_given {may = quiet} user) ≡ Some (Ok given)
     → (events : List Event) → Follow events old new
-    → BothGo (folder_given user) (on_folder command) events result ⊎ FirstEnds (folder_given {may = quiet} user) events result
+    → BothGo (folder_given user) (on_folder command) events result
+    ⊎ FirstEnds (folder_given {may = quiet} user) events result
     → OnGiven command given (pieces_of events) result ⊎ Unread (pieces_of events) result
 given_by command user files given result old new told gives events follow (inl both) =
     let parts = follow_split both.first both.more old new (subst (λ e. Follow e old new) both.is follow) in
@@ -391,7 +441,8 @@ given_by command user files given result old new told gives events follow (inl b
       more = both.more;
       goes = subst (λ v. Goes (on_folder command v) both.more result) same both.goes_on;
       are = ap pieces_of both.is ∙ pieces_both both.first both.more
-          ∙ ap (λ l. l ++ pieces_of both.more) (reader_pieces (folder_given user) both.first (Ok both.value) (folder_reader quiet user) both.begins);
+          ∙ ap (λ l. l ++ pieces_of both.more)
+          (reader_pieces (folder_given user) both.first (Ok both.value) (folder_reader quiet user) both.begins);
     })
 given_by command user files given result old new told gives events follow (inr first) =
     inr (record {
@@ -400,22 +451,26 @@ given_by command user files given result old new told gives events follow (inr f
           ok_err given first.status
           (sym gives
           ∙ reader_outcome (folder_given user) files (Err first.status) old new (folder_reader quiet user) told
-          (let ended : IsEnd {A = Unit {0}} (Err first.status) = subst (IsEnd {A = Unit {0}}) first.result_is end in ended)
+          (let ended : IsEnd {A = Unit {0}} (Err first.status) = subst
+          (IsEnd {A = Unit {0}}) first.result_is end in ended)
           (record { events = events; follow = follow; goes = first.goes }));
     })
 
 call_given :
-    (command : FolderCommand) (user : Option (List ℕ)) (files : Files) (given : FolderFields) (result : Result (Unit {0}) Status) (old new : Seen)
+    (command : FolderCommand) (user : Option (List ℕ)) (files : Files) (given : FolderFields)
+    (result : Result (Unit {0}) Status) (old new : Seen)
     → old.files ≡ Some files → outcome_in files (folder_given {may = quiet} user) ≡ Some (Ok given)
     → (performs : Performs (folder_program command user) result old new)
     → OnGiven command given (pieces_of performs.events) result ⊎ Unread (pieces_of performs.events) result
 unfolding folder_program
 call_given command user files given result old new told gives performs =
     given_by command user files given result old new told gives performs.events performs.follow
-    (reader_split (folder_given user) (on_folder command) performs.events result (folder_reader quiet user) performs.goes)
+    (reader_split (folder_given user) (on_folder command) performs.events result (folder_reader quiet user)
+    performs.goes)
 
 agrees_in :
-    (run : FolderRun) (to : RunOutput) (given : FolderFields) (findings : List (ℕ × ℕ)) (turns : List Turn) (last : Booted)
+    (run : FolderRun) (to : RunOutput) (given : FolderFields) (findings : List (ℕ × ℕ)) (turns : List Turn)
+    (last : Booted)
     (pieces : List (List ℕ)) (result : Result (Unit {0}) Status)
     → ArePlain run given findings turns last → OnGiven (run_command to run) given pieces result ⊎ Unread pieces result
     → Agree pieces (plain_pieces to findings turns)
@@ -423,18 +478,23 @@ agrees_in run to given findings turns last pieces result plain (inl on) =
     subst (λ l. Agree l (plain_pieces to findings turns)) (sym on.are)
     (plain_agrees run to given findings turns last on.more result plain on.goes)
 agrees_in run to given findings turns last pieces result plain (inr unread) =
-    inl (record { left = plain_pieces to findings turns; is = ap (λ l. l ++ plain_pieces to findings turns) (sym unread.none) })
+    inl (record { left = plain_pieces to findings turns; is = ap (λ l. l ++ plain_pieces to findings turns)
+    (sym unread.none) })
 
-abbrev TextIn : FolderRun → RunOutput → FolderFields → List (ℕ × ℕ) → List Turn → Finish → List (List ℕ) → Result (Unit {0}) Status → Type 0
+abbrev TextIn :
+    FolderRun → RunOutput → FolderFields → List (ℕ × ℕ) → List Turn → Finish → List (List ℕ) → Result (Unit {0}) Status
+    → Type 0
 TextIn run to given findings turns how pieces result =
     OneText pieces (whole_pieces (is_run findings run.unaudited) to given.denied findings turns how) result
     (early (whole_status (is_run findings run.unaudited) findings how))
 
 text_in :
-    (run : FolderRun) (to : RunOutput) (given : FolderFields) (findings : List (ℕ × ℕ)) (turns : List Turn) (last : Booted) (how : Finish)
+    (run : FolderRun) (to : RunOutput) (given : FolderFields) (findings : List (ℕ × ℕ)) (turns : List Turn)
+    (last : Booted) (how : Finish)
     (pieces : List (List ℕ)) (result : Result (Unit {0}) Status)
     → ArePlain run given findings turns last → Finishes how given.lib run.steps turns last
-    → OnGiven (run_command to run) given pieces result ⊎ Unread pieces result → TextIn run to given findings turns how pieces result
+    → OnGiven (run_command to run) given pieces result ⊎ Unread pieces result
+    → TextIn run to given findings turns how pieces result
 text_in run to given findings turns last how pieces result plain finishes (inl on) =
     subst (λ l. TextIn run to given findings turns how l result) (sym on.are)
     (plain_text run to given findings turns last how on.more result plain finishes on.goes)
@@ -448,7 +508,8 @@ text_in run to given findings turns last how pieces result plain finishes (inr u
 
 one_ends_with_dis : OneEndsWithDis
 one_ends_with_dis lib limit system turns last booted goes ends plain same end how goes' ends' =
-    sym (one_run_here lib limit system turns same last end (Over (endings.Stop Dis)) how booted goes goes' ends ends' plain).end_is
+    sym (one_run_here lib limit system turns same last end
+    (Over (endings.Stop Dis)) how booted goes goes' ends ends' plain).end_is
 
 -- ---- the law
 
@@ -458,10 +519,12 @@ folder_law = record {
   one_audit = one_audit;
   some_audit = λ given system booted. ends_by Audit given system booted (λ findings found. audit_end findings);
   some_failed = λ command given system booted fails is.
-      ends_by command given system booted (λ findings found. failed_end command given system findings (fails_with system findings found fails) is);
+      ends_by command given system booted
+      (λ findings found. failed_end command given system findings (fails_with system findings found fails) is);
   some_run = λ run to given system turns last how booted goes finishes.
       ends_by (run_command to run) given system booted
-      (λ findings found. command_end to run given system findings turns last how (start_next given.lib system booted) goes finishes);
+      (λ findings found. command_end to run given system findings turns last how
+      (start_next given.lib system booted) goes finishes);
   passed = passed_goes;
   failed = failed_goes;
   run = run_is;

@@ -27,7 +27,8 @@ files_reader may access =
 pub folder_reader : (may : May) (user : Option (List ℕ)) → IsReader {may = may} (folder_given user)
 unfolding folder_given
 folder_reader may user =
-    reader_then (catalog_access user) (λ access. files_booted access) (access_reader may user) (λ access. files_reader may access)
+    reader_then (catalog_access user) (λ access. files_booted access) (access_reader may user)
+    (λ access. files_reader may access)
 
 segment_alike : (may : May) (s : SegmentFields) → Alike {may = may} (segment_words s) (segment_words s)
 unfolding segment_words
@@ -42,5 +43,6 @@ files_alike may access =
 pub folder_alike : (may : May) (user : Option (List ℕ)) → Alike {may = may} (folder_given user) (folder_given user)
 unfolding folder_given
 folder_alike may user =
-    alike_then (catalog_access user) (catalog_access user) (λ access. files_booted access) (λ access. files_booted access)
+    alike_then (catalog_access user) (catalog_access user) (λ access. files_booted access)
+    (λ access. files_booted access)
     (access_alike may user) (λ access. files_alike may access)

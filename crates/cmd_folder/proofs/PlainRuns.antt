@@ -1,6 +1,7 @@
 -- Plain turns of a system, and a call of the program of its run: what both write agrees; and if the turns are a whole
 -- run, the call has its text.
-use Rattle.std.proofs.Common.{◌≡◌, ℕ, ◌+◌, List, [], ◌∷◌, ◌++◌, Option, Some, None, Result, refl, sym, ap, subst, ◌∙◌, inl, inr, arith, append_assoc, add-zero}
+use Rattle.std.proofs.Common.{◌≡◌, ℕ, ◌+◌, List, [], ◌∷◌, ◌++◌, Option, Some, None, Result, refl, sym, ap, subst, ◌∙◌}
+use Rattle.std.proofs.Common.{inl, inr, arith, append_assoc, add-zero}
 use Rattle.std.proofs.lemmas.List.{append-nil}
 use Rattle.m36_world.specs.declared.event.Event.{Event}
 use Rattle.m36_model.specs.StoreLaw.{Each}
@@ -53,10 +54,12 @@ pieces_both to taken (turn ∷ turns) more =
     let first = text.pieces_of to taken turn in
     ap (λ l. first ++ l) (pieces_both to (taken + steps_of turn) turns more
     ∙ ap (λ n. pieces_from to (taken + steps_of turn) turns ++ pieces_from to n more) count)
-    ∙ sym (append_assoc first (pieces_from to (taken + steps_of turn) turns) (pieces_from to (taken + (steps_of turn + steps_in turns)) more))
+    ∙ sym (append_assoc first (pieces_from to (taken + steps_of turn) turns)
+    (pieces_from to (taken + (steps_of turn + steps_in turns)) more))
 
 pieces_on :
-    (to : RunOutput) (turns same more : List Turn) → same ≡ turns ++ more → IsPrefix (pieces_from to 0 turns) (pieces_from to 0 same)
+    (to : RunOutput) (turns same more : List Turn) → same ≡ turns ++ more
+    → IsPrefix (pieces_from to 0 turns) (pieces_from to 0 same)
 pieces_on to turns same more is = record {
   left = pieces_from to (0 + steps_in turns) more;
   is = ap (pieces_from to 0) is ∙ pieces_both to 0 turns more;
@@ -77,15 +80,19 @@ no_finish :
 no_finish lib limit first last last' turns same how on goes finishes =
     absurd (ends_there lib lib limit turns same last how (λ r. refl) on goes.few finishes)
 
-unended : (last : Booted) (unput : List (List ℕ)) (result : Result (Unit {0}) Status) → StopsAs None last unput result → IsEnd result → ⊥
+unended :
+    (last : Booted) (unput : List (List ℕ)) (result : Result (Unit {0}) Status) → StopsAs None last unput result
+    → IsEnd result → ⊥
 unended last unput result (inl is) end = starved_ends result is.1.1 end
 unended last unput result (inr is) end = unput_ends result is end
 
 -- The turns go on where the call stopped, so it did not finish, and all that it put is written by the turns.
 short :
-    (how : Option Finish) (run : Running) (limit : ℕ) (first last last' : Booted) (turns same : List Turn) (put unput : List (List ℕ))
+    (how : Option Finish) (run : Running) (limit : ℕ) (first last last' : Booted) (turns same : List Turn)
+    (put unput : List (List ℕ))
     (result : Result (Unit {0}) Status)
-    → GoesOn run.lib run.lib same turns last' → Goes run.lib limit first turns last → FinishesAs how run.lib limit same last'
+    → GoesOn run.lib run.lib same turns last' → Goes run.lib limit first turns last
+    → FinishesAs how run.lib limit same last'
     → run_pieces run.denied run.output same how ≡ put ++ unput → StopsAs how last' unput result
     → IsPrefix put (pieces_from run.output 0 turns) × (IsEnd result → ⊥)
 short (Some h) run limit first last last' turns same put unput result on goes finishes are stops =
@@ -102,11 +109,13 @@ short None run limit first last last' turns same put unput result on goes finish
     )
 
 agrees_by :
-    (run : Running) (limit : ℕ) (first last : Booted) (turns : List Turn) (events : List Event) (result : Result (Unit {0}) Status)
+    (run : Running) (limit : ℕ) (first last : Booted) (turns : List Turn) (events : List Event)
+    (result : Result (Unit {0}) Status)
     → (ran : RunIs run limit first events result) → Goes run.lib limit first turns last
     → Meet run.lib run.lib turns ran.turns last ran.last → Agree (pieces_of events) (pieces_from run.output 0 turns)
 agrees_by run limit first last turns events result ran goes (inl are) =
-    prefixes_agree (pieces_of events) ran.unput (pieces_from run.output 0 turns) (end_pieces run.denied ran.how (steps_in ran.turns))
+    prefixes_agree (pieces_of events) ran.unput (pieces_from run.output 0 turns)
+    (end_pieces run.denied ran.how (steps_in ran.turns))
     (sym ran.pieces ∙ pieces_end run.denied run.output ran.turns ran.how
     ∙ ap (λ t. pieces_from run.output 0 t ++ end_pieces run.denied ran.how (steps_in ran.turns)) (sym are.turns_are))
 agrees_by run limit first last turns events result ran goes (inr (inl on)) =
@@ -116,7 +125,8 @@ agrees_by run limit first last turns events result ran goes (inr (inl on)) =
     (sym ran.pieces ∙ pieces_end run.denied run.output ran.turns ran.how ∙ ap (λ l. l ++ ending) more.is
     ∙ append_assoc (pieces_from run.output 0 turns) more.left ending)
 agrees_by run limit first last turns events result ran goes (inr (inr on)) =
-    inl (short ran.how run limit first last ran.last turns ran.turns (pieces_of events) ran.unput result on goes ran.finishes ran.pieces ran.stops).0
+    inl (short ran.how run limit first last ran.last turns ran.turns
+    (pieces_of events) ran.unput result on goes ran.finishes ran.pieces ran.stops).0
 
 -- ---- a call, and a whole run
 
@@ -128,7 +138,8 @@ text_short :
 text_short run turns how put result end first unended =
     let ending = end_pieces run.denied (Some how) (steps_in turns) in record {
       left = first.left ++ ending;
-      is = pieces_end run.denied run.output turns (Some how) ∙ ap (λ l. l ++ ending) first.is ∙ append_assoc put first.left ending;
+      is = pieces_end run.denied run.output turns (Some how) ∙ ap (λ l. l ++ ending) first.is
+          ∙ append_assoc put first.left ending;
       ended = λ ended. absurd (unended ended);
     }
 
@@ -140,9 +151,11 @@ text_stops how last unput result (inr is) end = unput_ends result is end
 
 -- The call made these turns.
 text_same :
-    (other : Option Finish) (run : Running) (limit : ℕ) (last last' : Booted) (turns same : List Turn) (how : Finish) (put unput : List (List ℕ))
+    (other : Option Finish) (run : Running) (limit : ℕ) (last last' : Booted) (turns same : List Turn) (how : Finish)
+    (put unput : List (List ℕ))
     (result : Result (Unit {0}) Status)
-    → AreSame run.lib run.lib turns same last last' → Finishes how run.lib limit turns last → FinishesAs other run.lib limit same last'
+    → AreSame run.lib run.lib turns same last last' → Finishes how run.lib limit turns last
+    → FinishesAs other run.lib limit same last'
     → run_pieces run.denied run.output same other ≡ put ++ unput → StopsAs other last' unput result
     → OneText put (run_pieces run.denied run.output turns (Some how)) result (early (finish_status (Some how)))
 text_same None run limit last last' turns same how put unput result are finishes finishes' put_is stops =
@@ -154,7 +167,8 @@ text_same None run limit last last' turns same how put unput result are finishes
     })
     (unended last' unput result stops)
 text_same (Some h) run limit last last' turns same how put unput result are finishes finishes' put_is stops =
-    let one : how ≡ h = finish_one run.lib run.lib limit turns same last last' how h (λ r. refl) are finishes finishes' in record {
+    let one : how ≡ h = finish_one run.lib run.lib limit turns same last last' how h
+    (λ r. refl) are finishes finishes' in record {
       left = unput;
       is = ap (λ t. run_pieces run.denied run.output t (Some how)) are.turns_are
           ∙ ap (λ f. run_pieces run.denied run.output same (Some f)) one ∙ put_is;
@@ -164,16 +178,21 @@ text_same (Some h) run limit last last' turns same how put unput result are fini
     }
 
 text_by :
-    (run : Running) (limit : ℕ) (first last : Booted) (turns : List Turn) (how : Finish) (events : List Event) (result : Result (Unit {0}) Status)
-    → (ran : RunIs run limit first events result) → Goes run.lib limit first turns last → Finishes how run.lib limit turns last
+    (run : Running) (limit : ℕ) (first last : Booted) (turns : List Turn) (how : Finish) (events : List Event)
+    (result : Result (Unit {0}) Status)
+    → (ran : RunIs run limit first events result) → Goes run.lib limit first turns last
+    → Finishes how run.lib limit turns last
     → Meet run.lib run.lib turns ran.turns last ran.last
-    → OneText (pieces_of events) (run_pieces run.denied run.output turns (Some how)) result (early (finish_status (Some how)))
+    → OneText (pieces_of events) (run_pieces run.denied run.output turns (Some how)) result
+    (early (finish_status (Some how)))
 text_by run limit first last turns how events result ran goes finishes (inl are) =
-    text_same ran.how run limit last ran.last turns ran.turns how (pieces_of events) ran.unput result are finishes ran.finishes ran.pieces ran.stops
+    text_same ran.how run limit last ran.last turns ran.turns how
+    (pieces_of events) ran.unput result are finishes ran.finishes ran.pieces ran.stops
 text_by run limit first last turns how events result ran goes finishes (inr (inl on)) =
     no_finish run.lib limit first last ran.last turns ran.turns how on ran.goes finishes
 text_by run limit first last turns how events result ran goes finishes (inr (inr on)) =
-    let stopped = short ran.how run limit first last ran.last turns ran.turns (pieces_of events) ran.unput result on goes ran.finishes ran.pieces ran.stops in
+    let stopped = short ran.how run limit first last ran.last turns ran.turns
+    (pieces_of events) ran.unput result on goes ran.finishes ran.pieces ran.stops in
     text_short run turns how (pieces_of events) result (early (finish_status (Some how))) stopped.0 stopped.1
 
 -- ---- of one system
@@ -181,18 +200,22 @@ text_by run limit first last turns how events result ran goes finishes (inr (inr
 pub run_agrees :
     (run : Running) (limit : ℕ) (system : SuperFields) (last : Booted) (turns : List Turn) (events : List Event)
     (result : Result (Unit {0}) Status)
-    → IsBooted run.lib system → RunIs run limit (booted_of system) events result → Goes run.lib limit (booted_of system) turns last
+    → IsBooted run.lib system → RunIs run limit (booted_of system) events result
+    → Goes run.lib limit (booted_of system) turns last
     → Each IsPlainTurn turns → Agree (pieces_of events) (pieces_from run.output 0 turns)
 run_agrees run limit system last turns events result booted ran goes plain =
     agrees_by run limit (booted_of system) last turns events result ran goes
     (meet_here run.lib limit system turns ran.turns last ran.last booted goes ran.goes plain)
 
 pub run_text :
-    (run : Running) (limit : ℕ) (system : SuperFields) (last : Booted) (turns : List Turn) (how : Finish) (events : List Event)
+    (run : Running) (limit : ℕ) (system : SuperFields) (last : Booted) (turns : List Turn) (how : Finish)
+    (events : List Event)
     (result : Result (Unit {0}) Status)
-    → IsBooted run.lib system → RunIs run limit (booted_of system) events result → Goes run.lib limit (booted_of system) turns last
+    → IsBooted run.lib system → RunIs run limit (booted_of system) events result
+    → Goes run.lib limit (booted_of system) turns last
     → Finishes how run.lib limit turns last → Each IsPlainTurn turns
-    → OneText (pieces_of events) (run_pieces run.denied run.output turns (Some how)) result (early (finish_status (Some how)))
+    → OneText (pieces_of events) (run_pieces run.denied run.output turns (Some how)) result
+    (early (finish_status (Some how)))
 run_text run limit system last turns how events result booted ran goes finishes plain =
     text_by run limit (booted_of system) last turns how events result ran goes finishes
     (meet_here run.lib limit system turns ran.turns last ran.last booted goes ran.goes plain)

@@ -17,8 +17,8 @@ pieces_all pieces events is =
     ap pieces_of (is ∙ sym (append-nil (outputs pieces))) ∙ pieces_put pieces [] ∙ append-nil pieces
 
 -- All of them are pieces of the call, and the rest of the program had the other pieces.
-pub record PutsOn (pieces : List (List ℕ)) (rest : Program quiet (Unit {0})) (events : List Event) (result : Result (Unit {0}) Status)
-    : Type 0 where
+pub record PutsOn (pieces : List (List ℕ)) (rest : Program quiet (Unit {0})) (events : List Event)
+    (result : Result (Unit {0}) Status) : Type 0 where
   pub more : List Event
   pub is : pieces_of events ≡ pieces ++ pieces_of more
   pub goes : Goes rest more result
@@ -34,8 +34,10 @@ PutsSplit pieces rest events result = PutsOn pieces rest events result ⊎ PutsF
 
 -- one piece before them
 split_more :
-    (piece : List ℕ) (pieces : List (List ℕ)) (rest : Program quiet (Unit {0})) (events more : List Event) (result : Result (Unit {0}) Status)
-    → pieces_of events ≡ piece ∷ pieces_of more → PutsSplit pieces rest more result → PutsSplit (piece ∷ pieces) rest events result
+    (piece : List ℕ) (pieces : List (List ℕ)) (rest : Program quiet (Unit {0})) (events more : List Event)
+    (result : Result (Unit {0}) Status)
+    → pieces_of events ≡ piece ∷ pieces_of more → PutsSplit pieces rest more result
+    → PutsSplit (piece ∷ pieces) rest events result
 split_more piece pieces rest events more result is (inl on) = inl (record {
   more = on.more;
   is = is ∙ ap (λ l. piece ∷ l) on.is;
@@ -49,9 +51,11 @@ split_more piece pieces rest events more result is (inr first) = inr (record {
 
 -- one call that failed
 split_failed :
-    (piece : List ℕ) (failed pieces : List (List ℕ)) (rest : Program quiet (Unit {0})) (events : List Event) (result : Result (Unit {0}) Status)
+    (piece : List ℕ) (failed pieces : List (List ℕ)) (rest : Program quiet (Unit {0})) (events : List Event)
+    (result : Result (Unit {0}) Status)
     → events ≡ OutputFailed (piece ∷ failed) ∷ []
-    → (Goes (puts_all pieces rest) (OutputFailed failed ∷ []) result → PutsSplit pieces rest (OutputFailed failed ∷ []) result)
+    → (Goes (puts_all pieces rest) (OutputFailed failed ∷ []) result
+    → PutsSplit pieces rest (OutputFailed failed ∷ []) result)
     → FailsWith failed (λ more. Goes (puts_all pieces rest) more result) result
     → PutsSplit (piece ∷ pieces) rest events result
 split_failed piece [] pieces rest events result is on fails = inr (record {
@@ -68,7 +72,8 @@ pub puts_split :
 unfolding Goes puts_all
 puts_split [] rest events result goes = inl (record { more = events; is = refl; goes = goes })
 puts_split (piece ∷ pieces) rest events result (inl goes) =
-    split_more piece pieces rest events goes.more result (ap pieces_of goes.first) (puts_split pieces rest goes.more result goes.rest)
+    split_more piece pieces rest events goes.more result (ap pieces_of goes.first)
+    (puts_split pieces rest goes.more result goes.rest)
 puts_split (piece ∷ pieces) rest events result (inr fails) =
     split_failed piece fails.pieces pieces rest events result fails.only
     (λ more. puts_split pieces rest (OutputFailed fails.pieces ∷ []) result more) fails.rest

@@ -1,5 +1,6 @@
 -- Each booted run that finishes is a call of its program, which puts all of its pieces.
-use Rattle.std.proofs.Common.{◌≡◌, ◌≢◌, ℕ, zero, suc, ◌+◌, List, [], ◌∷◌, ◌++◌, Some, refl, sym, ap, subst, ◌∙◌, inl, inr, arith}
+use Rattle.std.proofs.Common.{◌≡◌, ◌≢◌, ℕ, zero, suc, ◌+◌, List, [], ◌∷◌, ◌++◌, Some, refl, sym, ap, subst, ◌∙◌, inl}
+use Rattle.std.proofs.Common.{inr, arith}
 use Rattle.std.proofs.lemmas.List.{append-nil}
 use Rattle.m36_world.specs.declared.event.Event.TheVariants.{Output}
 use Rattle.m36_world.specs.Follow.{outputs}
@@ -26,8 +27,10 @@ use Rattle.m36_booted.specs.RunText.{steps_of, steps_in, pieces_of, end_pieces, 
 use Rattle.m36_booted.specs.Runs.{IsEvent, Finishes}
 use Rattle.m36_booted.specs.Runs as runs
 use Rattle.m36_booted.proofs.Serving.{link_is}
-use Rattle.cmd_folder.specs.RunProgram.{Running, IsMade, FindsMemory, finish_may_end, run_ends, puts_turn, after_service, then_on, serve_by, serve, run_from}
-use Rattle.cmd_folder.proofs.RunGoes.{written, from_start, no_turns, turn_written, is_step, step_counts, linked_made, PrintMade, print_made}
+use Rattle.cmd_folder.specs.RunProgram.{Running, IsMade, FindsMemory, finish_may_end, run_ends, puts_turn}
+use Rattle.cmd_folder.specs.RunProgram.{after_service, then_on, serve_by, serve, run_from}
+use Rattle.cmd_folder.proofs.RunGoes.{written, from_start, no_turns, turn_written, is_step, step_counts, linked_made}
+use Rattle.cmd_folder.proofs.RunGoes.{PrintMade, print_made}
 use Rattle.cmd_folder.proofs.Serving.{ended_pieces, print_over}
 
 -- The program puts these pieces, and ends with the status of the finish.
@@ -45,14 +48,17 @@ writes_first first more rest how writes =
     subst (λ e. Goes (puts_all first rest) e (early (finish_status (Some how)))) (sym (outputs_both first more))
     (goes_puts first rest (outputs more) (early (finish_status (Some how))) writes)
 
-writes_end : (run : Running) (taken : ℕ) (how : Finish) → Writes (run_ends run taken how) (end_pieces run.denied (Some how) taken) how
+writes_end :
+    (run : Running) (taken : ℕ) (how : Finish) → Writes (run_ends run taken how)
+    (end_pieces run.denied (Some how) taken) how
 unfolding run_ends
 writes_end run taken how =
     let pieces = end_pieces run.denied (Some how) taken in
     subst (λ l. Goes (run_ends run taken how) (outputs l) (early (finish_status (Some how)))) (append-nil pieces)
     (writes_first pieces [] _ how (goes_ends quiet (finish_status (Some how)) (finish_may_end how)))
 
-writes_here : (run : Running) (taken : ℕ) (how : Finish) → Writes (run_ends run taken how) (written run taken [] (Some how)) how
+writes_here :
+    (run : Running) (taken : ℕ) (how : Finish) → Writes (run_ends run taken how) (written run taken [] (Some how)) how
 writes_here run taken how =
     subst (λ l. Writes (run_ends run taken how) l how) (sym (no_turns run taken (Some how))) (writes_end run taken how)
 
@@ -61,7 +67,8 @@ writes_turn :
     → now ≡ taken + steps_of told → Writes rest (written run now turns (Some how)) how
     → Writes (puts_all (pieces_of run.output taken told) rest) (written run taken (told ∷ turns) (Some how)) how
 writes_turn run taken now told turns rest how is writes =
-    subst (λ l. Writes (puts_all (pieces_of run.output taken told) rest) l how) (sym (turn_written run taken now told turns (Some how) is))
+    subst (λ l. Writes (puts_all (pieces_of run.output taken told) rest) l how)
+    (sym (turn_written run taken now told turns (Some how) is))
     (writes_first (pieces_of run.output taken told) (written run now turns (Some how)) rest how writes)
 
 -- ---- a run from a state
@@ -95,7 +102,8 @@ mid_of lib left b last told turns how ran = ran.goes.turns_are.0
 -- the rest of a run after its first turn
 rest_of :
     (lib : Library) (left all : ℕ) (b last : Booted) (told : Turn) (turns : List Turn) (how : Finish)
-    → all ≡ steps_of told + left → (ran : Left lib all b (told ∷ turns) last how) → Left lib left (mid_of lib all b last told turns how ran) turns last how
+    → all ≡ steps_of told + left → (ran : Left lib all b (told ∷ turns) last how)
+    → Left lib left (mid_of lib all b last told turns how ran) turns last how
 unfolding AreTurns steps_in mid_of
 rest_of lib left all b last told turns how is ran = record {
   goes = record {
@@ -118,7 +126,8 @@ unfolding IsTurn
 turn_by lib b after told next is turns = subst (λ c. IsTurnBy c lib b told after) is turns
 
 -- A run is not over where a step is next.
-not_over : {P : Type 0} (lib : Library) (b after : Booted) (e : End) → b.coming ≡ Step → IsTurn lib b (turn.Ended e) after → P
+not_over :
+    {P : Type 0} (lib : Library) (b after : Booted) (e : End) → b.coming ≡ Step → IsTurn lib b (turn.Ended e) after → P
 not_over lib b after e next is = absurd (is_step lib b after (turn.Ended e) next is)
 
 -- ---- services
@@ -126,7 +135,9 @@ not_over lib b after e next is = absurd (is_step lib b after (turn.Ended e) next
 over_same : (e f : End) → turn.Ended f ≡ turn.Ended e → f ≡ e
 over_same e f is = cc
 
-no_step : {P : Type 0} (b last : Booted) (next : NextEvent) → last ≡ b → b.coming ≡ next → last.coming ≡ Step → (next ≡ Step → P) → P
+no_step :
+    {P : Type 0} (b last : Booted) (next : NextEvent) → last ≡ b → b.coming ≡ next → last.coming ≡ Step
+    → (next ≡ Step → P) → P
 no_step b last next here is step on = on (sym is ∙ ap (λ (s : Booted). s.coming) (sym here) ∙ step)
 
 -- The run is over in this state, and so it makes no more turns.
@@ -139,9 +150,11 @@ over_writes run taken left b e [] last Limit is ran =
     no_step b last (coming.Over e) (none_made run.lib left b last Limit ran) is ran.finishes.1 (λ next. absurd (cc))
 over_writes run taken left b e [] last (Over f) is ran =
     let here = none_made run.lib left b last (Over f) ran in
-    let ended : IsTurn run.lib b (turn.Ended f) ran.finishes.0 = subst (λ s. IsTurn run.lib s (turn.Ended f) ran.finishes.0) here ran.finishes.1 in
+    let ended : IsTurn run.lib b (turn.Ended f) ran.finishes.0 = subst
+    (λ s. IsTurn run.lib s (turn.Ended f) ran.finishes.0) here ran.finishes.1 in
     let by = turn_by run.lib b ran.finishes.0 (turn.Ended f) (coming.Over e) is ended in
-    subst (λ g. Writes (run_ends run taken (Over g)) (written run taken [] (Some (Over f))) (Over f)) (over_same e f by.0)
+    subst (λ g. Writes (run_ends run taken (Over g)) (written run taken [] (Some (Over f))) (Over f))
+    (over_same e f by.0)
     (writes_here run taken (Over f))
 over_writes run taken left b e (told ∷ turns) last how is ran =
     let made = ran.goes.turns_are in
@@ -155,7 +168,8 @@ after_writes :
 after_writes Step run taken left b turns last how on silent is ran = on b turns last how is ran
 after_writes (Link at) run taken left b turns last how on silent is ran = absurd silent
 after_writes Print run taken left b turns last how on silent is ran = absurd silent
-after_writes (coming.Over e) run taken left b turns last how on silent is ran = over_writes run taken left b e turns last how is ran
+after_writes (coming.Over e) run taken left b turns last how on silent is ran =
+    over_writes run taken left b e turns last how is ran
 
 service_writes :
     (run : Running) (taken left : ℕ) (after : Booted) (told : Turn) (turns : List Turn) (last : Booted) (how : Finish)
@@ -163,7 +177,8 @@ service_writes :
     → Writes (puts_all (pieces_of run.output taken told) (then_on run taken (λ b. run_from run taken left b) after))
     (written run taken (told ∷ turns) (Some how)) how
 service_writes run taken left after told turns last how on none quiet ran =
-    writes_turn run taken taken told turns (then_on run taken (λ b. run_from run taken left b) after) how (omega (arith, none))
+    writes_turn run taken taken told turns (then_on run taken (λ b. run_from run taken left b) after) how
+    (omega (arith, none))
     (after_writes after.coming run taken left after turns last how on quiet refl ran)
 
 link_writes :
@@ -175,8 +190,10 @@ link_writes run taken left b at [] last Limit on is ran =
     no_step b last (Link at) (none_made run.lib left b last Limit ran) is ran.finishes.1 (λ next. absurd (cc))
 link_writes run taken left b at [] last (Over f) on is ran =
     let here = none_made run.lib left b last (Over f) ran in
-    let ended : IsTurn run.lib b (turn.Ended f) ran.finishes.0 = subst (λ s. IsTurn run.lib s (turn.Ended f) ran.finishes.0) here ran.finishes.1 in
-    absurd (link_is (snap_of b.known run.lib.catalog run.lib.files at) run.lib.catalog.frames at b (turn.Ended f) ran.finishes.0
+    let ended : IsTurn run.lib b (turn.Ended f) ran.finishes.0 = subst
+    (λ s. IsTurn run.lib s (turn.Ended f) ran.finishes.0) here ran.finishes.1 in
+    absurd (link_is (snap_of b.known run.lib.catalog run.lib.files at) run.lib.catalog.frames at b
+    (turn.Ended f) ran.finishes.0
     (turn_by run.lib b ran.finishes.0 (turn.Ended f) (Link at) is ended))
 link_writes run taken left b at (told ∷ turns) last how on is ran =
     let mid = ran.goes.turns_are.0 in
@@ -204,9 +221,12 @@ printed_writes :
     → Goes (some (IsMade run.lib b) (puts_turn run taken (then_on run taken (λ b. run_from run taken left b))))
     (outputs (written run taken (told ∷ turns) (Some how))) (early (finish_status (Some how)))
 printed_writes run taken left b mid told turns last how on made event rest (inl printed) =
-    goes_some (IsMade run.lib b) (puts_turn run taken (then_on run taken (λ b. run_from run taken left b))) (record { turn = told; after = mid }) _ _ made
-    (service_writes run taken left mid told turns last how on (ap steps_of printed.1.told_is) (subst IsQuiet (sym printed.1.next_is) tt) rest)
-printed_writes run taken left b mid told turns last how on made event rest (inr ended) = absurd (subst IsEvent ended.1.told_is event)
+    goes_some (IsMade run.lib b) (puts_turn run taken (then_on run taken (λ b. run_from run taken left b)))
+    (record { turn = told; after = mid }) _ _ made
+    (service_writes run taken left mid told turns last how on (ap steps_of printed.1.told_is)
+    (subst IsQuiet (sym printed.1.next_is) tt) rest)
+printed_writes run taken left b mid told turns last how on made event rest (inr ended) =
+    absurd (subst IsEvent ended.1.told_is event)
 
 print_writes :
     (run : Running) (taken left : ℕ) (b : Booted) (turns : List Turn) (last : Booted) (how : Finish)
@@ -218,13 +238,16 @@ print_writes run taken left b [] last Limit on is ran =
 print_writes run taken left b [] last (Over f) on is ran =
     let here = none_made run.lib left b last (Over f) ran in
     let after = ran.finishes.0 in
-    let ended : IsTurn run.lib b (turn.Ended f) after = subst (λ s. IsTurn run.lib s (turn.Ended f) after) here ran.finishes.1 in
+    let ended : IsTurn run.lib b (turn.Ended f) after = subst
+    (λ s. IsTurn run.lib s (turn.Ended f) after) here ran.finishes.1 in
     let next = then_on run taken (λ b. run_from run taken left b) in
     let over : Writes (next after) (written run taken [] (Some (Over f))) (Over f) =
-    subst (λ c. Writes (after_service c run taken (λ b. run_from run taken left b) after) (written run taken [] (Some (Over f))) (Over f))
+    subst (λ c. Writes (after_service c run taken (λ b. run_from run taken left b) after)
+    (written run taken [] (Some (Over f))) (Over f))
     (sym (print_over run.lib b f after is ended)) (writes_here run taken (Over f)) in
     goes_some (IsMade run.lib b) (puts_turn run taken next) (record { turn = turn.Ended f; after = after }) _ _ ended
-    (subst (λ l. Writes (puts_all l (next after)) (written run taken [] (Some (Over f))) (Over f)) (sym (ended_pieces run.output taken f))
+    (subst (λ l. Writes (puts_all l (next after)) (written run taken [] (Some (Over f))) (Over f))
+    (sym (ended_pieces run.output taken f))
     (writes_first [] (written run taken [] (Some (Over f))) (next after) (Over f) over))
 print_writes run taken left b (told ∷ turns) last how on is ran =
     let mid = ran.goes.turns_are.0 in
@@ -241,7 +264,8 @@ serves_by :
 serves_by Step run taken left b turns last how on is ran = on b turns last how is ran
 serves_by (Link at) run taken left b turns last how on is ran = link_writes run taken left b at turns last how on is ran
 serves_by Print run taken left b turns last how on is ran = print_writes run taken left b turns last how on is ran
-serves_by (coming.Over e) run taken left b turns last how on is ran = over_writes run taken left b e turns last how is ran
+serves_by (coming.Over e) run taken left b turns last how on is ran =
+    over_writes run taken left b e turns last how is ran
 
 serve_writes :
     (run : Running) (taken left : ℕ) (b : Booted) (turns : List Turn) (last : Booted) (how : Finish)
@@ -253,7 +277,9 @@ serve_writes run taken left b turns last how on ran = serves_by b.coming run tak
 -- ---- the run
 
 -- No run is over where a step is next.
-not_ended : {P : Type 0} (lib : Library) (left : ℕ) (b last : Booted) (e : End) → b.coming ≡ Step → Left lib left b [] last (Over e) → P
+not_ended :
+    {P : Type 0} (lib : Library) (left : ℕ) (b last : Booted) (e : End) → b.coming ≡ Step
+    → Left lib left b [] last (Over e) → P
 not_ended lib left b last e next ran =
     not_over lib b ran.finishes.0 e next
     (subst (λ s. IsTurn lib s (turn.Ended e) ran.finishes.0) (none_made lib left b last (Over e) ran) ran.finishes.1)
@@ -281,7 +307,8 @@ run_writes run (suc left) taken b (told ∷ turns) last how next ran =
 pub run_calls :
     (run : Running) (limit : ℕ) (first : Booted) (turns : List Turn) (last : Booted) (how : Finish)
     → first.coming ≡ Step → runs.Goes run.lib limit first turns last → Finishes how run.lib limit turns last
-    → Goes (run_from run 0 limit first) (outputs (run_pieces run.denied run.output turns (Some how))) (early (finish_status (Some how)))
+    → Goes (run_from run 0 limit first) (outputs (run_pieces run.denied run.output turns (Some how)))
+    (early (finish_status (Some how)))
 run_calls run limit first turns last how next goes finishes =
     subst (λ l. Writes (run_from run 0 limit first) l how) (from_start run turns (Some how))
     (run_writes run limit 0 first turns last how next (record { goes = goes; finishes = finishes }))

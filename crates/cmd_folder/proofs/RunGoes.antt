@@ -1,5 +1,6 @@
 -- The events of the program of a booted run: they put what is written of the turns and the end of some booted run.
-use Rattle.std.proofs.Common.{◌≡◌, ◌≢◌, ◌⊎◌, ℕ, zero, suc, ◌+◌, Bool, true, false, List, [], ◌∷◌, ◌++◌, Option, Some, None, Result, Ok, Err, refl, sym, ap, subst, ◌∙◌, inl, inr, arith, append_assoc, add-zero}
+use Rattle.std.proofs.Common.{◌≡◌, ◌≢◌, ◌⊎◌, ℕ, zero, suc, ◌+◌, Bool, true, false, List, [], ◌∷◌, ◌++◌, Option, Some}
+use Rattle.std.proofs.Common.{None, Result, Ok, Err, refl, sym, ap, subst, ◌∙◌, inl, inr, arith, append_assoc, add-zero}
 use Rattle.std.proofs.lemmas.List.{append-nil}
 use Rattle.m36_world.specs.declared.event.Event.{Event}
 use Rattle.m36_model.specs.Fields.{AtFields}
@@ -29,7 +30,8 @@ use Rattle.m36_booted.specs.Runs.{IsEvent, Finishes, AwaitsLink}
 use Rattle.m36_booted.specs.Runs as runs
 use Rattle.m36_booted.proofs.Serving.{IsStep, IsLink, step_is}
 use Rattle.cmd_folder.specs.RunIs.{FinishesAs, StopsAs, RunIs}
-use Rattle.cmd_folder.specs.RunProgram.{Running, finish_may_end, run_ends, after_service, then_on, serve_by, serve, run_from}
+use Rattle.cmd_folder.specs.RunProgram.{Running, finish_may_end, run_ends, after_service, then_on, serve_by, serve}
+use Rattle.cmd_folder.specs.RunProgram.{run_from}
 use Rattle.cmd_folder.proofs.PutsSplit.{pieces_all, PutsSplit, puts_split}
 use Rattle.cmd_folder.proofs.Serving.{ended_pieces}
 
@@ -39,8 +41,8 @@ written run taken turns how = pieces_from run.output taken turns ++ end_pieces r
 
 -- The events are those of a run from state b, up to its finish or to where the call stopped. `taken` steps were taken
 -- before b, and at most `left` follow.
-pub record RunGoes (run : Running) (taken left : ℕ) (b : Booted) (events : List Event) (result : Result (Unit {0}) Status)
-    : Type 0 where
+pub record RunGoes (run : Running) (taken left : ℕ) (b : Booted) (events : List Event)
+    (result : Result (Unit {0}) Status) : Type 0 where
   pub turns : List Turn
   pub last : Booted
   pub how : Option Finish
@@ -52,7 +54,8 @@ pub record RunGoes (run : Running) (taken left : ℕ) (b : Booted) (events : Lis
 
 -- before which no step was taken
 pub from_start :
-    (run : Running) (turns : List Turn) (how : Option Finish) → written run 0 turns how ≡ run_pieces run.denied run.output turns how
+    (run : Running) (turns : List Turn) (how : Option Finish)
+    → written run 0 turns how ≡ run_pieces run.denied run.output turns how
 unfolding run_pieces
 from_start run turns how =
     let none : 0 + steps_in turns ≡ steps_in turns = omega arith in
@@ -60,7 +63,8 @@ from_start run turns how =
 
 -- ---- no turn
 
-pub no_turns : (run : Running) (taken : ℕ) (how : Option Finish) → written run taken [] how ≡ end_pieces run.denied how taken
+pub no_turns :
+    (run : Running) (taken : ℕ) (how : Option Finish) → written run taken [] how ≡ end_pieces run.denied how taken
 unfolding pieces_from steps_in
 no_turns run taken how = ap (λ n. end_pieces run.denied how n) (add-zero taken)
 
@@ -69,8 +73,10 @@ unfolding AreTurns steps_in
 stay lib left b = record { turns_are = refl; events = tt; few = omega arith }
 
 ended_by :
-    (run : Running) (taken left : ℕ) (b : Booted) (how : Finish) (events : List Event) (result : Result (Unit {0}) Status)
-    → Finishes how run.lib left [] b → PutsBy (end_pieces run.denied (Some how) taken) (finish_status (Some how)) events result
+    (run : Running) (taken left : ℕ) (b : Booted) (how : Finish) (events : List Event)
+    (result : Result (Unit {0}) Status)
+    → Finishes how run.lib left [] b → PutsBy (end_pieces run.denied (Some how) taken)
+    (finish_status (Some how)) events result
     → RunGoes run taken left b events result
 ended_by run taken left b how events result finishes (inl whole) =
     let pieces = end_pieces run.denied (Some how) taken in record {
@@ -97,12 +103,15 @@ ended_by run taken left b how events result finishes (inr part) = record {
 
 -- a run that ends here
 ends_here :
-    (run : Running) (taken left : ℕ) (b : Booted) (how : Finish) (events : List Event) (result : Result (Unit {0}) Status)
-    → Finishes how run.lib left [] b → Goes (run_ends run taken how) events result → RunGoes run taken left b events result
+    (run : Running) (taken left : ℕ) (b : Booted) (how : Finish) (events : List Event)
+    (result : Result (Unit {0}) Status)
+    → Finishes how run.lib left [] b → Goes (run_ends run taken how) events result
+    → RunGoes run taken left b events result
 unfolding run_ends
 ends_here run taken left b how events result finishes goes =
     ended_by run taken left b how events result finishes
-    (puts_ended quiet (end_pieces run.denied (Some how) taken) (finish_status (Some how)) (finish_may_end how) events result goes)
+    (puts_ended quiet (end_pieces run.denied (Some how) taken) (finish_status (Some how)) (finish_may_end how)
+    events result goes)
 
 puts_nothing :
     (rest : Program quiet (Unit {0})) (events : List Event) (result : Result (Unit {0}) Status)
@@ -133,7 +142,8 @@ turn_first lib left all b after last told turns is event all_is goes = record {
 }
 
 pub turn_written :
-    (run : Running) (taken now : ℕ) (told : Turn) (turns : List Turn) (how : Option Finish) → now ≡ taken + steps_of told
+    (run : Running) (taken now : ℕ) (told : Turn) (turns : List Turn) (how : Option Finish)
+    → now ≡ taken + steps_of told
     → written run taken (told ∷ turns) how ≡ pieces_of run.output taken told ++ written run now turns how
 unfolding pieces_from steps_in
 turn_written run taken now told turns how is =
@@ -141,11 +151,13 @@ turn_written run taken now told turns how is =
     ap (λ n. pieces_from run.output taken (told ∷ turns) ++ end_pieces run.denied how n) count
     ∙ append_assoc (pieces_of run.output taken told) (pieces_from run.output (taken + steps_of told) turns)
     (end_pieces run.denied how (now + steps_in turns))
-    ∙ ap (λ n. pieces_of run.output taken told ++ (pieces_from run.output n turns ++ end_pieces run.denied how (now + steps_in turns)))
+    ∙ ap (λ n. pieces_of run.output taken told ++
+    (pieces_from run.output n turns ++ end_pieces run.denied how (now + steps_in turns)))
     (sym is)
 
 turn_goes :
-    (run : Running) (taken now left all : ℕ) (b after : Booted) (told : Turn) (rest : Program quiet (Unit {0})) (events : List Event)
+    (run : Running) (taken now left all : ℕ) (b after : Booted) (told : Turn) (rest : Program quiet (Unit {0}))
+    (events : List Event)
     (result : Result (Unit {0}) Status)
     → IsTurn run.lib b told after → IsEvent told → all ≡ steps_of told + left → now ≡ taken + steps_of told
     → ((more : List Event) → Goes rest more result → RunGoes run now left after more result)
@@ -210,7 +222,8 @@ pub record IsServiceMade (told : Turn) (next : NextEvent) : Type 0 where
   pub quiet : IsQuiet next
 
 pub linked_made :
-    (answer : Result SnapFields RefusedFields) (frames : ℕ) (at : AtFields) (before : Booted) (told : Turn) (after : Booted)
+    (answer : Result SnapFields RefusedFields) (frames : ℕ) (at : AtFields) (before : Booted) (told : Turn)
+    (after : Booted)
     → IsLinkTurn answer frames at before told after → told ≢ turn.NoMemory → IsServiceMade told after.coming
 linked_made (Ok s) frames at before (turn.Linked note) after is found =
     record { event = tt; counts = refl; quiet = link_quiet (Ok s) frames at before (turn.Linked note) after is tt }
@@ -263,9 +276,11 @@ over_turn lib b e is = subst (λ c. IsTurnBy c lib b (turn.Ended e) b) (sym is) 
 
 -- what follows a service
 after_goes :
-    (next : NextEvent) (run : Running) (taken left : ℕ) (b : Booted) (events : List Event) (result : Result (Unit {0}) Status)
+    (next : NextEvent) (run : Running) (taken left : ℕ) (b : Booted) (events : List Event)
+    (result : Result (Unit {0}) Status)
     → StepFollows run taken left → IsQuiet next → b.coming ≡ next
-    → Goes (after_service next run taken (λ b. run_from run taken left b) b) events result → RunGoes run taken left b events result
+    → Goes (after_service next run taken (λ b. run_from run taken left b) b) events result
+    → RunGoes run taken left b events result
 after_goes Step run taken left b events result on silent is goes = on b events result is goes
 after_goes (Link at) run taken left b events result on silent is goes = absurd silent
 after_goes Print run taken left b events result on silent is goes = absurd silent
@@ -274,21 +289,27 @@ after_goes (coming.Over e) run taken left b events result on silent is goes =
 
 -- a service was made
 service_goes :
-    (run : Running) (taken left : ℕ) (b after : Booted) (told : Turn) (events : List Event) (result : Result (Unit {0}) Status)
+    (run : Running) (taken left : ℕ) (b after : Booted) (told : Turn) (events : List Event)
+    (result : Result (Unit {0}) Status)
     → StepFollows run taken left → IsTurn run.lib b told after → IsServiceMade told after.coming
-    → Goes (puts_all (pieces_of run.output taken told) (then_on run taken (λ b. run_from run taken left b) after)) events result
+    → Goes (puts_all (pieces_of run.output taken told) (then_on run taken
+    (λ b. run_from run taken left b) after)) events result
     → RunGoes run taken left b events result
 service_goes run taken left b after told events result on is made goes =
     let none = made.counts in
-    turn_goes run taken taken left left b after told (then_on run taken (λ b. run_from run taken left b) after) events result is made.event
+    turn_goes run taken taken left left b after told
+    (then_on run taken (λ b. run_from run taken left b) after) events result is made.event
     (omega (arith, none)) (omega (arith, none))
     (λ more goes. after_goes after.coming run taken left after more result on made.quiet refl goes)
-    (puts_split (pieces_of run.output taken told) (then_on run taken (λ b. run_from run taken left b) after) events result goes)
+    (puts_split (pieces_of run.output taken told) (then_on run taken (λ b. run_from run taken left b) after)
+    events result goes)
 
 print_goes :
-    (run : Running) (taken left : ℕ) (b after : Booted) (told : Turn) (events : List Event) (result : Result (Unit {0}) Status)
+    (run : Running) (taken left : ℕ) (b after : Booted) (told : Turn) (events : List Event)
+    (result : Result (Unit {0}) Status)
     → StepFollows run taken left → IsTurn run.lib b told after → PrintMade told after.coming
-    → Goes (puts_all (pieces_of run.output taken told) (then_on run taken (λ b. run_from run taken left b) after)) events result
+    → Goes (puts_all (pieces_of run.output taken told) (then_on run taken
+    (λ b. run_from run taken left b) after)) events result
     → RunGoes run taken left b events result
 print_goes run taken left b after told events result on is (inl printed) goes =
     service_goes run taken left b after told events result on is
@@ -304,7 +325,8 @@ print_goes run taken left b after told events result on is (inr ended) goes =
     (puts_nothing (then_on run taken (λ b. run_from run taken left b) after) events result
     (subst (λ l. Goes (puts_all l (then_on run taken (λ b. run_from run taken left b) after)) events result)
     (ap (pieces_of run.output taken) ended.1.told_is ∙ ended_pieces run.output taken e) goes)) in
-    ends_here run taken left b (Over e) events result (after, subst (λ t. IsTurn run.lib b t after) ended.1.told_is is) over
+    ends_here run taken left b (Over e) events result
+    (after, subst (λ t. IsTurn run.lib b t after) ended.1.told_is is) over
 
 -- memory ran out for a link service
 starved_here :
@@ -322,15 +344,18 @@ starved_here run taken left b events result waits ends = record {
 }
 
 link_goes :
-    (run : Running) (taken left : ℕ) (b : Booted) (at : AtFields) (events : List Event) (result : Result (Unit {0}) Status)
+    (run : Running) (taken left : ℕ) (b : Booted) (at : AtFields) (events : List Event)
+    (result : Result (Unit {0}) Status)
     → StepFollows run taken left → b.coming ≡ Link at
-    → Goes (serve_by (Link at) run taken (λ b. run_from run taken left b) b) events result → RunGoes run taken left b events result
+    → Goes (serve_by (Link at) run taken (λ b. run_from run taken left b) b) events result
+    → RunGoes run taken left b events result
 unfolding Goes IsTurn
 link_goes run taken left b at events result on is (inl goes) =
     let turns : IsTurnBy (Link at) run.lib b goes.value.turn goes.value.after =
     subst (λ c. IsTurnBy c run.lib b goes.value.turn goes.value.after) is goes.is.is in
     service_goes run taken left b goes.value.after goes.value.turn events result on goes.is.is
-    (linked_made (snap_of b.known run.lib.catalog run.lib.files at) run.lib.catalog.frames at b goes.value.turn goes.value.after turns goes.is.found)
+    (linked_made (snap_of b.known run.lib.catalog run.lib.files at) run.lib.catalog.frames at b goes.value.turn
+    goes.value.after turns goes.is.found)
     goes.rest
 link_goes run taken left b at events result on is (inr ends) =
     starved_here run taken left b events result (subst AwaitsLink (sym is) tt) ends
@@ -338,7 +363,8 @@ link_goes run taken left b at events result on is (inr ends) =
 print_serves :
     (run : Running) (taken left : ℕ) (b : Booted) (events : List Event) (result : Result (Unit {0}) Status)
     → StepFollows run taken left → b.coming ≡ Print
-    → Goes (serve_by Print run taken (λ b. run_from run taken left b) b) events result → RunGoes run taken left b events result
+    → Goes (serve_by Print run taken (λ b. run_from run taken left b) b) events result
+    → RunGoes run taken left b events result
 unfolding Goes IsTurn
 print_serves run taken left b events result on is goes =
     let turns : IsTurnBy Print run.lib b goes.value.turn goes.value.after =
@@ -347,9 +373,11 @@ print_serves run taken left b events result on is goes =
     (print_made _ _ b goes.value.turn goes.value.after turns) goes.rest
 
 serves_by :
-    (next : NextEvent) (run : Running) (taken left : ℕ) (b : Booted) (events : List Event) (result : Result (Unit {0}) Status)
+    (next : NextEvent) (run : Running) (taken left : ℕ) (b : Booted) (events : List Event)
+    (result : Result (Unit {0}) Status)
     → StepFollows run taken left → b.coming ≡ next
-    → Goes (serve_by next run taken (λ b. run_from run taken left b) b) events result → RunGoes run taken left b events result
+    → Goes (serve_by next run taken (λ b. run_from run taken left b) b) events result
+    → RunGoes run taken left b events result
 serves_by Step run taken left b events result on is goes = on b events result is goes
 serves_by (Link at) run taken left b events result on is goes = link_goes run taken left b at events result on is goes
 serves_by Print run taken left b events result on is goes = print_serves run taken left b events result on is goes
@@ -358,16 +386,19 @@ serves_by (coming.Over e) run taken left b events result on is goes =
 
 serve_goes :
     (run : Running) (taken left : ℕ) (b : Booted) (events : List Event) (result : Result (Unit {0}) Status)
-    → StepFollows run taken left → Goes (serve run taken (λ b. run_from run taken left b) b) events result → RunGoes run taken left b events result
+    → StepFollows run taken left → Goes (serve run taken (λ b. run_from run taken left b) b) events result
+    → RunGoes run taken left b events result
 unfolding serve
 serve_goes run taken left b events result on goes = serves_by b.coming run taken left b events result on refl goes
 
 -- ---- the run
 
 step_goes :
-    (run : Running) (taken left : ℕ) (b after : Booted) (told : Turn) (events : List Event) (result : Result (Unit {0}) Status)
+    (run : Running) (taken left : ℕ) (b after : Booted) (told : Turn) (events : List Event)
+    (result : Result (Unit {0}) Status)
     → StepFollows run (taken + 1) left → b.coming ≡ Step → IsTurn run.lib b told after
-    → Goes (puts_all (pieces_of run.output taken told) (serve run (taken + 1) (λ b. run_from run (taken + 1) left b) after)) events result
+    → Goes (puts_all (pieces_of run.output taken told) (serve run (taken + 1)
+    (λ b. run_from run (taken + 1) left b) after)) events result
     → RunGoes run taken (suc left) b events result
 step_goes run taken left b after told events result on next is goes =
     let step = is_step run.lib b after told next is in
@@ -382,7 +413,8 @@ run_goes : (run : Running) (left taken : ℕ) → StepFollows run taken left
 unfolding Goes run_from steps_in
 run_goes run zero taken b events result next goes = ends_here run taken 0 b Limit events result (refl, next) goes
 run_goes run (suc left) taken b events result next goes =
-    step_goes run taken left b goes.value.after goes.value.turn events result (run_goes run left (taken + 1)) next goes.is goes.rest
+    step_goes run taken left b goes.value.after goes.value.turn events result
+    (run_goes run left (taken + 1)) next goes.is goes.rest
 
 -- a run from its start
 pub run_is :

@@ -1,7 +1,8 @@
 -- How `audit`, `run` and `trace` of a folder end: with which findings, by the conditions of the
 -- audit; that some call ends; that the program of a run is the booted runs; and that run and trace
 -- have one text up to the first ABSA or LDBR.
-use Rattle.std.specs.Prelude.{ℕ, ◌≡◌, ◌⊎◌, Bool, true, false, List, [], ◌∷◌, ◌++◌, Option, Some, Result, Ok, Err}
+use Rattle.std.specs.Prelude.{ℕ, ◌≡◌, ◌⊎◌, Bool, true, false, List, [], ◌∷◌, ◌++◌, Option, Some}
+use Rattle.std.specs.Prelude.{Result, Ok, Err}
 use Rattle.m36_outside.specs.Files.{Files}
 use Rattle.m36_world.specs.Follow.{outputs}
 use Rattle.m36_world.specs.Seen.{Seen}
@@ -194,7 +195,8 @@ pub record FolderLaw : Type 0 where
       (run : FolderRun) (output : RunOutput) (user : Option (List ℕ)) (files : Files)
       (given : FolderFields) (findings : List (ℕ × ℕ)) (turns : List Turn) (last : Booted)
       (result : Result (Unit {0}) Status) (old new : Seen)
-      → old.files ≡ Some files → outcome_in files (folder_given {may = quiet} user) ≡ Some (Ok given)
+      → old.files ≡ Some files
+      → outcome_in files (folder_given {may = quiet} user) ≡ Some (Ok given)
       → ArePlain run given findings turns last
       → (performs : Performs (folder_program (run_command output run) user) result old new)
       → Agree (pieces_of performs.events) (plain_pieces output findings turns)
@@ -202,7 +204,8 @@ pub record FolderLaw : Type 0 where
       (run : FolderRun) (output : RunOutput) (user : Option (List ℕ)) (files : Files)
       (given : FolderFields) (findings : List (ℕ × ℕ)) (turns : List Turn) (last : Booted)
       (how : Finish) (result : Result (Unit {0}) Status) (old new : Seen)
-      → old.files ≡ Some files → outcome_in files (folder_given {may = quiet} user) ≡ Some (Ok given)
+      → old.files ≡ Some files
+      → outcome_in files (folder_given {may = quiet} user) ≡ Some (Ok given)
       → ArePlain run given findings turns last → Finishes how given.lib run.steps turns last
       → (performs : Performs (folder_program (run_command output run) user) result old new)
       → HasTextOf run output given findings turns how performs.events result

@@ -16,7 +16,8 @@ use Rattle.m36_super.specs.Library.{Library}
 use Rattle.m36_super.specs.declared.coming.NextEvent.{NextEvent}
 use Rattle.m36_super.specs.declared.coming.NextEvent.TheVariants.{Step, Link, Print, Over}
 use Rattle.m36_super.specs.NextEvent.{loaded_after}
-use Rattle.m36_super.specs.BootedRun.{Booted, record_of_state, IsStepTurn, IsLinkTurn, IsConsoleTurn, IsTurnBy, IsTurn, AreTurns, IsLaidOut, LaidOutUntilLdbr}
+use Rattle.m36_super.specs.BootedRun.{Booted, record_of_state, IsStepTurn, IsLinkTurn, IsConsoleTurn, IsTurnBy, IsTurn}
+use Rattle.m36_super.specs.BootedRun.{AreTurns, IsLaidOut, LaidOutUntilLdbr}
 use Rattle.m36_super.specs.SuperFields.{SuperFields, booted_of}
 use Rattle.m36_super.specs.BootSays.{IsBooted}
 use Rattle.m36_super.proofs.BootTurns.{start_unloaded}
@@ -38,7 +39,8 @@ step_loaded true frames before turn after e is turns =
     ap (λ (r : Booted). r.loaded) turns.after_is ∙ ap (λ b. loaded_after b (record_of_state before.state)) is
 
 link_loaded :
-    (answer : Result SnapFields RefusedFields) (frames : ℕ) (at : AtFields) (before : Booted) (turn : Turn) (after : Booted)
+    (answer : Result SnapFields RefusedFields) (frames : ℕ) (at : AtFields) (before : Booted) (turn : Turn)
+    (after : Booted)
     → IsLoaded before → IsLinkTurn answer frames at before turn after → IsLoaded after
 link_loaded (Ok s) frames at before (Stepped told) after is turns = turns.loaded ∙ is
 link_loaded (Ok s) frames at before (Linked note) after is turns = turns.loaded ∙ is
@@ -63,7 +65,8 @@ print_loaded false (Ok text) before turn after is turns = ap (λ (r : Booted). r
 turn_loaded :
     (coming : NextEvent) (lib : Library) (before : Booted) (turn : Turn) (after : Booted)
     → IsLoaded before → IsTurnBy coming lib before turn after → IsLoaded after
-turn_loaded Step lib before turn after is turns = step_loaded before.loaded lib.catalog.frames before turn after is is turns
+turn_loaded Step lib before turn after is turns =
+    step_loaded before.loaded lib.catalog.frames before turn after is is turns
 turn_loaded (Link at) lib before turn after is turns = link_loaded _ lib.catalog.frames at before turn after is turns
 turn_loaded Print lib before turn after is turns = print_loaded _ _ before turn after is turns
 turn_loaded (Over e) lib before turn after is turns = ap (λ (r : Booted). r.loaded) turns.1 ∙ is
@@ -90,7 +93,9 @@ mid_unloaded true lib turns mid last e are un =
     let loaded : last.loaded ≡ true = turns_loaded lib turns mid last e are in
     absurd (cc)
 
-stood : (loaded : Bool) (lib : Library) (r : Booted) → loaded ≡ false → LaidOutUntilLdbr loaded lib.catalog.frames r.state → IsLaidOut lib.catalog.frames r.state
+stood :
+    (loaded : Bool) (lib : Library) (r : Booted) → loaded ≡ false → LaidOutUntilLdbr loaded lib.catalog.frames r.state
+    → IsLaidOut lib.catalog.frames r.state
 stood false lib r e stands = stands
 stood true lib r e stands = absurd (cc)
 
@@ -120,15 +125,18 @@ reached_kept :
 reached_kept lib system now booted audited reached =
     let same : system ≡ reached.system = one_system lib system reached.system booted reached.booted in
     let start : IsKept lib (booted_of system) = record { stands = booted.stands; audited = audited } in
-    turns_keep lib reached.turns (booted_of reached.system) now (start_unloaded lib reached.system reached.booted) reached.turns_are reached.unloaded
+    turns_keep lib reached.turns (booted_of reached.system) now
+    (start_unloaded lib reached.system reached.booted) reached.turns_are reached.unloaded
     (subst (λ (s : SuperFields). IsKept lib (booted_of s)) same start)
 
 pub passes_booted :
     (lib : Library) (system : SuperFields) → IsBooted lib system → IsAudited system.core booted_dbr → PassesBooted lib
 passes_booted lib system booted audited = record {
   conditions = λ now reached. (reached_kept lib system now booted audited reached).audited;
-  isolates = λ now reached. record { isolates = core_isolated now.state.memory.core booted_dbr (reached_kept lib system now booted audited reached).audited };
+  isolates = λ now reached. record { isolates = core_isolated now.state.memory.core booted_dbr
+      (reached_kept lib system now booted audited reached).audited };
   flat = λ now reached.
       let kept = reached_kept lib system now booted audited reached in
-      flat_isolated (flat_of now.state.memory) booted_dbr (flat_audit lib.catalog.frames now.state.memory kept.stands.laid kept.audited);
+      flat_isolated (flat_of now.state.memory) booted_dbr
+      (flat_audit lib.catalog.frames now.state.memory kept.stands.laid kept.audited);
 }

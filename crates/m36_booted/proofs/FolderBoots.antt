@@ -29,10 +29,14 @@ pub booted_not :
     → ReportsFault fault (boot_answer given.lib.catalog given.lib.files) → Refuses r (fault_refused fault)
     → Gives (given_in (Err r)) (boots given)
 unfolding boots
-booted_not given boot.U1 r told refuses = gives_by FolderFields r (fault_refused boot.U1) (boots given) (ap (booted_by given) told) refuses
-booted_not given (boot.U2 seg) r told refuses = gives_by FolderFields r (fault_refused (boot.U2 seg)) (boots given) (ap (booted_by given) told) refuses
-booted_not given boot.U3 r told refuses = gives_by FolderFields r (fault_refused boot.U3) (boots given) (ap (booted_by given) told) refuses
-booted_not given (boot.U4 seg) r told refuses = gives_by FolderFields r (fault_refused (boot.U4 seg)) (boots given) (ap (booted_by given) told) refuses
+booted_not given boot.U1 r told refuses =
+    gives_by FolderFields r (fault_refused boot.U1) (boots given) (ap (booted_by given) told) refuses
+booted_not given (boot.U2 seg) r told refuses =
+    gives_by FolderFields r (fault_refused (boot.U2 seg)) (boots given) (ap (booted_by given) told) refuses
+booted_not given boot.U3 r told refuses =
+    gives_by FolderFields r (fault_refused boot.U3) (boots given) (ap (booted_by given) told) refuses
+booted_not given (boot.U4 seg) r told refuses =
+    gives_by FolderFields r (fault_refused (boot.U4 seg)) (boots given) (ap (booted_by given) told) refuses
 booted_not given boot.NoMemory r told refuses = memory_given FolderFields r (boots given) refuses
 
 pub booted_fresh : (lib : Library) (s : SuperFields) → IsBooted lib s → IsFresh s

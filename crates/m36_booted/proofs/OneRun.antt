@@ -1,5 +1,6 @@
 -- A run of plain turns, and any run from a system with the same flat state, make the same turns and end the same way.
-use Rattle.std.proofs.Common.{◌≡◌, ℕ, ◌+◌, ◌≤◌, Bool, false, ◌⊎◌, List, [], ◌∷◌, ◌++◌, length, refl, sym, ap, subst, ◌∙◌, arith, inl, inr}
+use Rattle.std.proofs.Common.{◌≡◌, ℕ, ◌+◌, ◌≤◌, Bool, false, ◌⊎◌, List, [], ◌∷◌, ◌++◌, length, refl, sym, ap, subst}
+use Rattle.std.proofs.Common.{◌∙◌, arith, inl, inr}
 use Rattle.m36_model.specs.StoreLaw.{Each}
 use Rattle.m36_model.specs.Flat.{flat_store}
 use Rattle.m36_model.specs.Step.{record_of}
@@ -32,14 +33,18 @@ record Goes (lib : Library) (r : Booted) (turn : Turn) (mid : Booted) : Type 0 w
   pub flat : IsFlatTurn lib r turn mid
   pub fresh : IsFresh lib mid
 
-goes : (lib : Library) (r : Booted) (turn : Turn) (mid : Booted) → IsFresh lib r → IsTurn lib r turn mid → IsPlainTurn turn → Goes lib r turn mid
+goes :
+    (lib : Library) (r : Booted) (turn : Turn) (mid : Booted) → IsFresh lib r → IsTurn lib r turn mid
+    → IsPlainTurn turn → Goes lib r turn mid
 goes lib r turn mid fresh is plain =
     let kept = turn_law lib r turn mid fresh.loaded fresh.stands is in
     let flat = plain_flat lib r turn mid plain kept.cases in
-    let next : mid.loaded ≡ false = ap (λ (s : FlatRun). s.loaded) flat.after_is ∙ flat_loaded lib (flat_run_of r) fresh.loaded (subst IsPlainTurn flat.turn_is plain) in
+    let next : mid.loaded ≡ false = ap (λ (s : FlatRun). s.loaded) flat.after_is ∙ flat_loaded lib
+    (flat_run_of r) fresh.loaded (subst IsPlainTurn flat.turn_is plain) in
     record {
       flat = flat;
-      fresh = record { loaded = next; stands = subst (λ (b : Bool). LaidOutUntilLdbr b lib.catalog.frames mid.state) next kept.stands };
+      fresh = record { loaded = next; stands = subst
+          (λ (b : Bool). LaidOutUntilLdbr b lib.catalog.frames mid.state) next kept.stands };
     }
 
 -- A turn that is made is that of the flat run, or both execute ABSA.
@@ -49,12 +54,15 @@ IsLikeFlat turn flat = (turn ≡ flat) ⊎ (LocatesInTurn turn × LocatesInTurn 
 like_by :
     (lib : Library) (r : Booted) (turn : Turn) (mid : Booted) → HasMemory turn
     → (LocatesInTurn turn → LocatesInTurn (flat_turn lib (flat_run_of r)).turn)
-    → (IsFlatTurn lib r turn mid ⊎ ((turn ≡ NoMemory) × (mid ≡ r)) ⊎ LocatesInTurn turn) → IsLikeFlat turn (flat_turn lib (flat_run_of r)).turn
+    → (IsFlatTurn lib r turn mid ⊎ ((turn ≡ NoMemory) × (mid ≡ r)) ⊎ LocatesInTurn turn)
+    → IsLikeFlat turn (flat_turn lib (flat_run_of r)).turn
 like_by lib r turn mid has locates (inl h) = inl h.turn_is
 like_by lib r turn mid has locates (inr (inl h)) = absurd (has h.0)
 like_by lib r turn mid has locates (inr (inr h)) = inr (h, locates h)
 
-like_flat : (lib : Library) (r : Booted) (turn : Turn) (mid : Booted) → IsFresh lib r → IsTurn lib r turn mid → HasMemory turn → IsLikeFlat turn (flat_turn lib (flat_run_of r)).turn
+like_flat :
+    (lib : Library) (r : Booted) (turn : Turn) (mid : Booted) → IsFresh lib r → IsTurn lib r turn mid → HasMemory turn
+    → IsLikeFlat turn (flat_turn lib (flat_run_of r)).turn
 like_flat lib r turn mid fresh is has =
     let kept = turn_law lib r turn mid fresh.loaded fresh.stands is in
     like_by lib r turn mid has kept.locates kept.cases
@@ -70,7 +78,9 @@ plain_like turn other flat is plain (inr h) = absurd (not_located turn (subst Lo
 -- ---- what comes next
 
 -- If a step is next, the flat turn is a step.
-steps_next : (coming : NextEvent) (lib : Library) (r : FlatRun) → coming ≡ Step → (e : StepRecord) × ((flat_turn_by coming lib r).turn ≡ Stepped e)
+steps_next :
+    (coming : NextEvent) (lib : Library) (r : FlatRun) → coming ≡ Step
+    → (e : StepRecord) × ((flat_turn_by coming lib r).turn ≡ Stepped e)
 unfolding flat_stepped
 steps_next Step lib r is = (record_of flat_store r.state, refl)
 steps_next (Link at) lib r is = absurd (cc)
@@ -82,7 +92,9 @@ unfolding flat_turn
 next_is lib r is = steps_next r.coming lib r is
 
 -- A turn that reports an end is the flat turn.
-end_told : (lib : Library) (r : Booted) (e : End) (after : Booted) → IsFresh lib r → IsTurn lib r (Ended e) after → Ended e ≡ (flat_turn lib (flat_run_of r)).turn
+end_told :
+    (lib : Library) (r : Booted) (e : End) (after : Booted) → IsFresh lib r → IsTurn lib r (Ended e) after
+    → Ended e ≡ (flat_turn lib (flat_run_of r)).turn
 end_told lib r e after fresh is = (goes lib r (Ended e) after fresh is tt).flat.turn_is
 
 -- ---- two runs, of systems over two libraries whose flat turns are alike
@@ -103,7 +115,9 @@ abbrev Ends : Finish → Library → ℕ → ℕ → Booted → Type 0
 Ends (finish.Over e) lib limit taken last = (after : Booted) × IsTurn lib last (Ended e) after
 Ends finish.Limit lib limit taken last = (taken ≡ limit) × (last.coming ≡ Step)
 
-finished : (how : Finish) (lib : Library) (limit : ℕ) (turns : List Turn) (last : Booted) → Finishes how lib limit turns last → Ends how lib limit (steps_in turns) last
+finished :
+    (how : Finish) (lib : Library) (limit : ℕ) (turns : List Turn) (last : Booted) → Finishes how lib limit turns last
+    → Ends how lib limit (steps_in turns) last
 finished (finish.Over e) lib limit turns last is = is
 finished finish.Limit lib limit turns last is = is
 
@@ -117,14 +131,17 @@ ends_one :
     → Ends how lib limit taken r → Ends end other limit taken' s → how ≡ end
 ends_one lib other limit taken taken' r s (finish.Over e) (finish.Over f) alike look fresh fresh' is is' =
     let same : Ended e ≡ Ended f =
-    end_told lib r e is.0 fresh is.1 ∙ ap (λ (t : FlatTurn). t.turn) (next_alike lib other r s alike look) ∙ sym (end_told other s f is'.0 fresh' is'.1) in
+    end_told lib r e is.0 fresh is.1 ∙ ap (λ (t : FlatTurn). t.turn) (next_alike lib other r s alike look) ∙ sym
+    (end_told other s f is'.0 fresh' is'.1) in
     cc
 ends_one lib other limit taken taken' r s (finish.Over e) finish.Limit alike look fresh fresh' is is' =
     let next = next_is other (flat_run_of s) is'.1 in
-    absurd (no_end_and_step e next.0 _ (end_told lib r e is.0 fresh is.1) (ap (λ (t : FlatTurn). t.turn) (next_alike lib other r s alike look) ∙ next.1))
+    absurd (no_end_and_step e next.0 _ (end_told lib r e is.0 fresh is.1)
+    (ap (λ (t : FlatTurn). t.turn) (next_alike lib other r s alike look) ∙ next.1))
 ends_one lib other limit taken taken' r s finish.Limit (finish.Over f) alike look fresh fresh' is is' =
     let next = next_is lib (flat_run_of r) is.1 in
-    absurd (no_end_and_step f next.0 _ (end_told other s f is'.0 fresh' is'.1) (sym (ap (λ (t : FlatTurn). t.turn) (next_alike lib other r s alike look)) ∙ next.1))
+    absurd (no_end_and_step f next.0 _ (end_told other s f is'.0 fresh' is'.1)
+    (sym (ap (λ (t : FlatTurn). t.turn) (next_alike lib other r s alike look)) ∙ next.1))
 ends_one lib other limit taken taken' r s finish.Limit finish.Limit alike look fresh fresh' is is' = refl
 
 -- No run continues where another has ended.
@@ -159,7 +176,8 @@ not_on lib other limit taken left r s mid finish.Limit turn alike look fresh fre
     let like = like_flat other s turn mid fresh' on (event_has turn event) in
     let next = next_is lib (flat_run_of r) is.1 in
     let one : steps_of turn ≡ 1 =
-    like_step next.0 turn (flat_turn other (flat_run_of s)).turn (sym (ap (λ (t : FlatTurn). t.turn) (next_alike lib other r s alike look)) ∙ next.1) like in
+    like_step next.0 turn (flat_turn other (flat_run_of s)).turn
+    (sym (ap (λ (t : FlatTurn). t.turn) (next_alike lib other r s alike look)) ∙ next.1) like in
     omega (arith, one, few, is.0)
 
 -- A turn from a state with the same flat state as one from which a plain turn is made is that plain turn, and both
@@ -173,13 +191,15 @@ record IsNext (lib other : Library) (turn turn' : Turn) (mid mid' : Booted) : Ty
 
 next_one :
     (lib other : Library) (r s mid mid' : Booted) (turn turn' : Turn)
-    → AreAlike lib other → Look r s → IsFresh lib r → IsFresh other s → IsTurn lib r turn mid → IsTurn other s turn' mid'
+    → AreAlike lib other → Look r s → IsFresh lib r → IsFresh other s → IsTurn lib r turn mid
+    → IsTurn other s turn' mid'
     → IsPlainTurn turn → HasMemory turn' → IsNext lib other turn turn' mid mid'
 next_one lib other r s mid mid' turn turn' alike look fresh fresh' is is' plain has =
     let on = goes lib r turn mid fresh is plain in
     let next = next_alike lib other r s alike look in
     let like = like_flat other s turn' mid' fresh' is' has in
-    let plain' = plain_like turn turn' (flat_turn other (flat_run_of s)).turn (on.flat.turn_is ∙ ap (λ (t : FlatTurn). t.turn) next) plain like in
+    let plain' = plain_like turn turn' (flat_turn other (flat_run_of s)).turn
+    (on.flat.turn_is ∙ ap (λ (t : FlatTurn). t.turn) next) plain like in
     let on' = goes other s turn' mid' fresh' is' plain' in
     record {
       turn_is = on.flat.turn_is ∙ ap (λ (t : FlatTurn). t.turn) next ∙ sym on'.flat.turn_is;
@@ -287,10 +307,13 @@ turns_meet lib other r s last last' (turn ∷ more) [] alike look fresh fresh' a
       fresh = subst (IsFresh other) (sym are') fresh';
       fresh' = fresh;
     }))
-turns_meet lib other r s last last' (turn ∷ more) (turn' ∷ more') alike look fresh fresh' are are' events events' plain =
-    let next = next_one lib other r s are.0 are'.0 turn turn' alike look fresh fresh' are.1 are'.1 plain.0 (event_has turn' events'.0) in
+turns_meet lib other r s last last' (turn ∷ more) (turn' ∷ more') alike look fresh fresh' are are' events events' plain
+    =
+    let next = next_one lib other r s are.0 are'.0 turn turn' alike look fresh fresh' are.1 are'.1 plain.0
+    (event_has turn' events'.0) in
     meet_on lib other turn turn' more more' last last' next.turn_is
-    (turns_meet lib other are.0 are'.0 last last' more more' alike next.look next.fresh next.fresh' are.2 are'.2 events.1 events'.1 plain.1)
+    (turns_meet lib other are.0 are'.0 last last' more more' alike next.look next.fresh
+    next.fresh' are.2 are'.2 events.1 events'.1 plain.1)
 
 -- ---- no turn follows where a run has finished
 
@@ -299,16 +322,21 @@ unfolding steps_in
 steps_both [] more = omega arith
 steps_both (turn ∷ turns) more = omega (arith, steps_both turns more)
 
-steps_on : (turns same more : List Turn) (next : Turn) → same ≡ turns ++ (next ∷ more) → steps_in same ≡ steps_in turns + (steps_of next + steps_in more)
+steps_on :
+    (turns same more : List Turn) (next : Turn) → same ≡ turns ++ (next ∷ more)
+    → steps_in same ≡ steps_in turns + (steps_of next + steps_in more)
 unfolding steps_in
 steps_on turns same more next is = ap steps_in is ∙ steps_both turns (next ∷ more)
 
 pub ends_there :
     (lib other : Library) (limit : ℕ) (turns same : List Turn) (last : Booted) (how : Finish)
-    → AreAlike lib other → GoesOn lib other turns same last → steps_in same ≤ limit → Finishes how lib limit turns last → ⊥
+    → AreAlike lib other → GoesOn lib other turns same last → steps_in same ≤ limit → Finishes how lib limit turns last
+    → ⊥
 ends_there lib other limit turns same last how alike on few finishes =
-    not_on lib other limit (steps_in turns) (steps_in on.more) last on.before on.after how on.next alike on.look on.fresh on.fresh' on.made on.event
-    (subst (λ n. n ≤ limit) (steps_on turns same on.more on.next on.is) few) (finished how lib limit turns last finishes)
+    not_on lib other limit (steps_in turns)
+    (steps_in on.more) last on.before on.after how on.next alike on.look on.fresh on.fresh' on.made on.event
+    (subst (λ n. n ≤ limit) (steps_on turns same on.more on.next on.is) few)
+    (finished how lib limit turns last finishes)
 
 -- Turns that are the same, and a finish of each.
 pub finish_one :
@@ -323,14 +351,18 @@ finish_one lib other limit turns same last last' how end alike are is is' =
 
 pub turns_one :
     (lib other : Library) (r s last last' : Booted) (turns same : List Turn)
-    → AreAlike lib other → Look r s → IsFresh lib r → IsFresh other s → AreTurns lib r turns last → AreTurns other s same last'
+    → AreAlike lib other → Look r s → IsFresh lib r → IsFresh other s → AreTurns lib r turns last
+    → AreTurns other s same last'
     → Each IsPlainTurn turns → Each HasMemory same → length turns ≡ length same → turns ≡ same
 unfolding AreTurns
 turns_one lib other r s last last' [] [] alike look fresh fresh' are are' plain has count = refl
-turns_one lib other r s last last' [] (turn' ∷ more') alike look fresh fresh' are are' plain has count = absurd (omega (arith, count))
-turns_one lib other r s last last' (turn ∷ more) [] alike look fresh fresh' are are' plain has count = absurd (omega (arith, count))
+turns_one lib other r s last last' [] (turn' ∷ more') alike look fresh fresh' are are' plain has count =
+    absurd (omega (arith, count))
+turns_one lib other r s last last' (turn ∷ more) [] alike look fresh fresh' are are' plain has count =
+    absurd (omega (arith, count))
 turns_one lib other r s last last' (turn ∷ more) (turn' ∷ more') alike look fresh fresh' are are' plain has count =
     let next = next_one lib other r s are.0 are'.0 turn turn' alike look fresh fresh' are.1 are'.1 plain.0 has.0 in
     let one = next.turn_is in
-    let rest = turns_one lib other are.0 are'.0 last last' more more' alike next.look next.fresh next.fresh' are.2 are'.2 plain.1 has.1 (omega (arith, count)) in
+    let rest = turns_one lib other are.0 are'.0 last last' more more' alike next.look next.fresh
+    next.fresh' are.2 are'.2 plain.1 has.1 (omega (arith, count)) in
     λ i. one i ∷ rest i
