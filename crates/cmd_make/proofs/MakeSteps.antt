@@ -1,14 +1,15 @@
 -- The files are made, written and booted, one after another.
-use Rattle.std.proofs.Common.{◌≡◌, ℕ, List, Result, Ok, Err, refl, ap, subst}
+use Rattle.std.proofs.Common.{◌≡◌, ℕ, List, [], Result, Ok, Err, refl, ap, subst}
 use Rattle.m36_world.specs.Seen.{Seen}
 use Rattle.m36_reading.specs.declared.refusal.Refusal.{Refusal}
 use Rattle.m36_reading.specs.declared.setting.Set.{Set}
 use Rattle.m36_reading.specs.declared.status.Status.{Status}
 use Rattle.m36_reading.specs.Answers.{status_of}
 use Rattle.m36_reading.specs.Asking.{Gives}
+use Rattle.m36_program.specs.Goes.{Goes}
 use Rattle.m36_program.specs.Performs.{Performs}
-use Rattle.m36_program.specs.Program.{May, quiet, Program, then_with}
-use Rattle.m36_program.proofs.Performing.{performs_then, performs_stop}
+use Rattle.m36_program.specs.Program.{May, Program, then_with}
+use Rattle.m36_program.proofs.Performing.{performs_none, performs_then, performs_stop}
 use Rattle.m36_files.specs.Deciding.{decides}
 use Rattle.m36_files.specs.Writing as allows
 use Rattle.m36_files.proofs.DecidingLaws.{rule_given}
@@ -16,7 +17,7 @@ use Rattle.m36_booted.specs.Folder.{FolderFields}
 use Rattle.cmd_tools.specs.Reporting.{write_files}
 use Rattle.cmd_tools.proofs.ReportLaws.{then_rest}
 use Rattle.cmd_make.specs.Making.{sets_of}
-use Rattle.cmd_make.specs.Made.{boots_from}
+use Rattle.cmd_make.specs.Made.{boot_files}
 use Rattle.cmd_make.specs.MakeProgram.{on_booted, boot_made, write_and_boot, make_program}
 use Rattle.cmd_make.specs.Within.{within}
 use Rattle.cmd_make.proofs.WithinLaws.{performs_within}
@@ -40,17 +41,19 @@ given_stop may {A} rule next r s seen gives is =
 
 pub boot_given :
     (sets : List Set) (given : FolderFields) (result : Result (Unit {0}) Status) (old new : Seen)
-    → Gives (Ok given) (boots_from sets) → Performs (on_booted given) result old new → Performs (boot_made sets) result old new
+    → Goes (boot_files sets) [] (Ok given) → Performs (on_booted given) result old new → Performs (boot_made sets) result old new
 unfolding boot_made
-boot_given sets given result old new gives performs = given_then quiet (boots_from sets) on_booted given result old new gives performs
+boot_given sets given result old new goes performs =
+    performs_then (boot_files sets) on_booted given result old old new (performs_none (boot_files sets) (Ok given) old goes) performs
 
-pub boot_refused :
-    (sets : List Set) (r : Refusal) (s : Status) (seen : Seen)
-    → Gives {A = FolderFields} (Err r) (boots_from sets) → s ≡ status_of r → Performs (boot_made sets) (Err s) seen seen
+pub boot_stopped :
+    (sets : List Set) (s : Status) (seen : Seen)
+    → Goes (boot_files sets) [] (Err s) → Performs (boot_made sets) (Err s) seen seen
 unfolding boot_made
-boot_refused sets r s seen gives is = given_stop quiet (boots_from sets) on_booted r s seen gives is
+boot_stopped sets s seen goes =
+    performs_stop (boot_files sets) on_booted s seen seen (performs_none (boot_files sets) (Err s) seen goes)
 
-pub ruleset booting = (boot_given, boot_refused)
+pub ruleset booting = (boot_given, boot_stopped)
 
 -- ---- writing
 

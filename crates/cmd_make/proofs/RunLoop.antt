@@ -17,9 +17,6 @@ use Rattle.cmd_make.specs.RunSays.{IsLeft, from_step, GoesOn, IsOver, HasNoMemor
 abbrev pub Left : Library → ℕ → ℕ → SuperFields → Program quiet Ran → Type 0
 Left lib taken left now first = IsLeft (run_from lib taken left (booted_of now)) first
 
-pub run_starts : (lib : Library) (steps : ℕ) (s : SuperFields) → Left lib 0 steps s (run_from lib 0 steps (booted_of s))
-run_starts lib steps s result goes = goes
-
 run_step : (lib : Library) (taken left : ℕ) (b : Booted) → run_from lib taken (suc left) b ≡ from_step lib b (taken + 1) left
 unfolding run_from
 run_step lib taken left b = refl
@@ -77,5 +74,3 @@ run_limit lib taken left now first so_far none =
     let result : Result Ran Status = Ok (ran Limit taken (booted_of now)) in
     so_far result
     (subst (λ p. Goes p [] result) (sym (run_none lib taken left (booted_of now) none)) (goes_done quiet (ran Limit taken (booted_of now))))
-
-pub ruleset running = (run_starts)

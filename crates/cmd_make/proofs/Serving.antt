@@ -26,10 +26,6 @@ use Rattle.cmd_make.specs.declared.running.AfterTurn.TheVariants as after
 use Rattle.cmd_make.specs.QuietRun.{Ran, ran, after_service, then_on, serve_by, serve, run_from}
 use Rattle.cmd_make.specs.RunSays.{IsLeft, from_step, from_service, TurnSays, LinkBefore}
 
--- what is left of a run after a step that was taken
-abbrev on_from : Library → ℕ → ℕ → Booted → Program quiet Ran
-on_from lib taken left b = run_from lib taken left b
-
 -- the program of what follows a step
 abbrev served : Library → ℕ → ℕ → Booted → Program quiet Ran
 served lib taken left b = serve lib taken (λ b. run_from lib taken left b) b

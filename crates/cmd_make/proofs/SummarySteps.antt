@@ -5,9 +5,7 @@ use Rattle.m36_audit.specs.Findings.{pairs}
 use Rattle.m36_audit.specs.declared.verdict.Finding.{Finding}
 use Rattle.m36_desc.specs.Fields.{DbrFields}
 use Rattle.m36_model.specs.Audit.{AreFindings}
-use Rattle.m36_model.specs.BootedCore.{booted_dbr}
 use Rattle.m36_model.specs.Registers.{RegsFields}
-use Rattle.m36_isol.proofs.Findings.{findings_law}
 use Rattle.m36_super.specs.Library.{Library}
 use Rattle.m36_super.specs.BootedRun.{Booted}
 use Rattle.m36_super.specs.SuperFields.{SuperFields, booted_of}
@@ -25,15 +23,14 @@ use Rattle.m36_program.proofs.ProgramLaws.{goes_ends}
 use Rattle.m36_ran.specs.AuditText.{audit_pieces}
 use Rattle.m36_ran.specs.Ran.{passes, audit_status}
 use Rattle.m36_booted.specs.declared.running.Finish.{Finish}
-use Rattle.m36_booted.specs.Promise.{PassesBooted}
 use Rattle.m36_booted.specs.RunText.{finish_line, finish_status}
 use Rattle.m36_booted.specs.Systems.{IsFresh}
-use Rattle.m36_booted.proofs.FolderReads.{fresh_next}
-use Rattle.m36_booted.proofs.YesAnswers.{passes_booted}
+use Rattle.m36_booted.proofs.FolderBoots.{fresh_next}
 use Rattle.cmd_image.specs.ImageProgram.{audit_may_end}
 use Rattle.cmd_image.proofs.AuditPuts.{all_put, put_more, all_then, all_stop}
 use Rattle.cmd_folder.specs.OnFolder.{AreFolderFindings}
 use Rattle.cmd_folder.specs.RunProgram.{finish_may_end}
+use Rattle.cmd_folder.proofs.FolderSteps.{found_passes}
 use Rattle.cmd_make.specs.MakeProgram.{summed_up, run_summed, runs_or_ends, found_told, on_system, on_booted}
 use Rattle.cmd_make.specs.QuietRun.{Ran, run_from}
 use Rattle.cmd_make.specs.Summary.{run_limit, segment_count, segments_line, head_pieces, sum_line}
@@ -191,12 +188,6 @@ unfolding found_told
 found_unput count lib first findings s old new counts put =
     all_stop (head_pieces (segment_count lib) findings) (runs_or_ends (passes findings) lib first) s old new
     (subst (λ n. Performs (all_put (head_pieces n findings)) (Err s) old new) counts put)
-
-found_passes :
-    (lib : Library) (system : SuperFields) (findings : List (ℕ × ℕ))
-    → IsBooted lib system → AreFindings system.core booted_dbr findings → findings ≡ [] → PassesBooted lib
-found_passes lib system findings booted found none =
-    passes_booted lib system booted (findings_law.sound system.core booted_dbr (subst (AreFindings system.core booted_dbr) none found))
 
 pub found_in :
     (system : SuperFields) (denied : List (List ℕ)) (findings : List (ℕ × ℕ)) (result : Result (Unit {0}) Status) (old new : Seen)

@@ -104,12 +104,3 @@ performs_within may p result old new performs = record {
   follow = performs.follow;
   goes = goes_within may p performs.events result performs.goes;
 }
-
-pub performs_quiet :
-    (may : May) {A : Type 0} (p : Program quiet A) (result : Result A Status) (old new : Seen)
-    → Performs {may = may} (within p) result old new → Performs p result old new
-performs_quiet may p result old new performs = record {
-  events = performs.events;
-  follow = performs.follow;
-  goes = goes_quiet may p performs.events result performs.goes;
-}

@@ -18,7 +18,7 @@ use Rattle.cmd_folder.specs.OnFolder.{AreFolderFindings}
 use Rattle.cmd_folder.specs.RunProgram.{finish_may_end}
 use Rattle.cmd_tools.specs.Reporting.{writes_all}
 use Rattle.cmd_make.specs.Making.{sets_of}
-use Rattle.cmd_make.specs.Made.{boots_from}
+use Rattle.cmd_make.specs.Made.{boot_files}
 use Rattle.cmd_make.specs.QuietRun.{Ran, run_from}
 use Rattle.cmd_make.specs.Summary.{run_limit, head_pieces, end_pieces, segment_count}
 use Rattle.cmd_make.specs.Within.{within}
@@ -56,9 +56,9 @@ on_booted given = some (IsBooted given.lib) (on_system given.lib)
 
 -- ---- the command
 
--- Boots the files from memory, or refuses them. Memory may run out here.
+-- Boots the files from memory, or refuses them, and continues with the system. Memory may run out.
 unfoldable pub boot_made : List Set → Program quiet (Unit {0})
-boot_made sets = then_with (decides (boots_from sets)) on_booted
+boot_made sets = then_with (boot_files sets) on_booted
 
 -- Writes the files in order, and then boots them.
 unfoldable pub write_and_boot : List Set → Program writing (Unit {0})
