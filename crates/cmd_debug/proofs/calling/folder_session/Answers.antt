@@ -5,8 +5,8 @@ use Rattle.m36_world.proofs.Following.{follow_logs}
 use Rattle.m36_program.proofs.Objects.{same_now, performs_over}
 use Rattle.cmd_debug.proofs.calling.folder_session.Goals as goal
 
-pub returns-clause-performs : goal.returns-clause-performs
-returns-clause-performs g c =
+pub returns : goal.returns
+returns g c =
     let all = follow_logs _ _ _ c.debug_folder-outcome.ensures.follow in
     let in_folder = ap (λ l. get_or l 0 0) all.references in
     let in_lines = ap (λ l. get_or l 1 0) all.references in
