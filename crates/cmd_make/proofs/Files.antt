@@ -1,5 +1,6 @@
 -- Laws of copied files, and of a folder in memory with these files.
-use Rattle.std.proofs.Common.{◌≡◌, ℕ, ◌+◌, ◌<◌, ◌≤◌, List, [], ◌∷◌, ◌++◌, length, map, drop, get_or, Some, None, Result, Err, refl, sym, ap, ◌∙◌, append_assoc}
+use Rattle.std.proofs.Common.{◌≡◌, ℕ, ◌+◌, ◌<◌, ◌≤◌, List, [], ◌∷◌, ◌++◌, length, map, drop, get_or, Some, None, Result}
+use Rattle.std.proofs.Common.{Err, refl, sym, ap, ◌∙◌, append_assoc}
 use Rattle.std.proofs.lemmas.List.{append-nil, drop_more, at_drop_all}
 use Rattle.m36_outside.specs.Files.{Files, with_file}
 use Rattle.m36_outside.specs.FileList.{file_named}
@@ -32,23 +33,28 @@ pub copies_more :
 copies_more files i file set now next whole inside at is added so_far =
     let more : List Set = map set_of (drop (i + 1) files) in
     ap (λ n. n ++ more) added ∙ append_assoc now (set ∷ []) more ∙ ap (λ s. now ++ (s ∷ more)) is
-    ∙ ap (λ f. now ++ (set_of f ∷ more)) at ∙ ap (λ l. now ++ map set_of l) (sym (drop_more files i file inside)) ∙ so_far
+    ∙ ap (λ f. now ++ (set_of f ∷ more)) at ∙ ap (λ l. now ++ map set_of l) (sym (drop_more files i file inside))
+    ∙ so_far
 
 pub copies_end :
     (files : List File) (i : ℕ) (now whole : List Set)
     → length files ≤ i → now ++ map set_of (drop i files) ≡ whole → now ≡ whole
 copies_end files i now whole past so_far =
-    sym (append-nil now) ∙ ap (λ l. now ++ map set_of l) (sym (at_drop_all (λ (l : List File). l) files i past)) ∙ so_far
+    sym (append-nil now) ∙ ap (λ l. now ++ map set_of l) (sym (at_drop_all (λ (l : List File). l) files i past))
+    ∙ so_far
 
 pub ruleset files_in_turn = (copies_more, copies_end)
 
 -- ---- the folder in memory
 
-pub folder_start : (sets : List Set) (files : List NamedFile) → files ≡ [] → with_files sets (file_named files) ≡ files_in sets
+pub folder_start :
+    (sets : List Set) (files : List NamedFile) → files ≡ [] → with_files sets (file_named files) ≡ files_in sets
 unfolding files_in
 folder_start sets files none = ap (λ (l : List NamedFile). with_files sets (file_named l)) none
 
-first_more : (set : Set) (sets : List Set) (files : Files) → with_files (set ∷ sets) files ≡ with_files sets (with_file set.name (Some set.content) files)
+first_more :
+    (set : Set) (sets : List Set) (files : Files)
+    → with_files (set ∷ sets) files ≡ with_files sets (with_file set.name (Some set.content) files)
 unfolding with_files
 first_more set sets files = refl
 
@@ -64,7 +70,8 @@ pub folder_more :
     → with_files (drop i sets) now ≡ whole → with_files (drop (i + 1) sets) next ≡ whole
 folder_more sets i set name content now next whole inside at named filled is so_far =
     let rest : List Set = drop (i + 1) sets in
-    ap (λ f. with_files rest f) (is ∙ ap (λ n. with_file n (Some content) now) named ∙ ap (λ t. with_file set.name (Some t) now) filled)
+    ap (λ f. with_files rest f) (is ∙ ap (λ n. with_file n (Some content) now) named
+    ∙ ap (λ t. with_file set.name (Some t) now) filled)
     ∙ sym (first_more set rest now)
     ∙ ap (λ s. with_files (s ∷ rest) now) at ∙ ap (λ l. with_files l now) (sym (drop_more sets i set inside)) ∙ so_far
 
@@ -80,7 +87,8 @@ pub ruleset folder_in_turn = (folder_start, folder_more, folder_end)
 
 pub booted_in :
     (sets : List Set) (files : Files) (result : Result FolderFields Status) (old new : Seen)
-    → Performs (folder_given {may = quiet} None) result old new → files ≡ files_in sets → old.files ≡ Some files → NoneRose old new
+    → Performs (folder_given {may = quiet} None) result old new → files ≡ files_in sets → old.files ≡ Some files
+    → NoneRose old new
     → Goes (boot_files sets) [] result
 unfolding boot_files
 booted_in sets files result old new performs are is none =

@@ -16,11 +16,13 @@ use Rattle.m36_program.specs.Reader.{IsReader, outcome_in}
 use Rattle.m36_program.proofs.ReaderLaws.{reader_outcome, performs_unless}
 use Rattle.cmd_make.specs.InMemory.{in_memory}
 
-pub in_memory_reader : {may : May} {A : Type 0} (files : Files) (p : Program may A) → IsReader p → IsReader (in_memory files p)
+pub in_memory_reader :
+    {may : May} {A : Type 0} (files : Files) (p : Program may A) → IsReader p → IsReader (in_memory files p)
 unfolding IsReader in_memory
 in_memory_reader files (done a) is = tt
 in_memory_reader files (stops s own) is = tt
-in_memory_reader files (reads name go) is = in_memory_reader files (go (found_in (files name))) (is (found_in (files name)))
+in_memory_reader files (reads name go) is =
+    in_memory_reader files (go (found_in (files name))) (is (found_in (files name)))
 in_memory_reader files (writes allowed name content p) is = absurd is
 in_memory_reader files (puts piece p) is = absurd is
 in_memory_reader files (takes allowed go) is = absurd is

@@ -22,7 +22,8 @@ run_done :
     (sets : List Set) (lib : Library) (system : SuperFields) (events : List Event) (result : Result (Unit {0}) Status)
     → EndsWithDis lib run_limit (booted_of system) → PutsRun sets lib (booted_of system) events result → result ≡ Ok tt
 run_done sets lib system events result dis run =
-    run.puts.result_is ∙ ap (λ (h : Finish). early (finish_status (Some h))) (dis run.turns run.last run.how run.goes run.finishes)
+    run.puts.result_is ∙ ap (λ (h : Finish). early (finish_status (Some h)))
+    (dis run.turns run.last run.how run.goes run.finishes)
 
 -- A call that ends by itself ends with Done.
 pub ends_done :

@@ -1,5 +1,6 @@
 -- What a call of `make` that ends by itself writes and puts; that there is one; and the laws of both.
-use Rattle.std.proofs.Common.{◌≡◌, ◌⊎◌, ℕ, false, List, [], ◌∷◌, ◌++◌, Some, Result, Ok, Err, sym, ap, subst, ◌∙◌, inl, inr}
+use Rattle.std.proofs.Common.{◌≡◌, ◌⊎◌, ℕ, false, List, [], ◌∷◌, ◌++◌, Some, Result, Ok, Err, sym, ap, subst, ◌∙◌, inl}
+use Rattle.std.proofs.Common.{inr}
 use Rattle.std.proofs.lemmas.List.{append-nil}
 use Rattle.m36_model.specs.Audit.{AreFindings, IsAudited}
 use Rattle.m36_model.specs.BootedCore.{booted_dbr}
@@ -46,12 +47,15 @@ use Rattle.cmd_image.specs.ImageProgram.{audit_may_end}
 use Rattle.cmd_folder.specs.RunProgram.{finish_may_end}
 use Rattle.cmd_folder.proofs.FolderSteps.{found_passes}
 use Rattle.cmd_make.specs.Made.{boots_from}
-use Rattle.cmd_make.specs.MadeLaw.{GoesToEnd, HasOneEnd, all_written, WritesAndPuts, PutsRun, PutsFindings, BootsTo, MadeLaw}
+use Rattle.cmd_make.specs.MadeLaw.{GoesToEnd, HasOneEnd, all_written, WritesAndPuts, PutsRun, PutsFindings, BootsTo}
+use Rattle.cmd_make.specs.MadeLaw.{MadeLaw}
 use Rattle.cmd_make.specs.MakeProgram.{summed_up, run_summed, found_told, write_and_boot, make_program}
 use Rattle.cmd_make.specs.Making.{sets_of}
 use Rattle.cmd_make.specs.QuietRun.{Ran, run_from}
 use Rattle.cmd_make.specs.Summary.{run_limit, segment_count, head_pieces, end_pieces}
-use Rattle.cmd_make.proofs.MakeGoes.{made_goes, made_then, WritesAndBoots, WriteEnds, write_split, write_then, BootsThen, BootSplit, boot_split, boot_then, boot_stop, refused_is_end, SystemFound, booted_split, booted_then}
+use Rattle.cmd_make.proofs.MakeGoes.{made_goes, made_then, WritesAndBoots, WriteEnds, write_split, write_then}
+use Rattle.cmd_make.proofs.MakeGoes.{BootsThen, BootSplit, boot_split, boot_then, boot_stop, refused_is_end}
+use Rattle.cmd_make.proofs.MakeGoes.{SystemFound, booted_split, booted_then}
 use Rattle.cmd_make.proofs.RunGone.{Gone, run_ends}
 use Rattle.cmd_make.proofs.SummaryEnds.{end_is, PutsFor, found_puts}
 
@@ -59,7 +63,8 @@ use Rattle.cmd_make.proofs.SummaryEnds.{end_is, PutsFor, found_puts}
 
 -- memory did not run out
 no_memory :
-    {P : Type 0} (events : List Event) (result : Result (Unit {0}) Status) → IsEnd result → Ends (Err status.NoMemory) events result → P
+    {P : Type 0} (events : List Event) (result : Result (Unit {0}) Status) → IsEnd result
+    → Ends (Err status.NoMemory) events result → P
 no_memory events result ended ends = absurd (end_is result _ ends.result_is ended)
 
 -- all files were written
@@ -79,7 +84,8 @@ boots_end sets given events result boots ended (inr (inr ends)) = no_memory even
 
 audit_end :
     (given : FolderFields) (events : List Event) (result : Result (Unit {0}) Status)
-    → IsEnd result → SystemFound given events result ⊎ Ends (Err status.NoMemory) events result → SystemFound given events result
+    → IsEnd result → SystemFound given events result ⊎ Ends (Err status.NoMemory) events result
+    → SystemFound given events result
 audit_end given events result ended (inl found) = found
 audit_end given events result ended (inr ends) = no_memory events result ended ends
 
@@ -97,7 +103,8 @@ same_given a b is = cc
 
 pub ends_found :
     (sets : List Set) (given : FolderFields) (events : List Event) (result : Result (Unit {0}) Status)
-    → boots_from sets ≡ Some (Ok given) → GoesToEnd (write_and_boot sets) events result → EndsFound sets given events result
+    → boots_from sets ≡ Some (Ok given) → GoesToEnd (write_and_boot sets) events result
+    → EndsFound sets given events result
 ends_found sets given events result boots goes =
     let ended = goes.is_end in
     let all = all_end sets events result ended (write_split sets events result goes.goes) in
@@ -122,8 +129,10 @@ pub record FoundBy (sets : List Set) (given : FolderFields) (system : SuperField
   pub puts : PutsFor findings sets given.lib (booted_of system) events result
 
 found_by :
-    (sets : List Set) (given : FolderFields) (system : SuperFields) (events : List Event) (result : Result (Unit {0}) Status)
-    → BootsTo sets given system → GoesToEnd (write_and_boot sets) events result → FoundBy sets given system events result
+    (sets : List Set) (given : FolderFields) (system : SuperFields) (events : List Event)
+    (result : Result (Unit {0}) Status)
+    → BootsTo sets given system → GoesToEnd (write_and_boot sets) events result
+    → FoundBy sets given system events result
 found_by sets given system events result to goes =
     let f = ends_found sets given events result to.boots goes in
     let same : f.system ≡ system = one_system given.lib f.system system f.booted to.booted in
@@ -139,8 +148,7 @@ refused_end :
 refused_end sets s more events result boots ended is (inl then) = absurd (let other = then.boots in cc)
 refused_end sets s more events result boots ended is (inr (inl refused)) =
     let other = refused.boots in
-    let same : refused.status ≡ s = cc in
-    (
+    let same : refused.status ≡ s = cc in (
       is ∙ ap (λ l. all_written sets ++ l) refused.none ∙ append-nil (all_written sets),
       refused.result_is ∙ ap (λ (t : Status). let failed : Result (Unit {0}) Status = Err t in failed) same,
     )
@@ -157,7 +165,8 @@ refused_by sets s events result boots goes =
 -- ---- by the conditions of the audit
 
 passed_by :
-    (sets : List Set) (given : FolderFields) (system : SuperFields) (events : List Event) (result : Result (Unit {0}) Status)
+    (sets : List Set) (given : FolderFields) (system : SuperFields) (events : List Event)
+    (result : Result (Unit {0}) Status)
     → BootsTo sets given system → IsAudited system.core booted_dbr → GoesToEnd (write_and_boot sets) events result
     → PutsRun sets given.lib (booted_of system) events result
 passed_by sets given system events result to audited goes =
@@ -170,11 +179,14 @@ some_found :
     (result : Result (Unit {0}) Status)
     → AreFindings system.core booted_dbr findings → ¬ IsAudited system.core booted_dbr
     → PutsFor findings sets lib (booted_of system) events result → PutsFindings sets lib events result
-some_found [] sets lib system events result found fails puts = absurd (fails (findings_law.sound system.core booted_dbr found))
-some_found (f ∷ findings) sets lib system events result found fails puts = record { first = f; others = findings; puts = puts }
+some_found [] sets lib system events result found fails puts =
+    absurd (fails (findings_law.sound system.core booted_dbr found))
+some_found (f ∷ findings) sets lib system events result found fails puts =
+    record { first = f; others = findings; puts = puts }
 
 failed_by :
-    (sets : List Set) (given : FolderFields) (system : SuperFields) (events : List Event) (result : Result (Unit {0}) Status)
+    (sets : List Set) (given : FolderFields) (system : SuperFields) (events : List Event)
+    (result : Result (Unit {0}) Status)
     → BootsTo sets given system → ¬ IsAudited system.core booted_dbr → GoesToEnd (write_and_boot sets) events result
     → PutsFindings sets given.lib events result
 failed_by sets given system events result to fails goes =
@@ -184,8 +196,10 @@ failed_by sets given system events result to fails goes =
 -- ---- one end
 
 same_puts :
-    (sets : List Set) (pieces : List (List ℕ)) (s : Status) (events others : List Event) (result other : Result (Unit {0}) Status)
-    → WritesAndPuts sets pieces s events result → WritesAndPuts sets pieces s others other → (events ≡ others) × (result ≡ other)
+    (sets : List Set) (pieces : List (List ℕ)) (s : Status) (events others : List Event)
+    (result other : Result (Unit {0}) Status)
+    → WritesAndPuts sets pieces s events result → WritesAndPuts sets pieces s others other → (events ≡ others)
+    × (result ≡ other)
 same_puts sets pieces s events others result other one also =
     (one.events_are ∙ sym also.events_are, one.result_is ∙ sym also.result_is)
 
@@ -193,7 +207,8 @@ same_puts sets pieces s events others result other one also =
 abbrev AreSame : List (ℕ × ℕ) → List Set → Library → SuperFields → Type 0
 AreSame findings sets lib system =
     (events others : List Event) (result other : Result (Unit {0}) Status)
-    → PutsFor findings sets lib (booted_of system) events result → PutsFor findings sets lib (booted_of system) others other
+    → PutsFor findings sets lib (booted_of system) events result
+    → PutsFor findings sets lib (booted_of system) others other
     → (events ≡ others) × (result ≡ other)
 
 one_by :
@@ -203,13 +218,15 @@ one_by :
 one_by sets given system to same events others result other goes also =
     let f = found_by sets given system events result to goes in
     let g = found_by sets given system others other to also in
-    let one : g.findings ≡ f.findings = findings_law.unique system.core booted_dbr g.findings f.findings g.found f.found in
+    let one : g.findings ≡ f.findings = findings_law.unique system.core booted_dbr g.findings f.findings g.found
+    f.found in
     same f.findings f.found events others result other f.puts
     (subst (λ (l : List (ℕ × ℕ)). PutsFor l sets given.lib (booted_of system) others other) one g.puts)
 
 failed_same :
     (findings : List (ℕ × ℕ)) (sets : List Set) (lib : Library) (system : SuperFields)
-    → ¬ IsAudited system.core booted_dbr → AreFindings system.core booted_dbr findings → AreSame findings sets lib system
+    → ¬ IsAudited system.core booted_dbr → AreFindings system.core booted_dbr findings
+    → AreSame findings sets lib system
 failed_same [] sets lib system fails found events others result other one also =
     absurd (fails (findings_law.sound system.core booted_dbr found))
 failed_same (f ∷ findings) sets lib system fails found events others result other one also =
@@ -226,13 +243,16 @@ abbrev run_lines : Library → List Turn → Finish → RegsFields → List (Lis
 run_lines lib turns how regs = head_pieces (segment_count lib) [] ++ end_pieces (Some how) (steps_in turns) regs
 
 plain_run :
-    (sets : List Set) (lib : Library) (system : SuperFields) (turns : List Turn) (last : Booted) (how : Finish) (events : List Event)
+    (sets : List Set) (lib : Library) (system : SuperFields) (turns : List Turn) (last : Booted) (how : Finish)
+    (events : List Event)
     (result : Result (Unit {0}) Status)
-    → IsBooted lib system → runs.Goes lib run_limit (booted_of system) turns last → Finishes how lib run_limit turns last
+    → IsBooted lib system → runs.Goes lib run_limit (booted_of system) turns last
+    → Finishes how lib run_limit turns last
     → Each IsPlainTurn turns → PutsRun sets lib (booted_of system) events result
     → WritesAndPuts sets (run_lines lib turns how last.state.regs) (finish_status (Some how)) events result
 plain_run sets lib system turns last how events result booted goes finishes plain run =
-    let one = one_run_here lib run_limit system turns run.turns last run.last how run.how booted goes run.goes finishes run.finishes plain in
+    let one = one_run_here lib run_limit system turns run.turns last run.last how run.how booted goes run.goes finishes
+    run.finishes plain in
     let turns_are = one.turns_are in
     let end_is = one.end_is in
     let regs : last.state.regs ≡ run.last.state.regs = ap (λ (r : FlatRun). r.state.regs) one.left_is in
@@ -244,14 +264,17 @@ plain_run sets lib system turns last how events result booted goes finishes plai
     }
 
 plain_same :
-    (findings : List (ℕ × ℕ)) (sets : List Set) (lib : Library) (system : SuperFields) (turns : List Turn) (last : Booted) (how : Finish)
-    → IsBooted lib system → runs.Goes lib run_limit (booted_of system) turns last → Finishes how lib run_limit turns last
+    (findings : List (ℕ × ℕ)) (sets : List Set) (lib : Library) (system : SuperFields) (turns : List Turn)
+    (last : Booted) (how : Finish)
+    → IsBooted lib system → runs.Goes lib run_limit (booted_of system) turns last
+    → Finishes how lib run_limit turns last
     → Each IsPlainTurn turns → AreSame findings sets lib system
 plain_same [] sets lib system turns last how booted goes finishes plain events others result other one also =
     same_puts sets (run_lines lib turns how last.state.regs) (finish_status (Some how)) events others result other
     (plain_run sets lib system turns last how events result booted goes finishes plain one)
     (plain_run sets lib system turns last how others other booted goes finishes plain also)
-plain_same (f ∷ findings) sets lib system turns last how booted goes finishes plain events others result other one also =
+plain_same (f ∷ findings) sets lib system turns last how booted goes finishes plain events others result other one
+    also =
     same_puts sets (head_pieces (segment_count lib) (f ∷ findings)) status.AuditNo events others result other one also
 
 plain_one :
@@ -279,7 +302,8 @@ pub record Way (lib : Library) (first : Booted) (findings : List (ℕ × ℕ)) :
 -- There is a list of findings, so it is enough to have a way for each list.
 way_end :
     (sets : List Set) (given : FolderFields) (system : SuperFields) → BootsTo sets given system
-    → ((findings : List (ℕ × ℕ)) → AreFindings system.core booted_dbr findings → Way given.lib (booted_of system) findings)
+    → ((findings : List (ℕ × ℕ)) → AreFindings system.core booted_dbr findings
+    → Way given.lib (booted_of system) findings)
     → HasEnd (write_and_boot sets)
 way_end sets given system to ways none =
     some_findings system.core booted_dbr (λ findings found.
@@ -296,14 +320,16 @@ unfolding found_told
 unrun_way lib first f findings = record {
   events = outputs (head_pieces (segment_count lib) (f ∷ findings)) ++ [];
   result = Err status.AuditNo;
-  goes = goes_puts (head_pieces (segment_count lib) (f ∷ findings)) (ends {may = quiet} (audit_status false) (audit_may_end false)) []
+  goes = goes_puts (head_pieces (segment_count lib) (f ∷ findings))
+      (ends {may = quiet} (audit_status false) (audit_may_end false)) []
       (Err status.AuditNo) (goes_ends quiet (audit_status false) (audit_may_end false));
   is_end = tt;
 }
 
 failed_way :
     (findings : List (ℕ × ℕ)) (lib : Library) (system : SuperFields)
-    → AreFindings system.core booted_dbr findings → ¬ IsAudited system.core booted_dbr → Way lib (booted_of system) findings
+    → AreFindings system.core booted_dbr findings → ¬ IsAudited system.core booted_dbr
+    → Way lib (booted_of system) findings
 failed_way [] lib system found fails = absurd (fails (findings_law.sound system.core booted_dbr found))
 failed_way (f ∷ findings) lib system found fails = unrun_way lib (booted_of system) f findings
 
@@ -320,10 +346,13 @@ early_end status.WriteFault own = absurd own
 early_end status.NoMemory own = absurd own
 early_end _ own = tt
 
-lines_go : (r : Ran) → Goes (summed_up r) (outputs (end_pieces (Some r.how) r.steps r.regs) ++ []) (early (finish_status (Some r.how)))
+lines_go :
+    (r : Ran) → Goes (summed_up r) (outputs (end_pieces (Some r.how) r.steps r.regs) ++ [])
+    (early (finish_status (Some r.how)))
 unfolding summed_up
 lines_go r =
-    goes_puts (end_pieces (Some r.how) r.steps r.regs) (ends {may = quiet} (finish_status (Some r.how)) (finish_may_end r.how)) []
+    goes_puts (end_pieces (Some r.how) r.steps r.regs)
+    (ends {may = quiet} (finish_status (Some r.how)) (finish_may_end r.how)) []
     (early (finish_status (Some r.how))) (goes_ends quiet (finish_status (Some r.how)) (finish_may_end r.how))
 
 run_way : (lib : Library) (first : Booted) → Gone (run_from lib 0 run_limit first) → Way lib first []
@@ -340,7 +369,9 @@ run_way lib first gone =
       is_end = early_end (finish_status (Some r.how)) (finish_may_end r.how);
     }
 
-ran_way : (findings : List (ℕ × ℕ)) (lib : Library) (first : Booted) → Gone (run_from lib 0 run_limit first) → Way lib first findings
+ran_way :
+    (findings : List (ℕ × ℕ)) (lib : Library) (first : Booted) → Gone (run_from lib 0 run_limit first)
+    → Way lib first findings
 ran_way [] lib first gone = run_way lib first gone
 ran_way (f ∷ findings) lib first gone = unrun_way lib first f findings
 
@@ -350,14 +381,16 @@ run_some :
     → Finishes how given.lib run_limit turns last → HasEnd (write_and_boot sets)
 run_some sets given system turns last how to goes finishes =
     let gone =
-    run_ends how given.lib run_limit (booted_of system) turns last (start_next given.lib system to.booted) goes.turns_are goes.events finishes in
+    run_ends how given.lib run_limit (booted_of system) turns last
+    (start_next given.lib system to.booted) goes.turns_are goes.events finishes in
     way_end sets given system to (λ findings found. ran_way findings given.lib (booted_of system) gone)
 
 -- ---- the seed
 
 unmade_rule :
     (refusal : Refusal) (events : List Event) (result : Result (Unit {0}) Status)
-    → IsEnd result → Goes {may = writing} (then_with (decides {A = List Set} (Err refusal)) write_and_boot) events result
+    → IsEnd result → Goes {may = writing} (then_with (decides {A = List Set} (Err refusal)) write_and_boot) events
+    result
     → (events ≡ []) × (result ≡ Err (status_of refusal))
 unfolding Goes then_with decides
 unmade_rule (BadFile bad) events result ended (inl goes) = (goes.none, goes.result_is)
@@ -374,7 +407,8 @@ unmade_by :
 unfolding make_program
 unmade_by seed refusal events result is goes =
     unmade_rule refusal events result goes.is_end
-    (subst (λ (rule : Early (List Set)). Goes {may = writing} (then_with (decides rule) write_and_boot) events result) is goes.goes)
+    (subst (λ (rule : Early (List Set)). Goes {may = writing} (then_with (decides rule) write_and_boot) events result)
+    is goes.goes)
 
 made_end :
     (sets : List Set) (events : List Event) (result : Result (Unit {0}) Status)
@@ -385,8 +419,10 @@ made_end sets events result ended (inr ends) = no_memory events result ended end
 
 pub made_by :
     (seed : ℕ) (sets : List Set) (events : List Event) (result : Result (Unit {0}) Status)
-    → sets_of seed ≡ Ok sets → GoesToEnd (make_program seed) events result → GoesToEnd (write_and_boot sets) events result
-made_by seed sets events result is goes = made_end sets events result goes.is_end (made_goes seed sets events result is goes.goes)
+    → sets_of seed ≡ Ok sets → GoesToEnd (make_program seed) events result
+    → GoesToEnd (write_and_boot sets) events result
+made_by seed sets events result is goes =
+    made_end sets events result goes.is_end (made_goes seed sets events result is goes.goes)
 
 made_some :
     (seed : ℕ) (sets : List Set) → sets_of seed ≡ Ok sets → HasEnd (write_and_boot sets) → HasEnd (make_program seed)

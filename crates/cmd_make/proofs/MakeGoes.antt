@@ -1,5 +1,6 @@
 -- The events of `make`, part by part: the files are made and written, and then booted.
-use Rattle.std.proofs.Common.{◌≡◌, ◌⊎◌, ℕ, List, [], ◌∷◌, ◌++◌, Option, Some, None, Result, Ok, Err, refl, sym, ap, subst, ◌∙◌, inl, inr}
+use Rattle.std.proofs.Common.{◌≡◌, ◌⊎◌, ℕ, List, [], ◌∷◌, ◌++◌, Option, Some, None, Result, Ok, Err, refl, sym, ap}
+use Rattle.std.proofs.Common.{subst, ◌∙◌, inl, inr}
 use Rattle.m36_outside.specs.declared.folder.WriteAnswer.{WriteAnswer}
 use Rattle.m36_outside.specs.declared.folder.WriteAnswer.TheVariants as write
 use Rattle.m36_world.specs.declared.event.Event.{Event}
@@ -44,19 +45,22 @@ pub made_goes :
     → Goes (write_and_boot sets) events result ⊎ Ends (Err NoMemory) events result
 unfolding Goes then_with decides make_program
 made_goes seed sets events result is goes =
-    subst (λ (rule : Early (List Set)). Goes {may = writing} (then_with (decides rule) write_and_boot) events result) is goes
+    subst (λ (rule : Early (List Set)). Goes {may = writing} (then_with (decides rule) write_and_boot) events result) is
+    goes
 
 pub made_then :
     (seed : ℕ) (sets : List Set) (events : List Event) (result : Result (Unit {0}) Status)
     → sets_of seed ≡ Ok sets → Goes (write_and_boot sets) events result → Goes (make_program seed) events result
 unfolding Goes then_with decides make_program
 made_then seed sets events result is goes =
-    subst (λ (rule : Early (List Set)). Goes {may = writing} (then_with (decides rule) write_and_boot) events result) (sym is) (inl goes)
+    subst (λ (rule : Early (List Set)). Goes {may = writing} (then_with (decides rule) write_and_boot) events result)
+    (sym is) (inl goes)
 
 -- ---- writing
 
 -- All files were written, and then the rest of the program followed.
-pub record WritesThen (sets : List Set) (rest : Program writing (Unit {0})) (events : List Event) (result : Result (Unit {0}) Status)
+pub record WritesThen (sets : List Set) (rest : Program writing (Unit {0})) (events : List Event)
+    (result : Result (Unit {0}) Status)
     : Type 0 where
   pub more : List Event
   pub is : events ≡ all_written sets ++ more
@@ -72,7 +76,8 @@ WritesSplit sets rest events result = WritesThen sets rest events result ⊎ Wri
 
 write_ends :
     (set : Set) (answer : WriteAnswer) (s : Status) (more events : List Event) (result : Result (Unit {0}) Status)
-    → events ≡ FileWrite set.name set.content answer ∷ more → Ends (Err s) more result → (IsEnd {A = Unit {0}} (Err s) → ⊥)
+    → events ≡ FileWrite set.name set.content answer ∷ more → Ends (Err s) more result
+    → (IsEnd {A = Unit {0}} (Err s) → ⊥)
     → WriteEnds events result
 write_ends set answer s more events result first ends never = record {
   none = ap pieces_of first ∙ ap pieces_of ends.none;
@@ -172,7 +177,8 @@ boots_end sets events result (inl goes) =
 boots_end sets events result (inr ends) = (ends.none, inl ends.result_is)
 
 boots_goes :
-    (sets : List Set) (result : Result FolderFields Status) → boots_from sets ≡ Some result → Goes (boot_files sets) [] result
+    (sets : List Set) (result : Result FolderFields Status) → boots_from sets ≡ Some result
+    → Goes (boot_files sets) [] result
 unfolding Goes boot_files boots_from
 boots_goes sets result is = inl (in_memory_goes (files_in sets) (folder_given {may = quiet} None) result is)
 
@@ -201,7 +207,8 @@ BootSplit sets events result =
 
 value_given :
     (sets : List Set) (first : List Event) (value : FolderFields) (outcome : Option (Result FolderFields Status))
-    → (let r : Result FolderFields Status = Ok value in r ≡ Err NoMemory) ⊎ (outcome ≡ Some (Ok value)) → outcome ≡ Some (Ok value)
+    → (let r : Result FolderFields Status = Ok value in r ≡ Err NoMemory) ⊎ (outcome ≡ Some (Ok value))
+    → outcome ≡ Some (Ok value)
 value_given sets first value outcome (inl memory) = absurd (cc)
 value_given sets first value outcome (inr is) = is
 
@@ -220,10 +227,15 @@ boots_on sets events result both =
 status_given :
     (sets : List Set) (events : List Event) (result : Result (Unit {0}) Status) (s : Status)
     → result ≡ Err s → events ≡ []
-    → (let r : Result FolderFields Status = Err s in r ≡ Err NoMemory) ⊎ (boots_from sets ≡ Some (Err s)) → BootSplit sets events result
+    → (let r : Result FolderFields Status = Err s in r ≡ Err NoMemory) ⊎ (boots_from sets ≡ Some (Err s))
+    → BootSplit sets events result
 status_given sets events result s is none (inl memory) =
     let same : s ≡ NoMemory = cc in
-    inr (inr (record { none = none; result_is = is ∙ ap (λ (t : Status). let failed : Result (Unit {0}) Status = Err t in failed) same }))
+    inr (inr (record {
+      none = none;
+      result_is = is
+          ∙ ap (λ (t : Status). let failed : Result (Unit {0}) Status = Err t in failed) same;
+    }))
 status_given sets events result s is none (inr boots) =
     inr (inl (record { status = s; none = none; result_is = is; boots = boots }))
 
@@ -282,7 +294,8 @@ unfolding Goes on_booted
 booted_split given events result goes = system_split given goes.value events result goes.is goes.rest
 
 pub booted_then :
-    (given : FolderFields) (system : SuperFields) (findings : List (ℕ × ℕ)) (events : List Event) (result : Result (Unit {0}) Status)
+    (given : FolderFields) (system : SuperFields) (findings : List (ℕ × ℕ)) (events : List Event)
+    (result : Result (Unit {0}) Status)
     → IsBooted given.lib system → AreFolderFindings given.lib system findings
     → Goes (found_told given.lib (booted_of system) findings) events result → Goes (on_booted given) events result
 unfolding Goes on_booted on_system

@@ -24,27 +24,32 @@ use Rattle.cmd_make.proofs.WithinLaws.{performs_within}
 
 -- a rule gave a value
 given_then :
-    (may : May) {A : Type 0} (rule : Result A Refusal) (next : A → Program may (Unit {0})) (a : A) (result : Result (Unit {0}) Status) (old new : Seen)
+    (may : May) {A : Type 0} (rule : Result A Refusal) (next : A → Program may (Unit {0})) (a : A)
+    (result : Result (Unit {0}) Status) (old new : Seen)
     → Gives (Ok a) rule → Performs (next a) result old new → Performs (then_with (decides rule) next) result old new
 given_then may rule next a result old new gives performs =
     performs_then (decides rule) next a result old old new (rule_given may (Ok a) rule (Ok a) old gives refl) performs
 
 -- a rule gave a refusal
 given_stop :
-    (may : May) {A : Type 0} (rule : Result A Refusal) (next : A → Program may (Unit {0})) (r : Refusal) (s : Status) (seen : Seen)
+    (may : May) {A : Type 0} (rule : Result A Refusal) (next : A → Program may (Unit {0})) (r : Refusal) (s : Status)
+    (seen : Seen)
     → Gives {A = A} (Err r) rule → s ≡ status_of r → Performs (then_with (decides rule) next) (Err s) seen seen
 given_stop may {A} rule next r s seen gives is =
     performs_stop (decides rule) next s seen seen
-    (rule_given may (Err r) rule (let failed : Result A Status = Err s in failed) seen gives (ap (λ (t : Status). let failed : Result A Status = Err t in failed) is))
+    (rule_given may (Err r) rule (let failed : Result A Status = Err s in failed) seen gives
+    (ap (λ (t : Status). let failed : Result A Status = Err t in failed) is))
 
 -- ---- booting
 
 pub boot_given :
     (sets : List Set) (given : FolderFields) (result : Result (Unit {0}) Status) (old new : Seen)
-    → Goes (boot_files sets) [] (Ok given) → Performs (on_booted given) result old new → Performs (boot_made sets) result old new
+    → Goes (boot_files sets) [] (Ok given) → Performs (on_booted given) result old new
+    → Performs (boot_made sets) result old new
 unfolding boot_made
 boot_given sets given result old new goes performs =
-    performs_then (boot_files sets) on_booted given result old old new (performs_none (boot_files sets) (Ok given) old goes) performs
+    performs_then (boot_files sets) on_booted given result old old new
+    (performs_none (boot_files sets) (Ok given) old goes) performs
 
 pub boot_stopped :
     (sets : List Set) (s : Status) (seen : Seen)
@@ -81,9 +86,11 @@ pub ruleset writing = (written_then, not_written)
 
 pub make_given :
     (seed : ℕ) (sets : List Set) (result : Result (Unit {0}) Status) (old new : Seen)
-    → Gives (Ok sets) (sets_of seed) → Performs (write_and_boot sets) result old new → Performs (make_program seed) result old new
+    → Gives (Ok sets) (sets_of seed) → Performs (write_and_boot sets) result old new
+    → Performs (make_program seed) result old new
 unfolding make_program
-make_given seed sets result old new gives performs = given_then allows.writing (sets_of seed) write_and_boot sets result old new gives performs
+make_given seed sets result old new gives performs =
+    given_then allows.writing (sets_of seed) write_and_boot sets result old new gives performs
 
 pub make_refused :
     (seed : ℕ) (r : Refusal) (s : Status) (seen : Seen)

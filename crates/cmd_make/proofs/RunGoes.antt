@@ -1,5 +1,6 @@
 -- The program of a quiet run has no events. If it gives a value, its turns are those of a booted run that ended.
-use Rattle.std.proofs.Common.{◌≡◌, ◌≢◌, ◌⊎◌, ℕ, zero, suc, ◌+◌, Bool, true, false, List, [], ◌∷◌, Result, Ok, Err, refl, sym, ap, subst, ◌∙◌, inl, inr, arith, add-zero}
+use Rattle.std.proofs.Common.{◌≡◌, ◌≢◌, ◌⊎◌, ℕ, zero, suc, ◌+◌, Bool, true, false, List, [], ◌∷◌, Result, Ok, Err, refl}
+use Rattle.std.proofs.Common.{sym, ap, subst, ◌∙◌, inl, inr, arith, add-zero}
 use Rattle.m36_world.specs.declared.event.Event.{Event}
 use Rattle.m36_model.specs.Fields.{AtFields}
 use Rattle.m36_model.specs.declared.endings.End.{End}
@@ -42,7 +43,8 @@ RunBy lib taken left b (Ok r) = HasRun lib taken left b r
 RunBy lib taken left b (Err s) = s ≡ NoMemory
 
 -- The program of a run had no events, and one of these results.
-pub record RunGoes (lib : Library) (taken left : ℕ) (b : Booted) (events : List Event) (result : Result Ran Status) : Type 0 where
+pub record RunGoes (lib : Library) (taken left : ℕ) (b : Booted) (events : List Event)
+    (result : Result Ran Status) : Type 0 where
   pub none : events ≡ []
   pub run : RunBy lib taken left b result
 
@@ -54,7 +56,8 @@ none_made lib left b = record { turns_are = refl; events = tt; few = omega arith
 
 -- a run that ends here
 ends_here :
-    (lib : Library) (taken left : ℕ) (b later : Booted) (how : Finish) (events : List Event) (result : Result Ran Status)
+    (lib : Library) (taken left : ℕ) (b later : Booted) (how : Finish) (events : List Event)
+    (result : Result Ran Status)
     → Finishes how lib left [] b → later.state.regs ≡ b.state.regs
     → Ends (Ok (ran how taken later)) events result → RunGoes lib taken left b events result
 unfolding steps_in
@@ -77,7 +80,8 @@ finishes_on :
     → all ≡ steps_of told + left → Finishes how lib left turns last → Finishes how lib all (told ∷ turns) last
 unfolding steps_in
 finishes_on (Over e) lib left all told turns last is finishes = finishes
-finishes_on Limit lib left all told turns last is finishes = (ap (λ n. steps_of told + n) finishes.0 ∙ sym is, finishes.1)
+finishes_on Limit lib left all told turns last is finishes =
+    (ap (λ n. steps_of told + n) finishes.0 ∙ sym is, finishes.1)
 
 made_first :
     (lib : Library) (left all : ℕ) (b after : Booted) (told : Turn) (turns : List Turn) (last : Booted)
@@ -110,7 +114,8 @@ run_first lib taken now left all b after told (Ok r) is event all_is now_is run 
 run_first lib taken now left all b after told (Err s) is event all_is now_is memory = memory
 
 turn_goes :
-    (lib : Library) (taken now left all : ℕ) (b after : Booted) (told : Turn) (events : List Event) (result : Result Ran Status)
+    (lib : Library) (taken now left all : ℕ) (b after : Booted) (told : Turn) (events : List Event)
+    (result : Result Ran Status)
     → IsTurn lib b told after → IsEvent told → all ≡ steps_of told + left → now ≡ taken + steps_of told
     → RunGoes lib now left after events result → RunGoes lib taken all b events result
 turn_goes lib taken now left all b after told events result is event all_is now_is goes = record {
@@ -149,7 +154,8 @@ pub record IsServiceMade (told : Turn) (next : NextEvent) : Type 0 where
   pub silent : IsQuiet next
 
 pub linked_made :
-    (answer : Result SnapFields RefusedFields) (frames : ℕ) (at : AtFields) (before : Booted) (told : Turn) (after : Booted)
+    (answer : Result SnapFields RefusedFields) (frames : ℕ) (at : AtFields) (before : Booted) (told : Turn)
+    (after : Booted)
     → IsLinkTurn answer frames at before told after → told ≢ turn.NoMemory → IsServiceMade told after.coming
 linked_made (Ok s) frames at before (turn.Linked note) after is found =
     record { event = tt; counts = refl; silent = link_quiet (Ok s) frames at before (turn.Linked note) after is tt }
@@ -229,7 +235,8 @@ service_goes :
     → Goes (then_by after.coming lib taken left after) events result → RunGoes lib taken left b events result
 service_goes lib taken left b after told events result on is made goes =
     let none = made.counts in
-    turn_goes lib taken taken left left b after told events result is made.event (omega (arith, none)) (omega (arith, none))
+    turn_goes lib taken taken left left b after told events result is made.event (omega (arith, none))
+    (omega (arith, none))
     (after_goes after.coming lib taken left after events result on made.silent refl goes)
 
 print_goes :
@@ -264,7 +271,8 @@ link_goes lib taken left b at events result on is (inl goes) =
     let turns : IsTurnBy (Link at) lib b goes.value.turn goes.value.after =
     subst (λ c. IsTurnBy c lib b goes.value.turn goes.value.after) is goes.is.is in
     service_goes lib taken left b goes.value.after goes.value.turn events result on goes.is.is
-    (linked_made (snap_of b.known lib.catalog lib.files at) lib.catalog.frames at b goes.value.turn goes.value.after turns goes.is.found)
+    (linked_made (snap_of b.known lib.catalog lib.files at) lib.catalog.frames at b goes.value.turn goes.value.after
+    turns goes.is.found)
     goes.rest
 link_goes lib taken left b at events result on is (inr ends) =
     no_memory_here lib taken left b events result ends
@@ -316,4 +324,5 @@ pub run_goes : (lib : Library) (left taken : ℕ) → GoesOn lib taken left
 unfolding Goes run_from steps_in
 run_goes lib zero taken b events result next goes = ends_here lib taken 0 b b Limit events result (refl, next) refl goes
 run_goes lib (suc left) taken b events result next goes =
-    step_goes lib taken left b goes.value.after goes.value.turn events result (run_goes lib left (taken + 1)) next goes.is goes.rest
+    step_goes lib taken left b goes.value.after goes.value.turn events result
+    (run_goes lib left (taken + 1)) next goes.is goes.rest

@@ -28,7 +28,8 @@ abbrev pub Gone : Program quiet Ran → Type 0
 Gone p = (r : Ran) × Goes p [] (Ok r)
 
 -- Some turns from state b are a run that ends, with at most `left` steps.
-pub record RunsOn (how : Finish) (lib : Library) (left : ℕ) (b : Booted) (turns : List Turn) (last : Booted) : Type 0 where
+pub record RunsOn (how : Finish) (lib : Library) (left : ℕ) (b : Booted) (turns : List Turn)
+    (last : Booted) : Type 0 where
   pub are : AreTurns lib b turns last
   pub events : Each IsEvent turns
   pub finishes : Finishes how lib left turns last
@@ -36,7 +37,8 @@ pub record RunsOn (how : Finish) (lib : Library) (left : ℕ) (b : Booted) (turn
 -- then the program ends from a state before a step
 abbrev pub Ends : Finish → Library → ℕ → ℕ → Booted → Type 0
 Ends how lib taken left last =
-    (b : Booted) (turns : List Turn) → b.coming ≡ Step → RunsOn how lib left b turns last → Gone (run_from lib taken left b)
+    (b : Booted) (turns : List Turn) → b.coming ≡ Step → RunsOn how lib left b turns last
+    → Gone (run_from lib taken left b)
 
 -- ---- the turns that are left
 
@@ -52,7 +54,8 @@ finishes_left Limit lib left all told turns last is finishes =
     (count, finishes.1)
 
 -- the first turn, and the others
-pub record FirstTurn (how : Finish) (lib : Library) (all : ℕ) (b : Booted) (told : Turn) (turns : List Turn) (last : Booted) : Type 0 where
+pub record FirstTurn (how : Finish) (lib : Library) (all : ℕ) (b : Booted) (told : Turn) (turns : List Turn)
+    (last : Booted) : Type 0 where
   pub mid : Booted
   pub is : IsTurn lib b told mid
   pub event : IsEvent told
@@ -74,7 +77,9 @@ first_turn how lib all b told turns last runs = record {
 }
 
 -- no turn is left
-none_left : (how : Finish) (lib : Library) (left : ℕ) (b last : Booted) → RunsOn how lib left b [] last → Finishes how lib left [] b
+none_left :
+    (how : Finish) (lib : Library) (left : ℕ) (b last : Booted) → RunsOn how lib left b [] last
+    → Finishes how lib left [] b
 unfolding AreTurns
 none_left how lib left b last runs = subst (λ l. Finishes how lib left [] l) runs.are runs.finishes
 
@@ -98,7 +103,8 @@ after_gone (coming.Over e) how lib taken left b turns last on silent is runs =
 
 -- a console service that ended the run
 over_gone :
-    (lib : Library) (taken left : ℕ) (b : Booted) (e : End) → b.coming ≡ coming.Over e → Gone (then_by b.coming lib taken left b)
+    (lib : Library) (taken left : ℕ) (b : Booted) (e : End) → b.coming ≡ coming.Over e
+    → Gone (then_by b.coming lib taken left b)
 over_gone lib taken left b e is =
     subst (λ (c : NextEvent). Gone (then_by c lib taken left b)) (sym is)
     (ran (Over e) taken b, goes_done quiet (ran (Over e) taken b))
@@ -128,7 +134,8 @@ print_chosen lib taken left b mid told is gone =
 
 -- No run ends before a link service.
 no_end_here :
-    (how : Finish) (lib : Library) (left : ℕ) (b : Booted) (at : AtFields) → b.coming ≡ Link at → Finishes how lib left [] b → ⊥
+    (how : Finish) (lib : Library) (left : ℕ) (b : Booted) (at : AtFields) → b.coming ≡ Link at
+    → Finishes how lib left [] b → ⊥
 unfolding IsTurn
 no_end_here (Over e) lib left b at is ends =
     link_is (snap_of b.known lib.catalog lib.files at) lib.catalog.frames at b (turn.Ended e) ends.0
@@ -140,7 +147,8 @@ link_gone :
     → Ends how lib taken left last → b.coming ≡ Link at → RunsOn how lib left b turns last
     → Gone (served_by (Link at) lib taken left b)
 unfolding IsTurn
-link_gone how lib taken left b [] last at on is runs = absurd (no_end_here how lib left b at is (none_left how lib left b last runs))
+link_gone how lib taken left b [] last at on is runs =
+    absurd (no_end_here how lib left b at is (none_left how lib left b last runs))
 link_gone how lib taken left b (told ∷ turns) last at on is runs =
     let first = first_turn how lib left b told turns last runs in
     let made : IsServiceMade told first.mid.coming =
@@ -148,21 +156,26 @@ link_gone how lib taken left b (told ∷ turns) last at on is runs =
     (subst (λ c. IsTurnBy c lib b told first.mid) is first.is) (λ e. subst IsEvent e first.event) in
     let none = made.counts in
     link_chosen lib taken left b first.mid told at first.is first.event
-    (after_gone first.mid.coming how lib taken left first.mid turns last on made.silent refl (first.on left (omega (arith, none))))
+    (after_gone first.mid.coming how lib taken left first.mid turns last on made.silent refl
+    (first.on left (omega (arith, none))))
 
 print_made_by :
-    (lib : Library) (b mid : Booted) (told : Turn) → b.coming ≡ Print → IsTurn lib b told mid → PrintMade told mid.coming
+    (lib : Library) (b mid : Booted) (told : Turn) → b.coming ≡ Print → IsTurn lib b told mid
+    → PrintMade told mid.coming
 unfolding IsTurn
 print_made_by lib b mid told is turns = print_made _ _ b told mid (subst (λ c. IsTurnBy c lib b told mid) is turns)
 
 print_first :
     (how : Finish) (lib : Library) (taken left : ℕ) (b : Booted) (told : Turn) (turns : List Turn) (last : Booted)
-    → Ends how lib taken left last → (first : FirstTurn how lib left b told turns last) → PrintMade told first.mid.coming
+    → Ends how lib taken left last → (first : FirstTurn how lib left b told turns last)
+    → PrintMade told first.mid.coming
     → Gone (then_by first.mid.coming lib taken left first.mid)
 print_first how lib taken left b told turns last on first (inl made) =
     let none = made.counts in
-    after_gone first.mid.coming how lib taken left first.mid turns last on made.silent refl (first.on left (omega (arith, none)))
-print_first how lib taken left b told turns last on first (inr over) = over_gone lib taken left first.mid over.0 over.1.next_is
+    after_gone first.mid.coming how lib taken left first.mid turns last on made.silent refl
+    (first.on left (omega (arith, none)))
+print_first how lib taken left b told turns last on first (inr over) =
+    over_gone lib taken left first.mid over.0 over.1.next_is
 
 print_last :
     (lib : Library) (taken left : ℕ) (after : Booted) (e : End) → PrintMade (turn.Ended e) after.coming
@@ -182,7 +195,8 @@ print_gone :
     (how : Finish) (lib : Library) (taken left : ℕ) (b : Booted) (turns : List Turn) (last : Booted)
     → Ends how lib taken left last → b.coming ≡ Print → RunsOn how lib left b turns last
     → Gone (served_by Print lib taken left b)
-print_gone how lib taken left b [] last on is runs = print_ends how lib taken left b is (none_left how lib left b last runs)
+print_gone how lib taken left b [] last on is runs =
+    print_ends how lib taken left b is (none_left how lib left b last runs)
 print_gone how lib taken left b (told ∷ turns) last on is runs =
     let first = first_turn how lib left b told turns last runs in
     print_chosen lib taken left b first.mid told first.is
@@ -193,7 +207,8 @@ serves_gone :
     → Ends how lib taken left last → b.coming ≡ next → RunsOn how lib left b turns last
     → Gone (served_by next lib taken left b)
 serves_gone Step how lib taken left b turns last on is runs = on b turns is runs
-serves_gone (Link at) how lib taken left b turns last on is runs = link_gone how lib taken left b turns last at on is runs
+serves_gone (Link at) how lib taken left b turns last on is runs =
+    link_gone how lib taken left b turns last at on is runs
 serves_gone Print how lib taken left b turns last on is runs = print_gone how lib taken left b turns last on is runs
 serves_gone (coming.Over e) how lib taken left b turns last on is runs =
     (ran (Over e) taken b, goes_done quiet (ran (Over e) taken b))

@@ -1,5 +1,6 @@
 -- What the program puts of a system if it ends by itself: the lines of a run, or those of findings.
-use Rattle.std.proofs.Common.{◌≡◌, ℕ, false, List, [], ◌∷◌, ◌++◌, Some, Result, Ok, Err, refl, sym, ap, subst, ◌∙◌, inl, inr, zero-add}
+use Rattle.std.proofs.Common.{◌≡◌, ℕ, false, List, [], ◌∷◌, ◌++◌, Some, Result, Ok, Err, refl, sym, ap, subst, ◌∙◌, inl}
+use Rattle.std.proofs.Common.{inr, zero-add}
 use Rattle.m36_world.specs.declared.event.Event.{Event}
 use Rattle.m36_world.specs.declared.event.Event.TheVariants.{Output}
 use Rattle.m36_world.specs.Follow.{outputs}
@@ -36,15 +37,18 @@ use Rattle.cmd_make.proofs.RunGoes.{HasRun, run_goes}
 -- ---- pieces are put, and no put fails
 
 -- a result that is an end, and one of these statuses
-pub end_is : {A : Type 0} (result : Result A Status) (s : Status) → result ≡ Err s → IsEnd result → IsEnd {A = A} (Err s)
+pub end_is :
+    {A : Type 0} (result : Result A Status) (s : Status) → result ≡ Err s → IsEnd result → IsEnd {A = A} (Err s)
 end_is {A} result s is ended = subst (IsEnd {A = A}) is ended
 
 pub puts_end :
-    {may : May} {A : Type 0} (pieces : List (List ℕ)) (rest : Program may A) (events : List Event) (result : Result A Status)
+    {may : May} {A : Type 0} (pieces : List (List ℕ)) (rest : Program may A) (events : List Event)
+    (result : Result A Status)
     → IsEnd result → Goes (puts_all pieces rest) events result → ThenGoes pieces rest events result
 puts_end {may} pieces rest events result ended goes =
     puts_gone pieces rest events result
-    (trail_put may events result (λ failed. end_is result _ failed ended) (goes_trail (puts_all pieces rest) events result goes)) goes
+    (trail_put may events result (λ failed. end_is result _ failed ended)
+    (goes_trail (puts_all pieces rest) events result goes)) goes
 
 pub puts_whole :
     (pieces : List (List ℕ)) (s : Status) (own : MayEnd s) (events : List Event) (result : Result (Unit {0}) Status)
@@ -57,7 +61,8 @@ puts_whole pieces s own events result ended goes =
 
 -- ---- a run, and its lines
 
-pub record RunPuts (lib : Library) (limit : ℕ) (first : Booted) (events : List Event) (result : Result (Unit {0}) Status)
+pub record RunPuts (lib : Library) (limit : ℕ) (first : Booted) (events : List Event)
+    (result : Result (Unit {0}) Status)
     : Type 0 where
   pub turns : List Turn
   pub last : Booted
@@ -77,7 +82,8 @@ lines_are lib limit first r run =
 
 run_ended :
     (lib : Library) (limit : ℕ) (first : Booted) (r : Ran) (events : List Event) (result : Result (Unit {0}) Status)
-    → IsEnd result → HasRun lib 0 limit first r → Goes (summed_up r) events result → RunPuts lib limit first events result
+    → IsEnd result → HasRun lib 0 limit first r → Goes (summed_up r) events result
+    → RunPuts lib limit first events result
 unfolding summed_up
 run_ended lib limit first r events result ended run goes = record {
   turns = run.turns;
@@ -86,7 +92,8 @@ run_ended lib limit first r events result ended run goes = record {
   goes = run.made;
   finishes = run.finishes;
   puts = subst (λ l. PutsWhole l (finish_status (Some r.how)) events result) (lines_are lib limit first r run)
-      (puts_whole (end_pieces (Some r.how) r.steps r.regs) (finish_status (Some r.how)) (finish_may_end r.how) events result ended goes);
+      (puts_whole (end_pieces (Some r.how) r.steps r.regs) (finish_status (Some r.how))
+      (finish_may_end r.how) events result ended goes);
 }
 
 run_split :
@@ -101,16 +108,19 @@ run_split lib limit first events result next ended (inl both) =
 run_split lib limit first events result next ended (inr (inl stops)) =
     let run = run_goes lib limit 0 first events (Err stops.status) next stops.goes in
     let memory = run.run in
-    absurd (end_is result _ (stops.result_is ∙ ap (λ (s : Status). let failed : Result (Unit {0}) Status = Err s in failed) memory) ended)
+    absurd (end_is result _ (stops.result_is ∙ ap (λ (s : Status). let failed : Result (Unit {0}) Status = Err s in
+    failed) memory) ended)
 run_split lib limit first events result next ended (inr (inr across)) =
     absurd (end_is result _ (goes_failed (summed_up across.value) across.rest result across.goes_on) ended)
 
 run_puts :
     (lib : Library) (limit : ℕ) (first : Booted) (events : List Event) (result : Result (Unit {0}) Status)
-    → first.coming ≡ Step → IsEnd result → Goes (run_summed lib limit first) events result → RunPuts lib limit first events result
+    → first.coming ≡ Step → IsEnd result → Goes (run_summed lib limit first) events result
+    → RunPuts lib limit first events result
 unfolding run_summed
 run_puts lib limit first events result next ended goes =
-    run_split lib limit first events result next ended (goes_split (run_from lib 0 limit first) summed_up events result goes)
+    run_split lib limit first events result next ended
+    (goes_split (run_from lib 0 limit first) summed_up events result goes)
 
 -- ---- by the findings
 
@@ -127,8 +137,10 @@ PutsFor (f ∷ findings) sets lib first events result =
 
 run_after :
     (sets : List Set) (lib : Library) (first : Booted) (more events : List Event) (result : Result (Unit {0}) Status)
-    → events ≡ all_written sets ++ more → ThenGoes (head_pieces (segment_count lib) []) (run_summed lib run_limit first) more result
-    → ((rest : List Event) → Goes (run_summed lib run_limit first) rest result → RunPuts lib run_limit first rest result)
+    → events ≡ all_written sets ++ more → ThenGoes (head_pieces (segment_count lib) []) (run_summed lib run_limit first)
+    more result
+    → ((rest : List Event) → Goes (run_summed lib run_limit first) rest result
+    → RunPuts lib run_limit first rest result)
     → PutsRun sets lib first events result
 run_after sets lib first more events result is then on =
     let run = on then.more then.goes in
@@ -151,7 +163,8 @@ run_after sets lib first more events result is then on =
 pub found_puts :
     (findings : List (ℕ × ℕ)) (sets : List Set) (lib : Library) (first : Booted) (more events : List Event)
     (result : Result (Unit {0}) Status)
-    → first.coming ≡ Step → IsEnd result → events ≡ all_written sets ++ more → Goes (found_told lib first findings) more result
+    → first.coming ≡ Step → IsEnd result → events ≡ all_written sets ++ more
+    → Goes (found_told lib first findings) more result
     → PutsFor findings sets lib first events result
 unfolding found_told
 found_puts [] sets lib first more events result next ended is goes =
@@ -160,5 +173,6 @@ found_puts [] sets lib first more events result next ended is goes =
     (λ rest on. run_puts lib run_limit first rest result next ended on)
 found_puts (f ∷ findings) sets lib first more events result next ended is goes =
     let whole =
-    puts_whole (head_pieces (segment_count lib) (f ∷ findings)) (audit_status false) (audit_may_end false) more result ended goes in
+    puts_whole (head_pieces (segment_count lib) (f ∷ findings)) (audit_status false)
+    (audit_may_end false) more result ended goes in
     record { events_are = is ∙ ap (λ l. all_written sets ++ l) whole.events_are; result_is = whole.result_is }

@@ -47,7 +47,8 @@ found_told lib first findings =
 
 -- Audits the system. Memory may run out here, and after that only in a link service.
 unfoldable pub on_system : Library → SuperFields → Program quiet (Unit {0})
-on_system lib system = wants (some (AreFolderFindings lib system) (found_told lib (booted_of system)))
+on_system lib system =
+    wants (some (AreFolderFindings lib system) (found_told lib (booted_of system)))
 
 -- What is done with the system that the library boots to. There is at most one, by `system` of
 -- `FolderDueLaw` of `m36_booted`.

@@ -17,8 +17,11 @@ returns g c =
     let s = g.S.Sink in
     record {
       performs =
-          performs_over (make_program c.args.seed) c.make_files-outcome.result c.status_by.result _ _ _ _ c.status_by.ensures begun.events
-          (same_now f.asked f.wrote f.files f.read_faults f.write_faults l.given l.left l.faults s.taken s.written s.faults _ _ _ _ _ _ _ _ begun.folder begun.input begun.output)
-          (same_now f.asked f.wrote f.files f.read_faults f.write_faults l.given l.left l.faults s.taken s.written s.faults _ _ _ _ _ _ _ _ (search rules) (search rules) (search rules))
+          performs_over (make_program c.args.seed) c.make_files-outcome.result c.status_by.result _ _ _ _
+          c.status_by.ensures begun.events
+          (same_now f.asked f.wrote f.files f.read_faults f.write_faults l.given l.left l.faults s.taken s.written
+          s.faults _ _ _ _ _ _ _ _ begun.folder begun.input begun.output)
+          (same_now f.asked f.wrote f.files f.read_faults f.write_faults l.given l.left l.faults s.taken s.written
+          s.faults _ _ _ _ _ _ _ _ (search rules) (search rules) (search rules))
           c.make_files-outcome.ensures;
     }
