@@ -35,19 +35,12 @@ use Rattle.cmd_folder.specs.RunProgram.{Running, Made, IsMade, FindsMemory, run_
 use Rattle.cmd_folder.specs.RunSays.{IsShown, run_of, from_step, from_service, TurnSays, LinkBefore}
 use Rattle.cmd_folder.proofs.BlockLaws.{GoesAs, leads_under, leads_on, performs_starved, performs_unput}
 
--- what is left of a run after a step that was taken
-abbrev on_from : Running → ℕ → ℕ → Booted → Program quiet (Unit {0})
-on_from run taken left b = run_from run taken left b
-
 -- the program after a step, by what is next
 abbrev served : Running → ℕ → ℕ → Booted → Program quiet (Unit {0})
 served run taken left b = serve run taken (λ b. run_from run taken left b) b
 
 abbrev then_from : Running → ℕ → ℕ → Booted → Program quiet (Unit {0})
 then_from run taken left b = then_on run taken (λ b. run_from run taken left b) b
-
-made_of : Turn → SuperFields → Made
-made_of turn after = record { turn = turn; after = booted_of after }
 
 serve_is :
     (coming : NextEvent) (run : Running) (taken left : ℕ) (b : Booted)

@@ -31,5 +31,3 @@ some_shown answer (c ∷ text) block old new none some did = one_shown answer (c
 pub ruleset showing = (none_shown, some_shown)
 
 pub ruleset adding = (gathers_none)
-
-pub ruleset finishing = (adds_then, loses_more)
