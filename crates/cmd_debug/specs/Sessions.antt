@@ -67,8 +67,8 @@ pub record HoldsFolder (given : FolderFields) (result : Result (Unit {0}) Status
 -- A value was read, and the call continued with it as `Holds` says. The session began at `between`,
 -- where files, input and output were as at the beginning of the call.
 pub record ReadAndHeld {A : Type 0} (reader : Program talking A)
-    (Holds : A → Result (Unit {0}) Status → Seen → Seen → Type 0) (result : Result (Unit {0}) Status)
-    (old new : Seen) : Type 0 where
+    (Holds : A → Result (Unit {0}) Status → Seen → Seen → Type 0)
+    (result : Result (Unit {0}) Status) (old new : Seen) : Type 0 where
   pub value : A
   pub read : ReadBy reader value old new
   pub between : Seen
@@ -151,8 +151,8 @@ pub record DebugTextLaw : Type 0 where
       → Performs (debug_image name) result old new
       → (other : Performs (debug_image name) end old' new')
       → GrewWithin old.written new.written (joined (pieces_of other.events))
-  -- The same of `debug` over a folder, if each turn of the session of the second call is plain: what
-  -- the first puts is a prefix of what this session writes.
+  -- The same of `debug` over a folder, if each turn of the session of the second call is plain:
+  -- what the first puts is a prefix of what this session writes.
   pub folder :
       (files : Files) (bytes : List ℕ) (result end : Result (Unit {0}) Status)
       (old new old' new' : Seen)

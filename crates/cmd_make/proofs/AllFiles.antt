@@ -25,9 +25,12 @@ pub made_all :
     → sources ≡ sources_of seed → first ≡ map set_of sources → with_objects first sources ≡ Ok objects
     → all ≡ objects ++ map set_of other_files → Gives (Ok all) (sets_of seed)
 made_all seed sources first objects all draw_of copied is others =
-    objects_so seed sources first draw_of copied ∙ ap (λ o. and_then o and_others) is ∙ ap (λ (l : List Set). Ok l) (sym others)
+    objects_so seed sources first draw_of copied ∙ ap (λ o. and_then o and_others) is
+    ∙ ap (λ (l : List Set). Ok l) (sym others)
 
-refused_all : (r : Refusal) (objects : Early (List Set)) → Gives {A = List Set} (Err r) objects → Gives {A = List Set} (Err r) (and_then objects and_others)
+refused_all :
+    (r : Refusal) (objects : Early (List Set)) → Gives {A = List Set} (Err r) objects
+    → Gives {A = List Set} (Err r) (and_then objects and_others)
 refused_all (BadFile bad) objects gives = ap (λ o. and_then o and_others) gives
 refused_all ReadFault objects gives = absurd gives
 refused_all NoMemory objects gives = tt
@@ -37,6 +40,7 @@ pub made_refused :
     → sources ≡ sources_of seed → first ≡ map set_of sources → Gives {A = List Set} (Err r) (with_objects first sources)
     → Gives {A = List Set} (Err r) (sets_of seed)
 made_refused seed sources first r draw_of copied gives =
-    subst (λ d. Gives {A = List Set} (Err r) d) (sym (objects_so seed sources first draw_of copied)) (refused_all r (with_objects first sources) gives)
+    subst (λ d. Gives {A = List Set} (Err r) d) (sym (objects_so seed sources first draw_of copied))
+    (refused_all r (with_objects first sources) gives)
 
 pub ruleset making = (made_all, made_refused)

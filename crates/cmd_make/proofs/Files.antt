@@ -1,22 +1,27 @@
 -- Laws of copied files, and of a folder in memory with these files.
-use Rattle.std.proofs.Common.{◌≡◌, ℕ, ◌+◌, ◌<◌, ◌≤◌, List, [], ◌∷◌, ◌++◌, length, map, drop, get_or, Some, None, Result, Ok, Err, refl, sym, ap, subst, ◌∙◌, append_assoc, arith, inl, inr}
+use Rattle.std.proofs.Common.{◌≡◌, ℕ, ◌+◌, ◌<◌, ◌≤◌, List, [], ◌∷◌, ◌++◌, length, map, drop, get_or, Some, None, Result}
+use Rattle.std.proofs.Common.{Err, refl, sym, ap, ◌∙◌, append_assoc}
 use Rattle.std.proofs.lemmas.List.{append-nil, drop_more, at_drop_all}
-use Rattle.m36_outside.specs.Counts.{Rose}
 use Rattle.m36_outside.specs.Files.{Files, with_file}
 use Rattle.m36_outside.specs.FileList.{file_named}
 use Rattle.m36_outside.specs.declared.file_list.NamedFile.{NamedFile}
 use Rattle.m36_gen.specs.declared.files.File.{File}
-use Rattle.m36_reading.specs.declared.refusal.Refusal.{Refusal}
-use Rattle.m36_reading.specs.declared.refusal.Refusal.TheVariants.{BadFile, ReadFault, NoMemory}
 use Rattle.m36_reading.specs.declared.setting.Set.{Set}
-use Rattle.m36_reading.specs.Reading.{Reading, Early, outcome_in}
-use Rattle.m36_reading.specs.Asking.{Asked, AreTold, Came, Gives}
-use Rattle.m36_reading.specs.Outside.{FolderState}
-use Rattle.m36_reading.specs.Doing.{Reads}
-use Rattle.m36_reading.proofs.Comings.{comes_in}
-use Rattle.m36_booted.specs.Folder.{FolderFields, folder_reads}
+use Rattle.m36_reading.specs.declared.status.Status.{Status}
+use Rattle.m36_reading.specs.declared.status.Status.TheVariants.{NoMemory}
+use Rattle.m36_world.specs.Seen.{Seen}
+use Rattle.m36_program.specs.Ended.{NoneRose}
+use Rattle.m36_program.specs.Goes.{Goes}
+use Rattle.m36_program.specs.Performs.{Performs}
+use Rattle.m36_program.specs.Program.{quiet}
+use Rattle.m36_program.proofs.Performing.{goes_no_memory}
+use Rattle.m36_booted.specs.Folder.{FolderFields}
+use Rattle.cmd_folder.specs.FolderProgram.{folder_given}
+use Rattle.cmd_folder.proofs.FolderReader.{folder_reader}
+use Rattle.cmd_make.specs.InMemory.{in_memory}
+use Rattle.cmd_make.specs.Made.{boot_files}
 use Rattle.cmd_make.specs.Making.{set_of, with_files, files_in}
-use Rattle.cmd_make.specs.Made.{boots_from}
+use Rattle.cmd_make.proofs.InMemoryLaws.{reads_in_memory}
 
 -- ---- copies
 
@@ -28,23 +33,28 @@ pub copies_more :
 copies_more files i file set now next whole inside at is added so_far =
     let more : List Set = map set_of (drop (i + 1) files) in
     ap (λ n. n ++ more) added ∙ append_assoc now (set ∷ []) more ∙ ap (λ s. now ++ (s ∷ more)) is
-    ∙ ap (λ f. now ++ (set_of f ∷ more)) at ∙ ap (λ l. now ++ map set_of l) (sym (drop_more files i file inside)) ∙ so_far
+    ∙ ap (λ f. now ++ (set_of f ∷ more)) at ∙ ap (λ l. now ++ map set_of l) (sym (drop_more files i file inside))
+    ∙ so_far
 
 pub copies_end :
     (files : List File) (i : ℕ) (now whole : List Set)
     → length files ≤ i → now ++ map set_of (drop i files) ≡ whole → now ≡ whole
 copies_end files i now whole past so_far =
-    sym (append-nil now) ∙ ap (λ l. now ++ map set_of l) (sym (at_drop_all (λ (l : List File). l) files i past)) ∙ so_far
+    sym (append-nil now) ∙ ap (λ l. now ++ map set_of l) (sym (at_drop_all (λ (l : List File). l) files i past))
+    ∙ so_far
 
 pub ruleset files_in_turn = (copies_more, copies_end)
 
 -- ---- the folder in memory
 
-pub folder_start : (sets : List Set) (files : List NamedFile) → files ≡ [] → with_files sets (file_named files) ≡ files_in sets
+pub folder_start :
+    (sets : List Set) (files : List NamedFile) → files ≡ [] → with_files sets (file_named files) ≡ files_in sets
 unfolding files_in
 folder_start sets files none = ap (λ (l : List NamedFile). with_files sets (file_named l)) none
 
-first_more : (set : Set) (sets : List Set) (files : Files) → with_files (set ∷ sets) files ≡ with_files sets (with_file set.name (Some set.content) files)
+first_more :
+    (set : Set) (sets : List Set) (files : Files)
+    → with_files (set ∷ sets) files ≡ with_files sets (with_file set.name (Some set.content) files)
 unfolding with_files
 first_more set sets files = refl
 
@@ -60,7 +70,8 @@ pub folder_more :
     → with_files (drop i sets) now ≡ whole → with_files (drop (i + 1) sets) next ≡ whole
 folder_more sets i set name content now next whole inside at named filled is so_far =
     let rest : List Set = drop (i + 1) sets in
-    ap (λ f. with_files rest f) (is ∙ ap (λ n. with_file n (Some content) now) named ∙ ap (λ t. with_file set.name (Some t) now) filled)
+    ap (λ f. with_files rest f) (is ∙ ap (λ n. with_file n (Some content) now) named
+    ∙ ap (λ t. with_file set.name (Some t) now) filled)
     ∙ sym (first_more set rest now)
     ∙ ap (λ s. with_files (s ∷ rest) now) at ∙ ap (λ l. with_files l now) (sym (drop_more sets i set inside)) ∙ so_far
 
@@ -74,26 +85,17 @@ pub ruleset folder_in_turn = (folder_start, folder_more, folder_end)
 
 -- ---- what it boots to
 
-never_rose : (old new : ℕ) → old ≡ 0 → new ≡ 0 → Rose old new → ⊥
-never_rose old new before after (inl rose) = omega (arith, before, after, rose)
-never_rose old new before after (inr full) = omega (arith, after, full)
-
--- The outcome of a reading in a folder that shows its files and whose reads do not fail.
-pub read_in :
-    {A : Type 0} (p : Reading (Early A)) (result : Result A Refusal) (files : Files) (old new : FolderState) (before after : List Asked)
-    → old.files ≡ Some files → old.read_faults ≡ 0 → new.read_faults ≡ 0 → Reads p result old new before after → Gives result (outcome_in files p)
-read_in p (Ok a) files old new before after is none still reads =
-    comes_in files p reads.asked (Came (Ok a)) (subst (λ f. AreTold f reads.asked) is reads.told) reads.comes
-read_in p (Err (BadFile bad)) files old new before after is none still reads =
-    comes_in files p reads.asked (Came (Err (BadFile bad))) (subst (λ f. AreTold f reads.asked) is reads.told) reads.comes
-read_in p (Err ReadFault) files old new before after is none still reads = absurd (never_rose old.read_faults new.read_faults none still reads.cause)
-read_in p (Err NoMemory) files old new before after is none still reads = tt
-
 pub booted_in :
-    (sets : List Set) (files : Files) (result : Result FolderFields Refusal) (old new : FolderState) (before after : List Asked)
-    → Reads (folder_reads None) result old new before after
-    → files ≡ files_in sets → old.files ≡ Some files → old.read_faults ≡ 0 → new.read_faults ≡ 0 → Gives result (boots_from sets)
-unfolding boots_from
-booted_in sets files result old new before after reads are is none still =
-    subst (λ f. Gives result (outcome_in f (folder_reads None))) are
-    (read_in (folder_reads None) result files old new before after is none still reads)
+    (sets : List Set) (files : Files) (result : Result FolderFields Status) (old new : Seen)
+    → Performs (folder_given {may = quiet} None) result old new → files ≡ files_in sets → old.files ≡ Some files
+    → NoneRose old new
+    → Goes (boot_files sets) [] result
+unfolding boot_files
+booted_in sets files result old new performs are is none =
+    reads_in_memory (files_in sets) (folder_given {may = quiet} None) result old new (folder_reader quiet None)
+    (is ∙ ap (λ (f : Files). Some f) are) none performs
+
+-- memory ran out for the folder
+pub no_world : (sets : List Set) → Goes (boot_files sets) [] (Err NoMemory)
+unfolding boot_files
+no_world sets = goes_no_memory (in_memory (files_in sets) (folder_given None))

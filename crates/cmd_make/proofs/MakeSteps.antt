@@ -1,14 +1,15 @@
 -- The files are made, written and booted, one after another.
-use Rattle.std.proofs.Common.{◌≡◌, ℕ, List, Result, Ok, Err, refl, ap, subst}
+use Rattle.std.proofs.Common.{◌≡◌, ℕ, List, [], Result, Ok, Err, refl, ap, subst}
 use Rattle.m36_world.specs.Seen.{Seen}
 use Rattle.m36_reading.specs.declared.refusal.Refusal.{Refusal}
 use Rattle.m36_reading.specs.declared.setting.Set.{Set}
 use Rattle.m36_reading.specs.declared.status.Status.{Status}
 use Rattle.m36_reading.specs.Answers.{status_of}
 use Rattle.m36_reading.specs.Asking.{Gives}
+use Rattle.m36_program.specs.Goes.{Goes}
 use Rattle.m36_program.specs.Performs.{Performs}
-use Rattle.m36_program.specs.Program.{May, quiet, Program, then_with}
-use Rattle.m36_program.proofs.Performing.{performs_then, performs_stop}
+use Rattle.m36_program.specs.Program.{May, Program, then_with}
+use Rattle.m36_program.proofs.Performing.{performs_none, performs_then, performs_stop}
 use Rattle.m36_files.specs.Deciding.{decides}
 use Rattle.m36_files.specs.Writing as allows
 use Rattle.m36_files.proofs.DecidingLaws.{rule_given}
@@ -16,41 +17,48 @@ use Rattle.m36_booted.specs.Folder.{FolderFields}
 use Rattle.cmd_tools.specs.Reporting.{write_files}
 use Rattle.cmd_tools.proofs.ReportLaws.{then_rest}
 use Rattle.cmd_make.specs.Making.{sets_of}
-use Rattle.cmd_make.specs.Made.{boots_from}
+use Rattle.cmd_make.specs.Made.{boot_files}
 use Rattle.cmd_make.specs.MakeProgram.{on_booted, boot_made, write_and_boot, make_program}
 use Rattle.cmd_make.specs.Within.{within}
 use Rattle.cmd_make.proofs.WithinLaws.{performs_within}
 
 -- a rule gave a value
 given_then :
-    (may : May) {A : Type 0} (rule : Result A Refusal) (next : A → Program may (Unit {0})) (a : A) (result : Result (Unit {0}) Status) (old new : Seen)
+    (may : May) {A : Type 0} (rule : Result A Refusal) (next : A → Program may (Unit {0})) (a : A)
+    (result : Result (Unit {0}) Status) (old new : Seen)
     → Gives (Ok a) rule → Performs (next a) result old new → Performs (then_with (decides rule) next) result old new
 given_then may rule next a result old new gives performs =
     performs_then (decides rule) next a result old old new (rule_given may (Ok a) rule (Ok a) old gives refl) performs
 
 -- a rule gave a refusal
 given_stop :
-    (may : May) {A : Type 0} (rule : Result A Refusal) (next : A → Program may (Unit {0})) (r : Refusal) (s : Status) (seen : Seen)
+    (may : May) {A : Type 0} (rule : Result A Refusal) (next : A → Program may (Unit {0})) (r : Refusal) (s : Status)
+    (seen : Seen)
     → Gives {A = A} (Err r) rule → s ≡ status_of r → Performs (then_with (decides rule) next) (Err s) seen seen
 given_stop may {A} rule next r s seen gives is =
     performs_stop (decides rule) next s seen seen
-    (rule_given may (Err r) rule (let failed : Result A Status = Err s in failed) seen gives (ap (λ (t : Status). let failed : Result A Status = Err t in failed) is))
+    (rule_given may (Err r) rule (let failed : Result A Status = Err s in failed) seen gives
+    (ap (λ (t : Status). let failed : Result A Status = Err t in failed) is))
 
 -- ---- booting
 
 pub boot_given :
     (sets : List Set) (given : FolderFields) (result : Result (Unit {0}) Status) (old new : Seen)
-    → Gives (Ok given) (boots_from sets) → Performs (on_booted given) result old new → Performs (boot_made sets) result old new
+    → Goes (boot_files sets) [] (Ok given) → Performs (on_booted given) result old new
+    → Performs (boot_made sets) result old new
 unfolding boot_made
-boot_given sets given result old new gives performs = given_then quiet (boots_from sets) on_booted given result old new gives performs
+boot_given sets given result old new goes performs =
+    performs_then (boot_files sets) on_booted given result old old new
+    (performs_none (boot_files sets) (Ok given) old goes) performs
 
-pub boot_refused :
-    (sets : List Set) (r : Refusal) (s : Status) (seen : Seen)
-    → Gives {A = FolderFields} (Err r) (boots_from sets) → s ≡ status_of r → Performs (boot_made sets) (Err s) seen seen
+pub boot_stopped :
+    (sets : List Set) (s : Status) (seen : Seen)
+    → Goes (boot_files sets) [] (Err s) → Performs (boot_made sets) (Err s) seen seen
 unfolding boot_made
-boot_refused sets r s seen gives is = given_stop quiet (boots_from sets) on_booted r s seen gives is
+boot_stopped sets s seen goes =
+    performs_stop (boot_files sets) on_booted s seen seen (performs_none (boot_files sets) (Err s) seen goes)
 
-pub ruleset booting = (boot_given, boot_refused)
+pub ruleset booting = (boot_given, boot_stopped)
 
 -- ---- writing
 
@@ -78,9 +86,11 @@ pub ruleset writing = (written_then, not_written)
 
 pub make_given :
     (seed : ℕ) (sets : List Set) (result : Result (Unit {0}) Status) (old new : Seen)
-    → Gives (Ok sets) (sets_of seed) → Performs (write_and_boot sets) result old new → Performs (make_program seed) result old new
+    → Gives (Ok sets) (sets_of seed) → Performs (write_and_boot sets) result old new
+    → Performs (make_program seed) result old new
 unfolding make_program
-make_given seed sets result old new gives performs = given_then allows.writing (sets_of seed) write_and_boot sets result old new gives performs
+make_given seed sets result old new gives performs =
+    given_then allows.writing (sets_of seed) write_and_boot sets result old new gives performs
 
 pub make_refused :
     (seed : ℕ) (r : Refusal) (s : Status) (seen : Seen)

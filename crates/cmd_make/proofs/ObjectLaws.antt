@@ -1,5 +1,6 @@
 -- Objects that are made of sources.
-use Rattle.std.proofs.Common.{◌≡◌, ℕ, ◌+◌, ◌<◌, ◌≤◌, List, [], ◌∷◌, ◌++◌, length, drop, get_or, Result, Ok, Err, refl, sym, ap, subst, ◌∙◌}
+use Rattle.std.proofs.Common.{◌≡◌, ℕ, ◌+◌, ◌<◌, ◌≤◌, List, [], ◌∷◌, ◌++◌, length, drop, get_or, Result, Ok, Err, refl}
+use Rattle.std.proofs.Common.{sym, ap, subst, ◌∙◌}
 use Rattle.std.proofs.lemmas.List.{drop_more, at_drop_all}
 use Rattle.alm_parse.specs.SourceFields.{Source}
 use Rattle.alm_parse.specs.Sources.{parsed, Refuses}
@@ -35,7 +36,8 @@ pub ruleset made = (content_made, made_refused)
 
 pub content_read :
     (bytes : List ℕ) (source : Source) (result : Result (List ℕ) AlmFault)
-    → parsed bytes ≡ Ok source → ObjectSays result (with_parts source (assembled source)) → ObjectSays result (assembly_of bytes)
+    → parsed bytes ≡ Ok source → ObjectSays result (with_parts source (assembled source))
+    → ObjectSays result (assembly_of bytes)
 unfolding assembly_of
 content_read bytes source result is says = subst (λ g. ObjectSays result (assembly_by g)) (sym is) says
 
@@ -59,14 +61,22 @@ refused_by source given f r is refuses =
 pub object_refused :
     (source : List ℕ) (given : Result Assembly AlmFault) (f : AlmFault) (r : Refusal)
     → Refuses f given → asking.Refuses r (source_refused source f) → asking.Gives (Err r) (object_by source given)
-object_refused source given (alm.E1 line column) r is refuses = refused_by source given (alm.E1 line column) r is refuses
-object_refused source given (alm.E2 line column) r is refuses = refused_by source given (alm.E2 line column) r is refuses
-object_refused source given (alm.E3 line column) r is refuses = refused_by source given (alm.E3 line column) r is refuses
-object_refused source given (alm.E4 line column) r is refuses = refused_by source given (alm.E4 line column) r is refuses
-object_refused source given (alm.E5 line column) r is refuses = refused_by source given (alm.E5 line column) r is refuses
-object_refused source given (alm.E6 line column) r is refuses = refused_by source given (alm.E6 line column) r is refuses
-object_refused source given (alm.E7 line column) r is refuses = refused_by source given (alm.E7 line column) r is refuses
-object_refused source given (alm.E8 line column) r is refuses = refused_by source given (alm.E8 line column) r is refuses
+object_refused source given (alm.E1 line column) r is refuses =
+    refused_by source given (alm.E1 line column) r is refuses
+object_refused source given (alm.E2 line column) r is refuses =
+    refused_by source given (alm.E2 line column) r is refuses
+object_refused source given (alm.E3 line column) r is refuses =
+    refused_by source given (alm.E3 line column) r is refuses
+object_refused source given (alm.E4 line column) r is refuses =
+    refused_by source given (alm.E4 line column) r is refuses
+object_refused source given (alm.E5 line column) r is refuses =
+    refused_by source given (alm.E5 line column) r is refuses
+object_refused source given (alm.E6 line column) r is refuses =
+    refused_by source given (alm.E6 line column) r is refuses
+object_refused source given (alm.E7 line column) r is refuses =
+    refused_by source given (alm.E7 line column) r is refuses
+object_refused source given (alm.E8 line column) r is refuses =
+    refused_by source given (alm.E8 line column) r is refuses
 object_refused source given alm.NoMemory r is refuses = memory_given Set r (object_by source given) refuses
 
 pub ruleset giving = (object_given, object_refused)
@@ -75,7 +85,8 @@ pub ruleset giving = (object_given, object_refused)
 
 first_object :
     (sets : List Set) (source : File) (sources : List File)
-    → with_objects sets (source ∷ sources) ≡ and_then (object_of source) (λ object. with_objects (sets ++ object ∷ []) sources)
+    → with_objects sets (source ∷ sources) ≡ and_then (object_of source)
+    (λ object. with_objects (sets ++ object ∷ []) sources)
 unfolding with_objects
 first_object sets source sources = refl
 
@@ -86,7 +97,8 @@ no_object sets = refl
 left_objects :
     (sources : List File) (i : ℕ) (source : File) (now : List Set)
     → i < length sources → source ≡ get_or sources i source
-    → with_objects now (drop i sources) ≡ and_then (object_of source) (λ object. with_objects (now ++ object ∷ []) (drop (i + 1) sources))
+    → with_objects now (drop i sources) ≡ and_then (object_of source)
+    (λ object. with_objects (now ++ object ∷ []) (drop (i + 1) sources))
 left_objects sources i source now inside at =
     ap (with_objects now) (drop_more sources i source inside)
     ∙ ap (λ s. with_objects now (s ∷ drop (i + 1) sources)) (sym at) ∙ first_object now source (drop (i + 1) sources)
@@ -100,7 +112,9 @@ object_more sources i source object now next whole inside at is added so_far =
     ∙ sym (ap (λ o. and_then o (λ object. with_objects (now ++ object ∷ []) (drop (i + 1) sources))) is)
     ∙ sym (left_objects sources i source now inside at) ∙ so_far
 
-stopped : (r : Refusal) (given : Early Set) (next : Set → Early (List Set)) → asking.Gives {A = Set} (Err r) given → asking.Gives {A = List Set} (Err r) (and_then given next)
+stopped :
+    (r : Refusal) (given : Early Set) (next : Set → Early (List Set)) → asking.Gives {A = Set} (Err r) given
+    → asking.Gives {A = List Set} (Err r) (and_then given next)
 stopped (BadFile bad) given next gives = ap (λ g. and_then g next) gives
 stopped ReadFault given next gives = absurd gives
 stopped NoMemory given next gives = tt

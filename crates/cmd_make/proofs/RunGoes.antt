@@ -1,9 +1,8 @@
--- The events of the program of a quiet run: there are none. Its turns are those of a booted run that ends, or that
--- reaches a link service that ran out of memory.
-use Rattle.std.proofs.Common.{◌≡◌, ◌≢◌, ◌⊎◌, ℕ, zero, suc, ◌+◌, ◌≤◌, Bool, true, false, List, [], ◌∷◌, Result, Ok, Err, refl, sym, ap, subst, ◌∙◌, inl, inr, arith, add-zero}
+-- The program of a quiet run has no events. If it gives a value, its turns are those of a booted run that ended.
+use Rattle.std.proofs.Common.{◌≡◌, ◌≢◌, ◌⊎◌, ℕ, zero, suc, ◌+◌, Bool, true, false, List, [], ◌∷◌, Result, Ok, Err, refl}
+use Rattle.std.proofs.Common.{sym, ap, subst, ◌∙◌, inl, inr, arith, add-zero}
 use Rattle.m36_world.specs.declared.event.Event.{Event}
 use Rattle.m36_model.specs.Fields.{AtFields}
-use Rattle.m36_model.specs.StoreLaw.{Each}
 use Rattle.m36_model.specs.declared.endings.End.{End}
 use Rattle.m36_model.specs.declared.endings.End.TheVariants as end
 use Rattle.m36_model.specs.declared.outcome.Fault.{Fault}
@@ -15,7 +14,7 @@ use Rattle.m36_super.specs.Library.{Library}
 use Rattle.m36_super.specs.declared.coming.NextEvent.{NextEvent}
 use Rattle.m36_super.specs.declared.coming.NextEvent.TheVariants.{Step, Link, Print}
 use Rattle.m36_super.specs.declared.coming.NextEvent.TheVariants as coming
-use Rattle.m36_super.specs.BootedRun.{Booted, IsStepTurn, IsLinkTurn, IsConsoleTurn, IsTurnBy, IsTurn, AreTurns}
+use Rattle.m36_super.specs.BootedRun.{Booted, IsLinkTurn, IsConsoleTurn, IsTurnBy, IsTurn, AreTurns}
 use Rattle.m36_super.specs.SuperTurn.{IsQuiet, link_quiet}
 use Rattle.m36_reading.specs.declared.status.Status.{Status}
 use Rattle.m36_reading.specs.declared.status.Status.TheVariants.{NoMemory}
@@ -24,51 +23,41 @@ use Rattle.m36_program.specs.Program.{quiet, Program}
 use Rattle.m36_booted.specs.declared.running.Finish.{Finish}
 use Rattle.m36_booted.specs.declared.running.Finish.TheVariants.{Over, Limit}
 use Rattle.m36_booted.specs.RunText.{steps_of, steps_in}
-use Rattle.m36_booted.specs.Runs.{IsEvent, Finishes, AwaitsLink}
-use Rattle.m36_booted.proofs.Serving.{IsStep, IsLink, ended_leaves}
+use Rattle.m36_booted.specs.Runs.{IsEvent, Finishes}
+use Rattle.m36_booted.specs.Runs as runs
+use Rattle.m36_booted.proofs.Serving.{IsStep, IsLink, step_is, ended_leaves}
 use Rattle.cmd_make.specs.QuietRun.{Ran, ran, after_service, serve_by, serve, run_from}
 
--- Turns of a booted run from state b, with at most `left` steps.
-pub record AreMade (lib : Library) (left : ℕ) (b : Booted) (turns : List Turn) (last : Booted) : Type 0 where
-  pub are : AreTurns lib b turns last
-  pub events : Each IsEvent turns
-  pub few : steps_in turns ≤ left
-
--- The run ended.
+-- The run ended, after these turns.
 pub record HasRun (lib : Library) (taken left : ℕ) (b : Booted) (r : Ran) : Type 0 where
   pub turns : List Turn
   pub last : Booted
-  pub made : AreMade lib left b turns last
+  pub made : runs.Goes lib left b turns last
   pub finishes : Finishes r.how lib left turns last
   pub steps : r.steps ≡ taken + steps_in turns
   pub regs : r.regs ≡ last.state.regs
 
--- The run reached a link service that ran out of memory.
-pub record HasStarved (lib : Library) (left : ℕ) (b : Booted) (s : Status) : Type 0 where
-  pub turns : List Turn
-  pub last : Booted
-  pub made : AreMade lib left b turns last
-  pub waits : AwaitsLink last.coming
-  pub status : s ≡ NoMemory
-
+-- The run ended, or memory ran out.
 abbrev pub RunBy : Library → ℕ → ℕ → Booted → Result Ran Status → Type 0
 RunBy lib taken left b (Ok r) = HasRun lib taken left b r
-RunBy lib taken left b (Err s) = HasStarved lib left b s
+RunBy lib taken left b (Err s) = s ≡ NoMemory
 
 -- The program of a run had no events, and one of these results.
-pub record RunGoes (lib : Library) (taken left : ℕ) (b : Booted) (events : List Event) (result : Result Ran Status) : Type 0 where
+pub record RunGoes (lib : Library) (taken left : ℕ) (b : Booted) (events : List Event)
+    (result : Result Ran Status) : Type 0 where
   pub none : events ≡ []
   pub run : RunBy lib taken left b result
 
 -- ---- no turn
 
-none_made : (lib : Library) (left : ℕ) (b : Booted) → AreMade lib left b [] b
+none_made : (lib : Library) (left : ℕ) (b : Booted) → runs.Goes lib left b [] b
 unfolding AreTurns steps_in
-none_made lib left b = record { are = refl; events = tt; few = omega arith }
+none_made lib left b = record { turns_are = refl; events = tt; few = omega arith }
 
 -- a run that ends here
 ends_here :
-    (lib : Library) (taken left : ℕ) (b later : Booted) (how : Finish) (events : List Event) (result : Result Ran Status)
+    (lib : Library) (taken left : ℕ) (b later : Booted) (how : Finish) (events : List Event)
+    (result : Result Ran Status)
     → Finishes how lib left [] b → later.state.regs ≡ b.state.regs
     → Ends (Ok (ran how taken later)) events result → RunGoes lib taken left b events result
 unfolding steps_in
@@ -91,16 +80,17 @@ finishes_on :
     → all ≡ steps_of told + left → Finishes how lib left turns last → Finishes how lib all (told ∷ turns) last
 unfolding steps_in
 finishes_on (Over e) lib left all told turns last is finishes = finishes
-finishes_on Limit lib left all told turns last is finishes = (ap (λ n. steps_of told + n) finishes.0 ∙ sym is, finishes.1)
+finishes_on Limit lib left all told turns last is finishes =
+    (ap (λ n. steps_of told + n) finishes.0 ∙ sym is, finishes.1)
 
 made_first :
     (lib : Library) (left all : ℕ) (b after : Booted) (told : Turn) (turns : List Turn) (last : Booted)
-    → IsTurn lib b told after → IsEvent told → all ≡ steps_of told + left → AreMade lib left after turns last
-    → AreMade lib all b (told ∷ turns) last
+    → IsTurn lib b told after → IsEvent told → all ≡ steps_of told + left → runs.Goes lib left after turns last
+    → runs.Goes lib all b (told ∷ turns) last
 unfolding AreTurns steps_in
 made_first lib left all b after told turns last is event all_is rest =
     let few = rest.few in record {
-      are = (after, is, rest.are);
+      turns_are = (after, is, rest.turns_are);
       events = (event, rest.events);
       few = omega (arith, all_is, few);
     }
@@ -121,16 +111,11 @@ run_first lib taken now left all b after told (Ok r) is event all_is now_is run 
       steps = run.steps ∙ count;
       regs = run.regs;
     }
-run_first lib taken now left all b after told (Err s) is event all_is now_is run = record {
-  turns = told ∷ run.turns;
-  last = run.last;
-  made = made_first lib left all b after told run.turns run.last is event all_is run.made;
-  waits = run.waits;
-  status = run.status;
-}
+run_first lib taken now left all b after told (Err s) is event all_is now_is memory = memory
 
 turn_goes :
-    (lib : Library) (taken now left all : ℕ) (b after : Booted) (told : Turn) (events : List Event) (result : Result Ran Status)
+    (lib : Library) (taken now left all : ℕ) (b after : Booted) (told : Turn) (events : List Event)
+    (result : Result Ran Status)
     → IsTurn lib b told after → IsEvent told → all ≡ steps_of told + left → now ≡ taken + steps_of told
     → RunGoes lib now left after events result → RunGoes lib taken all b events result
 turn_goes lib taken now left all b after told events result is event all_is now_is goes = record {
@@ -140,13 +125,7 @@ turn_goes lib taken now left all b after told events result is event all_is now_
 
 -- ---- which turns there are
 
-step_is :
-    (loaded : Bool) (frames : ℕ) (before : Booted) (told : Turn) (after : Booted)
-    → IsStepTurn loaded frames before told after → IsStep told
-step_is false frames before told after is = subst IsStep (sym is.takes.told) tt
-step_is true frames before told after is = subst IsStep (sym is.told) tt
-
-is_step : (lib : Library) (b after : Booted) (told : Turn) → b.coming ≡ Step → IsTurn lib b told after → IsStep told
+pub is_step : (lib : Library) (b after : Booted) (told : Turn) → b.coming ≡ Step → IsTurn lib b told after → IsStep told
 unfolding IsTurn
 is_step lib b after told is turns =
     let so : IsTurnBy Step lib b told after = subst (λ c. IsTurnBy c lib b told after) is turns in
@@ -160,7 +139,7 @@ step_event (turn.Ended e) is = absurd is
 step_event turn.Full is = absurd is
 step_event turn.NoMemory is = absurd is
 
-step_counts : (told : Turn) → IsStep told → steps_of told ≡ 1
+pub step_counts : (told : Turn) → IsStep told → steps_of told ≡ 1
 step_counts (turn.Stepped told) is = refl
 step_counts (turn.Linked note) is = absurd is
 step_counts (turn.Console text) is = absurd is
@@ -169,13 +148,14 @@ step_counts turn.Full is = absurd is
 step_counts turn.NoMemory is = absurd is
 
 -- A service was performed, and the run continues or ends.
-record IsServiceMade (told : Turn) (next : NextEvent) : Type 0 where
-  event : IsEvent told
-  counts : steps_of told ≡ 0
-  silent : IsQuiet next
+pub record IsServiceMade (told : Turn) (next : NextEvent) : Type 0 where
+  pub event : IsEvent told
+  pub counts : steps_of told ≡ 0
+  pub silent : IsQuiet next
 
-linked_made :
-    (answer : Result SnapFields RefusedFields) (frames : ℕ) (at : AtFields) (before : Booted) (told : Turn) (after : Booted)
+pub linked_made :
+    (answer : Result SnapFields RefusedFields) (frames : ℕ) (at : AtFields) (before : Booted) (told : Turn)
+    (after : Booted)
     → IsLinkTurn answer frames at before told after → told ≢ turn.NoMemory → IsServiceMade told after.coming
 linked_made (Ok s) frames at before (turn.Linked note) after is found =
     record { event = tt; counts = refl; silent = link_quiet (Ok s) frames at before (turn.Linked note) after is tt }
@@ -193,11 +173,11 @@ linked_made (Err why) frames at before (turn.Ended e) after is found = absurd (s
 linked_made (Err why) frames at before turn.Full after is found = absurd (subst IsLink (sym is.0) tt)
 
 -- A console service was made and a step follows, or the run has ended.
-record PrintEnded (e : End) (told : Turn) (next : NextEvent) : Type 0 where
-  told_is : told ≡ turn.Ended e
-  next_is : next ≡ coming.Over e
+pub record PrintEnded (e : End) (told : Turn) (next : NextEvent) : Type 0 where
+  pub told_is : told ≡ turn.Ended e
+  pub next_is : next ≡ coming.Over e
 
-abbrev PrintMade : Turn → NextEvent → Type 0
+abbrev pub PrintMade : Turn → NextEvent → Type 0
 PrintMade told next = IsServiceMade told next ⊎ ((e : End) × PrintEnded e told next)
 
 printed :
@@ -208,7 +188,7 @@ printed text told next told_is next_is = record {
   silent = subst IsQuiet (sym next_is) tt;
 }
 
-print_made :
+pub print_made :
     (many : Bool) (text : Result (List ℕ) Fault) (before : Booted) (told : Turn) (after : Booted)
     → IsConsoleTurn many text before told after → PrintMade told after.coming
 print_made true text before told after is =
@@ -255,7 +235,8 @@ service_goes :
     → Goes (then_by after.coming lib taken left after) events result → RunGoes lib taken left b events result
 service_goes lib taken left b after told events result on is made goes =
     let none = made.counts in
-    turn_goes lib taken taken left left b after told events result is made.event (omega (arith, none)) (omega (arith, none))
+    turn_goes lib taken taken left left b after told events result is made.event (omega (arith, none))
+    (omega (arith, none))
     (after_goes after.coming lib taken left after events result on made.silent refl goes)
 
 print_goes :
@@ -273,13 +254,12 @@ print_goes lib taken left b after told events result on is (inr over) goes =
     ends_here lib taken left b after (Over e) events result (after, ended) (ended_leaves lib b e after ended) so
 
 -- memory ran out for a link service
-starved_here :
+no_memory_here :
     (lib : Library) (taken left : ℕ) (b : Booted) (events : List Event) (result : Result Ran Status)
-    → AwaitsLink b.coming → Ends (Err NoMemory) events result → RunGoes lib taken left b events result
-starved_here lib taken left b events result waits ends = record {
+    → Ends (Err NoMemory) events result → RunGoes lib taken left b events result
+no_memory_here lib taken left b events result ends = record {
   none = ends.none;
-  run = subst (λ r. RunBy lib taken left b r) (sym ends.result_is)
-      (record { turns = []; last = b; made = none_made lib left b; waits = waits; status = refl });
+  run = subst (λ r. RunBy lib taken left b r) (sym ends.result_is) refl;
 }
 
 link_goes :
@@ -291,10 +271,11 @@ link_goes lib taken left b at events result on is (inl goes) =
     let turns : IsTurnBy (Link at) lib b goes.value.turn goes.value.after =
     subst (λ c. IsTurnBy c lib b goes.value.turn goes.value.after) is goes.is.is in
     service_goes lib taken left b goes.value.after goes.value.turn events result on goes.is.is
-    (linked_made (snap_of b.known lib.catalog lib.files at) lib.catalog.frames at b goes.value.turn goes.value.after turns goes.is.found)
+    (linked_made (snap_of b.known lib.catalog lib.files at) lib.catalog.frames at b goes.value.turn goes.value.after
+    turns goes.is.found)
     goes.rest
 link_goes lib taken left b at events result on is (inr ends) =
-    starved_here lib taken left b events result (subst AwaitsLink (sym is) tt) ends
+    no_memory_here lib taken left b events result ends
 
 print_serves :
     (lib : Library) (taken left : ℕ) (b : Booted) (events : List Event) (result : Result Ran Status)
@@ -343,4 +324,5 @@ pub run_goes : (lib : Library) (left taken : ℕ) → GoesOn lib taken left
 unfolding Goes run_from steps_in
 run_goes lib zero taken b events result next goes = ends_here lib taken 0 b b Limit events result (refl, next) refl goes
 run_goes lib (suc left) taken b events result next goes =
-    step_goes lib taken left b goes.value.after goes.value.turn events result (run_goes lib left (taken + 1)) next goes.is goes.rest
+    step_goes lib taken left b goes.value.after goes.value.turn events result
+    (run_goes lib left (taken + 1)) next goes.is goes.rest

@@ -17,16 +17,15 @@ use Rattle.cmd_make.specs.RunSays.{IsLeft, from_step, GoesOn, IsOver, HasNoMemor
 abbrev pub Left : Library → ℕ → ℕ → SuperFields → Program quiet Ran → Type 0
 Left lib taken left now first = IsLeft (run_from lib taken left (booted_of now)) first
 
-pub run_starts : (lib : Library) (steps : ℕ) (s : SuperFields) → Left lib 0 steps s (run_from lib 0 steps (booted_of s))
-run_starts lib steps s result goes = goes
-
-run_step : (lib : Library) (taken left : ℕ) (b : Booted) → run_from lib taken (suc left) b ≡ from_step lib b (taken + 1) left
+run_step :
+    (lib : Library) (taken left : ℕ) (b : Booted) → run_from lib taken (suc left) b ≡ from_step lib b (taken + 1) left
 unfolding run_from
 run_step lib taken left b = refl
 
 -- if at least one step is left
 one_left :
-    (lib : Library) (taken left : ℕ) (b : Booted) → 0 < left → run_from lib taken left b ≡ from_step lib b (taken + 1) (left - 1)
+    (lib : Library) (taken left : ℕ) (b : Booted) → 0 < left
+    → run_from lib taken left b ≡ from_step lib b (taken + 1) (left - 1)
 one_left lib taken left b more =
     let e : left ≡ suc (left - 1) = omega arith in
     ap (λ n. run_from lib taken n b) e ∙ run_step lib taken (left - 1) b
@@ -55,7 +54,8 @@ pub run_over :
     → Goes first [] (Ok (ran (Over e) (taken + 1) (booted_of later)))
 run_over e lib taken left now later first so_far more same over =
     let on = subst (λ l. IsOver e (from_step l (booted_of now)) later) same over in
-    step_gone lib taken left now first (Ok (ran (Over e) (taken + 1) (booted_of later))) so_far more (on.goes (taken + 1) (left - 1))
+    step_gone lib taken left now first (Ok (ran (Over e) (taken + 1) (booted_of later))) so_far more
+    (on.goes (taken + 1) (left - 1))
 
 pub run_starves :
     (lib : Library) (taken left : ℕ) (now : SuperFields) (first : Program quiet Ran)
@@ -66,7 +66,8 @@ run_starves lib taken left now first so_far more same starves =
     let on = subst (λ l. HasNoMemory (from_step l (booted_of now))) same starves in
     step_gone lib taken left now first (Err NoMemory) so_far more (on.goes (taken + 1) (left - 1))
 
-run_none : (lib : Library) (taken left : ℕ) (b : Booted) → left ≡ 0 → run_from lib taken left b ≡ done (ran Limit taken b)
+run_none :
+    (lib : Library) (taken left : ℕ) (b : Booted) → left ≡ 0 → run_from lib taken left b ≡ done (ran Limit taken b)
 unfolding run_from
 run_none lib taken left b none = ap (λ n. run_from lib taken n b) none
 
@@ -76,6 +77,5 @@ pub run_limit :
 run_limit lib taken left now first so_far none =
     let result : Result Ran Status = Ok (ran Limit taken (booted_of now)) in
     so_far result
-    (subst (λ p. Goes p [] result) (sym (run_none lib taken left (booted_of now) none)) (goes_done quiet (ran Limit taken (booted_of now))))
-
-pub ruleset running = (run_starts)
+    (subst (λ p. Goes p [] result) (sym (run_none lib taken left (booted_of now) none))
+    (goes_done quiet (ran Limit taken (booted_of now))))

@@ -26,10 +26,6 @@ use Rattle.cmd_make.specs.declared.running.AfterTurn.TheVariants as after
 use Rattle.cmd_make.specs.QuietRun.{Ran, ran, after_service, then_on, serve_by, serve, run_from}
 use Rattle.cmd_make.specs.RunSays.{IsLeft, from_step, from_service, TurnSays, LinkBefore}
 
--- what is left of a run after a step that was taken
-abbrev on_from : Library → ℕ → ℕ → Booted → Program quiet Ran
-on_from lib taken left b = run_from lib taken left b
-
 -- the program of what follows a step
 abbrev served : Library → ℕ → ℕ → Booted → Program quiet Ran
 served lib taken left b = serve lib taken (λ b. run_from lib taken left b) b
@@ -75,7 +71,8 @@ step_as :
     (lib : Library) (taken left : ℕ) (b later : Booted) (told : Turn)
     → IsTurn lib b told later → IsLeft (served lib taken left later) (from_step lib b taken left)
 step_as lib taken left b later told turns result goes =
-    goes_some (IsMade lib b) (λ made. served lib taken left made.after) (record { turn = told; after = later }) [] result turns goes
+    goes_some (IsMade lib b) (λ made. served lib taken left made.after)
+    (record { turn = told; after = later }) [] result turns goes
 
 -- ---- by what is next after it
 
@@ -92,7 +89,8 @@ then_over :
     → Goes (served lib taken left b) [] (Ok (ran (finish.Over e) taken later))
 then_over lib taken left b later e is on =
     let result : Result Ran Status = Ok (ran (finish.Over e) taken later) in
-    on result (subst (λ c. Goes (then_by c lib taken left later) [] result) (sym is) (goes_done quiet (ran (finish.Over e) taken later)))
+    on result (subst (λ c. Goes (then_by c lib taken left later) [] result) (sym is)
+    (goes_done quiet (ran (finish.Over e) taken later)))
 
 -- ---- services
 
@@ -105,10 +103,12 @@ serve_none s is = record {
 }
 
 pub serve_over :
-    (s : SuperFields) (e : End) → s.coming ≡ Over e → TurnSays (after.Ended e) s.lib (from_service s.lib (booted_of s)) s
+    (s : SuperFields) (e : End) → s.coming ≡ Over e
+    → TurnSays (after.Ended e) s.lib (from_service s.lib (booted_of s)) s
 serve_over s e is = record {
   goes = λ taken left.
-      subst (λ p. Goes p [] (Ok (ran (finish.Over e) taken (booted_of s)))) (sym (serve_is (Over e) s.lib taken left (booted_of s) is))
+      subst (λ p. Goes p [] (Ok (ran (finish.Over e) taken (booted_of s))))
+      (sym (serve_is (Over e) s.lib taken left (booted_of s) is))
       (goes_done quiet (ran (finish.Over e) taken (booted_of s)));
 }
 
@@ -118,7 +118,8 @@ pub link_starves :
 link_starves before later at is = record {
   goes = λ taken left.
       subst (λ p. Goes p [] (Err NoMemory)) (sym (serve_is (Link at) before.lib taken left (booted_of before) is))
-      (goes_no_memory (some (FindsMemory before.lib (booted_of before)) (then_on taken (λ b. run_from before.lib taken left b))));
+      (goes_no_memory (some (FindsMemory before.lib (booted_of before))
+      (then_on taken (λ b. run_from before.lib taken left b))));
 }
 
 pub link_goes :
@@ -163,7 +164,8 @@ print_ends before later e is turns = record {
       (print_as before.lib taken left (booted_of before) (booted_of later) (turn.Ended e) is turns.0);
 }
 
-pub ruleset services = (turn_prints, link_behind, serve_none, serve_over, link_starves, link_goes, print_goes, print_ends)
+pub ruleset services =
+    (turn_prints, link_behind, serve_none, serve_over, link_starves, link_goes, print_goes, print_ends)
 
 -- ---- a step, and then a service
 

@@ -1,13 +1,12 @@
 -- The lines that are put of a system, one after another, and the run between them.
-use Rattle.std.proofs.Common.{◌≡◌, ℕ, ◌<◌, false, List, [], ◌∷◌, length, Some, Result, Ok, Err, refl, sym, ap, subst, ◌∙◌, arith}
+use Rattle.std.proofs.Common.{◌≡◌, ℕ, ◌<◌, false, List, [], ◌∷◌, length, Some, Result, Ok, Err, refl, sym, ap, subst}
+use Rattle.std.proofs.Common.{◌∙◌, arith}
 use Rattle.m36_text.specs.Lines.{as_line}
 use Rattle.m36_audit.specs.Findings.{pairs}
 use Rattle.m36_audit.specs.declared.verdict.Finding.{Finding}
 use Rattle.m36_desc.specs.Fields.{DbrFields}
 use Rattle.m36_model.specs.Audit.{AreFindings}
-use Rattle.m36_model.specs.BootedCore.{booted_dbr}
 use Rattle.m36_model.specs.Registers.{RegsFields}
-use Rattle.m36_isol.proofs.Findings.{findings_law}
 use Rattle.m36_super.specs.Library.{Library}
 use Rattle.m36_super.specs.BootedRun.{Booted}
 use Rattle.m36_super.specs.SuperFields.{SuperFields, booted_of}
@@ -20,20 +19,20 @@ use Rattle.m36_program.specs.Goes.{Goes}
 use Rattle.m36_program.specs.Performs.{Performs}
 use Rattle.m36_program.specs.Program.{quiet, Program, puts, puts_all}
 use Rattle.m36_program.specs.Readers.{put_one}
-use Rattle.m36_program.proofs.Performing.{performs_none, performs_some, performs_wants, performs_no_memory, performs_then, performs_stop, performs_put, performs_unput}
+use Rattle.m36_program.proofs.Performing.{performs_none, performs_some, performs_wants, performs_no_memory}
+use Rattle.m36_program.proofs.Performing.{performs_then, performs_stop, performs_put, performs_unput}
 use Rattle.m36_program.proofs.ProgramLaws.{goes_ends}
 use Rattle.m36_ran.specs.AuditText.{audit_pieces}
 use Rattle.m36_ran.specs.Ran.{passes, audit_status}
 use Rattle.m36_booted.specs.declared.running.Finish.{Finish}
-use Rattle.m36_booted.specs.Promise.{PassesBooted}
 use Rattle.m36_booted.specs.RunText.{finish_line, finish_status}
 use Rattle.m36_booted.specs.Systems.{IsFresh}
-use Rattle.m36_booted.proofs.FolderReads.{fresh_next}
-use Rattle.m36_booted.proofs.YesAnswers.{passes_booted}
+use Rattle.m36_booted.proofs.FolderBoots.{fresh_next}
 use Rattle.cmd_image.specs.ImageProgram.{audit_may_end}
 use Rattle.cmd_image.proofs.AuditPuts.{all_put, put_more, all_then, all_stop}
 use Rattle.cmd_folder.specs.OnFolder.{AreFolderFindings}
 use Rattle.cmd_folder.specs.RunProgram.{finish_may_end}
+use Rattle.cmd_folder.proofs.FolderSteps.{found_passes}
 use Rattle.cmd_make.specs.MakeProgram.{summed_up, run_summed, runs_or_ends, found_told, on_system, on_booted}
 use Rattle.cmd_make.specs.QuietRun.{Ran, run_from}
 use Rattle.cmd_make.specs.Summary.{run_limit, segment_count, segments_line, head_pieces, sum_line}
@@ -42,7 +41,8 @@ use Rattle.cmd_make.specs.Summary.{run_limit, segment_count, segments_line, head
 
 line_put :
     (text line : List ℕ) (rest : Program quiet (Unit {0})) (result : Result (Unit {0}) Status) (old between new : Seen)
-    → text ≡ line → Performs {may = quiet} (put_one (as_line text)) (Ok tt) old between → Performs rest result between new
+    → text ≡ line → Performs {may = quiet} (put_one (as_line text)) (Ok tt) old between
+    → Performs rest result between new
     → Performs (puts (as_line line) rest) result old new
 line_put text line rest result old between new is put performs =
     performs_put (as_line line) rest result old between new
@@ -84,14 +84,16 @@ abbrev ended : Finish → Program quiet (Unit {0})
 ended how = ends (finish_status (Some how)) (finish_may_end how)
 
 pub sum_put :
-    (text : List ℕ) (regs : RegsFields) (how : Finish) (status : Status) (result : Result (Unit {0}) Status) (old new : Seen)
+    (text : List ℕ) (regs : RegsFields) (how : Finish) (status : Status) (result : Result (Unit {0}) Status)
+    (old new : Seen)
     → text ≡ sum_line regs → Performs {may = quiet} (put_one (as_line text)) (Ok tt) old new
     → status ≡ finish_status (Some how) → result ≡ early status
     → Performs (puts (as_line (sum_line regs)) (ended how)) result old new
 sum_put text regs how status result old new is put status_is result_is =
     line_put text (sum_line regs) (ended how) result old new new is put
     (performs_none (ended how) result new
-    (subst (λ r. Goes (ended how) [] r) (sym (result_is ∙ ap early status_is)) (goes_ends quiet (finish_status (Some how)) (finish_may_end how))))
+    (subst (λ r. Goes (ended how) [] r) (sym (result_is ∙ ap early status_is))
+    (goes_ends quiet (finish_status (Some how)) (finish_may_end how))))
 
 pub sum_unput :
     (text : List ℕ) (regs : RegsFields) (how : Finish) (s : Status) (old new : Seen)
@@ -102,7 +104,8 @@ sum_unput text regs how s old new is put = line_unput text (sum_line regs) (ende
 pub ruleset summing = (sum_put, sum_unput)
 
 summed_is :
-    (ran : Ran) → summed_up ran ≡ puts (as_line (finish_line ran.how ran.steps)) (puts (as_line (sum_line ran.regs)) (ended ran.how))
+    (ran : Ran) → summed_up ran ≡ puts (as_line (finish_line ran.how ran.steps))
+    (puts (as_line (sum_line ran.regs)) (ended ran.how))
 unfolding summed_up puts_all
 summed_is ran = refl
 
@@ -139,7 +142,8 @@ abbrev left_with : Finish → ℕ → RegsFields → Ran
 left_with how steps regs = record { how = how; steps = steps; regs = regs }
 
 pub run_ended :
-    (lib : Library) (limit : ℕ) (first : Booted) (how : Finish) (steps : ℕ) (regs lent : RegsFields) (result : Result (Unit {0}) Status)
+    (lib : Library) (limit : ℕ) (first : Booted) (how : Finish) (steps : ℕ) (regs lent : RegsFields)
+    (result : Result (Unit {0}) Status)
     (old new : Seen)
     → Goes (run_from lib 0 limit first) [] (Ok (left_with how steps regs)) → lent ≡ regs
     → Performs (summed_up (left_with how steps lent)) result old new
@@ -153,7 +157,8 @@ pub run_stops :
     → Goes (run_from lib 0 steps first) [] (Err s) → Performs (run_summed lib steps first) (Err s) seen seen
 unfolding run_summed
 run_stops lib steps first s seen goes =
-    performs_stop (run_from lib 0 steps first) summed_up s seen seen (performs_none (run_from lib 0 steps first) (Err s) seen goes)
+    performs_stop (run_from lib 0 steps first) summed_up s seen seen
+    (performs_none (run_from lib 0 steps first) (Err s) seen goes)
 
 pub run_where_none :
     (findings : List Finding) (lib : Library) (first : Booted) (result : Result (Unit {0}) Status) (old new : Seen)
@@ -167,20 +172,23 @@ pub end_where_some :
     → 0 < length findings → Performs (runs_or_ends (passes (pairs findings)) lib first) (Err AuditNo) seen seen
 end_where_some [] lib first seen some = absurd (omega (arith, some))
 end_where_some (f ∷ findings) lib first seen some =
-    performs_none (ends (audit_status false) (audit_may_end false)) (Err AuditNo) seen (goes_ends quiet (audit_status false) (audit_may_end false))
+    performs_none (ends (audit_status false) (audit_may_end false)) (Err AuditNo) seen
+    (goes_ends quiet (audit_status false) (audit_may_end false))
 
 pub ruleset deciding = (run_where_none, end_where_some)
 
 -- ---- by the findings of the audit
 
 pub found_put :
-    (count : ℕ) (lib : Library) (first : Booted) (findings : List (ℕ × ℕ)) (result : Result (Unit {0}) Status) (old between new : Seen)
+    (count : ℕ) (lib : Library) (first : Booted) (findings : List (ℕ × ℕ)) (result : Result (Unit {0}) Status)
+    (old between new : Seen)
     → count ≡ segment_count lib → Performs (all_put (head_pieces count findings)) (Ok tt) old between
     → Performs (runs_or_ends (passes findings) lib first) result between new
     → Performs (found_told lib first findings) result old new
 unfolding found_told
 found_put count lib first findings result old between new counts put performs =
-    all_then (head_pieces (segment_count lib) findings) (runs_or_ends (passes findings) lib first) result old between new
+    all_then (head_pieces (segment_count lib) findings)
+    (runs_or_ends (passes findings) lib first) result old between new
     (subst (λ n. Performs (all_put (head_pieces n findings)) (Ok tt) old between) counts put) performs
 
 pub found_unput :
@@ -192,14 +200,9 @@ found_unput count lib first findings s old new counts put =
     all_stop (head_pieces (segment_count lib) findings) (runs_or_ends (passes findings) lib first) s old new
     (subst (λ n. Performs (all_put (head_pieces n findings)) (Err s) old new) counts put)
 
-found_passes :
-    (lib : Library) (system : SuperFields) (findings : List (ℕ × ℕ))
-    → IsBooted lib system → AreFindings system.core booted_dbr findings → findings ≡ [] → PassesBooted lib
-found_passes lib system findings booted found none =
-    passes_booted lib system booted (findings_law.sound system.core booted_dbr (subst (AreFindings system.core booted_dbr) none found))
-
 pub found_in :
-    (system : SuperFields) (denied : List (List ℕ)) (findings : List (ℕ × ℕ)) (result : Result (Unit {0}) Status) (old new : Seen)
+    (system : SuperFields) (denied : List (List ℕ)) (findings : List (ℕ × ℕ)) (result : Result (Unit {0}) Status)
+    (old new : Seen)
     → IsFresh system → AreFindings system.core system.regs.dbr findings
     → Performs (found_told system.lib (booted_of system) findings) result old new
     → Performs (on_booted (record { lib = system.lib; denied = denied })) result old new
@@ -208,7 +211,8 @@ found_in system denied findings result old new fresh found performs =
     let so = subst (λ (d : DbrFields). AreFindings system.core d findings) fresh.stands.dbr found in
     performs_some (IsBooted system.lib) (on_system system.lib) system result old new fresh
     (performs_wants _ result old new
-    (performs_some (AreFolderFindings system.lib system) (found_told system.lib (booted_of system)) findings result old new
+    (performs_some (AreFolderFindings system.lib system)
+    (found_told system.lib (booted_of system)) findings result old new
     (record { found = so; passes = found_passes system.lib system findings fresh so }) performs))
 
 -- the audit ran out of memory
@@ -217,6 +221,7 @@ pub audit_starved :
     → IsFresh system → Performs (on_booted (record { lib = system.lib; denied = denied })) (Err NoMemory) seen seen
 unfolding on_booted on_system
 audit_starved system denied seen fresh =
-    performs_some (IsBooted system.lib) (on_system system.lib) system (Err NoMemory) seen seen fresh (performs_no_memory _ seen)
+    performs_some (IsBooted system.lib) (on_system system.lib) system (Err NoMemory) seen seen fresh
+    (performs_no_memory _ seen)
 
 pub ruleset found = (fresh_next, audit_starved)

@@ -12,8 +12,10 @@ use Rattle.m36_program.specs.Program.{Found, May, quiet, Program, done, stops, r
 use Rattle.cmd_make.specs.Within.{within}
 
 read_as :
-    {A : Type 0} (answer : ReadAnswer) (goes goes' : Found → List Event → Type 0) (more : List Event) (result : Result A Status)
-    → ((found : Found) → goes found more → goes' found more) → AfterRead answer goes more result → AfterRead answer goes' more result
+    {A : Type 0} (answer : ReadAnswer) (goes goes' : Found → List Event → Type 0) (more : List Event)
+    (result : Result A Status)
+    → ((found : Found) → goes found more → goes' found more) → AfterRead answer goes more result
+    → AfterRead answer goes' more result
 read_as (read.Read bytes) goes goes' more result on after = on _ after
 read_as read.Absent goes goes' more result on after = on _ after
 read_as read.TooLarge goes goes' more result on after = on _ after
@@ -22,7 +24,8 @@ read_as read.NoMemory goes goes' more result on after = after
 
 fails_as :
     {A : Type 0} (pieces : List (List ℕ)) (goes goes' : List Event → Type 0) (result : Result A Status)
-    → ((events : List Event) → goes events → goes' events) → FailsWith pieces goes result → FailsWith pieces goes' result
+    → ((events : List Event) → goes events → goes' events) → FailsWith pieces goes result
+    → FailsWith pieces goes' result
 fails_as [] goes goes' result on fails = fails
 fails_as (piece ∷ pieces) goes goes' result on fails = on (OutputFailed (piece ∷ pieces) ∷ []) fails
 
@@ -36,7 +39,8 @@ goes_within may (reads name go) events result goes = record {
   answer = goes.answer;
   more = goes.more;
   first = goes.first;
-  rest = read_as goes.answer (λ found more. Goes (go found) more result) (λ found more. Goes {may = may} (within (go found)) more result)
+  rest = read_as goes.answer (λ found more. Goes (go found) more result)
+      (λ found more. Goes {may = may} (within (go found)) more result)
       goes.more result (λ found on. goes_within may (go found) goes.more result on) goes.rest;
 }
 goes_within may (writes allowed name content rest) events result goes = absurd (cc)
@@ -48,7 +52,8 @@ goes_within may (puts piece rest) events result (inl goes) = inl (record {
 goes_within may (puts piece rest) events result (inr failed) = inr (record {
   pieces = failed.pieces;
   only = failed.only;
-  rest = fails_as failed.pieces (λ more. Goes rest more result) (λ more. Goes {may = may} (within rest) more result) result
+  rest = fails_as failed.pieces (λ more. Goes rest more result)
+      (λ more. Goes {may = may} (within rest) more result) result
       (λ more on. goes_within may rest more result on) failed.rest;
 })
 goes_within may (takes allowed go) events result goes = absurd (cc)
@@ -70,7 +75,8 @@ goes_quiet may (reads name go) events result goes = record {
   answer = goes.answer;
   more = goes.more;
   first = goes.first;
-  rest = read_as goes.answer (λ found more. Goes {may = may} (within (go found)) more result) (λ found more. Goes (go found) more result)
+  rest = read_as goes.answer (λ found more. Goes {may = may} (within (go found)) more result)
+      (λ found more. Goes (go found) more result)
       goes.more result (λ found on. goes_quiet may (go found) goes.more result on) goes.rest;
 }
 goes_quiet may (writes allowed name content rest) events result goes = absurd (cc)
@@ -82,7 +88,8 @@ goes_quiet may (puts piece rest) events result (inl goes) = inl (record {
 goes_quiet may (puts piece rest) events result (inr failed) = inr (record {
   pieces = failed.pieces;
   only = failed.only;
-  rest = fails_as failed.pieces (λ more. Goes {may = may} (within rest) more result) (λ more. Goes rest more result) result
+  rest = fails_as failed.pieces (λ more. Goes {may = may} (within rest) more result)
+      (λ more. Goes rest more result) result
       (λ more on. goes_quiet may rest more result on) failed.rest;
 })
 goes_quiet may (takes allowed go) events result goes = absurd (cc)
@@ -103,13 +110,4 @@ performs_within may p result old new performs = record {
   events = performs.events;
   follow = performs.follow;
   goes = goes_within may p performs.events result performs.goes;
-}
-
-pub performs_quiet :
-    (may : May) {A : Type 0} (p : Program quiet A) (result : Result A Status) (old new : Seen)
-    → Performs {may = may} (within p) result old new → Performs p result old new
-performs_quiet may p result old new performs = record {
-  events = performs.events;
-  follow = performs.follow;
-  goes = goes_quiet may p performs.events result performs.goes;
 }

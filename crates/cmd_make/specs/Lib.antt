@@ -1,8 +1,10 @@
 pub mod Making
 pub mod Summary
+pub mod InMemory
 pub mod Made
-pub mod DueLaw
 pub mod Within
 pub mod QuietRun
 pub mod RunSays
 pub mod MakeProgram
+pub mod Needs
+pub mod MadeLaw

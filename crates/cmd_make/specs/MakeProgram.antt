@@ -18,7 +18,7 @@ use Rattle.cmd_folder.specs.OnFolder.{AreFolderFindings}
 use Rattle.cmd_folder.specs.RunProgram.{finish_may_end}
 use Rattle.cmd_tools.specs.Reporting.{writes_all}
 use Rattle.cmd_make.specs.Making.{sets_of}
-use Rattle.cmd_make.specs.Made.{boots_from}
+use Rattle.cmd_make.specs.Made.{boot_files}
 use Rattle.cmd_make.specs.QuietRun.{Ran, run_from}
 use Rattle.cmd_make.specs.Summary.{run_limit, head_pieces, end_pieces, segment_count}
 use Rattle.cmd_make.specs.Within.{within}
@@ -47,7 +47,8 @@ found_told lib first findings =
 
 -- Audits the system. Memory may run out here, and after that only in a link service.
 unfoldable pub on_system : Library → SuperFields → Program quiet (Unit {0})
-on_system lib system = wants (some (AreFolderFindings lib system) (found_told lib (booted_of system)))
+on_system lib system =
+    wants (some (AreFolderFindings lib system) (found_told lib (booted_of system)))
 
 -- What is done with the system that the library boots to. There is at most one, by `system` of
 -- `FolderDueLaw` of `m36_booted`.
@@ -56,9 +57,9 @@ on_booted given = some (IsBooted given.lib) (on_system given.lib)
 
 -- ---- the command
 
--- Boots the files from memory, or refuses them. Memory may run out here.
+-- Boots the files from memory, or refuses them, and continues with the system. Memory may run out.
 unfoldable pub boot_made : List Set → Program quiet (Unit {0})
-boot_made sets = then_with (decides (boots_from sets)) on_booted
+boot_made sets = then_with (boot_files sets) on_booted
 
 -- Writes the files in order, and then boots them.
 unfoldable pub write_and_boot : List Set → Program writing (Unit {0})

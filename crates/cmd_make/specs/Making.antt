@@ -1,17 +1,18 @@
 -- The files that are made from a seed: the sources, the object of each source, the data and the
 -- boot text, in this order.
-use Rattle.std.specs.Prelude.{ℕ, List, [], ◌∷◌, ◌++◌, map}
-use Rattle.std.specs.Prelude.{Some, None, unwrap_or, Result, Ok, Err}
-use Rattle.m36_outside.specs.Files.{Files}
+use Rattle.std.specs.Prelude.{ℕ, nat_lt, if◌then◌else◌, List, [], ◌∷◌, ◌++◌, map, length}
+use Rattle.std.specs.Prelude.{Some, None, Result, Ok, Err}
+use Rattle.m36_outside.specs.Files.{Files, with_file}
+use Rattle.m36_outside.specs.ReadAnswer.{file_limit}
 use Rattle.m36_text.specs.FileNames.{object_of_source}
 use Rattle.m36_text.specs.Results.{and_then}
 use Rattle.alm_parse.specs.declared.fault.AlmFault.{AlmFault}
 use Rattle.m36_gen.specs.declared.files.File.{File}
 use Rattle.m36_gen.specs.Folder.{sources_of, other_files}
 use Rattle.m36_reading.specs.declared.setting.Set.{Set}
-use Rattle.m36_reading.specs.Answers.{with_sets}
-use Rattle.m36_reading.specs.Reading.{found_in, Reading, decided, Early}
-use Rattle.m36_reading.specs.Readers.{bytes_of}
+use Rattle.m36_reading.specs.declared.status.Code.TheVariants as code
+use Rattle.m36_reading.specs.Reading.{Early}
+use Rattle.m36_reading.specs.Readers.{refused}
 use Rattle.m36_told.specs.Assemblies.{Assembly, assembly_of, object_bytes, object_set, MakingSays}
 use Rattle.m36_told.specs.Telling.{source_refused}
 
@@ -29,11 +30,16 @@ abbrev pub object_by : List ℕ → Result Assembly AlmFault → Early Set
 object_by source (Ok a) = Ok (object_set (object_name source) a.parts)
 object_by source (Err fault) = Err (source_refused source fault)
 
+-- the bytes of a source, or F2 if there are more than a file may have
+abbrev pub source_bytes : File → Early (List ℕ)
+source_bytes source =
+    if nat_lt file_limit (length source.content) then Err (refused source.name code.F2 0)
+    else Ok source.content
+
 -- what `alm` makes of a source, or why the source is refused
 unfoldable pub object_of : File → Early Set
 object_of source =
-    and_then (bytes_of source.name (found_in (Some source.content))) (λ bytes.
-    object_by source.name (assembly_of bytes))
+    and_then (source_bytes source) (λ bytes. object_by source.name (assembly_of bytes))
 
 -- the files with the objects of the sources appended, or the refusal of the first source that is
 -- refused
@@ -52,18 +58,15 @@ unfoldable pub sets_of : ℕ → Early (List Set)
 sets_of seed =
     and_then (with_objects (map set_of (sources_of seed)) (sources_of seed)) and_others
 
--- The reading of the command: it reads no file.
-unfoldable pub make_reads : ℕ → Reading (Early (List Set))
-make_reads seed = decided (sets_of seed)
-
 -- ---- the folder that these files are
 
 abbrev pub no_files : Files
 no_files name = None
 
--- the files of a folder after these are written into it
+-- the files of a folder after these are written into it, one after another
 unfoldable pub with_files : List Set → Files → Files
-with_files sets files = unwrap_or (with_sets sets (Some files)) no_files
+with_files [] files = files
+with_files (set ∷ sets) files = with_files sets (with_file set.name (Some set.content) files)
 
 -- the files of a folder that has these and no others
 unfoldable pub files_in : List Set → Files

@@ -19,7 +19,7 @@ fn boot_made<W: World>(alloc: Global, sets: &Sets, world: &mut W) -> Result<(), 
 {
     match system_of(alloc, sets) {
         Ok(booted) => summarise(alloc, booted.system, world),
-        Err(refusal) => Err(refusal.status()),
+        Err(status) => Err(status),
     }
 }
 

@@ -1,12 +1,7 @@
 //! Performs `make` over three objects: a folder, an input and an output.
 
-ghost use Rattle.m36_reading.specs.Doing.{Does};
-ghost use Rattle.m36_reading.specs.Outside.{outside_of};
 ghost use Rattle.m36_program.specs.Early.{early};
 ghost use Rattle.m36_program.specs.Objects.{objects, PerformsOver};
-ghost use Rattle.m36_program.specs.Trail.{InputKept};
-ghost use Rattle.cmd_make.specs.Made.{made_kind};
-ghost use Rattle.cmd_make.specs.Making.{make_reads};
 ghost use Rattle.cmd_make.specs.MakeProgram.{make_program};
 
 use crate::answering::make_files;
@@ -27,21 +22,6 @@ pub fn make_command<F: Folder, L: Lines, S: Sink>(
     // The three records of the call are the parts of one list of events that the program allows.
     // The objects have no common clock, so this does not say which event of two objects was first.
     ensures performs { PerformsOver (make_program seed) (early result)
-        (objects F.asked F.wrote F.files F.read_faults F.write_faults L.given L.left L.faults
-        S.taken S.written S.faults folder.old lines.old out.old)
-        (objects F.asked F.wrote F.files F.read_faults F.write_faults L.given L.left L.faults
-        S.taken S.written S.faults folder.new lines.new out.new) }
-
-    // The call reads no file, writes the files of the seed, and gives an answer of their kind.
-    ensures does { Does made_kind (make_reads seed) result
-        (outside_of F.files F.wrote F.read_faults F.write_faults S.written S.taken S.faults
-        folder.old out.old)
-        (outside_of F.files F.wrote F.read_faults F.write_faults S.written S.taken S.faults
-        folder.new out.new)
-        (F.asked folder.old) (F.asked folder.new) }
-
-    // Nothing of the input is taken, and no fault of it is counted.
-    ensures untaken { InputKept
         (objects F.asked F.wrote F.files F.read_faults F.write_faults L.given L.left L.faults
         S.taken S.written S.faults folder.old lines.old out.old)
         (objects F.asked F.wrote F.files F.read_faults F.write_faults L.given L.left L.faults

@@ -1,17 +1,20 @@
 //! Puts the files into a folder in memory, and boots it.
 
-ghost use Rattle.std.specs.Prelude.{◌≡◌, IfOk};
+ghost use Rattle.std.specs.Prelude.{◌≡◌, [], IfOk};
 ghost use Rattle.m36_outside.specs.FileList.{file_named};
-ghost use Rattle.m36_reading.specs.Asking.{Gives};
-ghost use Rattle.m36_booted.specs.Systems.{IsFresh, given_in};
+ghost use Rattle.m36_program.specs.Goes.{Goes};
+ghost use Rattle.m36_booted.specs.Systems.{IsFresh};
+ghost use Rattle.cmd_folder.specs.Systems.{given_in};
 ghost use Rattle.cmd_make.specs.Making.{files_in};
-ghost use Rattle.cmd_make.specs.Made.{boots_from};
+ghost use Rattle.cmd_make.specs.Made.{boot_files};
 
 use crate::sets::Sets;
-use m36_booted::reading::{BootedFolder, read_system};
-use m36_outside::SureFolder;
-use m36_reading::{Refusal, Set};
+use cmd_folder::read_system;
+use m36_booted::reading::BootedFolder;
+use m36_outside::{SureFolder, SureLines, SureSink};
+use m36_reading::{Set, Status};
 use m36_word::NoMemory;
+use m36_world::Outside;
 use std::alloc::Global;
 
 // A folder in memory with these files and no others.
@@ -26,21 +29,32 @@ fn folder_of(alloc: Global, sets: &[Set]) -> Result<SureFolder, NoMemory>
     Ok(folder)
 }
 
-// Reads and boots a folder in memory with these files.
-fn system_in(alloc: Global, mut folder: SureFolder, sets: &Sets) -> Result<BootedFolder, Refusal>
-    requires { file_named folder.files ≡ files_in sets.now }
-    ensures gives { Gives (given_in result) (boots_from sets.now) }
-    ensures fresh { IfOk result (λ booted. IsFresh booted.system) }
+// A world with these files and no others, whose calls do not fail. Its input is empty.
+fn world_of(
+    alloc: Global,
+    sets: &[Set],
+) -> Result<Outside<SureFolder, SureLines, SureSink>, NoMemory>
+    ensures { IfOk result (λ world. file_named world.folder.files ≡ files_in sets.now) }
 {
-    read_system(alloc, &None, &mut folder)
+    let folder = folder_of(alloc, sets)?;
+    let lines = SureLines::new(alloc, &[])?;
+    Ok(Outside::new(folder, lines, SureSink::new()))
 }
 
 /// Boots a folder in memory with these files, as `run` boots a folder, or refuses it. Nothing
-/// outside is read.
-pub fn system_of(alloc: Global, sets: &Sets) -> Result<BootedFolder, Refusal>
-    ensures gives { Gives (given_in result) (boots_from sets.now) }
+/// outside is read. An error is the status of the command.
+#[tactic(auto, using(crate::proofs::Files::no_world))]
+pub fn system_of(alloc: Global, sets: &Sets) -> Result<BootedFolder, Status>
+    ensures goes { Goes (boot_files sets.now) [] (given_in result) }
     ensures fresh { IfOk result (λ booted. IsFresh booted.system) }
 {
-    let folder = folder_of(alloc, sets.items())?;
-    system_in(alloc, folder, sets)
+    match world_of(alloc, sets.items()) {
+        Ok(mut world) => {
+            let given = read_system(alloc, &None, &mut world);
+            // Dropped by a call, so that the drop is proved once for its type.
+            drop(world);
+            given
+        }
+        Err(NoMemory) => Err(Status::NoMemory),
+    }
 }

@@ -19,19 +19,25 @@
 //! | while the files are booted or the core is audited | all files are written |
 //! | in a link service of the run | all files are written, and the lines before the run are put |
 //!
-//! The command reads no file of the folder. The files are booted by the readers of `m36_booted`
-//! over a folder in memory whose calls do not fail, and these calls are no events. Neither are the
-//! turns of the run, so no contract says when a turn is made: only the lines after the run depend
-//! on it.
+//! The command reads no file of the folder. The reader that boots a folder for `run` boots these
+//! files too, over a world in memory whose calls do not fail. These calls are no events
+//! (`specs/InMemory.antt`). Neither are the turns of the run, so no contract says when a turn is
+//! made: only the lines after the run depend on it.
 //!
 //! [`make_files`] performs the program over any world, so its contract has the order of the events:
 //! all files are written before the first line is put. [`make_command`] performs it over a folder,
 //! an input and an output of the caller. These have no common clock, so its contract does not have
-//! that order. The same call satisfies `Does` by the answers of `specs/Made.antt`, and takes no
-//! input.
+//! that order.
 //!
-//! `specs/Making.antt` says which files a seed makes, `specs/QuietRun.antt` what a run is of which
-//! no turn is written, and `specs/Summary.antt` which lines are put of the system.
+//! `specs/Making.antt` says which files a seed makes, `specs/Made.antt` what they boot to,
+//! `specs/QuietRun.antt` what a run is of which no turn is written, and `specs/Summary.antt` which
+//! lines are put of the system.
+//!
+//! [`law_made`] has the laws of the calls that end by themselves (`specs/MadeLaw.antt`): what such
+//! a call writes and puts follows from what the files boot to and from the audit of its core.
+//! `specs/Needs.antt` says with what it ends with Done (`proofs/MadeDone.antt`). If the text that
+//! was put begins with the count of segments and `audit yes`, the system that was made passes its
+//! audit (`proofs/MadeYes.antt`).
 //!
 //! The generator is that of `m36_gen`, an object is the one that `alm` makes, and the folder is
 //! booted as `run` does it. The machine is that of the Multics Processor Manual AL39; sources,
@@ -41,6 +47,7 @@
 pub mod answering;
 pub mod calling;
 pub mod folder;
+pub mod laws;
 pub mod making;
 pub mod objects;
 pub mod running;
@@ -49,4 +56,5 @@ pub mod summary;
 
 pub use answering::make_files;
 pub use calling::make_command;
+pub use laws::law_made;
 pub use sets::Sets;

@@ -8,7 +8,10 @@ use Rattle.cmd_make.proofs.making.made_from.Goals as goal
 
 pub returns : goal.returns
 returns c =
-    made_all c.args.seed c.in_ok-draw_of.draw_of c.in_ok-sets.sets c.in_ok-sets-2.sets c.in_ok-sets-3.sets c.in_ok-draw_of.ensures
-    (c.in_ok-sets.ensures ∙ ap (λ (s : List Set). s ++ map set_of c.items.result.now) c.new.ensures ∙ ap (λ (l : List File). map set_of l) c.items.ensures)
-    (subst (λ (l : List File). with_objects c.in_ok-sets.sets l ≡ Ok c.in_ok-sets-2.sets) c.items-2.ensures c.in_ok-sets-2.ensures)
+    made_all c.args.seed c.in_ok-draw_of.draw_of c.in_ok-sets.sets c.in_ok-sets-2.sets c.in_ok-sets-3.sets
+    c.in_ok-draw_of.ensures
+    (c.in_ok-sets.ensures ∙ ap (λ (s : List Set). s ++ map set_of c.items.result.now) c.new.ensures
+    ∙ ap (λ (l : List File). map set_of l) c.items.ensures)
+    (subst (λ (l : List File). with_objects c.in_ok-sets.sets l ≡ Ok c.in_ok-sets-2.sets) c.items-2.ensures
+    c.in_ok-sets-2.ensures)
     c.in_ok-sets-3.ensures

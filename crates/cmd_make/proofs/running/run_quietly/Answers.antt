@@ -12,7 +12,9 @@ steps-preserved c =
     let lib = c.args.system.now.lib in
     let first = run_from lib 0 c.args.steps (booted_of c.args.system.now) in
     record {
-      left = run_next lib c.steps.taken c.steps.left c.steps.system c.take_step.new.system first i.left c.steps-test.true i.same goes;
+      left =
+          run_next lib c.steps.taken c.steps.left c.steps.system c.take_step.new.system first i.left c.steps-test.true
+          i.same goes;
       count = omega (arith, i.count, c.steps-test.true);
       next = goes.next;
       same = goes.same ∙ i.same;
@@ -22,14 +24,16 @@ pub returns-in-Ended : goal.returns-in-Ended
 returns-in-Ended c =
     let i = c.steps.invariant in
     let lib = c.args.system.now.lib in
-    run_over c.in-Ended.end lib c.steps.taken c.steps.left c.steps.system c.take_step.new.system (run_from lib 0 c.args.steps (booted_of c.args.system.now))
+    run_over c.in-Ended.end lib c.steps.taken c.steps.left c.steps.system c.take_step.new.system
+    (run_from lib 0 c.args.steps (booted_of c.args.system.now))
     i.left c.steps-test.true i.same c.in-Ended.ensures
 
 pub returns-in-NoMemory : goal.returns-in-NoMemory
 returns-in-NoMemory c =
     let i = c.steps.invariant in
     let lib = c.args.system.now.lib in
-    run_starves lib c.steps.taken c.steps.left c.steps.system (run_from lib 0 c.args.steps (booted_of c.args.system.now))
+    run_starves lib c.steps.taken c.steps.left c.steps.system
+    (run_from lib 0 c.args.steps (booted_of c.args.system.now))
     i.left c.steps-test.true i.same c.in-NoMemory.ensures
 
 pub returns : goal.returns

@@ -8,10 +8,13 @@ use Rattle.cmd_make.proofs.summary.answer_found.Goals as goal
 
 pub returns-in-Ok : goal.returns-in-Ok
 returns-in-Ok g c =
-    found_put c.count-count.result c.args.system.now.lib (booted_of c.args.system.now) (pairs c.args.findings.now) c.run_or_end.result _ _ _
-    (c.count-count.ensures.value ∙ ap (λ (k : CatalogFields). length k.segments) c.catalog.ensures) c.in-Ok.ensures c.run_or_end.ensures
+    found_put c.count-count.result c.args.system.now.lib (booted_of c.args.system.now)
+    (pairs c.args.findings.now) c.run_or_end.result _ _ _
+    (c.count-count.ensures.value ∙ ap (λ (k : CatalogFields). length k.segments) c.catalog.ensures) c.in-Ok.ensures
+    c.run_or_end.ensures
 
 pub returns-in-Err : goal.returns-in-Err
 returns-in-Err g c =
-    found_unput c.count-count.result c.args.system.now.lib (booted_of c.args.system.now) (pairs c.args.findings.now) c.in-Err.status _ _
+    found_unput c.count-count.result c.args.system.now.lib (booted_of c.args.system.now)
+    (pairs c.args.findings.now) c.in-Err.status _ _
     (c.count-count.ensures.value ∙ ap (λ (k : CatalogFields). length k.segments) c.catalog.ensures) c.in-Err.ensures

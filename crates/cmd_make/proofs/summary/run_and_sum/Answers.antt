@@ -5,7 +5,8 @@ use Rattle.cmd_make.proofs.summary.run_and_sum.Goals as goal
 
 pub returns-in-Ok : goal.returns-in-Ok
 returns-in-Ok g c =
-    run_ended c.args.system.now.lib c.args.steps (booted_of c.args.system.now) c.in-Ok.end.how c.in-Ok.end.steps c.run_quietly.new.system.regs c.regs.result.now
+    run_ended c.args.system.now.lib c.args.steps (booted_of c.args.system.now) c.in-Ok.end.how c.in-Ok.end.steps
+    c.run_quietly.new.system.regs c.regs.result.now
     c.sum_up.result _ _ c.in-Ok.ensures c.regs.ensures c.sum_up.ensures
 
 pub returns-in-Err : goal.returns-in-Err

@@ -10,5 +10,6 @@ pub returns-in-Ok : goal.returns-in-Ok
 returns-in-Ok g c =
     λ denied.
     found_in c.args.system denied (pairs c.as_slice.result.now) c.answer_found-answer.result _ _ c.requires
-    (subst (λ (l : List Finding). AreFindings c.args.system.core c.args.system.regs.dbr (pairs l)) (sym c.as_slice.ensures.value) c.in-Ok.ensures)
+    (subst (λ (l : List Finding). AreFindings c.args.system.core c.args.system.regs.dbr (pairs l))
+    (sym c.as_slice.ensures.value) c.in-Ok.ensures)
     c.answer_found-answer.ensures

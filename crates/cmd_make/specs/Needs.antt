@@ -1,0 +1,24 @@
+-- What `make` needs, besides sources that are accepted, to end with Done.
+use Rattle.std.specs.Prelude.{◌≡◌, List, Some, Ok}
+use Rattle.m36_model.specs.Audit.{IsAudited}
+use Rattle.m36_model.specs.BootedCore.{booted_dbr}
+use Rattle.m36_super.specs.Library.{Library}
+use Rattle.m36_super.specs.SuperFields.{SuperFields, booted_of}
+use Rattle.m36_super.specs.BootSays.{IsBooted}
+use Rattle.m36_reading.specs.declared.setting.Set.{Set}
+use Rattle.m36_booted.specs.Folder.{FolderFields}
+use Rattle.cmd_folder.specs.Needs.{EndsWithDis}
+use Rattle.cmd_make.specs.Made.{boots_from}
+use Rattle.cmd_make.specs.Summary.{run_limit}
+
+-- The audit of the system passes, and each of its runs ends with DIS.
+abbrev pub MadeSystemNeeds : Library → SuperFields → Type 0
+MadeSystemNeeds lib system =
+    IsAudited system.core booted_dbr × EndsWithDis lib run_limit (booted_of system)
+
+-- The files boot, and the system that they boot to has what it needs.
+pub record MadeNeeds (sets : List Set) : Type 0 where
+  pub given : FolderFields
+  pub boots : boots_from sets ≡ Some (Ok given)
+  pub needs :
+      (system : SuperFields) → IsBooted given.lib system → MadeSystemNeeds given.lib system
